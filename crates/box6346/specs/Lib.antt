@@ -1,0 +1,3 @@
+pub mod ContainerNumber
+pub mod SizeCode
+pub mod SlotName

@@ -1,0 +1,36 @@
+-- The names of the yard's slots: block letter, bay of three digits, row of two, tier of one.
+use Rattle.std.specs.Prelude.{◌==◌, ℕ, ◌+◌, ◌-◌, ◌*◌, ◌/◌, ◌%◌, Bool, ◌&&◌, if◌then◌else◌, List, [], ◌∷◌, length, slice_index, Option, Some, None}
+use Rattle.std.specs.Char.{is_ascii_uppercase, is_ascii_digit}
+use Rattle.std.specs.List.{list_all}
+use Rattle.box6346.specs.declared.slot.Slot.{Slot}
+
+-- a bay's three digits, a row's two and a tier's one
+abbrev pub are_six_digits : List ℕ → Bool
+are_six_digits text = length text == 6 && list_all is_ascii_digit text
+
+-- the digit at a place
+abbrev pub digit : List ℕ → ℕ → ℕ
+digit digits place = slice_index digits place - 48
+
+-- what six digits behind a letter name
+abbrev pub slot_at : ℕ → List ℕ → Slot
+slot_at letter digits = record {
+  block = letter;
+  bay = 100 * digit digits 0 + 10 * digit digits 1 + digit digits 2;
+  row = 10 * digit digits 3 + digit digits 4;
+  tier = digit digits 5;
+}
+
+-- the slot with this name, by its form alone
+abbrev pub slot_of : List ℕ → Option Slot
+slot_of [] = None
+slot_of (letter ∷ digits) =
+    if is_ascii_uppercase letter && are_six_digits digits then Some (slot_at letter digits) else None
+
+-- a slot's name, where its numbers fit their digits
+abbrev pub slot_text : Slot → List ℕ
+slot_text slot =
+    slot.block
+    ∷ (48 + slot.bay / 100) ∷ (48 + slot.bay / 10 % 10) ∷ (48 + slot.bay % 10)
+    ∷ (48 + slot.row / 10) ∷ (48 + slot.row % 10)
+    ∷ (48 + slot.tier) ∷ []

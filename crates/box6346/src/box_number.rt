@@ -1,0 +1,54 @@
+ghost use Rattle.std.specs.Prelude.{◌≡◌};
+
+use crate::check::check_digit;
+use crate::number_fault::NumberFault;
+use std::marker::Model;
+
+/// A container number of ISO 6346, as `CSQU3054383`: owner code, equipment category, serial number and
+/// check digit. It is seen as its eleven characters and ordered by them.
+#[derive(Clone, Copy, PartialEq, Eq, PartialOrd, Ord, Debug)]
+pub struct BoxNumber {
+    text: [u8; 11],
+}
+
+impl Model for BoxNumber {
+    ghost use Rattle.std.specs.Prelude.{ℕ, List};
+
+    ghost Value = { List ℕ };
+
+    ghost view = { λ b. b.text };
+
+    ghost inverse = { λ t. record { text = t } };
+}
+
+impl BoxNumber {
+    ghost use Rattle.box6346.specs.ContainerNumber.{number_of};
+
+    /// Reads a container number. Form comes before CheckDigit.
+    pub fn parse(text: &[u8]) -> Result<BoxNumber, NumberFault>
+        ensures { result ≡ number_of text.now }
+    {
+        let Some(front) = text.first_chunk::<10>() else {
+            return Err(NumberFault::Form);
+        };
+        let Some(digit) = check_digit(front) else {
+            return Err(NumberFault::Form);
+        };
+        if text.len() != 11 || !text[10].is_ascii_digit() {
+            return Err(NumberFault::Form);
+        }
+        if text[10] != b'0' + digit {
+            return Err(NumberFault::CheckDigit);
+        }
+        let mut characters = [0; 11];
+        characters.copy_from_slice(text);
+        Ok(BoxNumber { text: characters })
+    }
+
+    /// The eleven characters.
+    pub fn text(self) -> [u8; 11]
+        ensures { result ≡ self }
+    {
+        self.text
+    }
+}

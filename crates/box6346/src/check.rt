@@ -1,0 +1,65 @@
+ghost use Rattle.std.specs.Prelude.{◌≡◌, ◌+◌, ◌<◌, ◌^◌, Option, Some, None, IfSome, if◌then◌else◌};
+ghost use Rattle.std.specs.Char.{is_ascii_uppercase, is_ascii_digit};
+ghost use Rattle.std.specs.List.{list_all};
+ghost use Rattle.box6346.specs.ContainerNumber.{value_of, weighted_sum, check_digit_of, is_category, names_container};
+
+use crate::characters::{are_capitals, are_digits};
+
+/// The values of the letters from A to Z: from 10 upwards, 11 and its multiples left out.
+const LETTER_VALUES: [u8; 26] = [
+    10, 12, 13, 14, 15, 16, 17, 18, 19, 20, 21, 23, 24, 25, 26, 27, 28, 29, 30, 31, 32, 34, 35, 36,
+    37, 38,
+];
+
+/// The check digit of a container number's first ten characters (ISO 6346, annex A), 0 to 9: each
+/// character's value weighted by its power of two, summed, modulo 11, with the remainder 10 written as
+/// 0. None where the ten aren't three capitals, one of U, J and Z, and six digits.
+pub fn check_digit(text: &[u8; 10]) -> Option<u8>
+    ensures exact { result ≡ (if names_container text.now then Some (check_digit_of text.now) else None) }
+    ensures digit { IfSome result (λ digit. digit < 10) }
+{
+    if names_container(text) {
+        Some((sum_of(text) % 11 % 10) as u8)
+    } else {
+        None
+    }
+}
+
+// Whether the ten characters have a number's form.
+fn names_container(text: &[u8; 10]) -> bool
+    ensures { result ≡ names_container text.now }
+{
+    are_capitals(&text[..3]) && is_category(text[3]) && are_digits(&text[4..10])
+}
+
+// Whether the fourth letter is an equipment category: U, J or Z.
+fn is_category(letter: u8) -> bool
+    ensures { result ≡ is_category letter }
+{
+    letter == b'U' || letter == b'J' || letter == b'Z'
+}
+
+// What a capital or digit counts.
+fn value_of(character: u8) -> u32
+    ensures value { result ≡ value_of character }
+    ensures small { result < 2 ^ 8 }
+{
+    if character.is_ascii_digit() {
+        (character - b'0') as u32
+    } else if character.is_ascii_uppercase() {
+        LETTER_VALUES[(character - b'A') as usize] as u32
+    } else {
+        0
+    }
+}
+
+// The values by their weights.
+fn sum_of(text: &[u8; 10]) -> u32
+    ensures { result ≡ weighted_sum 0 text.now }
+{
+    let mut sum = 0;
+    for (place, character) in text.iter().enumerate() {
+        sum += value_of(*character) << place;
+    }
+    sum
+}

@@ -1,0 +1,75 @@
+ghost use Rattle.std.specs.Prelude.{◌≡◌, ◌<◌, length};
+ghost use Rattle.box6346.specs.SizeCode.{has_form, has_length};
+
+use crate::characters::are_code_characters;
+use crate::length::Length;
+use crate::size_fault::SizeFault;
+use std::marker::Model;
+
+/// A size-type code of ISO 6346, as `22G1`. It is seen as its four characters.
+#[derive(Clone, Copy, PartialEq, Eq, Debug)]
+pub struct SizeType {
+    text: [u8; 4],
+}
+
+impl Model for SizeType {
+    ghost use Rattle.std.specs.Prelude.{ℕ, List};
+
+    ghost Value = { List ℕ };
+
+    ghost view = { λ s. s.text };
+
+    ghost inverse = { λ t. record { text = t } };
+}
+
+impl SizeType {
+    ghost use Rattle.box6346.specs.SizeCode.{size_of, length_of};
+
+    /// Reads a size-type code. Form comes before Length.
+    pub fn parse(text: &[u8]) -> Result<SizeType, SizeFault>
+        ensures { result ≡ size_of text.now }
+    {
+        if !has_form(text) {
+            return Err(SizeFault::Form);
+        }
+        if !has_length(text) {
+            return Err(SizeFault::Length);
+        }
+        let mut characters = [0; 4];
+        characters.copy_from_slice(text);
+        Ok(SizeType { text: characters })
+    }
+
+    /// The four characters.
+    pub fn text(self) -> [u8; 4]
+        ensures { result ≡ self }
+    {
+        self.text
+    }
+
+    /// How much of a row it covers: a 45-foot container is placed as a forty.
+    pub fn length(self) -> Length
+        ensures { result ≡ length_of self }
+    {
+        if self.text[0] == b'2' {
+            Length::Twenty
+        } else {
+            Length::Forty
+        }
+    }
+}
+
+// Whether a text is four capitals or digits.
+fn has_form(text: &[u8]) -> bool
+    ensures { result ≡ has_form text.now }
+{
+    text.len() == 4 && are_code_characters(text)
+}
+
+// Whether a code begins with a length that the yard can place.
+fn has_length(text: &[u8]) -> bool
+    requires { 0 < length text.now }
+    ensures { result ≡ has_length text.now }
+{
+    text[0] == b'2' || text[0] == b'4' || text[0] == b'L'
+}
