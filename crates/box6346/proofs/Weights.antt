@@ -4,7 +4,7 @@ use Rattle.std.proofs.Math.Nat.{mod-eq_of_lt}
 use Rattle.std.proofs.Math.Pow.{pow_mono}
 use Rattle.std.proofs.lemmas.Nat.{mul-le}
 use Rattle.std.proofs.lemmas.List.{at_drop_more}
-use Rattle.box6346.specs.ContainerNumber.{weighted_sum, value_of}
+use Rattle.box6346.specs.NumberText.{weighted_sum, value_of}
 
 -- a character's share of the sum is small
 pub share_small : (value place : ℕ) → value < 2 ^ 8 → place < 10 → value * 2 ^ place ≤ 131072

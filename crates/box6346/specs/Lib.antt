@@ -1,3 +1,5 @@
+pub mod NumberText
 pub mod ContainerNumber
+pub mod SizeText
 pub mod SizeCode
 pub mod SlotName

@@ -22,7 +22,7 @@ slot_at letter digits = record {
 }
 
 -- the slot with this name, by its form alone
-abbrev pub slot_of : List ℕ → Option Slot
+unfoldable pub slot_of : List ℕ → Option Slot
 slot_of [] = None
 slot_of (letter ∷ digits) =
     if is_ascii_uppercase letter && are_six_digits digits then Some (slot_at letter digits) else None

@@ -13,18 +13,25 @@ pub struct BoxNumber {
 
 impl Model for BoxNumber {
     ghost use Rattle.std.specs.Prelude.{ℕ, List};
+    ghost use Rattle.std.specs.Prelude.{IsTrue};
+    ghost use Rattle.box6346.specs.NumberText.{is_number};
 
     ghost Value = { List ℕ };
 
     ghost view = { λ b. b.text };
 
+    ghost invariant = { λ b. IsTrue (is_number b.text) };
+
     ghost inverse = { λ t. record { text = t } };
 }
 
 impl BoxNumber {
+    ghost use Rattle.std.specs.Prelude.{IsTrue};
+    ghost use Rattle.box6346.specs.NumberText.{is_number};
     ghost use Rattle.box6346.specs.ContainerNumber.{number_of};
 
     /// Reads a container number. Form comes before CheckDigit.
+    #[tactic(auto, unfolding(crate::specs::ContainerNumber::number_of, crate::specs::NumberText::is_number))]
     pub fn parse(text: &[u8]) -> Result<BoxNumber, NumberFault>
         ensures { result ≡ number_of text.now }
     {
@@ -47,7 +54,8 @@ impl BoxNumber {
 
     /// The eleven characters.
     pub fn text(self) -> [u8; 11]
-        ensures { result ≡ self }
+        ensures same { result ≡ self }
+        ensures number { IsTrue (is_number result) }
     {
         self.text
     }

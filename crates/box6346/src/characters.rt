@@ -1,7 +1,7 @@
 ghost use Rattle.std.specs.Prelude.{◌≡◌, ◌+◌, ◌-◌, ◌<◌, length, slice_index, IsTrue};
 ghost use Rattle.std.specs.Char.{is_ascii_uppercase, is_ascii_digit};
 ghost use Rattle.std.specs.List.{list_all};
-ghost use Rattle.box6346.specs.SizeCode.{is_code_character};
+ghost use Rattle.box6346.specs.SizeText.{is_code_character};
 
 // Whether each byte is a capital.
 pub(crate) fn are_capitals(text: &[u8]) -> bool

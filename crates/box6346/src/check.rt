@@ -1,7 +1,7 @@
 ghost use Rattle.std.specs.Prelude.{◌≡◌, ◌+◌, ◌<◌, ◌^◌, Option, Some, None, IfSome, if◌then◌else◌};
 ghost use Rattle.std.specs.Char.{is_ascii_uppercase, is_ascii_digit};
 ghost use Rattle.std.specs.List.{list_all};
-ghost use Rattle.box6346.specs.ContainerNumber.{value_of, weighted_sum, check_digit_of, is_category, names_container};
+ghost use Rattle.box6346.specs.NumberText.{value_of, weighted_sum, check_digit_of, is_category, names_container};
 
 use crate::characters::{are_capitals, are_digits};
 

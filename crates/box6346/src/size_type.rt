@@ -1,5 +1,5 @@
 ghost use Rattle.std.specs.Prelude.{◌≡◌, ◌<◌, length};
-ghost use Rattle.box6346.specs.SizeCode.{has_form, has_length};
+ghost use Rattle.box6346.specs.SizeText.{has_form, has_length};
 
 use crate::characters::are_code_characters;
 use crate::length::Length;
@@ -14,18 +14,25 @@ pub struct SizeType {
 
 impl Model for SizeType {
     ghost use Rattle.std.specs.Prelude.{ℕ, List};
+    ghost use Rattle.std.specs.Prelude.{IsTrue};
+    ghost use Rattle.box6346.specs.SizeText.{is_size};
 
     ghost Value = { List ℕ };
 
     ghost view = { λ s. s.text };
 
+    ghost invariant = { λ s. IsTrue (is_size s.text) };
+
     ghost inverse = { λ t. record { text = t } };
 }
 
 impl SizeType {
+    ghost use Rattle.std.specs.Prelude.{IsTrue};
+    ghost use Rattle.box6346.specs.SizeText.{is_size};
     ghost use Rattle.box6346.specs.SizeCode.{size_of, length_of};
 
     /// Reads a size-type code. Form comes before Length.
+    #[tactic(auto, unfolding(crate::specs::SizeCode::size_of, crate::specs::SizeText::is_size))]
     pub fn parse(text: &[u8]) -> Result<SizeType, SizeFault>
         ensures { result ≡ size_of text.now }
     {
@@ -42,7 +49,8 @@ impl SizeType {
 
     /// The four characters.
     pub fn text(self) -> [u8; 4]
-        ensures { result ≡ self }
+        ensures same { result ≡ self }
+        ensures size { IsTrue (is_size result) }
     {
         self.text
     }

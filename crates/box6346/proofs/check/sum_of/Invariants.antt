@@ -1,5 +1,5 @@
 use Rattle.std.proofs.Common.{◌≡◌, ◌+◌, ◌*◌, ◌≤◌, drop}
-use Rattle.box6346.specs.ContainerNumber.{weighted_sum}
+use Rattle.box6346.specs.NumberText.{weighted_sum}
 use Rattle.box6346.proofs.check.sum_of.Given as goal
 
 -- the sum so far and that of what is left are the sum of all; each of the ten adds less than 2 ^ 17
