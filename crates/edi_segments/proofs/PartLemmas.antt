@@ -258,3 +258,26 @@ length_value_more s released bytes i hides within is =
 pub length_value_past : (s : Service) (released : Bool) (bytes : List ℕ) (i : ℕ) → length bytes ≤ i → length (value_of s released (drop i bytes)) ≡ 0
 unfolding value_of
 length_value_past s released bytes i past = at_drop_all (λ (t : List ℕ). length (value_of s released t)) bytes i past
+
+-- ---- an element by its place
+
+mapped_in_place : (s : Service) (texts : List (List ℕ)) (i : ℕ) → get_or (map (components_in s false) texts) i ([] ∷ []) ≡ components_in s false (get_or texts i [])
+unfolding parts_of value_of
+mapped_in_place s [] i = refl
+mapped_in_place s (text ∷ texts) zero = refl
+mapped_in_place s (text ∷ texts) (suc i) = mapped_in_place s texts i
+
+pub element_by_parts : (s : Service) (bytes : List ℕ) (i : ℕ) → get_or (elements_of s false bytes) i ([] ∷ []) ≡ map (value_of s false) (parts_of s s.component false (get_or (parts_of s s.element false bytes) i []))
+element_by_parts s bytes i =
+    let texts = parts_of s s.element false bytes in
+    ap (λ (e : List (List (List ℕ))). get_or e i ([] ∷ [])) (elements_by_parts s bytes false ∙ sym (elements_all s texts))
+    ∙ mapped_in_place s texts i ∙ sym (values_all s (parts_of s s.component false (get_or texts i [])))
+
+-- ---- the values of an element, one after the other
+
+pub values_split : (s : Service) (text : List ℕ) → map (value_of s false) (parts_of s s.component false text) ≡ option_map_or (λ (p : List ℕ × List ℕ). value_of s false p.0 ∷ map (value_of s false) (parts_of s s.component false p.1)) (split_of s s.component text) (value_of s false text ∷ [])
+values_split s text = ap (map (value_of s false)) (parts_split s s.component text) ∙ moved (split_of s s.component text)
+  where
+    moved : (o : Option (List ℕ × List ℕ)) → map (value_of s false) (option_map_or (λ (p : List ℕ × List ℕ). p.0 ∷ parts_of s s.component false p.1) o (text ∷ [])) ≡ option_map_or (λ (p : List ℕ × List ℕ). value_of s false p.0 ∷ map (value_of s false) (parts_of s s.component false p.1)) o (value_of s false text ∷ [])
+    moved None = refl
+    moved (Some p) = refl

@@ -48,3 +48,7 @@ are_service_characters component element (Some release) terminator =
 -- the text begins with `UNA`
 abbrev pub begins_with_advice : List ℕ → Bool
 begins_with_advice text = bytes_eq (take 3 text) (codes "UNA")
+
+-- a byte from space to tilde
+abbrev pub is_printable : ℕ → Bool
+is_printable b = nat_le 32 b && nat_le b 126

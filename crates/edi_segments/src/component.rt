@@ -1,6 +1,8 @@
 ghost use Rattle.std.specs.Prelude.{◌≡◌, ◌↔◌, ◌++◌, ℕ, length, IsTrue, OnOk, OnErr, false};
 ghost use Rattle.edi_segments.specs.Parts.{value_of};
-ghost use Rattle.edi_segments.specs.Segment.{value, bytes_left};
+ghost use Rattle.edi_segments.specs.Segment.{value, bytes_left, fixed};
+ghost use Rattle.edi_segments.specs.Characters.{is_printable};
+ghost use Rattle.std.specs.List.{list_all};
 
 use super::bytes::Bytes;
 use super::service::Service;
@@ -61,6 +63,34 @@ impl<'a> Component<'a> {
             }
         }
         rest.is_empty()
+    }
+
+    /// Each byte of the value is one from space to tilde.
+    pub fn is_printable(&self) -> bool
+        ensures { result ≡ list_all is_printable (value self.now) }
+    {
+        for byte in self.bytes() {
+            if byte < 32 || byte > 126 {
+                return false;
+            }
+        }
+        true
+    }
+
+    /// The value as an array, where it has exactly that many bytes.
+    pub fn fixed<const N: usize>(&self) -> Option<[u8; N]>
+        ensures { result ≡ fixed N (value self.now) }
+    {
+        let mut text = [0; N];
+        let mut len = 0;
+        for byte in self.bytes() {
+            if len == N {
+                return None;
+            }
+            text[len] = byte;
+            len += 1;
+        }
+        if len == N { Some(text) } else { None }
     }
 
     /// Writes the value at the end. Where memory is refused the vector is as it was.

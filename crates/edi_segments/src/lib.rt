@@ -4,6 +4,7 @@
 pub mod bytes;
 pub mod characters;
 pub mod component;
+pub mod components;
 mod part;
 pub mod segment;
 pub mod segments;
@@ -13,6 +14,7 @@ pub mod token;
 
 pub use bytes::Bytes;
 pub use component::Component;
+pub use components::Components;
 pub use segment::Segment;
 pub use segments::Segments;
 pub use service::Service;

@@ -23,7 +23,11 @@ pub(crate) fn part<'a>(service: Service, separator: u8, bytes: &'a [u8], index: 
 }
 
 /// What stands before and behind the first separator that is not released.
-fn split_once<'a>(service: Service, separator: u8, bytes: &'a [u8]) -> Option<(&'a [u8], &'a [u8])>
+pub(crate) fn split_once<'a>(
+    service: Service,
+    separator: u8,
+    bytes: &'a [u8],
+) -> Option<(&'a [u8], &'a [u8])>
     ensures { option_map (λ found. (found.0.now, found.1.now)) result ≡ split_of service separator bytes.now }
 {
     let mut released = false;
