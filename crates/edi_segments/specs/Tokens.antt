@@ -1,0 +1,35 @@
+-- What a byte is, by the service characters and whether the byte before it releases it.
+use Rattle.std.specs.Prelude.{ℕ, Bool, true, false, cond, not, ◌&&◌, ◌||◌, ◌==◌, Option}
+use Rattle.edi_segments.specs.Characters.{is_data_byte, is_release}
+use Rattle.edi_segments.specs.declared.service.Service.{Service}
+use Rattle.edi_segments.specs.declared.token.Token.{Token}
+use Rattle.edi_segments.specs.declared.token.Token.TheVariants.{Data, Release, Component, Element, Terminator, Invalid}
+
+abbrev pub is_service : Service → ℕ → Bool
+is_service s b = b == s.component || b == s.element || b == s.terminator || is_release s.release b
+
+-- a byte that stands for itself
+abbrev pub is_plain : Service → ℕ → Bool
+is_plain s b = is_data_byte b && not (is_service s b)
+
+-- a byte that may stand behind the release character
+abbrev pub may_be_released : Service → ℕ → Bool
+may_be_released s b = is_data_byte b || is_service s b
+
+unfoldable pub token_of : Service → Bool → ℕ → Token
+token_of s true b = cond (may_be_released s b) Data Invalid
+token_of s false b =
+    cond (is_release s.release b) Release
+    (cond (b == s.component) Component
+    (cond (b == s.element) Element
+    (cond (b == s.terminator) Terminator
+    (cond (is_data_byte b) Data Invalid))))
+
+-- the byte behind this one is released
+abbrev pub releases : Token → Bool
+releases Release = true
+releases Data = false
+releases Component = false
+releases Element = false
+releases Terminator = false
+releases Invalid = false

@@ -1,0 +1,110 @@
+ghost use Rattle.std.specs.Prelude.{◌≡◌, ◌↔◌, ◌++◌, ℕ, length, IsTrue, OnOk, OnErr, false};
+ghost use Rattle.edi_segments.specs.Parts.{value_of};
+ghost use Rattle.edi_segments.specs.Segment.{value, bytes_left, fixed};
+ghost use Rattle.edi_segments.specs.Characters.{is_printable};
+ghost use Rattle.std.specs.List.{list_all};
+
+use super::bytes::Bytes;
+use super::service::Service;
+use std::alloc::AllocError;
+
+/// The value of a component, as its spelling in the text.
+#[derive(Clone, Copy)]
+pub struct Component<'a> {
+    service: Service,
+    text: &'a [u8],
+}
+
+impl<'a> Component<'a> {
+    pub(crate) fn new(service: Service, text: &'a [u8]) -> Component<'a>
+        ensures { value result ≡ value_of service false text.now }
+    {
+        Component { service, text }
+    }
+
+    /// The bytes of the value.
+    pub fn bytes(&self) -> Bytes<'a>
+        ensures { bytes_left result ≡ value self.now }
+    {
+        Bytes::new(self.service, self.text)
+    }
+
+    /// The value has no byte.
+    pub fn is_empty(&self) -> bool
+        ensures { IsTrue result ↔ (length (value self.now) ≡ 0) }
+    {
+        self.bytes().next().is_none()
+    }
+
+    /// How many bytes the value has.
+    pub fn len(&self) -> usize
+        ensures { result ≡ length (value self.now) }
+    {
+        let mut len = 0;
+        let mut released = false;
+        for byte in self.text {
+            released = self.service.token(released, *byte).releases();
+            if !released {
+                len += 1;
+            }
+        }
+        len
+    }
+
+    /// The value is these bytes.
+    pub fn equals(&self, other: &[u8]) -> bool
+        ensures { IsTrue result ↔ (value self.now ≡ other.now) }
+    {
+        let mut rest = other;
+        for byte in self.bytes() {
+            match rest.split_first() {
+                Some((first, behind)) if *first == byte => rest = behind,
+                _ => return false,
+            }
+        }
+        rest.is_empty()
+    }
+
+    /// Each byte of the value is one from space to tilde.
+    pub fn is_printable(&self) -> bool
+        ensures { result ≡ list_all is_printable (value self.now) }
+    {
+        for byte in self.bytes() {
+            if byte < 32 || byte > 126 {
+                return false;
+            }
+        }
+        true
+    }
+
+    /// The value as an array, where it has exactly that many bytes.
+    pub fn fixed<const N: usize>(&self) -> Option<[u8; N]>
+        ensures { result ≡ fixed N (value self.now) }
+    {
+        let mut text = [0; N];
+        let mut len = 0;
+        for byte in self.bytes() {
+            if len == N {
+                return None;
+            }
+            text[len] = byte;
+            len += 1;
+        }
+        if len == N { Some(text) } else { None }
+    }
+
+    /// Writes the value at the end. Where memory is refused the vector is as it was.
+    pub fn value_into(&self, out: &mut Vec<u8>) -> Result<(), AllocError>
+        ensures ok { OnOk result (out.new.items ≡ out.old.items ++ value self.now) }
+        ensures err { OnErr result (out.new.items ≡ out.old.items) }
+    {
+        let start = out.len();
+        for byte in self.bytes() {
+            if let Err(error) = out.push(byte) {
+                out.truncate(start);
+                return Err(AllocError::from(error));
+            }
+        }
+        Ok(())
+    }
+}

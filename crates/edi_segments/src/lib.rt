@@ -1,0 +1,21 @@
+//! Segments of an EDIFACT text: its service characters, the segments, and the values of their components.
+#![tactic(auto)]
+
+pub mod bytes;
+pub mod characters;
+pub mod component;
+pub mod components;
+mod part;
+pub mod segment;
+pub mod segments;
+pub mod service;
+pub mod syntax_fault;
+pub mod token;
+
+pub use bytes::Bytes;
+pub use component::Component;
+pub use components::Components;
+pub use segment::Segment;
+pub use segments::Segments;
+pub use service::Service;
+pub use syntax_fault::SyntaxFault;

@@ -1,0 +1,32 @@
+ghost use Rattle.std.specs.Prelude.{◌≡◌};
+
+/// What a byte is, at its place.
+#[derive(Clone, Copy, PartialEq, Eq, Debug)]
+pub enum Token {
+    /// It stands for itself.
+    Data,
+    /// It releases the next byte.
+    Release,
+    /// It parts two components.
+    Component,
+    /// It begins an element.
+    Element,
+    /// It ends a segment.
+    Terminator,
+    /// It may not stand there.
+    Invalid,
+}
+
+impl Token {
+    ghost use Rattle.edi_segments.specs.Tokens.{releases};
+
+    /// The byte behind this one is released.
+    pub fn releases(self) -> bool
+        ensures { result ≡ releases self }
+    {
+        match self {
+            Token::Release => true,
+            _ => false,
+        }
+    }
+}
