@@ -1,5 +1,5 @@
 -- The names of the yard's slots: block letter, bay of three digits, row of two, tier of one.
-use Rattle.std.specs.Prelude.{◌==◌, ℕ, ◌+◌, ◌-◌, ◌*◌, ◌/◌, ◌%◌, Bool, ◌&&◌, if◌then◌else◌, List, [], ◌∷◌, length, slice_index, Option, Some, None}
+use Rattle.std.specs.Prelude.{◌≡◌, ◌==◌, ◌<◌, IsTrue, ℕ, ◌+◌, ◌-◌, ◌*◌, ◌/◌, ◌%◌, Bool, ◌&&◌, if◌then◌else◌, List, [], ◌∷◌, length, slice_index, Option, Some, None}
 use Rattle.std.specs.Char.{is_ascii_uppercase, is_ascii_digit}
 use Rattle.std.specs.List.{list_all}
 use Rattle.box6346.specs.declared.slot.Slot.{Slot}
@@ -27,10 +27,20 @@ slot_of [] = None
 slot_of (letter ∷ digits) =
     if is_ascii_uppercase letter && are_six_digits digits then Some (slot_at letter digits) else None
 
--- a slot's name, where its numbers fit their digits
+-- a slot's name; of a number that doesn't fit its digits, the lowest
 abbrev pub slot_text : Slot → List ℕ
 slot_text slot =
     slot.block
-    ∷ (48 + slot.bay / 100) ∷ (48 + slot.bay / 10 % 10) ∷ (48 + slot.bay % 10)
-    ∷ (48 + slot.row / 10) ∷ (48 + slot.row % 10)
-    ∷ (48 + slot.tier) ∷ []
+    ∷ (48 + slot.bay / 100 % 10) ∷ (48 + slot.bay / 10 % 10) ∷ (48 + slot.bay % 10)
+    ∷ (48 + slot.row / 10 % 10) ∷ (48 + slot.row % 10)
+    ∷ (48 + slot.tier % 10) ∷ []
+
+-- A slot with a capital for its block and numbers that fit their digits is read again from its name.
+pub record IsNamed (slot : Slot) : Type 0 where
+  pub block : IsTrue (is_ascii_uppercase slot.block)
+  pub bay : slot.bay < 1000
+  pub row : slot.row < 100
+  pub tier : slot.tier < 10
+
+abbrev pub NamesAreReadAgain : Type 0
+NamesAreReadAgain = (slot : Slot) → IsNamed slot → slot_of (slot_text slot) ≡ Some slot

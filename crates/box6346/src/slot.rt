@@ -1,5 +1,5 @@
-ghost use Rattle.std.specs.Prelude.{◌≡◌, ◌<◌};
-ghost use Rattle.box6346.specs.SlotName.{are_six_digits};
+ghost use Rattle.std.specs.Prelude.{◌≡◌};
+ghost use Rattle.box6346.specs.SlotName.{are_six_digits, NamesAreReadAgain};
 
 use crate::characters::{are_digits, digit};
 
@@ -39,21 +39,19 @@ impl Slot {
         })
     }
 
-    /// The slot's name.
+    /// The slot's name, from which it is read again where its block is a capital and its numbers fit their
+    /// digits. Of a number that doesn't fit, the lowest digits are written.
     pub fn text(self) -> [u8; 7]
-        requires bay { self.bay < 1000 }
-        requires row { self.row < 100 }
-        requires tier { self.tier < 10 }
         ensures { result ≡ slot_text self }
     {
         [
             self.block,
-            b'0' + (self.bay / 100) as u8,
+            b'0' + (self.bay / 100 % 10) as u8,
             b'0' + (self.bay / 10 % 10) as u8,
             b'0' + (self.bay % 10) as u8,
-            b'0' + self.row / 10,
+            b'0' + self.row / 10 % 10,
             b'0' + self.row % 10,
-            b'0' + self.tier,
+            b'0' + self.tier % 10,
         ]
     }
 }
@@ -64,3 +62,8 @@ fn are_six_digits(text: &[u8]) -> bool
 {
     text.len() == 6 && are_digits(text)
 }
+
+/// A slot of a yard is read again from its name.
+pub fn names_are_read_again()
+    ensures { NamesAreReadAgain }
+{}

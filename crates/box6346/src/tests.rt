@@ -72,7 +72,6 @@ fn slots(rt: HostRuntime) -> Result<(), Fail> {
             tier: 4
         }
     );
-    assert!(rt; slot.bay < 1000 && slot.row < 100 && slot.tier < 10);
     assert!(rt; slot.text() == *b"B127034");
     let texts: [&[u8]; 4] = [b"a001011", b"A1", b"A0010111", b"A00101X"];
     for text in texts {
