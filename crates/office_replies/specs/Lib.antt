@@ -1,0 +1,4 @@
+pub mod Names
+pub mod Members
+pub mod Lines
+pub mod Bodies

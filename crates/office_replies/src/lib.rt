@@ -1,0 +1,12 @@
+//! The bodies that answer deliveries, and the replies that are kept of interchanges: JSON as `serde_json` writes it, compact,
+//! with the members of each object in the byte order of their keys.
+#![tactic(auto)]
+
+mod body;
+mod line_report;
+mod names;
+mod text;
+
+pub use body::{answered, clash, refused, waiting};
+pub use line_report::LineReport;
+pub use text::text_of;

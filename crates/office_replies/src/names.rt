@@ -1,0 +1,29 @@
+ghost use Rattle.std.specs.Prelude.{◌≡◌};
+ghost use Rattle.office_replies.specs.Names.{reason_name};
+
+use terminal_core::Reason;
+
+/// The name of a reason, as a reply gives it.
+pub(crate) fn reason_name(reason: Reason) -> &'static str
+    ensures { result.now ≡ reason_name reason }
+{
+    match reason {
+        Reason::Form => "Form",
+        Reason::CheckDigit => "CheckDigit",
+        Reason::Size => "Size",
+        Reason::Moment => "Moment",
+        Reason::SlotText => "SlotText",
+        Reason::AlreadyIn => "AlreadyIn",
+        Reason::NotIn => "NotIn",
+        Reason::AlreadyListed => "AlreadyListed",
+        Reason::NotListed => "NotListed",
+        Reason::ListLineDone => "ListLineDone",
+        Reason::Buried(_) => "Buried",
+        Reason::NoSlot => "NoSlot",
+        Reason::SlotKind => "SlotKind",
+        Reason::Taken => "Taken",
+        Reason::OnAir => "OnAir",
+        Reason::NoRoom => "NoRoom",
+        Reason::VisitLimit => "VisitLimit",
+    }
+}
