@@ -1,7 +1,11 @@
--- The names that replies give to reasons.
+-- The names that replies give to reasons and faults.
 use Rattle.std.specs.Prelude.{ℕ, List, codes}
 use Rattle.terminal_core.specs.declared.reason.Reason.{Reason}
 use Rattle.terminal_core.specs.declared.reason.Reason.TheVariants.{Form, CheckDigit, Size, Moment, SlotText, AlreadyIn, NotIn, AlreadyListed, NotListed, ListLineDone, Buried, NoSlot, SlotKind, Taken, OnAir, NoRoom, VisitLimit}
+use Rattle.edi_segments.specs.declared.syntax_fault.SyntaxFault.{SyntaxFault}
+use Rattle.edi_segments.specs.declared.syntax_fault.SyntaxFault.TheVariants as syntax
+use Rattle.office_replies.specs.declared.fault.Fault.{Fault}
+use Rattle.office_replies.specs.declared.fault.Fault.TheVariants as fault
 
 abbrev pub reason_name : Reason → List ℕ
 reason_name Form = codes "Form"
@@ -21,3 +25,25 @@ reason_name Taken = codes "Taken"
 reason_name OnAir = codes "OnAir"
 reason_name NoRoom = codes "NoRoom"
 reason_name VisitLimit = codes "VisitLimit"
+
+abbrev pub syntax_name : SyntaxFault → List ℕ
+syntax_name syntax.TooLong = codes "TooLong"
+syntax_name syntax.Service = codes "Service"
+syntax_name syntax.Segment = codes "Segment"
+syntax_name syntax.NoEnvelope = codes "NoEnvelope"
+syntax_name syntax.Group = codes "Group"
+syntax_name syntax.Version = codes "Version"
+syntax_name syntax.Number = codes "Number"
+syntax_name syntax.Moment = codes "Moment"
+syntax_name syntax.Test = codes "Test"
+syntax_name syntax.MessageFrame = codes "MessageFrame"
+syntax_name syntax.SegmentCount = codes "SegmentCount"
+syntax_name syntax.MessageReference = codes "MessageReference"
+syntax_name syntax.Empty = codes "Empty"
+syntax_name syntax.ControlCount = codes "ControlCount"
+syntax_name syntax.ControlReference = codes "ControlReference"
+
+abbrev pub fault_name : Fault → List ℕ
+fault_name (fault.Syntax syntax) = syntax_name syntax
+fault_name fault.UnknownSender = codes "UnknownSender"
+fault_name fault.WrongRecipient = codes "WrongRecipient"

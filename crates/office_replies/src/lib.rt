@@ -3,10 +3,17 @@
 #![tactic(auto)]
 
 mod body;
+mod fault;
 mod line_report;
 mod names;
+mod refusal;
+mod response;
 mod text;
+mod worst;
 
 pub use body::{answered, clash, refused, waiting};
+pub use fault::Fault;
 pub use line_report::LineReport;
+pub use response::Response;
 pub use text::text_of;
+pub use worst::Worst;

@@ -1,0 +1,67 @@
+use crate::fault::Fault;
+use crate::refusal::refusal_body;
+use crate::worst::Worst;
+
+/// The answer to a delivery, with its body.
+#[derive(Debug, Drop)]
+pub enum Response {
+    /// It was taken now.
+    Taken(String),
+    /// It was taken before, and gets the reply that was kept for it.
+    Repeat(String),
+    /// It is kept until its number is the partner's next.
+    Waiting(String),
+    /// Other bytes are kept under its number.
+    Clash(String),
+    /// It is refused, and nobody is owed a CONTRL.
+    Refused(Fault),
+    /// It is refused, with a CONTRL in the body.
+    Rejected { fault: Fault, body: String },
+    /// Memory or the store was wanting: nothing has changed, and the same delivery may come again.
+    NotNow,
+}
+
+impl Response {
+    ghost use Rattle.std.specs.Prelude.{◌≡◌};
+    ghost use Rattle.office_replies.specs.Responses.{status_of, body_of, worst_of};
+
+    /// The status of HTTP that goes with it.
+    pub fn status(&self) -> u16
+        ensures { result ≡ status_of self.now }
+    {
+        match self {
+            Response::Taken(_) | Response::Repeat(_) => 200,
+            Response::Waiting(_) => 202,
+            Response::Clash(_) => 409,
+            Response::Refused(fault) => fault.status(),
+            Response::Rejected { fault, .. } => fault.status(),
+            Response::NotNow => 503,
+        }
+    }
+
+    /// Its body, compact JSON.
+    pub fn body(&self) -> &str
+        ensures { result.now ≡ body_of self.now }
+    {
+        match self {
+            Response::Taken(body) => body.as_str(),
+            Response::Repeat(body) => body.as_str(),
+            Response::Waiting(body) => body.as_str(),
+            Response::Clash(body) => body.as_str(),
+            Response::Refused(fault) => refusal_body(*fault),
+            Response::Rejected { body, .. } => body.as_str(),
+            Response::NotNow => "{\"answer\":\"not now\"}",
+        }
+    }
+
+    /// How bad it is.
+    pub fn worst(&self) -> Worst
+        ensures { result ≡ worst_of self.now }
+    {
+        match self {
+            Response::Taken(_) | Response::Repeat(_) | Response::Waiting(_) => Worst::Fine,
+            Response::Clash(_) | Response::Refused(_) | Response::Rejected { .. } => Worst::Refused,
+            Response::NotNow => Worst::NotNow,
+        }
+    }
+}
