@@ -5,3 +5,4 @@ pub mod LoopLemmas
 pub mod SegmentsLemmas
 pub mod PartLemmas
 pub mod AdviceLemmas
+pub mod TestLemmas

@@ -151,3 +151,15 @@ pub nothing_is_segments : (s : Service) (bytes : List ℕ) → length bytes ≡ 
 unfolding are_segments_from
 nothing_is_segments s [] h = refl
 nothing_is_segments s (b ∷ bytes) h = absurd (omega arith)
+
+-- each segment takes at least one byte
+pub length-segments : (s : Service) (bytes : List ℕ) (skip : ℕ) → length (segments_from s skip bytes) ≤ length bytes
+unfolding segments_from
+length-segments s [] zero = omega arith
+length-segments s [] (suc skip) = omega arith
+length-segments s (b ∷ bytes) (suc skip) = omega (arith, length-segments s bytes skip)
+length-segments s (b ∷ bytes) zero = one (λ skip. length-segments s bytes skip) (body_len s (b ∷ bytes))
+  where
+    one : ((skip : ℕ) → length (segments_from s skip bytes) ≤ length bytes) → (o : Option ℕ) → length (option_map_or (λ n. content_of s (take n (b ∷ bytes)) ∷ segments_from s (n + breaks_len (drop n bytes)) bytes) o []) ≤ suc (length bytes)
+    one shorter None = omega arith
+    one shorter (Some n) = omega (arith, shorter (n + breaks_len (drop n bytes)))

@@ -12,6 +12,10 @@ pub record Content : Type 0 where
   pub tag : List ℕ
   pub elements : List (List (List ℕ))
 
+-- a segment with no tag and no element, where there is none
+abbrev pub no_segment : Content
+no_segment = record { tag = []; elements = [] }
+
 -- the segment has this tag
 abbrev pub has_tag : List ℕ → Content → Bool
 has_tag tag segment = bytes_eq segment.tag tag

@@ -3,6 +3,7 @@ ghost use Rattle.edi_segments.specs.Parts.{value_of};
 ghost use Rattle.edi_segments.specs.Segment.{value, bytes_left, fixed};
 ghost use Rattle.edi_segments.specs.Characters.{is_printable};
 ghost use Rattle.std.specs.List.{list_all};
+ghost use Rattle.std.specs.Str.{bytes_eq};
 
 use super::bytes::Bytes;
 use super::service::Service;
@@ -53,16 +54,18 @@ impl<'a> Component<'a> {
 
     /// The value is these bytes.
     pub fn equals(&self, other: &[u8]) -> bool
-        ensures { IsTrue result ↔ (value self.now ≡ other.now) }
+        ensures equal { IsTrue result ↔ (value self.now ≡ other.now) }
+        ensures test { result ≡ bytes_eq (value self.now) other.now }
     {
-        let mut rest = other;
-        for byte in self.bytes() {
-            match rest.split_first() {
-                Some((first, behind)) if *first == byte => rest = behind,
-                _ => return false,
-            }
-        }
-        rest.is_empty()
+        are_bytes(self.bytes(), other)
+    }
+
+    /// The value is that of the other component, also where they are spelled in other ways.
+    pub fn has_same_value(&self, other: &Component<'_>) -> bool
+        ensures equal { IsTrue result ↔ (value self.now ≡ value other.now) }
+        ensures test { result ≡ bytes_eq (value self.now) (value other.now) }
+    {
+        are_same(self.bytes(), other.bytes())
     }
 
     /// Each byte of the value is one from space to tilde.
@@ -107,4 +110,31 @@ impl<'a> Component<'a> {
         }
         Ok(())
     }
+}
+
+/// The bytes are these.
+fn are_bytes(bytes: Bytes<'_>, other: &[u8]) -> bool
+    ensures { IsTrue result ↔ (bytes_left bytes.entry ≡ other.now) }
+{
+    let mut rest = other;
+    for byte in bytes {
+        match rest.split_first() {
+            Some((first, behind)) if *first == byte => rest = behind,
+            _ => return false,
+        }
+    }
+    rest.is_empty()
+}
+
+fn are_same(bytes: Bytes<'_>, others: Bytes<'_>) -> bool
+    ensures { IsTrue result ↔ (bytes_left bytes.entry ≡ bytes_left others.entry) }
+{
+    let mut rest = others;
+    for byte in bytes {
+        match rest.next() {
+            Some(other) if other == byte => {}
+            _ => return false,
+        }
+    }
+    rest.next().is_none()
 }

@@ -30,6 +30,9 @@ impl<'a> Segments<'a> {
         ensures ok { IfOk result (λ found. (read_fault text.now ≡ None) × (segments_left found ≡ segments_in text.now)) }
         ensures err { IfErr result (λ fault. read_fault text.now ≡ Some fault) }
 
+        // No segment takes less than one byte.
+        ensures fewer { IfOk result (λ found. length (segments_left found) ≤ length text.now) }
+
         // The segments that are read are those of the grammar, and no others are.
         ensures spelled { IfOk result (λ found. InterchangeText (segments_left found) text.now) }
         ensures only { (segments : List Content) → InterchangeText segments text.now → IsOkAnd result (λ found. segments_left found ≡ segments) }
@@ -63,7 +66,8 @@ impl<'a> Iterator for Segments<'a> {
 fn behind_advice<'a>(text: &'a [u8], start: usize) -> &'a [u8]
     requires within { start ≤ length text.now }
     requires advised { start ≡ advice_len text.now }
-    ensures { result.now ≡ behind_advice text.now }
+    ensures behind { result.now ≡ behind_advice text.now }
+    ensures shorter { length result.now ≤ length text.now }
 {
     if start == 0 {
         return text;

@@ -1,0 +1,9 @@
+-- What an opened envelope stands for.
+use Rattle.std.specs.Prelude.{List}
+use Rattle.edi_segments.specs.Text.{Content}
+use Rattle.edi_syntax.specs.Heads.{head_segments}
+use Rattle.edi_syntax.specs.declared.envelope.Envelope.{Envelope}
+
+-- the segments of the interchange
+abbrev pub envelope_segments : Envelope → List Content
+envelope_segments envelope = head_segments envelope.head

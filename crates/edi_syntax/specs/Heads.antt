@@ -1,0 +1,9 @@
+-- What an opened head stands for.
+use Rattle.std.specs.Prelude.{List, ◌∷◌}
+use Rattle.edi_segments.specs.Text.{Content}
+use Rattle.edi_segments.specs.Segment.{content, segments_left}
+use Rattle.edi_syntax.specs.declared.head.Head.{Head}
+
+-- the segments of the interchange
+abbrev pub head_segments : Head → List Content
+head_segments head = content head.header ∷ segments_left head.rest

@@ -1,0 +1,14 @@
+pub mod Numbers
+pub mod Messages
+pub mod Header
+pub mod Envelope
+pub mod Faults
+pub mod Frames
+pub mod Heads
+pub mod Envelopes
+pub use Rattle.edi_moments.specs.Moments
+pub use Rattle.edi_segments.specs.Characters
+pub use Rattle.edi_segments.specs.Text
+pub use Rattle.edi_segments.specs.Advice
+pub use Rattle.edi_segments.specs.Interchange
+pub use Rattle.edi_segments.specs.Segment

@@ -1,0 +1,21 @@
+//! Interchanges of ISO 9735 version 3 in this office's profile: the envelope of a text, and its messages.
+#![tactic(auto)]
+
+pub mod envelope;
+mod faults;
+pub mod frame;
+pub mod frames;
+pub mod head;
+mod header;
+pub mod message_segments;
+mod numbers;
+pub mod opening;
+
+pub use edi_moments::Moment;
+pub use edi_segments::{Bytes, Component, Components, Segment, Segments, Service, SyntaxFault};
+pub use envelope::Envelope;
+pub use frame::Frame;
+pub use frames::Frames;
+pub use head::Head;
+pub use message_segments::MessageSegments;
+pub use opening::open_envelope;
