@@ -1,11 +1,12 @@
 //! What one delivery adds to the deliveries before it, over the definitions alone.
 
-ghost use Rattle.std.specs.Prelude.{◌≡◌, ℕ, ◌≤◌, List};
+ghost use Rattle.std.specs.Prelude.{◌≡◌, ◌≢◌, ◌↔◌, ℕ, ◌+◌, ◌≤◌, List, None, IsSome, AllPairs, filter};
 ghost use Rattle.partner_core.specs.declared.standing.Standing.TheVariants.{Known, Other, Early, Next};
-ghost use Rattle.partner_core.specs.Deliveries.{Delivery, first_text};
+ghost use Rattle.partner_core.specs.Deliveries.{Delivery, first_text, run};
+ghost use Rattle.partner_core.specs.Order.{is_of, numbers_above, order, reply_of};
 ghost use Rattle.partner_core.specs.Standings.{standing_at};
 ghost use Rattle.partner_core.specs.Growth.{AddsNothing, AddsText, AddsRun, EndsRun, IsNextNumber, IsAllOf, ComesToSame};
-ghost use Rattle.partner_core.specs.Keeping.{StaysKept, KeepsOneMore, KeepsRun};
+ghost use Rattle.partner_core.specs.Keeping.{StaysKept, KeepsOneMore, KeepsRun, StandsAsKept, AnswersAsKept};
 
 use crate::Machine;
 
@@ -34,6 +35,23 @@ pub fn next_number()
     ensures { (ds : List Delivery) (d : Delivery) → 1 ≤ d.number → standing_at ds d ≡ Next → IsNextNumber ds d }
 {}
 
+/// Order has no pair of a partner and a number twice, and of each partner it has the run, in number
+/// order.
+pub fn once_each()
+    ensures once { (ds : List Delivery) → AllPairs (λ x y. x ≢ y) (order ds) }
+    ensures in_number_order { (ds : List Delivery) (p : ℕ) → filter (is_of p) (order ds) ≡ numbers_above p 0 (run ds p) }
+{}
+
+/// A number has a reply exactly where it is within the run.
+pub fn replied<M: Machine>()
+    ensures { (opening : M) (ds : List Delivery) (p k : ℕ) → IsSome (reply_of M.taken opening ds p k) ↔ ((1 ≤ k) × (k ≤ run ds p)) }
+{}
+
+/// A free number is the next one or beyond it.
+pub fn free()
+    ensures { (ds : List Delivery) (p k : ℕ) → 1 ≤ k → first_text ds p k ≡ None → run ds p + 1 ≤ k }
+{}
+
 /// Texts of one partner come to the same in whatever order and however often they come, if each
 /// number's first text is the same.
 pub fn one_partner<M: Machine>()
@@ -54,4 +72,14 @@ pub fn keeps_one_more<M: Machine>()
 /// What is kept after the next text and its cascade is right.
 pub fn keeps_run<M: Machine>()
     ensures { KeepsRun M.taken }
+{}
+
+/// What is kept tells how a delivery stands.
+pub fn stands_as_kept<M: Machine>()
+    ensures { StandsAsKept M.taken }
+{}
+
+/// What is kept before a delivery and after it tells the answer.
+pub fn answers_as_kept<M: Machine>()
+    ensures { AnswersAsKept M.taken }
 {}

@@ -37,6 +37,6 @@ fn a_gap_is_closed(rt: HostRuntime) -> Result<(), Fail> {
     assert_eq!(rt; runs.next_of(1), 4);
     assert_eq!(rt; runs.next_of(2), 1);
     assert_eq!(rt; runs.reply_of(1, 2), Some("2"));
-    assert!(rt; matches!(runs.machine().text(2), Some(text) if text == b"c"));
+    assert!(rt; matches!(runs.machine().text(2), Some(text) if text == b"c".as_slice()));
     Ok(())
 }
