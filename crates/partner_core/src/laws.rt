@@ -1,0 +1,85 @@
+//! What one delivery adds to the deliveries before it, over the definitions alone.
+
+ghost use Rattle.std.specs.Prelude.{◌≡◌, ◌≢◌, ◌↔◌, ℕ, ◌+◌, ◌≤◌, List, None, IsSome, AllPairs, filter};
+ghost use Rattle.partner_core.specs.declared.standing.Standing.TheVariants.{Known, Other, Early, Next};
+ghost use Rattle.partner_core.specs.Deliveries.{Delivery, first_text, run};
+ghost use Rattle.partner_core.specs.Order.{is_of, numbers_above, order, reply_of};
+ghost use Rattle.partner_core.specs.Standings.{standing_at};
+ghost use Rattle.partner_core.specs.Growth.{AddsNothing, AddsText, AddsRun, EndsRun, IsNextNumber, IsAllOf, ComesToSame};
+ghost use Rattle.partner_core.specs.Keeping.{StaysKept, KeepsOneMore, KeepsRun, StandsAsKept, AnswersAsKept};
+
+use crate::Machine;
+
+/// The same text again adds nothing.
+pub fn known<M: Machine>()
+    ensures { (opening : M) (ds : List Delivery) (d : Delivery) → standing_at ds d ≡ Known → AddsNothing M.taken opening ds d }
+{}
+
+/// Another text under a used number adds nothing.
+pub fn other<M: Machine>()
+    ensures { (opening : M) (ds : List Delivery) (d : Delivery) → standing_at ds d ≡ Other → AddsNothing M.taken opening ds d }
+{}
+
+/// A text before its time adds itself to First, and nothing else.
+pub fn early<M: Machine>()
+    ensures { (opening : M) (ds : List Delivery) (d : Delivery) → standing_at ds d ≡ Early → AddsText M.taken opening ds d }
+{}
+
+/// The next text adds itself to First, and to Order what it makes next.
+pub fn next<M: Machine>()
+    ensures { (opening : M) (ds : List Delivery) (d : Delivery) (last : ℕ) → EndsRun ds d last → AddsRun M.taken opening ds d last }
+{}
+
+/// A text that stands next has the number after the run.
+pub fn next_number()
+    ensures { (ds : List Delivery) (d : Delivery) → 1 ≤ d.number → standing_at ds d ≡ Next → IsNextNumber ds d }
+{}
+
+/// Order has no pair of a partner and a number twice, and of each partner it has the run, in number
+/// order.
+pub fn once_each()
+    ensures once { (ds : List Delivery) → AllPairs (λ x y. x ≢ y) (order ds) }
+    ensures in_number_order { (ds : List Delivery) (p : ℕ) → filter (is_of p) (order ds) ≡ numbers_above p 0 (run ds p) }
+{}
+
+/// A number has a reply exactly where it is within the run.
+pub fn replied<M: Machine>()
+    ensures { (opening : M) (ds : List Delivery) (p k : ℕ) → IsSome (reply_of M.taken opening ds p k) ↔ ((1 ≤ k) × (k ≤ run ds p)) }
+{}
+
+/// A free number is the next one or beyond it.
+pub fn free()
+    ensures { (ds : List Delivery) (p k : ℕ) → 1 ≤ k → first_text ds p k ≡ None → run ds p + 1 ≤ k }
+{}
+
+/// Texts of one partner come to the same in whatever order and however often they come, if each
+/// number's first text is the same.
+pub fn one_partner<M: Machine>()
+    ensures { (opening : M) (p : ℕ) (ds es : List Delivery) →
+        IsAllOf p ds → IsAllOf p es → ((k : ℕ) → first_text ds p k ≡ first_text es p k) → ComesToSame M.taken opening ds es }
+{}
+
+/// What is kept stays right where the delivery adds nothing.
+pub fn stays_kept<M: Machine>()
+    ensures { StaysKept M.taken }
+{}
+
+/// What is kept with one text more is right where the delivery adds its text.
+pub fn keeps_one_more<M: Machine>()
+    ensures { KeepsOneMore M.taken }
+{}
+
+/// What is kept after the next text and its cascade is right.
+pub fn keeps_run<M: Machine>()
+    ensures { KeepsRun M.taken }
+{}
+
+/// What is kept tells how a delivery stands.
+pub fn stands_as_kept<M: Machine>()
+    ensures { StandsAsKept M.taken }
+{}
+
+/// What is kept before a delivery and after it tells the answer.
+pub fn answers_as_kept<M: Machine>()
+    ensures { AnswersAsKept M.taken }
+{}

@@ -1,0 +1,208 @@
+//! Deliveries to runs over a diary.
+
+mod refusals;
+
+ghost use Rattle.std.specs.Prelude.{◌≡◌, ◌≤◌};
+ghost use Rattle.partner_core.specs.Runs.{partner_count};
+
+use crate::diary::Diary;
+use crate::{Answer, LAST_NUMBER, Machine, Runs, Standing, judge, laws};
+use std::alloc::{AllocError, Global};
+use std::test::Fail;
+
+/// What the answer to a delivery says, in a line.
+fn said<M: Machine>(
+    alloc: Global,
+    runs: &mut Runs<M>,
+    partner: u16,
+    number: u32,
+    text: &str,
+) -> Result<String, AllocError>
+    requires from_one { 1 ≤ partner }
+    requires known { partner ≤ partner_count runs.old }
+    requires positive { 1 ≤ number }
+    requires limit { number ≤ LAST_NUMBER }
+    ensures { partner_count runs.new ≡ partner_count runs.old }
+{
+    match &runs.deliver(alloc, partner, number, text.as_bytes())? {
+        Answer::Taken(reply) => format!(in alloc; "taken {reply}"),
+        Answer::Repeat(reply) => format!(in alloc; "repeat {reply}"),
+        Answer::Waiting { next } => format!(in alloc; "waiting {next}"),
+        Answer::Clash => format!(in alloc; "clash"),
+    }
+}
+
+#[test]
+fn early_texts_come_in_number_order(rt: HostRuntime) -> Result<(), Fail> {
+    let alloc = rt.alloc();
+    let mut runs = Runs::new(alloc, Diary::new(alloc), 2)?;
+    for (number, text, want) in [
+        (3, "in 38", "waiting 1"),
+        (2, "in 22", "waiting 1"),
+        (3, "in 38", "waiting 1"),
+        (1, "in 17", "taken 1"),
+        (3, "in 38", "repeat 3"),
+    ] {
+        assert_eq!(rt;
+            said(alloc, &mut runs, 1, number, text)?.as_str(),
+            want,
+            "{text}"
+        );
+    }
+    for (place, want) in [(0, "in 17"), (1, "in 22"), (2, "in 38")] {
+        assert_eq!(rt; runs.machine().text(place), Some(want.as_bytes()));
+    }
+    assert_eq!(rt; runs.next_of(1), 4);
+    assert_eq!(rt; runs.next_of(2), 1);
+    assert_eq!(rt; runs.reply_of(1, 2), Some("2"));
+    assert_eq!(rt; runs.reply_of(1, 4), None);
+    Ok(())
+}
+
+#[test]
+fn the_delivery_that_closes_a_gap_decides(rt: HostRuntime) -> Result<(), Fail> {
+    let alloc = rt.alloc();
+    let mut runs = Runs::new(alloc, Diary::new(alloc), 2)?;
+    for (partner, number, text, want) in [
+        (2, 1, "in 17", "taken 1"),
+        (1, 2, "in 38", "waiting 1"),
+        (2, 2, "in 22", "taken 2"),
+        (1, 1, "out 17", "taken 3"),
+        (1, 2, "in 38", "repeat 4"),
+    ] {
+        assert_eq!(rt;
+            said(alloc, &mut runs, partner, number, text)?.as_str(),
+            want,
+            "{text}"
+        );
+    }
+    for (place, want) in [(0, "in 17"), (1, "in 22"), (2, "out 17"), (3, "in 38")] {
+        assert_eq!(rt; runs.machine().text(place), Some(want.as_bytes()));
+    }
+    Ok(())
+}
+
+#[test]
+fn nothing_is_taken_before_its_time(rt: HostRuntime) -> Result<(), Fail> {
+    let alloc = rt.alloc();
+    let mut runs = Runs::new(alloc, Diary::new(alloc), 3)?;
+    for (partner, number, text, want) in [
+        (1, 1, "in 17", "taken 1"),
+        (2, 2, "list 17", "waiting 1"),
+        (3, 1, "load 17", "taken 2"),
+        (2, 1, "list 22", "taken 3"),
+        (3, 2, "load 17", "taken 5"),
+        (3, 3, "load 17", "taken 6"),
+        (2, 3, "list 22", "taken 7"),
+    ] {
+        assert_eq!(rt;
+            said(alloc, &mut runs, partner, number, text)?.as_str(),
+            want,
+            "{text}"
+        );
+    }
+    for (place, want) in [
+        (1, "load 17"),
+        (2, "list 22"),
+        (3, "list 17"),
+        (4, "load 17"),
+    ] {
+        assert_eq!(rt; runs.machine().text(place), Some(want.as_bytes()));
+    }
+    Ok(())
+}
+
+#[test]
+fn the_first_text_under_a_number_stays(rt: HostRuntime) -> Result<(), Fail> {
+    let alloc = rt.alloc();
+    let mut runs = Runs::new(alloc, Diary::new(alloc), 1)?;
+    for (number, text, want) in [
+        (5, "x", "waiting 1"),
+        (5, "y", "clash"),
+        (1, "a", "taken 1"),
+        (2, "b", "taken 2"),
+        (3, "c", "taken 3"),
+        (4, "d", "taken 4"),
+        (5, "y", "clash"),
+        (5, "x", "repeat 5"),
+    ] {
+        assert_eq!(rt;
+            said(alloc, &mut runs, 1, number, text)?.as_str(),
+            want,
+            "{number}"
+        );
+    }
+    assert_eq!(rt; runs.machine().text(4), Some(b"x".as_slice()));
+    assert_eq!(rt; runs.machine().text(5), None);
+    Ok(())
+}
+
+#[test]
+fn the_last_number_waits(rt: HostRuntime) -> Result<(), Fail> {
+    let alloc = rt.alloc();
+    let mut runs = Runs::new(alloc, Diary::new(alloc), 1)?;
+    for (number, text, want) in [
+        (LAST_NUMBER, "last", "waiting 1"),
+        (1, "first", "taken 1"),
+        (999_999_999, "last", "waiting 2"),
+        (999_999_999, "other", "clash"),
+    ] {
+        assert_eq!(rt;
+            said(alloc, &mut runs, 1, number, text)?.as_str(),
+            want,
+            "{number}"
+        );
+    }
+    Ok(())
+}
+
+#[test]
+fn a_text_is_judged_by_what_is_kept(rt: HostRuntime) {
+    for (next, number, kept, text, want) in [
+        (1, 1, None, "a", Standing::Next),
+        (1, 2, None, "a", Standing::Early),
+        (1, 2, Some("a"), "a", Standing::Known),
+        (3, 2, Some("a"), "a", Standing::Known),
+        (3, 2, Some("a"), "a\n", Standing::Other),
+        (3, 2, Some("a"), "", Standing::Other),
+        (1_000_000_000, 999_999_999, Some("a"), "b", Standing::Other),
+    ] {
+        let standing = match kept {
+            Some(kept) => judge(next, number, Some(kept.as_bytes()), text.as_bytes()),
+            None if next <= number => judge(next, number, None, text.as_bytes()),
+            None => Standing::Other,
+        };
+        assert_eq!(rt; standing, want, "{text}");
+    }
+}
+
+#[test]
+fn a_copied_diary_is_the_same(rt: HostRuntime) -> Result<(), Fail> {
+    let alloc = rt.alloc();
+    let mut diary = Diary::new(alloc);
+    assert_eq!(rt; diary.step(alloc, 1, b"a")?.as_str(), "1");
+    let mut copy = diary.copy(alloc)?;
+    assert_eq!(rt; copy.step(alloc, 2, b"b")?.as_str(), "2");
+    assert_eq!(rt; copy.text(0), Some(b"a".as_slice()));
+    assert_eq!(rt; copy.text(1), Some(b"b".as_slice()));
+    assert_eq!(rt; diary.text(1), None);
+    Ok(())
+}
+
+#[test]
+fn each_law_is_there_for_a_diary(_rt: HostRuntime) {
+    laws::known::<Diary>();
+    laws::other::<Diary>();
+    laws::early::<Diary>();
+    laws::next::<Diary>();
+    laws::next_number();
+    laws::free();
+    laws::once_each();
+    laws::replied::<Diary>();
+    laws::one_partner::<Diary>();
+    laws::stays_kept::<Diary>();
+    laws::keeps_one_more::<Diary>();
+    laws::keeps_run::<Diary>();
+    laws::stands_as_kept::<Diary>();
+    laws::answers_as_kept::<Diary>();
+}
