@@ -8,7 +8,7 @@ pub mod frames;
 pub mod head;
 mod header;
 pub mod message_segments;
-mod numbers;
+pub mod numbers;
 pub mod opening;
 
 pub use edi_moments::Moment;
