@@ -20,3 +20,6 @@ pub use plan::Plan;
 pub use plan_fault::PlanFault;
 pub use yard::Yard;
 pub use yard_fault::YardFault;
+
+#[cfg(test)]
+mod tests;
