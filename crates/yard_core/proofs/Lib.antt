@@ -1,0 +1,11 @@
+pub mod Boxes
+pub mod PlanLemmas
+pub mod Levels
+pub mod Somes
+pub mod Cells
+pub mod Sounds
+pub mod Keeps
+pub mod Decides
+pub mod Placings
+pub mod Refusals
+pub mod Searches

@@ -1,0 +1,9 @@
+pub mod Plan
+pub mod YardMap
+pub mod SoundYard
+pub mod FitsAndFree
+pub mod FirstFit
+pub mod Search
+pub mod Calls
+pub mod Columns
+pub mod Levels

@@ -1,0 +1,78 @@
+ghost use Rattle.std.specs.Prelude.{◌≡◌, Some, MatchOption};
+ghost use Rattle.yard_core.specs.Plan.{block_of, IsPlan, IsSized};
+ghost use Rattle.yard_core.specs.Search.{IsInTier, IsInBlock, IsInBay, NoneOpen, IsFirstOpen};
+
+use crate::block::Block;
+use crate::site::is_kind;
+use crate::yard::Yard;
+use box6346::{Length, Slot};
+
+/// The first slot that fits a container of this length, by tier, block letter, bay and row.
+pub(crate) fn first_fit(yard: &Yard, size: Length) -> Option<Slot>
+    requires { IsPlan yard.now.plan }
+    ensures { MatchOption result (NoneOpen yard.now size (λ _. Unit {0})) (IsFirstOpen yard.now size (λ _. Unit {0})) }
+{
+    for tier in 1..7 {
+        let corner = Slot {
+            block: b'A',
+            bay: 1,
+            row: 1,
+            tier,
+        };
+        if let Some(slot) = first_in_tier(yard, size, corner) {
+            return Some(slot);
+        }
+    }
+    None
+}
+
+// The first in the corner's tier.
+fn first_in_tier(yard: &Yard, size: Length, corner: Slot) -> Option<Slot>
+    requires { IsPlan yard.now.plan }
+    ensures { MatchOption result (NoneOpen yard.now size (IsInTier corner)) (IsFirstOpen yard.now size (IsInTier corner)) }
+{
+    for letter in b'A'..b'Z' + 1 {
+        let corner = Slot {
+            block: letter,
+            ..corner
+        };
+        if let Some(block) = yard.block(letter)
+            && let Some(slot) = first_in_block(yard, size, block, corner)
+        {
+            return Some(slot);
+        }
+    }
+    None
+}
+
+// The first in the corner's tier of its block.
+fn first_in_block(yard: &Yard, size: Length, block: Block, corner: Slot) -> Option<Slot>
+    requires block { block_of yard.now.plan corner.block ≡ Some block }
+    requires sized { IsSized block }
+    ensures { MatchOption result (NoneOpen yard.now size (IsInBlock corner)) (IsFirstOpen yard.now size (IsInBlock corner)) }
+{
+    for bay in 1..2 * block.bays as u16 {
+        let corner = Slot { bay, ..corner };
+        if is_kind(size, corner)
+            && let Some(slot) = first_in_bay(yard, size, block, corner)
+        {
+            return Some(slot);
+        }
+    }
+    None
+}
+
+// The first in the corner's tier of its bay.
+fn first_in_bay(yard: &Yard, size: Length, block: Block, corner: Slot) -> Option<Slot>
+    requires block { block_of yard.now.plan corner.block ≡ Some block }
+    requires sized { IsSized block }
+    ensures { MatchOption result (NoneOpen yard.now size (IsInBay corner)) (IsFirstOpen yard.now size (IsInBay corner)) }
+{
+    for row in 1..block.rows + 1 {
+        let slot = Slot { row, ..corner };
+        if yard.fits(size, slot) {
+            return Some(slot);
+        }
+    }
+    None
+}

@@ -1,0 +1,88 @@
+ghost use Rattle.std.specs.Prelude.{◌≡◌, Some, IsSome, OnOk, OnErr, IfOk};
+ghost use Rattle.std.specs.FinMap as finite_map;
+ghost use Rattle.std.specs.HashMap.{get, Updates};
+ghost use Rattle.std.specs.Str.{bytes_eq};
+
+use crate::placement::Placement;
+use box6346::BoxNumber;
+use std::alloc::{AllocError, Global};
+use std::collections::HashMap;
+use std::marker::Model;
+
+/// How each container of a yard stands, seen as the map.
+#[derive(Drop)]
+pub(crate) struct Placements {
+    by_text: HashMap<[u8; 11], Placement>,
+}
+
+impl Model for Placements {
+    ghost use Rattle.std.specs.FinMap as finite_map;
+    ghost use Rattle.yard_core.specs.YardMap.{Boxes, boxes_code, boxes_of};
+
+    ghost Value = { Boxes };
+
+    ghost coded = { boxes_code };
+
+    ghost view = { λ p. boxes_of p.by_text.entries };
+}
+
+impl Placements {
+    pub(crate) fn new(alloc: Global) -> Placements
+        ensures { result ≡ finite_map.empty }
+    {
+        Placements {
+            by_text: HashMap::new(alloc),
+        }
+    }
+
+    pub(crate) fn get(&self, number: BoxNumber) -> Option<Placement>
+        ensures { result ≡ finite_map.get self.now number }
+    {
+        self.by_text.get(&number.text()).copied()
+    }
+
+    /// Adds a container that isn't there.
+    pub(crate) fn insert(
+        &mut self,
+        number: BoxNumber,
+        placement: Placement,
+    ) -> Result<(), AllocError>
+        ensures ok { OnOk result (self.new ≡ finite_map.insert self.old number placement) }
+        ensures err { OnErr result (self.new ≡ self.old) }
+    {
+        self.by_text.insert(number.text(), placement)?;
+        Ok(())
+    }
+
+    pub(crate) fn remove(&mut self, number: BoxNumber)
+        ensures { self.new ≡ finite_map.remove self.old number }
+    {
+        self.by_text.remove(&number.text());
+    }
+
+    /// Has a container that is there stand elsewhere.
+    pub(crate) fn replace(&mut self, number: BoxNumber, placement: Placement)
+        requires { IsSome (finite_map.get self.old number) }
+        ensures { self.new ≡ finite_map.insert self.old number placement }
+    {
+        write(&mut self.by_text, number.text(), placement);
+    }
+
+    pub(crate) fn copy(&self) -> Result<Placements, AllocError>
+        ensures { IfOk result (λ p. p ≡ self.now) }
+    {
+        Ok(Placements {
+            by_text: self.by_text.clone()?,
+        })
+    }
+}
+
+// Writes a placement at a text that is there.
+fn write(by_text: &mut HashMap<[u8; 11], Placement>, text: [u8; 11], placement: Placement)
+    requires { IsSome (get bytes_eq by_text.old text) }
+    ensures { Updates bytes_eq by_text.old by_text.new text (Some placement) }
+{
+    if let Some(kept) = by_text.get_mut(&text) {
+        *kept = placement;
+    }
+}

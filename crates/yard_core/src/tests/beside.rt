@@ -1,0 +1,307 @@
+//! The columns beside a plain list of boxes, which goes through all of them at each call.
+
+use super::{number, plan};
+use crate::{Block, Yard, YardFault};
+use box6346::{BoxNumber, Length, Slot};
+use std::alloc::{AllocError, Global};
+use std::test::Fail;
+
+const BLOCKS: [Block; 2] = [
+    Block {
+        letter: b'C',
+        bays: 3,
+        rows: 2,
+        tiers: 4,
+    },
+    Block {
+        letter: b'B',
+        bays: 2,
+        rows: 1,
+        tiers: 3,
+    },
+];
+
+/// The boxes of a yard, in the order in which they came.
+#[derive(Drop)]
+struct List {
+    boxes: Vec<(BoxNumber, Length, Slot)>,
+}
+
+fn is_same(a: Slot, block: u8, bay: u16, row: u8, tier: u8) -> bool {
+    a.block == block && a.bay == bay && a.row == row && a.tier == tier
+}
+
+/// Whether the box covers the cell.
+fn covers(length: Length, slot: Slot, cell: Slot) -> bool {
+    match length {
+        Length::Twenty => slot == cell,
+        Length::Forty => {
+            is_same(
+                slot,
+                cell.block,
+                cell.bay.saturating_add(1),
+                cell.row,
+                cell.tier,
+            ) || cell.bay > 0 && is_same(slot, cell.block, cell.bay - 1, cell.row, cell.tier)
+        }
+    }
+}
+
+/// The cells that a box there covers.
+fn cells(length: Length, slot: Slot) -> [Slot; 2] {
+    match length {
+        Length::Twenty => [slot, slot],
+        Length::Forty => [
+            Slot {
+                bay: slot.bay.saturating_sub(1),
+                ..slot
+            },
+            Slot {
+                bay: slot.bay.saturating_add(1),
+                ..slot
+            },
+        ],
+    }
+}
+
+fn is_in_plan(slot: Slot) -> bool {
+    BLOCKS.iter().any(|block| {
+        block.letter == slot.block
+            && slot.bay >= 1
+            && slot.bay < 2 * block.bays as u16
+            && slot.row >= 1
+            && slot.row <= block.rows
+            && slot.tier >= 1
+            && slot.tier <= block.tiers
+    })
+}
+
+fn is_kind(length: Length, slot: Slot) -> bool {
+    match length {
+        Length::Twenty => slot.bay % 2 == 1,
+        Length::Forty => slot.bay % 2 == 0,
+    }
+}
+
+impl List {
+    fn has(&self, length: Length, slot: Slot) -> bool {
+        self.boxes.iter().any(|b| b.1 == length && b.2 == slot)
+    }
+
+    fn is_covered(&self, cell: Slot) -> bool {
+        self.boxes.iter().any(|b| covers(b.1, b.2, cell))
+    }
+
+    fn find(&self, number: BoxNumber) -> Option<(Length, Slot)> {
+        for b in &self.boxes {
+            if b.0 == number {
+                return Some((b.1, b.2));
+            }
+        }
+        None
+    }
+
+    /// The box on top of one that stands there.
+    fn blocker(&self, length: Length, slot: Slot) -> Option<BoxNumber> {
+        for b in &self.boxes {
+            for cell in cells(length, slot) {
+                let above = Slot {
+                    tier: cell.tier.saturating_add(1),
+                    ..cell
+                };
+                if covers(b.1, b.2, above) {
+                    return Some(b.0);
+                }
+            }
+        }
+        None
+    }
+
+    /// Why a box does not fit there.
+    fn misfit(&self, length: Length, slot: Slot) -> Option<YardFault> {
+        if !is_in_plan(slot) {
+            return Some(YardFault::NoSlot);
+        }
+        if !is_kind(length, slot) {
+            return Some(YardFault::SlotKind);
+        }
+        let [near, far] = cells(length, slot);
+        if self.is_covered(near) || self.is_covered(far) {
+            return Some(YardFault::Taken);
+        }
+        if slot.tier == 1 || self.carries(length, slot) {
+            None
+        } else {
+            Some(YardFault::OnAir)
+        }
+    }
+
+    fn carries(&self, length: Length, slot: Slot) -> bool {
+        let below = Slot {
+            tier: slot.tier.saturating_sub(1),
+            ..slot
+        };
+        let [near, far] = cells(length, below);
+        self.has(Length::Twenty, near) && self.has(Length::Twenty, far)
+            || length == Length::Forty && self.has(Length::Forty, below)
+    }
+
+    fn take(&mut self, number: BoxNumber) {
+        self.boxes.retain(|b| b.0 != number);
+    }
+
+    fn place(
+        &mut self,
+        number: BoxNumber,
+        length: Length,
+        slot: Slot,
+    ) -> Result<Result<(), YardFault>, AllocError> {
+        if self.find(number).is_some() {
+            return Ok(Err(YardFault::Present));
+        }
+        if let Some(fault) = self.misfit(length, slot) {
+            return Ok(Err(fault));
+        }
+        self.boxes.push((number, length, slot))?;
+        Ok(Ok(()))
+    }
+
+    fn place_first(
+        &mut self,
+        slots: &[Slot],
+        number: BoxNumber,
+        length: Length,
+    ) -> Result<Result<Slot, YardFault>, AllocError> {
+        if self.find(number).is_some() {
+            return Ok(Err(YardFault::Present));
+        }
+        for slot in slots {
+            if self.misfit(length, *slot).is_none() {
+                self.boxes.push((number, length, *slot))?;
+                return Ok(Ok(*slot));
+            }
+        }
+        Ok(Err(YardFault::NoRoom))
+    }
+
+    fn remove(&mut self, number: BoxNumber) -> Result<(Length, Slot), YardFault> {
+        let Some((length, slot)) = self.find(number) else {
+            return Err(YardFault::Absent);
+        };
+        if let Some(blocker) = self.blocker(length, slot) {
+            return Err(YardFault::Buried(blocker));
+        }
+        self.take(number);
+        Ok((length, slot))
+    }
+
+    fn shift(
+        &mut self,
+        number: BoxNumber,
+        slot: Slot,
+    ) -> Result<Result<(), YardFault>, AllocError> {
+        let Some((length, stood)) = self.find(number) else {
+            return Ok(Err(YardFault::Absent));
+        };
+        if let Some(blocker) = self.blocker(length, stood) {
+            return Ok(Err(YardFault::Buried(blocker)));
+        }
+        self.take(number);
+        let fault = self.misfit(length, slot);
+        let stands = if fault.is_some() { stood } else { slot };
+        self.boxes.push((number, length, stands))?;
+        Ok(match fault {
+            Some(fault) => Err(fault),
+            None => Ok(()),
+        })
+    }
+}
+
+/// All slots of the two blocks, by tier, letter, bay and row.
+fn slots(alloc: Global) -> Result<Vec<Slot>, AllocError> {
+    let mut slots = Vec::new(alloc);
+    for tier in 1..5u8 {
+        for block in [b'B', b'C'] {
+            for bay in 1..6u16 {
+                for row in 1..3u8 {
+                    let slot = Slot {
+                        block,
+                        bay,
+                        row,
+                        tier,
+                    };
+                    if is_in_plan(slot) {
+                        slots.push(slot)?;
+                    }
+                }
+            }
+        }
+    }
+    Ok(slots)
+}
+
+/// The next of a row of numbers that looks drawn.
+fn next(drawn: u32) -> u32 {
+    drawn.wrapping_mul(1_664_525).wrapping_add(1_013_904_223)
+}
+
+/// A slot of the plan or next to it.
+fn drawn_slot(drawn: u32) -> Slot {
+    Slot {
+        block: b'B' + (drawn >> 8 & 1) as u8,
+        bay: (drawn >> 10 & 7) as u16,
+        row: (drawn >> 14 & 3) as u8,
+        tier: (drawn >> 18 & 3) as u8 + (drawn >> 20 & 1) as u8,
+    }
+}
+
+#[test]
+fn columns_answer_as_a_plain_list(rt: HostRuntime) -> Result<(), Fail> {
+    let alloc = rt.alloc();
+    let mut yard = Yard::new(alloc, plan(&rt, &BLOCKS))?;
+    let mut list = List {
+        boxes: Vec::new(alloc),
+    };
+    let slots = slots(alloc)?;
+    let mut drawn = 1u32;
+    for turn in 0..4000u32 {
+        drawn = next(drawn);
+        let call = drawn >> 28;
+        let number = number(&rt, drawn >> 20 & 31);
+        drawn = next(drawn);
+        let length = if drawn >> 25 & 3 == 0 {
+            Length::Forty
+        } else {
+            Length::Twenty
+        };
+        let slot = drawn_slot(drawn);
+        match call {
+            0..=4 => {
+                assert_eq!(rt;
+                    yard.place(number, length, slot),
+                    list.place(number, length, slot)?,
+                    "{turn}"
+                );
+            }
+            5..=7 => {
+                assert_eq!(rt;
+                    yard.place_first(number, length),
+                    list.place_first(&slots, number, length)?,
+                    "{turn}"
+                );
+            }
+            8..=10 => assert_eq!(rt; yard.remove(number), list.remove(number), "{turn}"),
+            _ => assert_eq!(rt;
+                yard.shift(number, slot),
+                list.shift(number, slot)?,
+                "{turn}"
+            ),
+        }
+        assert_eq!(rt;
+            yard.slot_of(number),
+            list.find(number).map(|b| b.1),
+            "{turn}"
+        );
+    }
+    Ok(())
+}
