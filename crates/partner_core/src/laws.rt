@@ -6,7 +6,8 @@ ghost use Rattle.partner_core.specs.Deliveries.{Delivery, first_text, run};
 ghost use Rattle.partner_core.specs.Order.{is_of, numbers_above, order, reply_of};
 ghost use Rattle.partner_core.specs.Standings.{standing_at};
 ghost use Rattle.partner_core.specs.Growth.{AddsNothing, AddsText, AddsRun, EndsRun, IsNextNumber, IsAllOf, ComesToSame};
-ghost use Rattle.partner_core.specs.Keeping.{StaysKept, KeepsOneMore, KeepsRun, StandsAsKept, AnswersAsKept};
+ghost use Rattle.partner_core.specs.Keeping.{StandsAsKept, KeepsOn, KeepsOneMore, KeepsRun, AnswersAsKept};
+ghost use Rattle.partner_core.specs.Cascade.{TakesNone, TakesOneMore};
 
 use crate::Machine;
 
@@ -59,9 +60,14 @@ pub fn one_partner<M: Machine>()
         IsAllOf p ds → IsAllOf p es → ((k : ℕ) → first_text ds p k ≡ first_text es p k) → ComesToSame M.taken opening ds es }
 {}
 
-/// What is kept stays right where the delivery adds nothing.
-pub fn stays_kept<M: Machine>()
-    ensures { StaysKept M.taken }
+/// What is kept tells how a delivery stands.
+pub fn stands_as_kept<M: Machine>()
+    ensures { StandsAsKept M.taken }
+{}
+
+/// What is kept stays right where a delivery adds nothing.
+pub fn keeps_on<M: Machine>()
+    ensures { KeepsOn M.taken }
 {}
 
 /// What is kept with one text more is right where the delivery adds its text.
@@ -74,9 +80,10 @@ pub fn keeps_run<M: Machine>()
     ensures { KeepsRun M.taken }
 {}
 
-/// What is kept tells how a delivery stands.
-pub fn stands_as_kept<M: Machine>()
-    ensures { StandsAsKept M.taken }
+/// A cascade, taken one text after another.
+pub fn cascade<M: Machine>()
+    ensures begins { TakesNone M.taken }
+    ensures goes_on { TakesOneMore M.taken }
 {}
 
 /// What is kept before a delivery and after it tells the answer.
