@@ -1,6 +1,6 @@
 //! What one delivery adds to the deliveries before it, over the definitions alone.
 
-ghost use Rattle.std.specs.Prelude.{◌≡◌, ◌≢◌, ◌↔◌, ℕ, ◌+◌, ◌≤◌, List, None, IsSome, AllPairs, filter};
+ghost use Rattle.std.specs.Prelude.{◌≡◌, ◌≢◌, ◌↔◌, ℕ, ◌+◌, ◌≤◌, List, [], ◌∷◌, ◌++◌, None, IsSome, AllPairs, filter};
 ghost use Rattle.partner_core.specs.declared.standing.Standing.TheVariants.{Known, Other, Early, Next};
 ghost use Rattle.partner_core.specs.Deliveries.{Delivery, first_text, run};
 ghost use Rattle.partner_core.specs.Order.{is_of, numbers_above, order, reply_of};
@@ -26,14 +26,12 @@ pub fn early<M: Machine>()
     ensures { (opening : M) (ds : List Delivery) (d : Delivery) → standing_at ds d ≡ Early → AddsText M.taken opening ds d }
 {}
 
-/// The next text adds itself to First, and to Order what it makes next.
+/// The text that is next has the number after the run, and adds itself to First, and to Order what it
+/// makes next: the numbers up to the last of its run.
 pub fn next<M: Machine>()
-    ensures { (opening : M) (ds : List Delivery) (d : Delivery) (last : ℕ) → EndsRun ds d last → AddsRun M.taken opening ds d last }
-{}
-
-/// A text that stands next has the number after the run.
-pub fn next_number()
-    ensures { (ds : List Delivery) (d : Delivery) → 1 ≤ d.number → standing_at ds d ≡ Next → IsNextNumber ds d }
+    ensures number { (ds : List Delivery) (d : Delivery) → 1 ≤ d.number → standing_at ds d ≡ Next → IsNextNumber ds d }
+    ensures ends { (ds : List Delivery) (d : Delivery) → IsNextNumber ds d → EndsRun ds d (run (ds ++ d ∷ []) d.partner) }
+    ensures adds { (opening : M) (ds : List Delivery) (d : Delivery) (last : ℕ) → EndsRun ds d last → AddsRun M.taken opening ds d last }
 {}
 
 /// Order has no pair of a partner and a number twice, and of each partner it has the run, in number

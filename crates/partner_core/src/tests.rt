@@ -195,7 +195,6 @@ fn each_law_is_there_for_a_diary(_rt: HostRuntime) {
     laws::other::<Diary>();
     laws::early::<Diary>();
     laws::next::<Diary>();
-    laws::next_number();
     laws::free();
     laws::once_each();
     laws::replied::<Diary>();
