@@ -1,12 +1,13 @@
 //! What one delivery adds to the deliveries before it, over the definitions alone.
 
-ghost use Rattle.std.specs.Prelude.{◌≡◌, ◌≢◌, ◌↔◌, ℕ, ◌+◌, ◌≤◌, List, None, IsSome, AllPairs, filter};
+ghost use Rattle.std.specs.Prelude.{◌≡◌, ◌≢◌, ◌↔◌, ℕ, ◌+◌, ◌≤◌, List, [], ◌∷◌, ◌++◌, None, IsSome, AllPairs, filter};
 ghost use Rattle.partner_core.specs.declared.standing.Standing.TheVariants.{Known, Other, Early, Next};
 ghost use Rattle.partner_core.specs.Deliveries.{Delivery, first_text, run};
 ghost use Rattle.partner_core.specs.Order.{is_of, numbers_above, order, reply_of};
 ghost use Rattle.partner_core.specs.Standings.{standing_at};
 ghost use Rattle.partner_core.specs.Growth.{AddsNothing, AddsText, AddsRun, EndsRun, IsNextNumber, IsAllOf, ComesToSame};
-ghost use Rattle.partner_core.specs.Keeping.{StaysKept, KeepsOneMore, KeepsRun, StandsAsKept, AnswersAsKept};
+ghost use Rattle.partner_core.specs.Keeping.{StandsAsKept, KeepsOn, KeepsOneMore, KeepsRun, AnswersAsKept};
+ghost use Rattle.partner_core.specs.Cascade.{TakesNone, TakesOneMore};
 
 use crate::Machine;
 
@@ -25,14 +26,12 @@ pub fn early<M: Machine>()
     ensures { (opening : M) (ds : List Delivery) (d : Delivery) → standing_at ds d ≡ Early → AddsText M.taken opening ds d }
 {}
 
-/// The next text adds itself to First, and to Order what it makes next.
+/// The text that is next has the number after the run, and adds itself to First, and to Order what it
+/// makes next: the numbers up to the last of its run.
 pub fn next<M: Machine>()
-    ensures { (opening : M) (ds : List Delivery) (d : Delivery) (last : ℕ) → EndsRun ds d last → AddsRun M.taken opening ds d last }
-{}
-
-/// A text that stands next has the number after the run.
-pub fn next_number()
-    ensures { (ds : List Delivery) (d : Delivery) → 1 ≤ d.number → standing_at ds d ≡ Next → IsNextNumber ds d }
+    ensures number { (ds : List Delivery) (d : Delivery) → 1 ≤ d.number → standing_at ds d ≡ Next → IsNextNumber ds d }
+    ensures ends { (ds : List Delivery) (d : Delivery) → IsNextNumber ds d → EndsRun ds d (run (ds ++ d ∷ []) d.partner) }
+    ensures adds { (opening : M) (ds : List Delivery) (d : Delivery) (last : ℕ) → EndsRun ds d last → AddsRun M.taken opening ds d last }
 {}
 
 /// Order has no pair of a partner and a number twice, and of each partner it has the run, in number
@@ -59,9 +58,14 @@ pub fn one_partner<M: Machine>()
         IsAllOf p ds → IsAllOf p es → ((k : ℕ) → first_text ds p k ≡ first_text es p k) → ComesToSame M.taken opening ds es }
 {}
 
-/// What is kept stays right where the delivery adds nothing.
-pub fn stays_kept<M: Machine>()
-    ensures { StaysKept M.taken }
+/// What is kept tells how a delivery stands.
+pub fn stands_as_kept<M: Machine>()
+    ensures { StandsAsKept M.taken }
+{}
+
+/// What is kept stays right where a delivery adds nothing.
+pub fn keeps_on<M: Machine>()
+    ensures { KeepsOn M.taken }
 {}
 
 /// What is kept with one text more is right where the delivery adds its text.
@@ -74,9 +78,10 @@ pub fn keeps_run<M: Machine>()
     ensures { KeepsRun M.taken }
 {}
 
-/// What is kept tells how a delivery stands.
-pub fn stands_as_kept<M: Machine>()
-    ensures { StandsAsKept M.taken }
+/// A cascade, taken one text after another.
+pub fn cascade<M: Machine>()
+    ensures begins { TakesNone M.taken }
+    ensures goes_on { TakesOneMore M.taken }
 {}
 
 /// What is kept before a delivery and after it tells the answer.
