@@ -60,12 +60,18 @@ written_back m =
 all_digits : (m : CivilMoment) → IsSmall m → list_all is_digit (moment_digits m) ≡ true
 all_digits m s =
     rw (
-      high_digit (m.year / 100) (omega (arith, s.year)), low_digit (m.year / 100),
-      high_digit (m.year % 100) (omega arith), low_digit (m.year % 100),
-      high_digit m.month s.month, low_digit m.month,
-      high_digit m.day s.day, low_digit m.day,
-      high_digit m.hour s.hour, low_digit m.hour,
-      high_digit m.minute s.minute, low_digit m.minute,
+      high_digit (m.year / 100) (omega (arith, s.year)),
+      low_digit (m.year / 100),
+      high_digit (m.year % 100) (omega arith),
+      low_digit (m.year % 100),
+      high_digit m.month s.month,
+      low_digit m.month,
+      high_digit m.day s.day,
+      low_digit m.day,
+      high_digit m.hour s.hour,
+      low_digit m.hour,
+      high_digit m.minute s.minute,
+      low_digit m.minute,
     ) refl
 
 pub read_back : (m : CivilMoment) → is_moment m ≡ true → moment_of (moment_digits m) ≡ Some m

@@ -53,6 +53,7 @@ release_may_serve component element (Some q) terminator r usable used =
   where
     inner : Some q ≡ Some r → q ≡ r
     inner e = cc
+
     refused : (component element terminator : ℕ) → are_service_characters component element (Some 32) terminator ≡ true → ⊥
     refused component element terminator h =
         let one = and_parts _ (not (nat_eq 32 terminator)) h in

@@ -6,3 +6,4 @@ pub mod SegmentsLemmas
 pub mod PartLemmas
 pub mod AdviceLemmas
 pub mod TestLemmas
+pub mod BreakLemmas

@@ -6,3 +6,4 @@ pub mod Parts
 pub mod Segment
 pub mod Advice
 pub mod Interchange
+pub mod Spelling

@@ -31,6 +31,7 @@ past_bytes text others short readable =
     no_first : (b : Bool) (o : Option SyntaxFault) → cond b (Some Service) o ≡ None → b ≡ false
     no_first true o e = absurd cc
     no_first false o e = refl
+
     no_second : (b : Bool) → cond b None (Some Segment) ≡ None → b ≡ true
     no_second true e = refl
     no_second false e = absurd cc

@@ -10,9 +10,13 @@ mod header;
 pub mod message_segments;
 pub mod numbers;
 pub mod opening;
+#[cfg(test)]
+mod tests;
 
 pub use edi_moments::Moment;
-pub use edi_segments::{Bytes, Component, Components, Segment, Segments, Service, SyntaxFault};
+pub use edi_segments::{
+    Bytes, Component, Components, Segment, Segments, Service, SyntaxFault, interchange_text,
+};
 pub use envelope::Envelope;
 pub use frame::Frame;
 pub use frames::Frames;

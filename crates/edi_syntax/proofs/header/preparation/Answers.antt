@@ -7,7 +7,6 @@ use Rattle.edi_syntax.specs.Header.{preparation, preparation_date, preparation_t
 use Rattle.edi_syntax.proofs.FaultLemmas.{no_array, array_is}
 use Rattle.edi_syntax.proofs.header.preparation.Goals as goal
 
-
 pub returns-in_err-date : goal.returns-in_err-date
 returns-in_err-date c =
     let header = content c.args.header.now in
