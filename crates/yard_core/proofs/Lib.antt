@@ -9,3 +9,4 @@ pub mod Decides
 pub mod Placings
 pub mod Refusals
 pub mod Searches
+pub mod LawLemmas

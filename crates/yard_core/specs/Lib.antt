@@ -7,3 +7,4 @@ pub mod Search
 pub mod Calls
 pub mod Columns
 pub mod Levels
+pub mod Laws

@@ -5,6 +5,7 @@
 pub mod block;
 mod columns;
 mod first_fit;
+pub mod laws;
 pub mod placement;
 mod placements;
 pub mod plan;

@@ -1,4 +1,4 @@
-ghost use Rattle.std.specs.Prelude.{◌≡◌, None};
+ghost use Rattle.std.specs.Prelude.{◌≡◌, None, Some};
 ghost use Rattle.yard_core.specs.declared.placement.Placement.{Placement};
 
 use crate::block::Block;
@@ -39,13 +39,13 @@ impl Model for Yard {
 }
 
 impl Yard {
-    ghost use Rattle.std.specs.Prelude.{◌↔◌, IsTrue, IfOk, IfErr, IfSome, OnErr, OnOk, MatchOption, MatchResult};
+    ghost use Rattle.std.specs.Prelude.{◌↔◌, IsTrue, IsOk, IfOk, IfErr, IfSome, OnErr, OnOk, MatchOption, MatchResult};
     ghost use Rattle.std.specs.Option.{option_map};
     ghost use Rattle.std.specs.FinMap as finite_map;
     ghost use Rattle.yard_core.specs.Plan.{block_of, IsSized};
     ghost use Rattle.yard_core.specs.YardMap.{placement};
     ghost use Rattle.yard_core.specs.SoundYard.{IsSound};
-    ghost use Rattle.yard_core.specs.FitsAndFree.{IsOpen, Misfits};
+    ghost use Rattle.yard_core.specs.FitsAndFree.{IsFree, IsOpen, Misfits};
     ghost use Rattle.yard_core.specs.Calls.{Places, PlacesFirst, Removes, Shifts, RefusesPlace, RefusesFirst, RefusesRemove, RefusesShift};
 
     /// A yard with no containers.
@@ -120,6 +120,9 @@ impl Yard {
     /// NoSlot, SlotKind, Taken or OnAir. It needs no memory.
     pub fn shift(&mut self, number: BoxNumber, slot: Slot) -> Result<(), YardFault>
         ensures answer { MatchResult result (λ _. (s : Placement) × Shifts self.old self.new number s slot) (λ f. RefusesShift self.old number slot f) }
+
+        // A free container's shift to its own slot succeeds.
+        ensures home { (s : Placement) → finite_map.get self.old.boxes number ≡ Some s → IsFree (finite_map.get self.old.boxes) s → slot ≡ s.slot → IsOk result }
         ensures err { OnErr result (self.new ≡ self.old) }
         ensures sound { IsSound self.new.plan (finite_map.get self.new.boxes) }
     {

@@ -1,7 +1,12 @@
-use Rattle.std.proofs.Common.{◌≡◌, ◌<◌, ◌-◌, length, sym, ap, subst, ◌∙◌, arith}
+use Rattle.std.proofs.Common.{◌≡◌, ◌<◌, ◌-◌, length, sym, ap, subst, ◌∙◌, Some, arith}
 use Rattle.std.specs.FinMap as map
 use Rattle.yard_core.specs.Columns.{column_at, IsReady}
-use Rattle.yard_core.specs.YardMap.{placement}
+use Rattle.yard_core.specs.YardMap.{YardMap, placement, yard_map}
+use Rattle.std.proofs.lemmas.Option.{same_Some}
+use Rattle.yard_core.specs.declared.placement.Placement.{Placement}
+use Rattle.yard_core.specs.FitsAndFree.{IsFree, Misfits}
+use Rattle.yard_core.proofs.LawLemmas.{free_not_refused, home_open}
+use Rattle.yard_core.proofs.Refusals.{misfits_not_open}
 use Rattle.yard_core.proofs.Placings.{lifted_agrees, put_elsewhere, refuses_shift, room_for, set_back, shifted}
 use Rattle.yard_core.proofs.yard.Yard.shift.Goals as goal
 
@@ -68,3 +73,20 @@ returns-clause-sound c =
     let ready = c.in_default.ensures (map.get (map.remove c.self.inside.placements c.args.number)) up_.kept (lifted_agrees c.self.inside.plan c.lift.new.columns c.self.inside.placements c.args.number _ _ _ up_) in
     (put_elsewhere c.self.inside.plan c.lift.new.columns c.raise-2.new.self c.self.inside.placements c.replace.new.self c.args.number c.in_ok-placement.placement c.args.slot _ _ _ _ _ up_ ready c.site_of-target.ensures.site
     c.replace.ensures c.raise-2.ensures.raised c.raise-2.ensures.len).sound
+
+pub returns-in_err-placement-clause-home : goal.returns-in_err-placement-clause-home
+returns-in_err-placement-clause-home c = λ s here free same.
+    let bare = subst (λ (y : YardMap). map.get y.boxes c.args.number ≡ Some s) (sym c.self.view_is) here in
+    let alone = subst (λ (y : YardMap). IsFree (map.get y.boxes) s) (sym c.self.view_is) free in
+    absurd (free_not_refused (yard_map c.self.inside.plan c.self.inside.placements) c.args.number s _ bare alone c.in_err-placement.ensures.refused)
+
+pub returns-in-Some-clause-home : goal.returns-in-Some-clause-home
+returns-in-Some-clause-home c = λ s here free same.
+    let up_ = c.in_ok-placement.ensures.lifted in
+    let bare = subst (λ (y : YardMap). map.get y.boxes c.args.number ≡ Some s) (sym c.self.view_is) here in
+    let is : c.in_ok-placement.placement ≡ s = same_Some c.in_ok-placement.placement s (sym up_.stood ∙ bare) in
+    let home : placement c.in_ok-placement.placement.length c.args.slot ≡ s = ap (placement c.in_ok-placement.placement.length) (same ∙ ap (λ (t : Placement). t.slot) (sym is)) ∙ is in
+    let without = map.get (map.remove c.self.inside.placements c.args.number) in
+    let misfits = c.in-Some.ensures without up_.kept (lifted_agrees c.self.inside.plan c.lift.new.columns c.self.inside.placements c.args.number _ _ _ up_) in
+    absurd (misfits_not_open c.self.inside.plan without s c.in-Some.fault (subst (λ (t : Placement). Misfits c.self.inside.plan without t c.in-Some.fault) home misfits)
+      (home_open c.self.inside.plan c.self.inside.placements c.args.number s c.self.invariant.valid c.self.invariant.sound bare))
