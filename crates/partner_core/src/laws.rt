@@ -1,4 +1,9 @@
-//! What one delivery adds to the deliveries before it, over the definitions alone.
+//! Laws of the definitions. Each function has an empty body, and its contract is the law: a call
+//! brings it into the caller's proof.
+//!
+//! The first speak of lists of deliveries alone: what each delivery adds, by how it stands to those
+//! before it. Those from `stands_as_kept` on speak of what is kept after a list of deliveries,
+//! wherever it is kept: `Runs` goes by them, and so can tables.
 
 ghost use Rattle.std.specs.Prelude.{◌≡◌, ◌≢◌, ◌↔◌, ℕ, ◌+◌, ◌≤◌, List, [], ◌∷◌, ◌++◌, None, IsSome, AllPairs, filter};
 ghost use Rattle.partner_core.specs.declared.standing.Standing.TheVariants.{Known, Other, Early, Next};
@@ -10,6 +15,14 @@ ghost use Rattle.partner_core.specs.Keeping.{StandsAsKept, KeepsOn, KeepsOneMore
 ghost use Rattle.partner_core.specs.Cascade.{TakesNone, TakesOneMore};
 
 use crate::Machine;
+
+/// Run: each number up to it is used, the number after it is free, and so each free number is beyond
+/// it.
+pub fn unbroken_run()
+    ensures used { (ds : List Delivery) (p k : ℕ) → 1 ≤ k → k ≤ run ds p → IsSome (first_text ds p k) }
+    ensures free_after { (ds : List Delivery) (p : ℕ) → first_text ds p (run ds p + 1) ≡ None }
+    ensures free_beyond { (ds : List Delivery) (p k : ℕ) → 1 ≤ k → first_text ds p k ≡ None → run ds p + 1 ≤ k }
+{}
 
 /// The same text again adds nothing.
 pub fn known<M: Machine>()
@@ -44,11 +57,6 @@ pub fn once_each()
 /// A number has a reply exactly where it is within the run.
 pub fn replied<M: Machine>()
     ensures { (opening : M) (ds : List Delivery) (p k : ℕ) → IsSome (reply_of M.taken opening ds p k) ↔ ((1 ≤ k) × (k ≤ run ds p)) }
-{}
-
-/// A free number is the next one or beyond it.
-pub fn free()
-    ensures { (ds : List Delivery) (p k : ℕ) → 1 ≤ k → first_text ds p k ≡ None → run ds p + 1 ≤ k }
 {}
 
 /// Texts of one partner come to the same in whatever order and however often they come, if each

@@ -191,11 +191,11 @@ fn a_copied_diary_is_the_same(rt: HostRuntime) -> Result<(), Fail> {
 
 #[test]
 fn each_law_is_there_for_a_diary(_rt: HostRuntime) {
+    laws::unbroken_run();
     laws::known::<Diary>();
     laws::other::<Diary>();
     laws::early::<Diary>();
     laws::next::<Diary>();
-    laws::free();
     laws::once_each();
     laws::replied::<Diary>();
     laws::one_partner::<Diary>();
