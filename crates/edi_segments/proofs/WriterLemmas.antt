@@ -1,17 +1,17 @@
 -- What the calls of a writer write is a text of the segments.
-use Rattle.std.proofs.Common.{◌≡◌, ◌⊎◌, ℕ, zero, suc, ◌+◌, ◌-◌, ◌<◌, ◌≤◌, Bool, true, false, cond, not, ◌&&◌, ◌||◌, nat_eq, List, [], ◌∷◌, ◌++◌, length, take, drop, get_or, map, Option, Some, None, refl, sym, ap, subst, ◌∙◌, IsTrue, inl, inr, append_assoc, arith, codes}
-use Rattle.std.specs.List.{list_all, flat_map, AllByRecursion}
-use Rattle.std.proofs.lemmas.Bool.{and_parts, and_from, or_left, cases_Bool, eqb-true, false≢true, true≢false}
+use Rattle.std.proofs.Common.{◌≡◌, ℕ, zero, suc, ◌-◌, ◌≤◌, Bool, true, false, cond, not, ◌&&◌, List, [], ◌∷◌, ◌++◌, length, take, get_or, map, refl, sym, ap, subst, ◌∙◌, inl, inr, append_assoc, arith, codes}
+use Rattle.std.specs.List.{list_all, AllByRecursion}
+use Rattle.std.proofs.lemmas.Bool.{and_parts, and_from, or_left, cases_Bool, eqb-true}
 use Rattle.std.proofs.lemmas.List.{take_at, take_all, take-append-le, length-append, append-nil, nil_from_length}
 use Rattle.std.specs.Str.{bytes_eq}
 use Rattle.std.proofs.lemmas.Slice.Eq.{bytes_eq-Decides}
-use Rattle.edi_segments.specs.Characters.{is_data_byte, begins_with_advice, is_break}
-use Rattle.edi_segments.specs.Tokens.{is_service, is_plain, may_be_released}
+use Rattle.edi_segments.specs.Characters.{is_data_byte, begins_with_advice}
+use Rattle.edi_segments.specs.Tokens.{is_service}
 use Rattle.edi_segments.specs.Advice.{default_service}
-use Rattle.edi_segments.specs.Text.{Content, IsSameSegment, component_of, SpellsByte, Spells, ElementText, ElementsText, SegmentText, SegmentsText, IsTag}
-use Rattle.edi_segments.specs.Interchange.{InterchangeText, segments_in}
-use Rattle.edi_segments.specs.Spelling.{spelled_byte, spelling, is_empty_value, is_empty_element, composite, elements_text, segment_text, segments_text, Writing, begun, with_element, ended, with_elements, with_segment, IsSegmentTag}
-use Rattle.edi_segments.specs.Written.{IsWritableSegment, AreSameSegments, with_segments, IsBetween, WritesSegments, ReadsBack}
+use Rattle.edi_segments.specs.Text.{Content, IsSameSegment, SpellsByte, Spells, ElementText, ElementsText, SegmentText, SegmentsText}
+use Rattle.edi_segments.specs.Interchange.{InterchangeText}
+use Rattle.edi_segments.specs.Spelling.{spelled_byte, spelling, is_empty_value, is_empty_element, composite, elements_text, segment_text, segments_text, Writing, begun, with_element, with_elements, with_segment}
+use Rattle.edi_segments.specs.Written.{IsWritableSegment, AreSameSegments, WritesSegments, ReadsBack}
 use Rattle.edi_segments.proofs.AdviceLemmas.{interchange_complete}
 
 -- ---- the calls of a writer

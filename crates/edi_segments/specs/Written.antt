@@ -1,10 +1,10 @@
 -- What the writer wrote reads back as the same segments.
-use Rattle.std.specs.Prelude.{◌≡◌, ℕ, ◌≤◌, Bool, cond, false, List, [], ◌∷◌, ◌++◌, length, map, IsTrue}
+use Rattle.std.specs.Prelude.{◌≡◌, List, [], ◌∷◌, ◌++◌, length, IsTrue}
 use Rattle.std.specs.List.{list_all, AllByRecursion}
 use Rattle.edi_segments.specs.Characters.{is_data_byte}
 use Rattle.edi_segments.specs.Text.{Content, IsSameSegment}
 use Rattle.edi_segments.specs.Interchange.{InterchangeText, segments_in}
-use Rattle.edi_segments.specs.Spelling.{Writing, IsSegmentTag, is_empty_value, is_empty_element, segment_text, segments_text, with_segment}
+use Rattle.edi_segments.specs.Spelling.{Writing, IsSegmentTag, segments_text, with_segment}
 
 -- a segment that may be written
 abbrev pub IsWritableSegment : Content → Type 0
