@@ -1,9 +1,9 @@
 -- The digits of a moment are read as that moment.
-use Rattle.std.proofs.Common.{◌≡◌, ◌++◌, ℕ, ◌+◌, ◌-◌, ◌*◌, ◌/◌, ◌%◌, ◌<◌, ◌≤◌, Bool, true, false, cond, ◌&&◌, ◌||◌, nat_eq, ◌==◌, nat_le, nat_lt, List, Option, Some, None, refl, ap, sym, ◌∙◌, pos, arith}
+use Rattle.std.proofs.Common.{◌≡◌, ◌++◌, ℕ, ◌+◌, ◌-◌, ◌*◌, ◌/◌, ◌%◌, ◌<◌, ◌≤◌, Bool, true, false, cond, ◌&&◌, ◌||◌, nat_eq, ◌==◌, nat_le, nat_lt, List, Some, refl, ap, ◌∙◌, pos, arith}
 use Rattle.std.specs.List.{list_all}
 use Rattle.std.proofs.lemmas.Bool.{and_parts, and_from, le-leb, leb-true, ltb-true}
 use Rattle.jiff.specs.Words.{days_in_month, is_leap_year}
-use Rattle.edi_moments.specs.Moments.{CivilMoment, is_day, is_moment, is_digit, number_at, moment_written, are_moment_digits, moment_of, two_digits, moment_digits}
+use Rattle.edi_moments.specs.Moments.{CivilMoment, is_day, is_moment, is_digit, moment_written, moment_of, two_digits, moment_digits}
 
 two_back : (n : ℕ) → (48 + n / 10 - 48) * 10 + (48 + n % 10 - 48) ≡ n
 two_back n = omega arith

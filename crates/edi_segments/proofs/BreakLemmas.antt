@@ -1,7 +1,7 @@
 -- Line breaks at the ends of a text.
-use Rattle.std.proofs.Common.{◌≡◌, ℕ, Bool, true, false, cond, ◌&&◌, List, [], ◌∷◌, ◌++◌, refl, sym, ap, ◌∙◌}
+use Rattle.std.proofs.Common.{◌≡◌, ℕ, Bool, true, false, ◌&&◌, List, [], ◌∷◌, ◌++◌, refl, ap}
 use Rattle.std.specs.List.{list_all}
-use Rattle.std.proofs.lemmas.Bool.{and_left, and_right, cases_Bool}
+use Rattle.std.proofs.lemmas.Bool.{and_right}
 use Rattle.edi_segments.specs.Characters.{is_break}
 use Rattle.edi_segments.specs.Interchange.{without_breaks_at_end}
 

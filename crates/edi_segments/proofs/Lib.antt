@@ -7,3 +7,4 @@ pub mod PartLemmas
 pub mod AdviceLemmas
 pub mod TestLemmas
 pub mod BreakLemmas
+pub mod WriterLemmas

@@ -7,3 +7,4 @@ pub mod Segment
 pub mod Advice
 pub mod Interchange
 pub mod Spelling
+pub mod Written

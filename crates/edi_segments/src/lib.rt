@@ -6,6 +6,7 @@ pub mod characters;
 pub mod component;
 pub mod components;
 pub mod interchange;
+pub mod laws;
 mod part;
 pub mod segment;
 pub mod segment_writer;

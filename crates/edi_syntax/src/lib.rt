@@ -13,9 +13,11 @@ pub mod opening;
 #[cfg(test)]
 mod tests;
 
+pub use edi_cutter::{CutFault, Cutter};
 pub use edi_moments::Moment;
 pub use edi_segments::{
-    Bytes, Component, Components, Segment, Segments, Service, SyntaxFault, interchange_text,
+    Bytes, Component, Components, Segment, SegmentWriter, Segments, Service, SyntaxFault,
+    interchange_text, write_component,
 };
 pub use envelope::Envelope;
 pub use frame::Frame;

@@ -1,5 +1,5 @@
 -- The characters of a whole advice, or those that hold before one is whole.
-use Rattle.std.proofs.Common.{◌≡◌, refl}
+use Rattle.std.proofs.Common.{refl}
 use Rattle.edi_cutter.proofs.CutLemmas.{in_advice, behind_whole_advice}
 use Rattle.edi_cutter.proofs.reading.read_advice.Goals as goal
 

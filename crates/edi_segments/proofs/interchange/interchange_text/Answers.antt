@@ -1,6 +1,5 @@
 -- One line break less at the end.
 use Rattle.std.proofs.Common.{◌≡◌, ◌-◌, ℕ, List, [], ◌∷◌, ◌++◌, length, take, drop, true, refl, sym, ap, ◌∙◌, append_assoc}
-use Rattle.std.specs.List.{list_all}
 use Rattle.std.proofs.lemmas.Bool.{and_from}
 use Rattle.std.proofs.lemmas.List.{take_rest, take-append-drop, append-nil}
 use Rattle.edi_segments.specs.Characters.{is_break}

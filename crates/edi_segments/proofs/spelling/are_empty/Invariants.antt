@@ -1,4 +1,4 @@
-use Rattle.std.proofs.Common.{◌≡◌, ◌++◌, ℕ, List, map, drop, Bor}
+use Rattle.std.proofs.Common.{◌≡◌, ℕ, List, map, drop, Bor}
 use Rattle.std.specs.List.{list_all}
 use Rattle.edi_segments.specs.Spelling.{is_empty_value}
 use Rattle.edi_segments.proofs.spelling.are_empty.Given as goal
