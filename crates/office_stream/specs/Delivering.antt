@@ -1,7 +1,7 @@
 -- Deliveries one after the other.
-use Rattle.std.specs.Prelude.{◌≡◌, ℕ, List, [], ◌∷◌, ◌++◌}
+use Rattle.std.specs.Prelude.{ℕ, List, [], ◌∷◌, ◌++◌}
 use Rattle.office_replies.specs.declared.response.Response.{Response}
-use Rattle.office_replies.specs.declared.response.Response.TheVariants.{Taken, Repeat, Waiting, Clash, Refused, Rejected, NotNow}
+use Rattle.office_replies.specs.declared.response.Response.TheVariants.{NotNow}
 
 -- it is answered as the next delivery, or NotNow, and then nothing has changed
 abbrev pub Delivers : {D : Type 0} → (List (List ℕ) → D → Type 0) → (List (List ℕ) → List ℕ → Response → Type 0) → List (List ℕ) → List ℕ → Response → D → Type 0

@@ -1,3 +1,5 @@
 pub mod Delivering
 pub mod Lines
 pub mod Streams
+pub mod Pieces
+pub mod Faults

@@ -2,9 +2,12 @@
 //! other, and answered by a line each.
 #![tactic(auto)]
 
+mod answer;
 mod deliver;
+mod line;
 mod port;
 mod stream;
+mod stream_end;
 mod stream_fault;
 
 pub use deliver::Deliver;

@@ -17,7 +17,10 @@ impl<T> Port<T> {
         ensures inner { result.inner ≡ inner }
         ensures fresh { result.failed ≡ false }
     {
-        Port { inner, failed: false }
+        Port {
+            inner,
+            failed: false,
+        }
     }
 
     /// The reader or the writer.

@@ -1,0 +1,67 @@
+ghost use Rattle.std.specs.Prelude.{◌≡◌, ◌++◌, ℕ, List, [], ◌∷◌, Option, None, Some, true, IfOk, IfErr, OnOk};
+ghost use Rattle.std.specs.Io.KnownBytes.{Appends};
+ghost use Rattle.edi_cutter.specs.Cuts.{pending};
+ghost use Rattle.office_replies.specs.Responses.{body_of, worst_of};
+ghost use Rattle.office_replies.specs.declared.response.Response.{Response};
+ghost use Rattle.office_stream.specs.Delivering.{Delivers};
+ghost use Rattle.office_stream.specs.Lines.{line};
+ghost use Rattle.office_stream.specs.Pieces.{AnsweredOne, EndsPiece, PieceAnswered, PieceDelivered};
+
+use crate::deliver::Deliver;
+use crate::line::write_line;
+use crate::port::Port;
+use crate::stream_fault::StreamFault;
+use edi_cutter::{CutFault, Cutter};
+use office_replies::Worst;
+use std::alloc::Global;
+use std::io::Write;
+
+/// Delivers an interchange, and writes the line that answers it.
+fn answer_one<W: Write, D: Deliver>(
+    alloc: Global,
+    text: &[u8],
+    writer: &mut Port<W>,
+    desk: &mut D,
+) -> Result<Worst, StreamFault>
+    ensures ok { IfOk result (λ worst. (opening : D) (ds : List (List ℕ)) → D.stands opening ds desk.old → AnsweredOne (D.stands opening) (D.answers opening) ds text.now desk.new worst (W.contents writer.old.inner) (W.contents writer.new.inner)) }
+    ensures kept { OnOk result (writer.new.failed ≡ writer.old.failed) }
+    ensures err { IfErr result (λ fault. (fault ≡ StreamFault.Write) × (writer.new.failed ≡ true)) }
+    ensures delivered { IfErr result (λ fault. (opening : D) (ds : List (List ℕ)) → D.stands opening ds desk.old → (response : Response) × Delivers (D.stands opening) (D.answers opening) ds text.now response desk.new) }
+{
+    let response = desk.deliver(alloc, text);
+    match write_line(writer, response.body()) {
+        Ok(()) => Ok(response.worst()),
+        Err(_) => Err(StreamFault::Write),
+    }
+}
+
+/// Answers each interchange that a piece completes. Answers the worst of all answers so far, and the fault by which the
+/// stream can't be cut further, if there is one.
+pub(crate) fn answer_piece<W: Write, D: Deliver>(
+    alloc: Global,
+    cutter: &mut Cutter,
+    piece: &[u8],
+    writer: &mut Port<W>,
+    desk: &mut D,
+    before: Worst,
+) -> Result<(Worst, Option<CutFault>), StreamFault>
+    requires { cutter.old.fault ≡ None }
+    ensures ok { IfOk result (λ done. (opening : D) (ds : List (List ℕ)) → D.stands opening ds desk.old → PieceAnswered (D.stands opening) (D.answers opening) ds (EndsPiece done.1 (pending cutter.new)) (pending cutter.old) piece.now desk.new before done.0 (W.contents writer.old.inner) (W.contents writer.new.inner)) }
+    ensures running { IfOk result (λ done. done.1 ≡ None → cutter.new.fault ≡ None) }
+    ensures kept { OnOk result (writer.new.failed ≡ writer.old.failed) }
+    ensures err { IfErr result (λ fault. (fault ≡ StreamFault.Write) × (writer.new.failed ≡ true)) }
+    ensures delivered { IfErr result (λ fault. (opening : D) (ds : List (List ℕ)) → D.stands opening ds desk.old → PieceDelivered (D.stands opening) (D.answers opening) ds (pending cutter.old) piece.now desk.new) }
+{
+    let mut worst = before;
+    let mut rest = piece;
+    'pieces: loop {
+        match cutter.feed(rest) {
+            Ok(Some(used)) => {
+                worst = worst.or(answer_one(alloc, cutter.interchange(), writer, desk)?);
+                rest = &rest[used..];
+            }
+            Ok(None) => return Ok((worst, None)),
+            Err(fault) => return Ok((worst, Some(fault))),
+        }
+    }
+}

@@ -1,0 +1,62 @@
+ghost use Rattle.std.specs.Prelude.{◌≡◌, true, OnOk, OnErr};
+ghost use Rattle.std.specs.Io.KnownBytes.{Appends};
+ghost use Rattle.office_stream.specs.Lines.{line, end_text, end_worst};
+
+use crate::port::Port;
+use crate::stream_end::StreamEnd;
+use edi_cutter::CutFault;
+use office_replies::Worst;
+use std::io::{Result, Write};
+
+/// Writes a text and LF.
+pub(crate) fn write_line<W: Write>(writer: &mut Port<W>, text: &str) -> Result<()>
+    ensures ok { OnOk result (Appends (W.contents writer.old.inner) (W.contents writer.new.inner) (line text.now)) }
+    ensures kept { OnOk result (writer.new.failed ≡ writer.old.failed) }
+    ensures err { OnErr result (writer.new.failed ≡ true) }
+{
+    writer.write_all(text.as_bytes())?;
+    writer.write_all(b"\n")
+}
+
+/// Writes what stands behind the last answer.
+pub(crate) fn write_end<W: Write>(writer: &mut Port<W>, end: StreamEnd) -> Result<()>
+    ensures ok { OnOk result (Appends (W.contents writer.old.inner) (W.contents writer.new.inner) (end_text end)) }
+    ensures kept { OnOk result (writer.new.failed ≡ writer.old.failed) }
+    ensures err { OnErr result (writer.new.failed ≡ true) }
+{
+    match end {
+        StreamEnd::Whole => Ok(()),
+        StreamEnd::Open => write_line(writer, "{\"answer\":\"cut\",\"fault\":\"End\"}"),
+        StreamEnd::Cut(fault) => write_cut(writer, fault),
+    }
+}
+
+fn write_cut<W: Write>(writer: &mut Port<W>, fault: CutFault) -> Result<()>
+    ensures ok { OnOk result (Appends (W.contents writer.old.inner) (W.contents writer.new.inner) (end_text (StreamEnd.Cut fault))) }
+    ensures kept { OnOk result (writer.new.failed ≡ writer.old.failed) }
+    ensures err { OnErr result (writer.new.failed ≡ true) }
+{
+    match fault {
+        CutFault::TooLong => write_line(writer, "{\"answer\":\"cut\",\"fault\":\"TooLong\"}"),
+        CutFault::Service => write_line(writer, "{\"answer\":\"cut\",\"fault\":\"Service\"}"),
+        CutFault::Segment => write_line(writer, "{\"answer\":\"cut\",\"fault\":\"Segment\"}"),
+        CutFault::Memory => write_line(writer, "{\"answer\":\"cut\",\"fault\":\"Memory\"}"),
+    }
+}
+
+/// How bad an end is.
+pub(crate) fn end_worst(end: StreamEnd) -> Worst
+    ensures { result ≡ end_worst end }
+{
+    match end {
+        StreamEnd::Whole => Worst::Fine,
+        StreamEnd::Open => Worst::Refused,
+        StreamEnd::Cut(fault) => {
+            if fault.is_memory() {
+                Worst::NotNow
+            } else {
+                Worst::Refused
+            }
+        }
+    }
+}

@@ -1,0 +1,83 @@
+ghost use Rattle.std.specs.Prelude.{◌≡◌, ℕ, List, true, IfOk, IfErr, OnOk};
+ghost use Rattle.std.specs.Io.KnownBytes.{Appends};
+ghost use Rattle.office_replies.specs.Responses.{worse_of};
+ghost use Rattle.office_stream.specs.Lines.{end_text, end_worst};
+ghost use Rattle.office_stream.specs.Streams.{Streamed, Began, Delivered};
+ghost use Rattle.office_stream.specs.Faults.{MatchFault};
+
+use crate::answer::answer_piece;
+use crate::deliver::Deliver;
+use crate::line::{end_worst, write_end};
+use crate::port::Port;
+use crate::stream_end::StreamEnd;
+use crate::stream_fault::StreamFault;
+use edi_cutter::Cutter;
+use office_replies::Worst;
+use std::alloc::Global;
+use std::io::{Read, Write};
+
+/// Delivers each interchange of what a reader gives, in order, and writes the body of its answer and LF as soon as it is
+/// answered. Where the stream ends within an interchange, or can't be cut further, a last line says so. Answers the worst
+/// of the answers: a cut counts as a refusal, and a cut for want of memory as NotNow. After so many reads without the end it
+/// answers Turns.
+pub fn run_stream<R: Read, W: Write, D: Deliver>(
+    alloc: Global,
+    reader: &mut Port<R>,
+    writer: &mut Port<W>,
+    desk: &mut D,
+    turns: u64,
+) -> Result<Worst, StreamFault>
+    ensures ok { IfOk result (λ worst. (opening : D) (ds : List (List ℕ)) → D.stands opening ds desk.old → Streamed (D.stands opening) (D.answers opening) ds (R.remaining reader.old.inner) (R.remaining reader.new.inner) (W.contents writer.old.inner) (W.contents writer.new.inner) desk.new worst) }
+
+    // What was delivered before a fault stands. Only after a write's fault may a line be missing, the last one's.
+    ensures err { IfErr result (λ fault. (opening : D) (ds : List (List ℕ)) → D.stands opening ds desk.old → MatchFault fault
+        (Began (D.stands opening) (D.answers opening) ds (R.remaining reader.old.inner) (R.remaining reader.new.inner) (W.contents writer.old.inner) (W.contents writer.new.inner) desk.new)
+        (Delivered (D.stands opening) (D.answers opening) ds (R.remaining reader.old.inner) (R.remaining reader.new.inner) desk.new)) }
+
+    // A fault of the reader or the writer is answered only where it has failed.
+    ensures failed { IfErr result (λ fault. MatchFault fault (fault ≡ StreamFault.Read → reader.new.failed ≡ true) (writer.new.failed ≡ true)) }
+{
+    let mut cutter = Cutter::new(alloc);
+    let mut buffer = [0; 4096];
+    let mut worst = Worst::Fine;
+    'reads: for _ in 0..turns {
+        let count = match reader.read(&mut buffer) {
+            Ok(count) => count,
+            Err(_) => return Err(StreamFault::Read),
+        };
+        if count == 0 {
+            let end = if cutter.at_rest() {
+                StreamEnd::Whole
+            } else {
+                StreamEnd::Open
+            };
+            return finish(writer, end, worst);
+        }
+        let done = answer_piece(alloc, &mut cutter, &buffer[..count], writer, desk, worst);
+        let (worst_now, cut) = match done {
+            Ok(done) => done,
+            Err(fault) => return Err(fault),
+        };
+        worst = worst_now;
+        if let Some(fault) = cut {
+            return finish(writer, StreamEnd::Cut(fault), worst);
+        }
+    }
+    Err(StreamFault::Turns)
+}
+
+/// Writes what stands behind the last answer.
+fn finish<W: Write>(
+    writer: &mut Port<W>,
+    end: StreamEnd,
+    worst: Worst,
+) -> Result<Worst, StreamFault>
+    ensures ok { IfOk result (λ all. all ≡ worse_of worst (end_worst end)) }
+    ensures writes { OnOk result (Appends (W.contents writer.old.inner) (W.contents writer.new.inner) (end_text end)) }
+    ensures err { IfErr result (λ fault. (fault ≡ StreamFault.Write) × (writer.new.failed ≡ true)) }
+{
+    match write_end(writer, end) {
+        Ok(()) => Ok(worst.or(end_worst(end))),
+        Err(_) => Err(StreamFault::Write),
+    }
+}
