@@ -1,9 +1,9 @@
 -- The digits of a moment are read as that moment.
-use Rattle.std.proofs.Common.{◌≡◌, ◌++◌, ℕ, ◌+◌, ◌-◌, ◌*◌, ◌/◌, ◌%◌, ◌<◌, ◌≤◌, Bool, true, false, cond, ◌&&◌, ◌||◌, nat_eq, ◌==◌, nat_le, nat_lt, List, Option, Some, None, refl, ap, sym, ◌∙◌, pos, arith}
+use Rattle.std.proofs.Common.{◌≡◌, ◌++◌, ℕ, ◌+◌, ◌-◌, ◌*◌, ◌/◌, ◌%◌, ◌<◌, ◌≤◌, Bool, true, false, cond, ◌&&◌, ◌||◌, nat_eq, ◌==◌, nat_le, nat_lt, List, Some, refl, ap, ◌∙◌, pos, arith}
 use Rattle.std.specs.List.{list_all}
 use Rattle.std.proofs.lemmas.Bool.{and_parts, and_from, le-leb, leb-true, ltb-true}
 use Rattle.jiff.specs.Words.{days_in_month, is_leap_year}
-use Rattle.edi_moments.specs.Moments.{CivilMoment, is_day, is_moment, is_digit, number_at, moment_written, are_moment_digits, moment_of, two_digits, moment_digits}
+use Rattle.edi_moments.specs.Moments.{CivilMoment, is_day, is_moment, is_digit, moment_written, moment_of, two_digits, moment_digits}
 
 two_back : (n : ℕ) → (48 + n / 10 - 48) * 10 + (48 + n % 10 - 48) ≡ n
 two_back n = omega arith
@@ -60,12 +60,18 @@ written_back m =
 all_digits : (m : CivilMoment) → IsSmall m → list_all is_digit (moment_digits m) ≡ true
 all_digits m s =
     rw (
-      high_digit (m.year / 100) (omega (arith, s.year)), low_digit (m.year / 100),
-      high_digit (m.year % 100) (omega arith), low_digit (m.year % 100),
-      high_digit m.month s.month, low_digit m.month,
-      high_digit m.day s.day, low_digit m.day,
-      high_digit m.hour s.hour, low_digit m.hour,
-      high_digit m.minute s.minute, low_digit m.minute,
+      high_digit (m.year / 100) (omega (arith, s.year)),
+      low_digit (m.year / 100),
+      high_digit (m.year % 100) (omega arith),
+      low_digit (m.year % 100),
+      high_digit m.month s.month,
+      low_digit m.month,
+      high_digit m.day s.day,
+      low_digit m.day,
+      high_digit m.hour s.hour,
+      low_digit m.hour,
+      high_digit m.minute s.minute,
+      low_digit m.minute,
     ) refl
 
 pub read_back : (m : CivilMoment) → is_moment m ≡ true → moment_of (moment_digits m) ≡ Some m

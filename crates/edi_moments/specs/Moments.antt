@@ -1,5 +1,5 @@
 -- Moments of the civil calendar, their digits and their text.
-use Rattle.std.specs.Prelude.{◌↔◌, ℕ, ◌+◌, ◌-◌, ◌*◌, ◌/◌, ◌%◌, ◌<◌, ◌≤◌, Bool, true, false, cond, ◌&&◌, ◌||◌, ◌==◌, nat_le, nat_lt, ℤ, pos, List, [], ◌∷◌, ◌++◌, length, get_or, codes, IsTrue, Option, None, Some}
+use Rattle.std.specs.Prelude.{◌↔◌, ℕ, ◌+◌, ◌-◌, ◌*◌, ◌/◌, ◌%◌, ◌≤◌, Bool, cond, ◌&&◌, ◌||◌, ◌==◌, nat_le, nat_lt, ℤ, pos, List, [], ◌∷◌, ◌++◌, length, get_or, codes, IsTrue, Option, None, Some}
 use Rattle.std.specs.List.{list_all}
 use Rattle.jiff.specs.Words.{IsDate, days_in_month}
 use Rattle.jiff_core.specs.Calendar.{days_from_civil}

@@ -1,16 +1,15 @@
 -- The service characters that an advice names, and the text of an interchange that has one.
-use Rattle.std.proofs.Common.{◌≡◌, ◌⊎◌, ℕ, zero, suc, ◌+◌, ◌<◌, ◌≤◌, Bool, true, false, cond, not, ◌&&◌, ◌||◌, nat_eq, nat_le, List, [], ◌∷◌, ◌++◌, length, take, drop, get_or, Option, Some, None, refl, sym, ap, subst, ◌∙◌, IsTrue, inl, inr, append_assoc, arith, codes}
+use Rattle.std.proofs.Common.{◌≡◌, ℕ, ◌≤◌, Bool, true, false, cond, not, ◌&&◌, nat_eq, nat_le, List, [], ◌∷◌, ◌++◌, length, take, drop, Option, Some, None, refl, sym, ap, subst, ◌∙◌, IsTrue, inl, inr, arith, codes}
 use Rattle.std.proofs.Math.Bool.{Bool-set}
 use mathlib.Core.HLevel.{Σ_prop_path}
-use Rattle.std.specs.List.{list_all}
-use Rattle.std.proofs.lemmas.Bool.{and_parts, and_from, eqb-true, false≢true, true≢false, cases_Bool, le-leb, lt-leb, leb-true, leb-false, ne_eqb, eq-eqb}
+use Rattle.std.proofs.lemmas.Bool.{and_parts, and_from, eqb-true, false≢true, true≢false, cases_Bool, le-leb, leb-true}
 use Rattle.std.proofs.lemmas.List.{take-append-drop, drop_at}
 use Rattle.std.proofs.lemmas.Slice.Eq.{bytes_eq-Decides}
-use Rattle.edi_segments.specs.Characters.{are_service_characters, begins_with_advice, is_break}
-use Rattle.edi_segments.specs.Advice.{ServiceCharacters, characters, advised, may_be_used, default_service, service_with, has_advice, service_at, has_bad_advice, advice_len, behind_advice, without_breaks}
+use Rattle.edi_segments.specs.Characters.{are_service_characters, begins_with_advice}
+use Rattle.edi_segments.specs.Advice.{ServiceCharacters, characters, advised, may_be_used, default_service, service_with, has_advice, service_at, has_bad_advice, behind_advice, without_breaks}
 use Rattle.edi_segments.specs.Text.{Content, SegmentsText}
 use Rattle.edi_segments.specs.Reading.{breaks_len, are_segments, segments_of}
-use Rattle.edi_segments.specs.Interchange.{release_byte, AdviceText, AdvisedText, InterchangeText, segments_in, is_segment_text}
+use Rattle.edi_segments.specs.Interchange.{release_byte, AdviceText, InterchangeText, segments_in, is_segment_text}
 use Rattle.edi_segments.specs.declared.service.Service.{Service}
 use Rattle.edi_segments.proofs.SegmentsLemmas.{segments_sound, segments_complete, breaks_at, breaks_only, no_break_before}
 
@@ -53,6 +52,7 @@ release_may_serve component element (Some q) terminator r usable used =
   where
     inner : Some q ≡ Some r → q ≡ r
     inner e = cc
+
     refused : (component element terminator : ℕ) → are_service_characters component element (Some 32) terminator ≡ true → ⊥
     refused component element terminator h =
         let one = and_parts _ (not (nat_eq 32 terminator)) h in

@@ -6,3 +6,5 @@ pub mod SegmentsLemmas
 pub mod PartLemmas
 pub mod AdviceLemmas
 pub mod TestLemmas
+pub mod BreakLemmas
+pub mod WriterLemmas

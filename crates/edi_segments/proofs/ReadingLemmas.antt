@@ -1,8 +1,8 @@
 -- What bytes stand for is what they are a text of.
-use Rattle.std.proofs.Common.{◌≡◌, ◌⊎◌, ℕ, suc, ◌+◌, Bool, true, false, cond, not, ◌&&◌, List, [], ◌∷◌, ◌++◌, Option, Some, None, refl, sym, ap, subst, ◌∙◌, IsTrue, inl, inr, append_assoc, arith}
-use Rattle.std.proofs.lemmas.Bool.{and_parts, and_from, false≢true}
-use Rattle.edi_segments.specs.Tokens.{is_plain, may_be_released, token_of, releases}
-use Rattle.edi_segments.specs.Text.{Content, SpellsByte, Spells, ElementText, ElementsText}
+use Rattle.std.proofs.Common.{◌≡◌, ℕ, Bool, true, false, ◌&&◌, List, [], ◌∷◌, ◌++◌, Some, refl, sym, ap, ◌∙◌, inl, inr, append_assoc}
+use Rattle.std.proofs.lemmas.Bool.{false≢true}
+use Rattle.edi_segments.specs.Tokens.{token_of, releases}
+use Rattle.edi_segments.specs.Text.{SpellsByte, Spells, ElementText, ElementsText}
 use Rattle.edi_segments.specs.Reading.{push_byte, push_value, push_element, with_token, elements_of, stays_inside, are_elements}
 use Rattle.edi_segments.specs.declared.service.Service.{Service}
 use Rattle.edi_segments.specs.declared.token.Token.{Token}

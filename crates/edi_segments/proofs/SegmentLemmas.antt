@@ -1,17 +1,17 @@
 -- The segment at the front of bytes is the one whose text stands there.
-use Rattle.std.proofs.Common.{◌≡◌, ◌⊎◌, ℕ, zero, suc, ◌+◌, ◌-◌, ◌<◌, ◌≤◌, Bool, true, false, cond, not, ◌&&◌, ◌||◌, nat_eq, List, [], ◌∷◌, ◌++◌, length, take, drop, Option, Some, None, refl, sym, ap, subst, ◌∙◌, IsTrue, inl, inr, append_assoc, arith}
+use Rattle.std.proofs.Common.{◌≡◌, ℕ, suc, ◌+◌, Bool, true, false, cond, ◌&&◌, nat_eq, List, [], ◌∷◌, ◌++◌, length, take, drop, Option, Some, None, refl, sym, ap, subst, ◌∙◌, inl, inr, append_assoc, arith}
 use Rattle.std.specs.Option.{option_map}
 use Rattle.std.specs.List.{list_all}
-use Rattle.std.proofs.lemmas.Bool.{and_parts, and_from, or_cases, or_right, or_left, eqb-true, eq-eqb, false≢true, true≢false, cond-true, cases_Bool}
-use Rattle.std.proofs.lemmas.List.{take_at, drop_at, take-append-drop, take-take, drop-take, drop-drop, length-append, length-take, length-drop, append-nil}
+use Rattle.std.proofs.lemmas.Bool.{and_parts, and_from, or_cases, or_right, or_left, eqb-true, eq-eqb, false≢true}
+use Rattle.std.proofs.lemmas.List.{take_at, drop_at, take-append-drop, take-take, drop-take, drop-drop, length-append, length-take, length-drop}
 use Rattle.edi_segments.specs.Characters.{is_tag_byte}
 use Rattle.edi_segments.specs.Tokens.{token_of, releases}
-use Rattle.edi_segments.specs.Text.{Content, ElementText, ElementsText, IsTag, SegmentText}
-use Rattle.edi_segments.specs.Reading.{with_token, elements_of, push_element, stays_inside, are_elements, with_end, end_of, begins_elements, body_len, content_of, segment_at}
+use Rattle.edi_segments.specs.Text.{Content, ElementsText, SegmentText}
+use Rattle.edi_segments.specs.Reading.{elements_of, stays_inside, are_elements, with_end, end_of, begins_elements, body_len, content_of, segment_at}
 use Rattle.edi_segments.specs.declared.service.Service.{Service}
 use Rattle.edi_segments.specs.declared.token.Token.{Token}
 use Rattle.edi_segments.specs.declared.token.Token.TheVariants.{Data, Release, Component, Element, Terminator, Invalid}
-use Rattle.edi_segments.proofs.TokenLemmas.{MeansUnreleased, token_means, released_means, released_data, plain_is_data, release_token, component_token, element_token, terminator_token}
+use Rattle.edi_segments.proofs.TokenLemmas.{MeansUnreleased, token_means, released_means, element_token, terminator_token}
 use Rattle.edi_segments.proofs.ReadingLemmas.{Reads, sound, complete}
 
 pub mapped_suc : (o : Option ℕ) (n : ℕ) → option_map suc o ≡ Some n → (m : ℕ) × (o ≡ Some m) × (n ≡ suc m)

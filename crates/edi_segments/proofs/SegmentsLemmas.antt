@@ -1,15 +1,15 @@
 -- The segments that are read are those of the text.
-use Rattle.std.proofs.Common.{◌≡◌, ◌⊎◌, ℕ, zero, suc, ◌+◌, ◌-◌, ◌<◌, ◌≤◌, Bool, true, false, cond, not, ◌&&◌, ◌||◌, nat_eq, List, [], ◌∷◌, ◌++◌, length, take, drop, Option, Some, None, refl, sym, ap, subst, ◌∙◌, IsTrue, inl, inr, append_assoc, add-one, arith}
-use Rattle.std.specs.Option.{option_map, option_map_or}
+use Rattle.std.proofs.Common.{◌≡◌, ◌⊎◌, ℕ, zero, suc, ◌+◌, ◌≤◌, true, false, nat_eq, List, [], ◌∷◌, ◌++◌, length, take, drop, Option, Some, None, refl, sym, ap, ◌∙◌, inl, inr, append_assoc, add-one, arith}
+use Rattle.std.specs.Option.{option_map_or}
 use Rattle.std.specs.List.{list_all}
-use Rattle.std.proofs.lemmas.Bool.{and_parts, and_from, or_cases, or_from, eqb-true, false≢true, cases_Bool, cond-true, cond-false}
-use Rattle.std.proofs.lemmas.List.{take_at, drop_at, take-append-drop, drop-drop, length-append}
+use Rattle.std.proofs.lemmas.Bool.{and_parts, and_from, or_cases, eqb-true, false≢true, cases_Bool}
+use Rattle.std.proofs.lemmas.List.{drop_at, take-append-drop, drop-drop}
 use Rattle.std.proofs.lemmas.Option.{none-some}
 use Rattle.edi_segments.specs.Characters.{is_tag_byte, is_break}
-use Rattle.edi_segments.specs.Text.{Content, SegmentText, SegmentsText}
+use Rattle.edi_segments.specs.Text.{Content, SegmentsText}
 use Rattle.edi_segments.specs.Reading.{end_of, body_len, content_of, segment_at, next_at, breaks_len, segments_from, are_segments_from, segments_of, are_segments}
 use Rattle.edi_segments.specs.declared.service.Service.{Service}
-use Rattle.edi_segments.proofs.SegmentLemmas.{HasBody, body_sound, segment_found, segment_complete, mapped_some}
+use Rattle.edi_segments.proofs.SegmentLemmas.{body_sound, segment_found, segment_complete, mapped_some}
 
 -- ---- line breaks
 

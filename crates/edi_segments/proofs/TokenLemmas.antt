@@ -1,7 +1,7 @@
 -- What a token says of its byte, and the token of each kind of byte.
-use Rattle.std.proofs.Common.{◌≡◌, ◌⊎◌, ℕ, nat_eq, Bool, true, false, cond, not, ◌&&◌, ◌||◌, Option, Some, None, refl, sym, ap, subst, ◌∙◌, IsTrue, inl, inr, arith}
-use Rattle.std.proofs.lemmas.Bool.{and_parts, and_from, or_parts, or_from, or_right, or_left, not-true, not_from_false, eqb-true, eqb-false, ne_eqb, eq-eqb, cases_Bool, leb-true, ltb-true, cond-true, cond-false}
-use Rattle.edi_segments.specs.Characters.{is_data_byte, is_release, are_service_characters, are_separators}
+use Rattle.std.proofs.Common.{◌≡◌, ◌⊎◌, ℕ, nat_eq, true, false, not, ◌||◌, Option, Some, None, refl, sym, ap, IsTrue, inl, inr}
+use Rattle.std.proofs.lemmas.Bool.{and_parts, and_from, or_parts, or_from, not-true, not_from_false, eqb-true, eqb-false, ne_eqb, eq-eqb, cases_Bool}
+use Rattle.edi_segments.specs.Characters.{is_data_byte, is_release, are_service_characters}
 use Rattle.edi_segments.specs.Tokens.{is_service, is_plain, may_be_released, token_of}
 use Rattle.edi_segments.specs.declared.service.Service.{Service}
 use Rattle.edi_segments.specs.declared.token.Token.{Token}

@@ -1,5 +1,5 @@
 -- Bytes by what they may be in an EDIFACT text.
-use Rattle.std.specs.Prelude.{ℕ, Bool, true, false, not, ◌&&◌, ◌||◌, ◌==◌, nat_le, nat_lt, List, take, codes, Option, None, Some}
+use Rattle.std.specs.Prelude.{ℕ, Bool, false, not, ◌&&◌, ◌||◌, ◌==◌, nat_le, nat_lt, List, take, codes, Option, None, Some}
 use Rattle.std.specs.Str.{bytes_eq}
 
 abbrev pub is_capital : ℕ → Bool

@@ -6,3 +6,5 @@ pub mod Parts
 pub mod Segment
 pub mod Advice
 pub mod Interchange
+pub mod Spelling
+pub mod Written

@@ -1,5 +1,5 @@
 -- The parts of a segment, as places in its text.
-use Rattle.std.specs.Prelude.{ℕ, suc, ◌-◌, Bool, true, false, cond, not, ◌&&◌, ◌==◌, List, [], ◌∷◌, take, drop, ◌+◌, get_or, Option, None, Some}
+use Rattle.std.specs.Prelude.{ℕ, suc, Bool, false, cond, not, ◌&&◌, ◌==◌, List, [], ◌∷◌, take, drop, ◌+◌, Option, None, Some}
 use Rattle.std.specs.Option.{option_map}
 use Rattle.edi_segments.specs.Tokens.{token_of, releases}
 use Rattle.edi_segments.specs.declared.service.Service.{Service}

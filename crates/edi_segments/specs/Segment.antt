@@ -1,5 +1,5 @@
 -- What the spans of the code stand for.
-use Rattle.std.specs.Prelude.{ℕ, Bool, ◌==◌, cond, List, [], length, map, get_or, drop, false, Option, None, Some}
+use Rattle.std.specs.Prelude.{ℕ, ◌==◌, cond, List, [], length, map, get_or, drop, false, Option, None, Some}
 use Rattle.std.specs.Option.{option_map_or}
 use Rattle.edi_segments.specs.Text.{Content}
 use Rattle.edi_segments.specs.Reading.{content_of, segments_of}

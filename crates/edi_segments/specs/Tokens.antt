@@ -1,5 +1,5 @@
 -- What a byte is, by the service characters and whether the byte before it releases it.
-use Rattle.std.specs.Prelude.{ℕ, Bool, true, false, cond, not, ◌&&◌, ◌||◌, ◌==◌, Option}
+use Rattle.std.specs.Prelude.{ℕ, Bool, true, false, cond, not, ◌&&◌, ◌||◌, ◌==◌}
 use Rattle.edi_segments.specs.Characters.{is_data_byte, is_release}
 use Rattle.edi_segments.specs.declared.service.Service.{Service}
 use Rattle.edi_segments.specs.declared.token.Token.{Token}

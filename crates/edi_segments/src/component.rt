@@ -2,11 +2,13 @@ ghost use Rattle.std.specs.Prelude.{◌≡◌, ◌↔◌, ◌++◌, ℕ, length,
 ghost use Rattle.edi_segments.specs.Parts.{value_of};
 ghost use Rattle.edi_segments.specs.Segment.{value, bytes_left, fixed};
 ghost use Rattle.edi_segments.specs.Characters.{is_printable};
+ghost use Rattle.edi_segments.specs.Spelling.{spelling};
 ghost use Rattle.std.specs.List.{list_all};
 ghost use Rattle.std.specs.Str.{bytes_eq};
 
 use super::bytes::Bytes;
 use super::service::Service;
+use super::spelling::write_byte;
 use std::alloc::AllocError;
 
 /// The value of a component, as its spelling in the text.
@@ -94,6 +96,22 @@ impl<'a> Component<'a> {
             len += 1;
         }
         if len == N { Some(text) } else { None }
+    }
+
+    /// Writes the value anew at the end, under the default service characters. Where memory is refused the vector is as it
+    /// was.
+    pub fn spell_into(&self, out: &mut Vec<u8>) -> Result<(), AllocError>
+        ensures ok { OnOk result (out.new.items ≡ out.old.items ++ spelling (value self.now)) }
+        ensures err { OnErr result (out.new.items ≡ out.old.items) }
+    {
+        let start = out.len();
+        for byte in self.bytes() {
+            if let Err(error) = write_byte(byte, out) {
+                out.truncate(start);
+                return Err(error);
+            }
+        }
+        Ok(())
     }
 
     /// Writes the value at the end. Where memory is refused the vector is as it was.

@@ -101,7 +101,7 @@ fn next_segment<'a>(service: Service, bytes: &'a [u8]) -> Option<(Segment<'a>, &
 }
 
 /// How many CR and LF stand at the front.
-fn len_of_breaks(bytes: &[u8]) -> usize
+pub(crate) fn len_of_breaks(bytes: &[u8]) -> usize
     ensures found { result ≡ breaks_len bytes.now }
     ensures within { result ≤ length bytes.now }
 {

@@ -1,22 +1,21 @@
 -- The first fault of a text, from those of its bytes, its envelope and its messages.
-use Rattle.std.proofs.Common.{◌≡◌, ◌⊎◌, ℕ, ◌+◌, ◌<◌, ◌≤◌, Bool, true, false, cond, not, ◌&&◌, nat_lt, nat_le, nat_eq, List, [], ◌∷◌, ◌++◌, length, Option, Some, None, refl, sym, ap, ◌∙◌, inl, inr, IsSome, arith}
-use Rattle.std.specs.Option.{is_none, option_and_then, option_or}
+use Rattle.std.proofs.Common.{◌≡◌, ℕ, ◌≤◌, Bool, true, false, cond, not, ◌&&◌, nat_le, nat_eq, List, [], ◌∷◌, ◌++◌, length, Option, Some, None, refl, sym, ap, ◌∙◌, inl, inr, IsSome, arith}
+use Rattle.std.specs.Option.{is_none, option_or}
 use Rattle.std.proofs.lemmas.List.Folds.{find-append}
 use Rattle.std.specs.List.{find}
-use Rattle.std.proofs.lemmas.Bool.{cases_Bool, le-ltb, not-true, not-false, and_parts, leb-true, true≢false, false≢true}
-use Rattle.std.proofs.lemmas.Option.{cond_some, option_and_then_some, none-some}
+use Rattle.std.proofs.lemmas.Bool.{cases_Bool, le-ltb, not-false, and_parts, leb-true, true≢false}
+use Rattle.std.proofs.lemmas.Option.{cond_some, option_and_then_some}
 use Rattle.edi_segments.specs.Text.{Content}
 use Rattle.edi_segments.specs.Advice.{has_bad_advice}
 use Rattle.edi_segments.specs.Segment.{fixed}
 use Rattle.edi_segments.specs.Interchange.{segments_in, is_segment_text, read_fault}
 use Rattle.edi_segments.specs.declared.syntax_fault.SyntaxFault.{SyntaxFault}
-use Rattle.edi_segments.specs.declared.syntax_fault.SyntaxFault.TheVariants.{TooLong, Service, Segment, NoEnvelope, Group, Version, Number, Moment}
-use Rattle.edi_moments.specs.Moments.{CivilMoment}
+use Rattle.edi_segments.specs.declared.syntax_fault.SyntaxFault.TheVariants.{Service, Segment, NoEnvelope, Group, Version, Number, Moment}
 use Rattle.edi_syntax.specs.Numbers.{number_of, as_control_number}
 use Rattle.edi_syntax.specs.Header.{control_number, control_reference, preparation, is_known_syntax}
-use Rattle.edi_syntax.specs.Envelope.{header_of, has_envelope, is_of_group, messages_of}
+use Rattle.edi_syntax.specs.Envelope.{header_of, has_envelope}
 use Rattle.edi_syntax.specs.Messages.{messages_in, begins_message}
-use Rattle.edi_syntax.specs.Faults.{applies, applies_to, text_faults, header_faults, body_faults, faults, fault_of, head_fault_of, header_fault_of, body_fault_of}
+use Rattle.edi_syntax.specs.Faults.{applies, applies_to, text_faults, header_faults, body_faults, fault_of, head_fault_of, header_fault_of, body_fault_of}
 
 -- ---- faults of the bytes
 
@@ -31,6 +30,7 @@ past_bytes text others short readable =
     no_first : (b : Bool) (o : Option SyntaxFault) → cond b (Some Service) o ≡ None → b ≡ false
     no_first true o e = absurd cc
     no_first false o e = refl
+
     no_second : (b : Bool) → cond b None (Some Segment) ≡ None → b ≡ true
     no_second true e = refl
     no_second false e = absurd cc

@@ -102,7 +102,10 @@ fn trailer_fault(
         Some(SyntaxFault::Empty)
     } else if !is_count(trailer.component(1, 1), messages) {
         Some(SyntaxFault::ControlCount)
-    } else if !trailer.component(2, 1).has_same_value(&header.component(5, 1)) {
+    } else if !trailer
+        .component(2, 1)
+        .has_same_value(&header.component(5, 1))
+    {
         Some(SyntaxFault::ControlReference)
     } else {
         None

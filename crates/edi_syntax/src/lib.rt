@@ -8,11 +8,17 @@ pub mod frames;
 pub mod head;
 mod header;
 pub mod message_segments;
-mod numbers;
+pub mod numbers;
 pub mod opening;
+#[cfg(test)]
+mod tests;
 
+pub use edi_cutter::{CutFault, Cutter};
 pub use edi_moments::Moment;
-pub use edi_segments::{Bytes, Component, Components, Segment, Segments, Service, SyntaxFault};
+pub use edi_segments::{
+    Bytes, Component, Components, Segment, SegmentWriter, Segments, Service, SyntaxFault,
+    interchange_text, write_component,
+};
 pub use envelope::Envelope;
 pub use frame::Frame;
 pub use frames::Frames;

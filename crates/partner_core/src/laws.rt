@@ -1,14 +1,28 @@
-//! What one delivery adds to the deliveries before it, over the definitions alone.
+//! Laws of the definitions. Each function has an empty body, and its contract is the law: a call
+//! brings it into the caller's proof.
+//!
+//! The first speak of lists of deliveries alone: what each delivery adds, by how it stands to those
+//! before it. Those from `stands_as_kept` on speak of what is kept after a list of deliveries,
+//! wherever it is kept: `Runs` goes by them, and so can tables.
 
-ghost use Rattle.std.specs.Prelude.{◌≡◌, ◌≢◌, ◌↔◌, ℕ, ◌+◌, ◌≤◌, List, None, IsSome, AllPairs, filter};
+ghost use Rattle.std.specs.Prelude.{◌≡◌, ◌≢◌, ◌↔◌, ℕ, ◌+◌, ◌≤◌, List, [], ◌∷◌, ◌++◌, None, IsSome, AllPairs, filter};
 ghost use Rattle.partner_core.specs.declared.standing.Standing.TheVariants.{Known, Other, Early, Next};
 ghost use Rattle.partner_core.specs.Deliveries.{Delivery, first_text, run};
 ghost use Rattle.partner_core.specs.Order.{is_of, numbers_above, order, reply_of};
 ghost use Rattle.partner_core.specs.Standings.{standing_at};
 ghost use Rattle.partner_core.specs.Growth.{AddsNothing, AddsText, AddsRun, EndsRun, IsNextNumber, IsAllOf, ComesToSame};
-ghost use Rattle.partner_core.specs.Keeping.{StaysKept, KeepsOneMore, KeepsRun, StandsAsKept, AnswersAsKept};
+ghost use Rattle.partner_core.specs.Keeping.{StandsAsKept, KeepsOn, KeepsOneMore, KeepsRun, AnswersAsKept};
+ghost use Rattle.partner_core.specs.Cascade.{TakesNone, TakesOneMore};
 
 use crate::Machine;
+
+/// Run: each number up to it is used, the number after it is free, and so each free number is beyond
+/// it.
+pub fn unbroken_run()
+    ensures used { (ds : List Delivery) (p k : ℕ) → 1 ≤ k → k ≤ run ds p → IsSome (first_text ds p k) }
+    ensures free_after { (ds : List Delivery) (p : ℕ) → first_text ds p (run ds p + 1) ≡ None }
+    ensures free_beyond { (ds : List Delivery) (p k : ℕ) → 1 ≤ k → first_text ds p k ≡ None → run ds p + 1 ≤ k }
+{}
 
 /// The same text again adds nothing.
 pub fn known<M: Machine>()
@@ -25,14 +39,12 @@ pub fn early<M: Machine>()
     ensures { (opening : M) (ds : List Delivery) (d : Delivery) → standing_at ds d ≡ Early → AddsText M.taken opening ds d }
 {}
 
-/// The next text adds itself to First, and to Order what it makes next.
+/// The text that is next has the number after the run, and adds itself to First, and to Order what it
+/// makes next: the numbers up to the last of its run.
 pub fn next<M: Machine>()
-    ensures { (opening : M) (ds : List Delivery) (d : Delivery) (last : ℕ) → EndsRun ds d last → AddsRun M.taken opening ds d last }
-{}
-
-/// A text that stands next has the number after the run.
-pub fn next_number()
-    ensures { (ds : List Delivery) (d : Delivery) → 1 ≤ d.number → standing_at ds d ≡ Next → IsNextNumber ds d }
+    ensures number { (ds : List Delivery) (d : Delivery) → 1 ≤ d.number → standing_at ds d ≡ Next → IsNextNumber ds d }
+    ensures ends { (ds : List Delivery) (d : Delivery) → IsNextNumber ds d → EndsRun ds d (run (ds ++ d ∷ []) d.partner) }
+    ensures adds { (opening : M) (ds : List Delivery) (d : Delivery) (last : ℕ) → EndsRun ds d last → AddsRun M.taken opening ds d last }
 {}
 
 /// Order has no pair of a partner and a number twice, and of each partner it has the run, in number
@@ -47,11 +59,6 @@ pub fn replied<M: Machine>()
     ensures { (opening : M) (ds : List Delivery) (p k : ℕ) → IsSome (reply_of M.taken opening ds p k) ↔ ((1 ≤ k) × (k ≤ run ds p)) }
 {}
 
-/// A free number is the next one or beyond it.
-pub fn free()
-    ensures { (ds : List Delivery) (p k : ℕ) → 1 ≤ k → first_text ds p k ≡ None → run ds p + 1 ≤ k }
-{}
-
 /// Texts of one partner come to the same in whatever order and however often they come, if each
 /// number's first text is the same.
 pub fn one_partner<M: Machine>()
@@ -59,9 +66,14 @@ pub fn one_partner<M: Machine>()
         IsAllOf p ds → IsAllOf p es → ((k : ℕ) → first_text ds p k ≡ first_text es p k) → ComesToSame M.taken opening ds es }
 {}
 
-/// What is kept stays right where the delivery adds nothing.
-pub fn stays_kept<M: Machine>()
-    ensures { StaysKept M.taken }
+/// What is kept tells how a delivery stands.
+pub fn stands_as_kept<M: Machine>()
+    ensures { StandsAsKept M.taken }
+{}
+
+/// What is kept stays right where a delivery adds nothing.
+pub fn keeps_on<M: Machine>()
+    ensures { KeepsOn M.taken }
 {}
 
 /// What is kept with one text more is right where the delivery adds its text.
@@ -74,9 +86,10 @@ pub fn keeps_run<M: Machine>()
     ensures { KeepsRun M.taken }
 {}
 
-/// What is kept tells how a delivery stands.
-pub fn stands_as_kept<M: Machine>()
-    ensures { StandsAsKept M.taken }
+/// A cascade, taken one text after another.
+pub fn cascade<M: Machine>()
+    ensures begins { TakesNone M.taken }
+    ensures goes_on { TakesOneMore M.taken }
 {}
 
 /// What is kept before a delivery and after it tells the answer.

@@ -9,7 +9,11 @@ use crate::ledger::Ledger;
 use crate::{Answer, Machine, Standing, judge};
 use std::alloc::{AllocError, Global};
 
-/// What is kept of each partner, and a machine that takes each partner's unbroken run of texts.
+/// What is kept of each partner, and a machine that takes each partner's unbroken run of texts, once
+/// each, in number order, as each becomes next.
+///
+/// A value stands at a list of deliveries, from an opening state on, where its texts, replies, next
+/// numbers and machine are those of the definitions over that list.
 #[derive(Drop)]
 pub struct Runs<M> {
     machine: M,
@@ -17,7 +21,8 @@ pub struct Runs<M> {
 }
 
 impl<M: Machine> Runs<M> {
-    /// Nothing delivered, for partners numbered from 1.
+    /// Nothing delivered, for partners numbered from 1. A refusal for want of memory gives up the
+    /// machine.
     pub fn new(alloc: Global, machine: M, partners: u16) -> Result<Self, AllocError>
         ensures stands { IfOk result (λ runs. StandsAt M.taken machine [] runs) }
         ensures partners { IfOk result (λ runs. partner_count runs ≡ partners) }
@@ -29,9 +34,10 @@ impl<M: Machine> Runs<M> {
         Ok(Runs { machine, ledgers })
     }
 
-    /// Answers a delivery, and takes it and each kept text that becomes next by it. Whatever was
-    /// delivered before, and whatever the machine's state was then, the answer is that of the
-    /// definitions. A refusal for want of memory changes nothing that was delivered.
+    /// Answers a delivery, and takes it and each kept text that becomes next by it. At whatever list
+    /// of deliveries the value stands, the answer is that of the definitions, and it stands at the
+    /// list with this one then. A refusal for want of memory leaves it at the list, also in the midst
+    /// of a cascade; a clash, and a text that waits already, are never refused so.
     pub fn deliver(
         &mut self,
         alloc: Global,

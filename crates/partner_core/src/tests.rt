@@ -191,18 +191,18 @@ fn a_copied_diary_is_the_same(rt: HostRuntime) -> Result<(), Fail> {
 
 #[test]
 fn each_law_is_there_for_a_diary(_rt: HostRuntime) {
+    laws::unbroken_run();
     laws::known::<Diary>();
     laws::other::<Diary>();
     laws::early::<Diary>();
     laws::next::<Diary>();
-    laws::next_number();
-    laws::free();
     laws::once_each();
     laws::replied::<Diary>();
     laws::one_partner::<Diary>();
-    laws::stays_kept::<Diary>();
+    laws::keeps_on::<Diary>();
     laws::keeps_one_more::<Diary>();
     laws::keeps_run::<Diary>();
     laws::stands_as_kept::<Diary>();
+    laws::cascade::<Diary>();
     laws::answers_as_kept::<Diary>();
 }

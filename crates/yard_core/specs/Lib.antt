@@ -8,3 +8,4 @@ pub mod Calls
 pub mod Columns
 pub mod Levels
 pub mod Laws
+pub mod Decisions

@@ -1,8 +1,8 @@
 -- The first bytes that differ tell the values apart.
-use Rattle.std.proofs.Common.{◌≡◌, ◌++◌, ◌∷◌, ℕ, List, sym, ap, ◌∙◌}
+use Rattle.std.proofs.Common.{◌≡◌, ◌∷◌, sym, ◌∙◌}
 use Rattle.std.proofs.lemmas.List.{append_cancel_left}
 use Rattle.std.proofs.lemmas.Bool.{false≢true}
-use Rattle.edi_segments.specs.Segment.{value, bytes_left}
+use Rattle.edi_segments.specs.Segment.{bytes_left}
 use Rattle.edi_segments.proofs.component.are_bytes.Goals as goal
 
 pub returns-in_default : goal.returns-in_default

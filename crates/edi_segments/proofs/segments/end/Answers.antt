@@ -1,7 +1,6 @@
 -- The loop looks at one byte more, which stays inside the segment or ends the search.
-use Rattle.std.proofs.Common.{◌≡◌, ◌+◌, ◌<◌, ap, sym, ◌∙◌, drop, length, get_or, add-zero, Some, arith}
+use Rattle.std.proofs.Common.{◌+◌, ◌<◌, ap, sym, ◌∙◌, length, Some, arith}
 use Rattle.std.specs.Option.{option_map}
-use Rattle.edi_segments.specs.Reading.{end_of}
 use Rattle.edi_segments.proofs.LoopLemmas.{end_more, end_inside, end_past, inside_from}
 use Rattle.edi_segments.proofs.segments.end.Goals as goal
 

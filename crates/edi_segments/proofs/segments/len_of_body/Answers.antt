@@ -1,8 +1,8 @@
-use Rattle.std.proofs.Common.{◌≡◌, ◌+◌, sym, drop, length, arith, cond, false, None, ℕ, Option, Bool, true, refl}
+use Rattle.std.proofs.Common.{◌≡◌, ◌+◌, sym, drop, arith, cond, false, None, ℕ, Option, Bool, true, refl}
 use Rattle.std.specs.Option.{option_map}
 use Rattle.std.proofs.lemmas.List.{length-drop}
 use Rattle.edi_segments.proofs.LoopLemmas.{no_end}
-use Rattle.edi_segments.specs.Reading.{end_of, body_len}
+use Rattle.edi_segments.specs.Reading.{end_of}
 use Rattle.edi_segments.proofs.segments.len_of_body.Goals as goal
 
 pub returns-then-bytes-lt3-clause-found : goal.returns-then-bytes-lt3-clause-found

@@ -1,4 +1,3 @@
-use Rattle.std.proofs.Common.{◌≡◌}
 use Rattle.edi_syntax.specs.Frames.{message}
 use Rattle.edi_syntax.proofs.MessageLemmas.{not_referenced}
 use Rattle.edi_syntax.proofs.faults.is_referenced.Goals as goal

@@ -1,4 +1,4 @@
-use Rattle.std.proofs.Common.{◌≡◌, ◌↔◌, List, IsTrue}
+use Rattle.std.proofs.Common.{◌≡◌, ◌↔◌, IsTrue}
 use Rattle.edi_segments.specs.Segment.{value}
 use Rattle.edi_segments.proofs.TestLemmas.{test_of_same}
 use Rattle.edi_segments.proofs.component.Component.has_same_value.Goals as goal

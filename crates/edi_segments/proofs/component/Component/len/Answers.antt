@@ -1,7 +1,6 @@
 -- One byte more is counted unless it releases the next.
-use Rattle.std.proofs.Common.{◌≡◌, ◌+◌, ◌<◌, ◌≤◌, ℕ, true, false, drop, length, get_or, sym, ◌∙◌, arith}
+use Rattle.std.proofs.Common.{◌≡◌, get_or, arith}
 use Rattle.edi_segments.specs.Tokens.{token_of, releases}
-use Rattle.edi_segments.specs.Parts.{value_of}
 use Rattle.edi_segments.proofs.PartLemmas.{length_value_more, length_value_past}
 use Rattle.edi_segments.proofs.component.Component.len.Goals as goal
 use Rattle.edi_segments.proofs.component.Component.len.Goals.{then-not-released, else-not-released}

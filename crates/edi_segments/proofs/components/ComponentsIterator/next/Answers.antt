@@ -1,5 +1,5 @@
 -- The first value that is left, and those behind it.
-use Rattle.std.proofs.Common.{◌≡◌, ◌<◌, ℕ, List, [], ◌∷◌, false, length, map, Option, sym, ap, ◌∙◌, arith}
+use Rattle.std.proofs.Common.{◌≡◌, ℕ, List, [], ◌∷◌, false, length, map, Option, sym, ap, ◌∙◌, arith}
 use Rattle.std.specs.Option.{option_map_or}
 use Rattle.edi_segments.specs.Parts.{value_of, parts_of, split_of}
 use Rattle.edi_segments.specs.Segment.{value, components_left}

@@ -1,5 +1,5 @@
 -- The value is found by its place among the parts.
-use Rattle.std.proofs.Common.{◌≡◌, ◌+◌, ◌-◌, ℕ, List, [], false, drop, get_or, sym, ap, ◌∙◌, arith}
+use Rattle.std.proofs.Common.{◌≡◌, ◌-◌, ℕ, List, [], false, drop, get_or, sym, ap, ◌∙◌, arith}
 use Rattle.std.proofs.lemmas.List.{get_or-drop}
 use Rattle.edi_segments.specs.Reading.{elements_of}
 use Rattle.edi_segments.specs.Parts.{parts_of, value_of}

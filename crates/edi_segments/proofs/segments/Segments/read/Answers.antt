@@ -1,11 +1,10 @@
 -- What is read is a text of the segments, and the only one.
-use Rattle.std.proofs.Common.{◌≡◌, ◌≤◌, arith, List, true, sym, ap, subst, ◌∙◌}
+use Rattle.std.proofs.Common.{◌≡◌, arith, List, true, sym, ap, subst, ◌∙◌}
 use Rattle.std.proofs.lemmas.Bool.{false≢true, true≢false}
 use Rattle.edi_segments.specs.Text.{Content}
-use Rattle.edi_segments.specs.Advice.{has_bad_advice, service_at, behind_advice}
+use Rattle.edi_segments.specs.Advice.{service_at}
 use Rattle.edi_segments.specs.Reading.{are_segments, segments_of}
 use Rattle.edi_segments.specs.Interchange.{InterchangeText, segments_in, is_segment_text}
-use Rattle.edi_segments.specs.Segment.{segments_left}
 use Rattle.edi_segments.specs.declared.service.Service.{Service}
 use Rattle.edi_segments.proofs.SegmentsLemmas.{length-segments}
 use Rattle.edi_segments.proofs.AdviceLemmas.{interchange_sound, interchange_complete}

@@ -1,5 +1,5 @@
 -- The first segment that is left, or nothing is left.
-use Rattle.std.proofs.Common.{◌≡◌, ◌<◌, ℕ, List, [], ◌∷◌, length, sym, ap, ◌∙◌, arith, Option}
+use Rattle.std.proofs.Common.{◌≡◌, ℕ, List, [], ◌∷◌, length, sym, ap, ◌∙◌, arith, Option}
 use Rattle.std.specs.Option.{option_map_or}
 use Rattle.edi_segments.specs.Text.{Content}
 use Rattle.edi_segments.specs.Reading.{segments_of}

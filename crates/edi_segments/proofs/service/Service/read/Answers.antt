@@ -1,7 +1,7 @@
 -- The characters that the advice names.
-use Rattle.std.proofs.Common.{◌≡◌, ℕ, Bool, Option, Some, None, cond, nat_eq, get_or, refl, sym, ap, ◌∙◌}
+use Rattle.std.proofs.Common.{◌≡◌, ℕ, Option, Some, None, cond, nat_eq, get_or, refl, sym, ap}
 use Rattle.std.proofs.lemmas.Bool.{eq-eqb, ne_eqb}
-use Rattle.edi_segments.specs.Advice.{ServiceCharacters, advised}
+use Rattle.edi_segments.specs.Advice.{ServiceCharacters}
 use Rattle.edi_segments.proofs.AdviceLemmas.{service_of_advice}
 use Rattle.edi_segments.proofs.service.Service.read.Goals as goal
 use Rattle.edi_segments.proofs.service.Service.read.Goals.{then-text-eq32, else-text-eq32}

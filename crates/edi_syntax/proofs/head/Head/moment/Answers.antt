@@ -1,5 +1,3 @@
-use Rattle.std.proofs.Common.{◌≡◌, ◌∷◌}
-use Rattle.edi_segments.specs.Segment.{content, segments_left}
 use Rattle.edi_syntax.specs.Heads.{head_segments}
 use Rattle.edi_syntax.proofs.FaultLemmas.{header_found, some_from}
 use Rattle.edi_syntax.proofs.head.Head.moment.Goals as goal

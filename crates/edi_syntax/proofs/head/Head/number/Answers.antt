@@ -1,4 +1,4 @@
-use Rattle.std.proofs.Common.{◌≡◌, sym, ◌∙◌}
+use Rattle.std.proofs.Common.{sym, ◌∙◌}
 use Rattle.edi_segments.specs.Segment.{content}
 use Rattle.edi_syntax.specs.Heads.{head_segments}
 use Rattle.edi_syntax.proofs.FaultLemmas.{header_found, some_from, control_number_within}

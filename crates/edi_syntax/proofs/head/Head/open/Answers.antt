@@ -1,9 +1,8 @@
 -- The first fault of the bytes, or that of envelope and header.
-use Rattle.std.proofs.Common.{◌≡◌, List, Some, None, sym, ap, subst, ◌∙◌}
+use Rattle.std.proofs.Common.{◌≡◌, List, sym, ap, subst, ◌∙◌}
 use Rattle.std.proofs.lemmas.Result.{IfOk-weaker, IfErr-weaker, err_from_is_err_and}
 use Rattle.edi_segments.specs.Text.{Content}
 use Rattle.edi_segments.specs.Interchange.{InterchangeText, segments_in}
-use Rattle.edi_syntax.specs.Heads.{head_segments}
 use Rattle.edi_syntax.specs.Faults.{header_faults, header_fault_of, head_fault_of}
 use Rattle.edi_syntax.proofs.FaultLemmas.{past_bytes, of_bytes}
 use Rattle.edi_syntax.proofs.head.Head.open.Goals as goal

@@ -1,0 +1,5 @@
+pub mod PlaceLemmas
+pub mod CutLemmas
+pub mod HoldLemmas
+pub mod FeedLemmas
+pub mod FirstLemmas

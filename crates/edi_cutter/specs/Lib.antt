@@ -1,0 +1,4 @@
+pub mod Places
+pub mod Cuts
+pub mod Steps
+pub mod Held

@@ -1,0 +1,28 @@
+ghost use Rattle.std.specs.Prelude.{◌≡◌};
+
+/// Why a stream can't be cut further, lowest first.
+#[derive(Clone, Copy, PartialEq, Eq, Debug)]
+pub enum CutFault {
+    /// An interchange has more than 1,048,576 bytes.
+    TooLong,
+    /// A service string advice names characters that may not be used.
+    Service,
+    /// No segments go on so.
+    Segment,
+    /// Memory was refused.
+    Memory,
+}
+
+impl CutFault {
+    ghost use Rattle.edi_cutter.specs.Cuts.{is_memory};
+
+    /// Memory was refused.
+    pub fn is_memory(self) -> bool
+        ensures { result ≡ is_memory self }
+    {
+        match self {
+            CutFault::Memory => true,
+            _ => false,
+        }
+    }
+}

@@ -1,0 +1,17 @@
+ghost use Rattle.edi_cutter.specs.Places.{RefusedWhereNothingGoesOn, ClosedWhereATrailerEnds};
+ghost use Rattle.edi_cutter.specs.Cuts.{FirstIsOne};
+
+/// Bytes are refused just where no continuation of them is a text of segments.
+pub fn refused_where_nothing_goes_on()
+    ensures { RefusedWhereNothingGoesOn }
+{}
+
+/// Bytes close just where they end with the terminator of a last segment.
+pub fn closed_where_a_trailer_ends()
+    ensures { ClosedWhereATrailerEnds }
+{}
+
+/// A stream has one first interchange, and not a fault besides.
+pub fn first_is_one()
+    ensures { FirstIsOne }
+{}

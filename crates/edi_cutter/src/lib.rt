@@ -1,0 +1,13 @@
+//! Interchanges out of a stream that comes in pieces.
+#![tactic(auto)]
+
+pub mod cut_fault;
+pub mod cutter;
+pub mod laws;
+pub mod place;
+pub mod reading;
+#[cfg(test)]
+mod tests;
+
+pub use cut_fault::CutFault;
+pub use cutter::Cutter;

@@ -1,0 +1,80 @@
+ghost use Rattle.std.specs.Prelude.{◌≡◌, ℕ, List, [], ◌∷◌, ◌++◌, IfOk, IfErr, None, Some, true};
+ghost use Rattle.edi_cutter.specs.Cuts.{is_in_advice, fault_of, is_closed};
+ghost use Rattle.edi_cutter.specs.Steps.{IsReadingOf};
+
+use super::cut_fault::CutFault;
+use super::place::Place;
+use edi_segments::Service;
+use edi_segments::service::begins_with_advice;
+
+/// What is kept of the bytes of an interchange.
+#[derive(Clone, Copy)]
+pub struct Reading {
+    service: Service,
+    place: Place,
+}
+
+/// How many bytes an interchange may have.
+const LIMIT: usize = 1_048_576;
+
+impl Reading {
+    pub(crate) const START: Reading = Reading {
+        service: Service::DEFAULT,
+        place: Place::Between(false),
+    };
+
+    /// The bytes end an interchange here.
+    pub(crate) fn is_whole(&self) -> bool
+        ensures { result ≡ is_closed self.now.place }
+    {
+        match self.place {
+            Place::Between(closed) => closed,
+            _ => false,
+        }
+    }
+
+    /// Reads the last byte of the text, behind what was read of the bytes before it.
+    pub(crate) fn read_on(self, text: &[u8], byte: u8) -> Result<Reading, CutFault>
+        requires grown { (before : List ℕ) × (text.now ≡ before ++ byte ∷ []) × IsReadingOf self before }
+        ensures ok { IfOk result (λ reading. IsReadingOf reading text.now × (fault_of text.now ≡ None)) }
+        ensures err { IfErr result (λ fault. fault_of text.now ≡ Some fault) }
+    {
+        if text.len() > LIMIT {
+            return Err(CutFault::TooLong);
+        }
+        if is_in_advice(text) {
+            return read_advice(text);
+        }
+        match self.place.advance(&self.service, byte) {
+            Place::Refused => Err(CutFault::Segment),
+            place => Ok(Reading {
+                service: self.service,
+                place,
+            }),
+        }
+    }
+}
+
+/// What is read where the text is within an advice, or ends with it.
+fn read_advice(text: &[u8]) -> Result<Reading, CutFault>
+    requires within { is_in_advice text.now ≡ true }
+    ensures ok { IfOk result (λ reading. IsReadingOf reading text.now × (fault_of text.now ≡ None)) }
+    ensures err { IfErr result (λ fault. fault_of text.now ≡ Some fault) }
+{
+    if text.len() < 9 {
+        return Ok(Reading::START);
+    }
+    match Service::read(text) {
+        Ok((service, _)) => Ok(Reading {
+            service,
+            place: Place::Between(false),
+        }),
+        Err(_) => Err(CutFault::Service),
+    }
+}
+
+fn is_in_advice(text: &[u8]) -> bool
+    ensures { result ≡ is_in_advice text.now }
+{
+    begins_with_advice(text) && text.len() <= 9
+}

@@ -1,0 +1,107 @@
+use super::{CutFault, Cutter};
+use std::alloc::Global;
+use std::test::Fail;
+
+const FIRST: &[u8] =
+    b"UNB+UNOA:3+HAULA+TERM1+240305:0910+000001'UNH+1+CODECO:D:95B:UN:ITG14'BGM+34+G1+9'EQD+CN+ABCU0000017+22G1:102:5+++5'UNT+4+1'UNZ+1+000001'";
+
+const SECOND: &[u8] =
+    b"UNB+UNOA:3+HAULA+TERM1+240305:0910+2'UNH+1+CODECO:D:95B:UN'BGM+34+G1+9'EQD+CN+ABCU0000022+22G1:102:5+++5'UNT+4+1'UNZ+1+2'";
+
+const RELEASED: &[u8] =
+    b"UNB+UNOA:3+HAULA+TERM1+240305:0910+1'UNH+M?'1+CODECO:D:95B:UN'BGM+34+G1+9'EQD+CN+ABCU0000017+22G1+++4'RFF+BN:A?+B'UNT+5+M?'1'UNZ+1+1'";
+
+const ADVISED: &[u8] = b"UNA:+.  '\nUNB+UNOA:3'FTX+WHY?'UNZ+1+1'";
+
+/// How many interchanges the piece completes, and how many of them are the expected one in their turn.
+fn count_cut(
+    cutter: &mut Cutter,
+    piece: &[u8],
+    expected: &[&[u8]],
+    before: usize,
+) -> Result<usize, CutFault> {
+    let mut count = before;
+    let mut rest = piece;
+    for _ in 0..4 {
+        match cutter.feed(rest)? {
+            Some(n) => {
+                if count < expected.len() && cutter.interchange() == expected[count] {
+                    count += 1;
+                }
+                rest = &rest[n..];
+            }
+            None => return Ok(count),
+        }
+    }
+    Ok(count)
+}
+
+fn cut_in_two(alloc: Global, stream: &[u8], at: usize, expected: &[&[u8]]) -> bool {
+    let mut cutter = Cutter::new(alloc);
+    let at = at.min(stream.len());
+    let Ok(count) = count_cut(&mut cutter, &stream[..at], expected, 0) else {
+        return false;
+    };
+    match count_cut(&mut cutter, &stream[at..], expected, count) {
+        Ok(count) => count == expected.len() && cutter.at_rest(),
+        Err(_) => false,
+    }
+}
+
+fn cut_bytes(alloc: Global, stream: &[u8], expected: &[&[u8]]) -> bool {
+    let mut cutter = Cutter::new(alloc);
+    let mut count = 0;
+    for i in 0..stream.len() {
+        match count_cut(&mut cutter, &stream[i..i + 1], expected, count) {
+            Ok(more) => count = more,
+            Err(_) => return false,
+        }
+    }
+    count == expected.len() && cutter.at_rest()
+}
+
+#[test]
+fn cuts_two_interchanges_however_the_stream_is_cut(rt: HostRuntime) -> Result<(), Fail> {
+    for second in [SECOND, ADVISED, RELEASED] {
+        let mut stream = Vec::new(rt.alloc());
+        stream.extend_from_slice(FIRST)?;
+        stream.extend_from_slice(b"\r\n")?;
+        stream.extend_from_slice(second)?;
+        stream.extend_from_slice(b"\n")?;
+        for at in 0..stream.len() {
+            assert!(rt;
+                cut_in_two(rt.alloc(), &stream, at, &[FIRST, second]),
+                "cut at {at}"
+            );
+        }
+        assert!(rt; cut_bytes(rt.alloc(), &stream, &[FIRST, second]));
+    }
+    Ok(())
+}
+
+#[test]
+fn a_fault_stands(rt: HostRuntime) -> Result<(), Fail> {
+    let mut cutter = Cutter::new(rt.alloc());
+    assert!(rt; cutter.at_rest());
+    assert!(rt; cutter.feed(b"AAAA") == Err(CutFault::Segment));
+    assert!(rt; cutter.feed(b"'") == Err(CutFault::Segment));
+    assert!(rt; cutter.interchange().is_empty());
+    let mut other = Cutter::new(rt.alloc());
+    assert!(rt; other.feed(b"\r\nUNA++.? ") == Ok(None));
+    assert!(rt; !other.at_rest());
+    assert!(rt; other.feed(b"'") == Err(CutFault::Service));
+    Ok(())
+}
+
+#[test]
+fn the_last_byte_that_may_stand_and_one_more(rt: HostRuntime) -> Result<(), Fail> {
+    let mut cutter = Cutter::new(rt.alloc());
+    assert!(rt; cutter.feed(b"FTX+") == Ok(None));
+    let thousand = [b'A'; 1024];
+    for _ in 0..1023 {
+        assert!(rt; cutter.feed(&thousand) == Ok(None));
+    }
+    assert!(rt; cutter.feed(&thousand[..1020]) == Ok(None));
+    assert!(rt; cutter.feed(b"'") == Err(CutFault::TooLong));
+    Ok(())
+}

@@ -1,0 +1,4 @@
+pub mod Names
+pub mod CodeTexts
+pub mod Meanings
+pub mod SlotTexts

@@ -1,0 +1,120 @@
+-- Why a message is rejected, in the terms of directory D.95B.
+use Rattle.std.specs.Prelude.{ℕ, Bool, true, false, cond, not, ◌&&◌, ◌||◌, nat_lt, List, [], ◌∷◌, codes, Option, None, Some, is_none, count_by}
+use Rattle.std.specs.Option.{option_map_or, option_and_then}
+use Rattle.std.specs.List.{list_any, find}
+use Rattle.std.specs.Str.{bytes_eq}
+use Rattle.edi_segments.specs.Text.{Content, component_of, has_tag}
+use Rattle.edi_syntax.specs.Numbers.{is_count}
+use Rattle.edi_syntax.specs.Messages.{Message}
+use Rattle.edi_messages.specs.Texts.{is_name}
+use Rattle.edi_messages.specs.Parts.{is_equipment, heading, is_qualified}
+use Rattle.edi_messages.specs.Types.{message_type_of}
+use Rattle.edi_messages.specs.Codes.{order_meant}
+use Rattle.edi_messages.specs.Purposes.{CallContent, Purpose, purpose_with}
+use Rattle.edi_messages.specs.declared.codes.Codes.{Codes}
+use Rattle.edi_messages.specs.declared.order_kind.OrderKind.{OrderKind}
+use Rattle.edi_messages.specs.declared.message_type.MessageType.{MessageType}
+use Rattle.edi_messages.specs.declared.message_type.MessageType.TheVariants.{Codeco, Coprar, Coarri}
+use Rattle.edi_messages.specs.declared.message_fault.MessageFault.{MessageFault}
+use Rattle.edi_messages.specs.declared.message_fault.MessageFault.TheVariants.{OtherType, NoBgm, Code, Function, NoTransport, NoEquipment, EquipmentCount, TooMany, Memory}
+
+-- BGM of the heading; 1001 document name code, 1225 message function
+abbrev pub beginning : Message → Option Content
+beginning message = find (has_tag (codes "BGM")) (heading message.segments)
+
+abbrev pub document_name : Content → List ℕ
+document_name segment = component_of segment 1 1
+
+abbrev pub message_function : Content → List ℕ
+message_function segment = component_of segment 3 1
+
+-- the main carriage's TDT of the heading; 8028 voyage, 8213 vessel
+abbrev pub transport : Message → Option Content
+transport message = find (is_qualified (codes "TDT") (codes "20")) (heading message.segments)
+
+abbrev pub voyage_of : Content → List ℕ
+voyage_of segment = component_of segment 2 1
+
+abbrev pub vessel_of : Content → List ℕ
+vessel_of segment = component_of segment 8 1
+
+-- the number of equipments that the message says it has; 6069, 6066
+abbrev pub control : Message → Option Content
+control message = find (is_qualified (codes "CNT") (codes "16")) message.segments
+
+abbrev pub control_value : Content → List ℕ
+control_value segment = component_of segment 1 2
+
+-- an equipment that is a container; 8053
+abbrev pub is_container : Content → Bool
+is_container segment = is_qualified (codes "EQD") (codes "CN") segment
+
+-- 1225 says an original, or nothing
+abbrev pub is_original : Content → Bool
+is_original segment = bytes_eq (message_function segment) [] || bytes_eq (message_function segment) (codes "9")
+
+abbrev pub names_call : Content → Bool
+names_call segment = is_name (voyage_of segment) && is_name (vessel_of segment)
+
+abbrev pub speaks_of_call : MessageType → Bool
+speaks_of_call Codeco = false
+speaks_of_call Coprar = true
+speaks_of_call Coarri = true
+
+-- what the message orders for each of its containers
+abbrev pub order_kind_of : Codes → Message → Option OrderKind
+order_kind_of codes message =
+    option_and_then (λ type. option_and_then (λ segment. order_meant codes type (document_name segment)) (beginning message)) (message_type_of message.header)
+
+-- the call that the transport names, if it does
+abbrev pub call_named : Content → CallContent
+call_named segment = record { vessel = vessel_of segment; voyage = voyage_of segment }
+
+abbrev pub call_if_named : Content → Option CallContent
+call_if_named segment = cond (names_call segment) (Some (call_named segment)) None
+
+abbrev pub call_in : Message → Option CallContent
+call_in message = option_and_then call_if_named (transport message)
+
+-- what the message is for
+abbrev pub purpose_of : Codes → Message → Option Purpose
+purpose_of codes message = option_and_then (λ kind. purpose_with kind (call_in message)) (order_kind_of codes message)
+
+abbrev pub is_of_other_type : Message → Bool
+is_of_other_type message = is_none (message_type_of message.header)
+
+abbrev pub is_no_original : Message → Bool
+is_no_original message = not (option_map_or is_original (beginning message) true)
+
+abbrev pub lacks_transport : Message → Bool
+lacks_transport message =
+    option_map_or speaks_of_call (message_type_of message.header) false && not (option_map_or names_call (transport message) false)
+
+abbrev pub lacks_equipment : Message → Bool
+lacks_equipment message = not (list_any is_container message.segments)
+
+abbrev pub miscounts_equipment : Message → Bool
+miscounts_equipment message =
+    not (option_map_or (λ segment. is_count (control_value segment) (count_by is_equipment message.segments)) (control message) true)
+
+abbrev pub has_too_many : Message → Bool
+has_too_many message = nat_lt 999 (count_by is_container message.segments)
+
+-- whether the fault applies to the message
+abbrev pub applies : Codes → Message → MessageFault → Bool
+applies codes message OtherType = is_of_other_type message
+applies codes message NoBgm = is_none (beginning message)
+applies codes message Code = is_none (order_kind_of codes message)
+applies codes message Function = is_no_original message
+applies codes message NoTransport = lacks_transport message
+applies codes message NoEquipment = lacks_equipment message
+applies codes message EquipmentCount = miscounts_equipment message
+applies codes message TooMany = has_too_many message
+applies codes message Memory = false
+
+abbrev pub message_faults : List MessageFault
+message_faults = OtherType ∷ NoBgm ∷ Code ∷ Function ∷ NoTransport ∷ NoEquipment ∷ EquipmentCount ∷ TooMany ∷ []
+
+-- the lowest fault that applies
+abbrev pub fault_of : Codes → Message → Option MessageFault
+fault_of codes message = find (applies codes message) message_faults

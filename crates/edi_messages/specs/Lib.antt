@@ -1,0 +1,12 @@
+pub mod Texts
+pub mod Types
+pub mod CodeText
+pub mod Codes
+pub mod Parts
+pub mod Purposes
+pub mod Faults
+pub mod Orders
+pub mod Message
+pub mod Spans
+pub mod Owned
+pub mod Contrl

@@ -1,0 +1,59 @@
+-- A message as its orders, or the fault by which it is rejected.
+use Rattle.std.specs.Prelude.{Bool, List, map, filter, Option, None, Some, Result, Ok, Err}
+use Rattle.std.specs.Option.{option_map_or}
+use Rattle.std.specs.Result.{result_ok}
+use Rattle.box6346.specs.declared.box_number.BoxNumber.{BoxNumber}
+use Rattle.edi_syntax.specs.Moments.{CivilMoment}
+use Rattle.edi_segments.specs.Text.{Content}
+use Rattle.edi_syntax.specs.Messages.{Message}
+use Rattle.edi_messages.specs.Parts.{EquipmentGroup, groups_of}
+use Rattle.edi_messages.specs.Faults.{is_container, purpose_of, fault_of}
+use Rattle.edi_messages.specs.Purposes.{CallContent, Purpose, kind_of, call_of}
+use Rattle.edi_messages.specs.Orders.{OrderContent, read_number, order_of}
+use Rattle.edi_messages.specs.declared.line_fault.LineFault.{LineFault}
+use Rattle.edi_messages.specs.declared.codes.Codes.{Codes}
+use Rattle.edi_messages.specs.declared.order_kind.OrderKind.{OrderKind}
+use Rattle.edi_messages.specs.declared.message_fault.MessageFault.{MessageFault}
+use Rattle.edi_messages.specs.declared.message_fault.MessageFault.TheVariants.{Code}
+
+-- an order, or the fault of the line with its container, where the number could be read
+pub data LineContent : Type 0 where
+  ordered : OrderContent → LineContent
+  refused : LineFault → Option BoxNumber → LineContent
+
+abbrev pub line_read : Option BoxNumber → Result OrderContent LineFault → LineContent
+line_read number (Ok order) = ordered order
+line_read number (Err fault) = refused fault number
+
+-- the line of a group
+abbrev pub line_of : Purpose → CivilMoment → EquipmentGroup → LineContent
+line_of purpose opened group = line_read (result_ok (read_number group)) (order_of purpose opened group)
+
+abbrev pub is_container_group : EquipmentGroup → Bool
+is_container_group group = is_container group.equipment
+
+-- the lines of the containers' groups, in order
+abbrev pub lines_of : Purpose → CivilMoment → List Content → List LineContent
+lines_of purpose opened segments = map (line_of purpose opened) (filter is_container_group (groups_of segments))
+
+pub record MessageContent : Type 0 where
+  pub kind : OrderKind
+  pub call : Option CallContent
+  pub lines : List LineContent
+
+abbrev pub message_of : Purpose → CivilMoment → Message → MessageContent
+message_of purpose opened message = record {
+  kind = kind_of purpose;
+  call = call_of purpose;
+  lines = lines_of purpose opened message.segments;
+}
+
+abbrev pub judged : Option MessageFault → Result MessageContent MessageFault → Result MessageContent MessageFault
+judged (Some fault) message = Err fault
+judged None message = message
+
+-- what a message says to a terminal that got it with these codes, in an interchange of that moment: the first fault that
+-- applies, or else its lines. A message without fault has a purpose.
+abbrev pub reading : Codes → CivilMoment → Message → Result MessageContent MessageFault
+reading codes opened message =
+    judged (fault_of codes message) (option_map_or (λ purpose. Ok (message_of purpose opened message)) (purpose_of codes message) (Err Code))

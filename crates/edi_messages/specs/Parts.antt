@@ -1,0 +1,54 @@
+-- The parts of a message: what stands before the equipment, and the group of each equipment.
+use Rattle.std.specs.Prelude.{ℕ, Bool, false, cond, ◌&&◌, ◌||◌, List, [], ◌∷◌, codes}
+use Rattle.std.specs.Str.{bytes_eq}
+use Rattle.edi_segments.specs.Text.{Content}
+use Rattle.edi_segments.specs.Text.{has_tag}
+use Rattle.edi_segments.specs.Text.{component_of}
+use Rattle.edi_syntax.specs.Frames.{message_segments_left}
+use Rattle.edi_messages.specs.declared.part.Part.{Part}
+use Rattle.edi_messages.specs.declared.part.PartEnd.{PartEnd}
+use Rattle.edi_messages.specs.declared.part.PartEnd.TheVariants.{Equipment, Group, Whole}
+
+abbrev pub is_equipment : Content → Bool
+is_equipment segment = has_tag (codes "EQD") segment
+
+-- whether the segment stands behind the end of such a part
+abbrev pub ends_part : PartEnd → Content → Bool
+ends_part Equipment segment = is_equipment segment
+ends_part Group segment = is_equipment segment || has_tag (codes "CNT") segment
+ends_part Whole segment = false
+
+-- the segments before the first that ends the part
+abbrev pub before_end : PartEnd → List Content → List Content
+before_end end [] = []
+before_end end (segment ∷ segments) = cond (ends_part end segment) [] (segment ∷ before_end end segments)
+
+abbrev pub part_left : Part → List Content
+part_left part = before_end part.end (message_segments_left part.rest)
+
+-- what stands before the first equipment
+abbrev pub heading : List Content → List Content
+heading segments = before_end Equipment segments
+
+-- an equipment and the segments that speak of it
+pub record EquipmentGroup : Type 0 where
+  pub equipment : Content
+  pub details : List Content
+
+-- Each equipment begins a group, which ends before the next equipment or control total.
+abbrev pub groups_of : List Content → List EquipmentGroup
+groups_of [] = []
+groups_of (segment ∷ segments) =
+    cond (is_equipment segment)
+    (record { equipment = segment; details = before_end Group segments } ∷ groups_of segments)
+    (groups_of segments)
+
+-- a segment with this tag whose first component is the qualifier
+abbrev pub is_qualified : List ℕ → List ℕ → Content → Bool
+is_qualified tag qualifier segment = has_tag tag segment && bytes_eq (component_of segment 1 1) qualifier
+
+-- a date or time in one of the formats that are read, CCYYMMDDHHMM and CCYYMMDD
+abbrev pub states_moment : Content → Bool
+states_moment segment =
+    has_tag (codes "DTM") segment
+    && (bytes_eq (component_of segment 1 3) (codes "203") || bytes_eq (component_of segment 1 3) (codes "102"))

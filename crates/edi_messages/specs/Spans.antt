@@ -1,0 +1,39 @@
+-- What the spans of the code stand for.
+use Rattle.std.specs.Prelude.{ℕ, List}
+use Rattle.edi_segments.specs.Segment.{content}
+use Rattle.edi_messages.specs.Parts.{EquipmentGroup, part_left}
+use Rattle.edi_messages.specs.Faults.{call_named}
+use Rattle.edi_messages.specs.Purposes.{CallContent, Purpose}
+use Rattle.edi_messages.specs.Purposes as purpose
+use Rattle.edi_messages.specs.Orders.{EntryContent}
+use Rattle.edi_messages.specs.declared.group.Group.{Group}
+use Rattle.edi_messages.specs.declared.call_span.CallSpan.{CallSpan}
+use Rattle.edi_messages.specs.declared.entry_facts.EntryFacts.{EntryFacts}
+use Rattle.edi_messages.specs.declared.purpose_span.PurposeSpan.{PurposeSpan}
+use Rattle.edi_messages.specs.declared.purpose_span.PurposeSpan as span
+
+abbrev pub group_content : Group → EquipmentGroup
+group_content group = record { equipment = content group.equipment; details = part_left group.details }
+
+abbrev pub call_spanned : CallSpan → CallContent
+call_spanned call = call_named (content call.transport)
+
+-- an entry with its booking
+abbrev pub entry_with : List ℕ → EntryFacts → EntryContent
+entry_with booking facts = record {
+  number = facts.number;
+  size_type = facts.size_type;
+  is_laden = facts.is_laden;
+  booking = booking;
+  moment = facts.moment;
+  slot = facts.slot;
+}
+
+abbrev pub purpose_spanned : PurposeSpan → Purpose
+purpose_spanned span.TheVariants.GateIn = purpose.gate_in
+purpose_spanned span.TheVariants.GateOut = purpose.gate_out
+purpose_spanned span.TheVariants.Move = purpose.yard_move
+purpose_spanned (span.TheVariants.ListDischarge call) = purpose.discharge_list (call_spanned call)
+purpose_spanned (span.TheVariants.ListLoad call) = purpose.load_list (call_spanned call)
+purpose_spanned (span.TheVariants.Discharge call) = purpose.discharge_report (call_spanned call)
+purpose_spanned (span.TheVariants.Load call) = purpose.load_report (call_spanned call)

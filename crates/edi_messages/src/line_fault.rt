@@ -1,0 +1,14 @@
+/// Why a line gives no order. Of those that apply the first is answered.
+#[derive(Clone, Copy, PartialEq, Eq, Debug)]
+pub enum LineFault {
+    /// The container number (8260) has not the form of ISO 6346.
+    Form = 1,
+    /// Its check digit is wrong.
+    CheckDigit,
+    /// The size-type (8155) can't be placed.
+    Size,
+    /// The date or time (2380) is none.
+    Moment,
+    /// The slot's name has not its form, or none is named where one has to be.
+    SlotText,
+}

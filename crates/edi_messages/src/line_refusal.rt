@@ -1,0 +1,10 @@
+use crate::line_fault::LineFault;
+use box6346::BoxNumber;
+
+/// A line that gives no order.
+#[derive(Clone, Copy, Debug)]
+pub struct LineRefusal {
+    pub fault: LineFault,
+    /// The line's container, where its number could be read.
+    pub number: Option<BoxNumber>,
+}

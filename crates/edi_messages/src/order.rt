@@ -1,0 +1,43 @@
+use crate::call::Call;
+use crate::entry::Entry;
+use box6346::{BoxNumber, Slot};
+use edi_moments::Moment;
+
+/// What a message orders for one container. Each kind has what it reads and nothing else.
+#[derive(Debug, Drop)]
+pub enum Order {
+    /// It comes in by the gate.
+    GateIn(Entry),
+    /// It leaves by the gate.
+    GateOut {
+        number: BoxNumber,
+        moment: Moment,
+    },
+    /// It goes to this slot.
+    Move {
+        number: BoxNumber,
+        slot: Slot,
+    },
+    /// It is a line of the call's discharge list.
+    ListDischarge {
+        call: Call,
+        number: BoxNumber,
+    },
+    /// It is a line of the call's load list, for a port of discharge (3225 behind `11`), empty where none is given.
+    ListLoad {
+        call: Call,
+        number: BoxNumber,
+        port: String,
+    },
+    /// It came off the vessel.
+    Discharge {
+        call: Call,
+        entry: Entry,
+    },
+    /// It went onto the vessel.
+    Load {
+        call: Call,
+        number: BoxNumber,
+        moment: Moment,
+    },
+}

@@ -1,0 +1,90 @@
+-- Segments written under the default service characters: releases before service characters alone, no empty components or
+-- elements at an end, no line breaks.
+use Rattle.std.specs.Prelude.{◌≡◌, ℕ, Bool, true, false, cond, ◌==◌, List, [], ◌∷◌, ◌++◌, length, take, codes, IsTrue}
+use Rattle.std.specs.List.{list_all, flat_map}
+use Rattle.edi_segments.specs.Characters.{is_data_byte}
+use Rattle.edi_segments.specs.Tokens.{is_service}
+use Rattle.edi_segments.specs.Advice.{default_service}
+use Rattle.edi_segments.specs.Text.{Content, IsTag}
+
+-- the byte, behind the release character where it would serve otherwise
+abbrev pub spelled_byte : ℕ → List ℕ
+spelled_byte b = cond (is_service default_service b) (63 ∷ b ∷ []) (b ∷ [])
+
+-- the spelling of a value
+abbrev pub spelling : List ℕ → List ℕ
+spelling value = flat_map spelled_byte value
+
+-- the value has no bytes
+abbrev pub is_empty_value : List ℕ → Bool
+is_empty_value value = length value == 0
+
+-- no value of the element has any
+abbrev pub is_empty_element : List (List ℕ) → Bool
+is_empty_element values = list_all is_empty_value values
+
+-- the text of an element, without the empty components at its end
+abbrev pub composite : List (List ℕ) → List ℕ
+composite [] = []
+composite (value ∷ values) = spelling value ++ cond (list_all is_empty_value values) [] (58 ∷ composite values)
+
+-- the texts of elements, each behind a separator, without the empty ones at their end
+abbrev pub elements_text : List (List (List ℕ)) → List ℕ
+elements_text [] = []
+elements_text (element ∷ elements) =
+    cond (list_all is_empty_element (element ∷ elements)) [] (43 ∷ composite element ++ elements_text elements)
+
+abbrev pub segment_text : Content → List ℕ
+segment_text segment = segment.tag ++ elements_text segment.elements ++ 39 ∷ []
+
+abbrev pub segments_text : List Content → List ℕ
+segments_text segments = flat_map segment_text segments
+
+-- ---- what may be written
+
+-- a byte that may stand in data
+abbrev pub IsWritable : List ℕ → Type 0
+IsWritable value = IsTrue (list_all is_data_byte value)
+
+abbrev pub AreWritable : List (List ℕ) → Type 0
+AreWritable values = IsTrue (list_all (list_all is_data_byte) values)
+
+-- the tag of a segment that isn't an advice
+abbrev pub IsSegmentTag : List ℕ → Type 0
+IsSegmentTag tag = IsTag tag × ((tag ≡ codes "UNA") → ⊥)
+
+-- ---- segments that are being written
+
+-- What is written, and how much of it stands if nothing but empty elements follows.
+pub record Writing : Type 0 where
+  pub text : List ℕ
+  pub kept : ℕ
+  pub is_open : Bool
+
+abbrev pub nothing_written : Writing
+nothing_written = record { text = []; kept = 0; is_open = false }
+
+-- the tag of a segment more
+abbrev pub begun : Writing → List ℕ → Writing
+begun w tag = record { text = w.text ++ tag; kept = length (w.text ++ tag); is_open = true }
+
+-- an element more
+abbrev pub with_element : Writing → List (List ℕ) → Writing
+with_element w values = record {
+  text = w.text ++ 43 ∷ composite values;
+  kept = cond (is_empty_element values) w.kept (length (w.text ++ 43 ∷ composite values));
+  is_open = w.is_open;
+}
+
+-- the end of the segment
+abbrev pub ended : Writing → Writing
+ended w = record { text = take w.kept w.text ++ 39 ∷ []; kept = length (take w.kept w.text ++ 39 ∷ []); is_open = false }
+
+-- the segment begun, with its elements
+abbrev pub with_elements : Writing → List (List (List ℕ)) → Writing
+with_elements w [] = w
+with_elements w (element ∷ elements) = with_elements (with_element w element) elements
+
+-- a segment more
+abbrev pub with_segment : Writing → Content → Writing
+with_segment w segment = ended (with_elements (begun w segment.tag) segment.elements)

@@ -1,0 +1,93 @@
+ghost use Rattle.std.specs.Prelude.{◌≡◌, ◌++◌, ◌∷◌, ℕ, List, [], OnOk, OnErr, map, cond, IsTrue, take, drop};
+ghost use Rattle.std.specs.List.{list_all};
+ghost use Rattle.edi_segments.specs.Characters.{is_data_byte};
+ghost use Rattle.edi_segments.specs.Tokens.{is_service};
+ghost use Rattle.edi_segments.specs.Advice.{default_service};
+ghost use Rattle.edi_segments.specs.Spelling.{spelled_byte, spelling, is_empty_value, composite, IsWritable};
+
+use std::alloc::AllocError;
+
+/// Writes the value at the end, under the default service characters. Where memory is refused the vector is as it was.
+pub fn write_component(value: &[u8], out: &mut Vec<u8>) -> Result<(), AllocError>
+    requires { IsWritable value.now }
+    ensures ok { OnOk result (out.new.items ≡ out.old.items ++ spelling value.now) }
+    ensures err { OnErr result (out.new.items ≡ out.old.items) }
+{
+    let start = out.len();
+    for byte in value {
+        if let Err(error) = write_byte(*byte, out) {
+            out.truncate(start);
+            return Err(error);
+        }
+    }
+    Ok(())
+}
+
+/// Writes the byte, behind the release character where it would serve otherwise.
+pub(crate) fn write_byte(byte: u8, out: &mut Vec<u8>) -> Result<(), AllocError>
+    ensures ok { OnOk result (out.new.items ≡ out.old.items ++ spelled_byte byte) }
+    ensures err { OnErr result (out.new.items ≡ out.old.items) }
+{
+    if serves(byte) {
+        out.extend_from_slice(&[b'?', byte])
+    } else {
+        out.extend_from_slice(&[byte])
+    }
+}
+
+/// The byte is one of the default service characters.
+fn serves(byte: u8) -> bool
+    ensures { result ≡ is_service default_service byte }
+{
+    byte == b':' || byte == b'+' || byte == b'\'' || byte == b'?'
+}
+
+/// Writes the values as components, without the empty ones at the end.
+pub(crate) fn write_composite(values: &[&[u8]], out: &mut Vec<u8>) -> Result<(), AllocError>
+    requires { IsTrue (list_all (λ value. list_all is_data_byte value.now) values.now) }
+    ensures ok { OnOk result (out.new.items ≡ out.old.items ++ composite (map (λ value. value.now) values.now)) }
+    ensures err { OnErr result (out.new.items ≡ out.old.items) }
+{
+    let start = out.len();
+    for (i, value) in values.iter().enumerate() {
+        let is_last = are_empty(&values[i + 1..]);
+        if let Err(error) = write_part(value, is_last, out) {
+            out.truncate(start);
+            return Err(error);
+        }
+        if is_last {
+            return Ok(());
+        }
+    }
+    Ok(())
+}
+
+/// Writes a value, and a separator behind it where it is not the last.
+fn write_part(value: &[u8], is_last: bool, out: &mut Vec<u8>) -> Result<(), AllocError>
+    requires { IsWritable value.now }
+    ensures ok { OnOk result (out.new.items ≡ out.old.items ++ (spelling value.now ++ cond is_last [] (58 ∷ []))) }
+    ensures err { OnErr result (out.new.items ≡ out.old.items) }
+{
+    let start = out.len();
+    write_component(value, out)?;
+    if is_last {
+        return Ok(());
+    }
+    if let Err(error) = out.push(b':') {
+        out.truncate(start);
+        return Err(AllocError::from(error));
+    }
+    Ok(())
+}
+
+/// No value has any bytes.
+pub(crate) fn are_empty(values: &[&[u8]]) -> bool
+    ensures { result ≡ list_all is_empty_value (map (λ value. value.now) values.now) }
+{
+    for value in values {
+        if !value.is_empty() {
+            return false;
+        }
+    }
+    true
+}

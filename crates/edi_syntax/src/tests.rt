@@ -1,0 +1,148 @@
+use super::{Head, Service, SyntaxFault, interchange_text, open_envelope};
+use std::test::Fail;
+
+const GATE_IN: &[u8] =
+    b"UNB+UNOA:3+HAULA+TERM1+240305:0910+000001'UNH+1+CODECO:D:95B:UN:ITG14'BGM+34+G1+9'EQD+CN+ABCU0000017+22G1:102:5+++5'UNT+4+1'UNZ+1+000001'";
+
+fn fault(text: &[u8]) -> Option<SyntaxFault> {
+    open_envelope(text).err()
+}
+
+#[test]
+fn reads_a_gate_in(rt: HostRuntime) -> Result<(), Fail> {
+    let envelope = open_envelope(GATE_IN)?;
+    let head = envelope.head();
+    assert!(rt; head.sender(1).equals(b"HAULA"));
+    assert!(rt; head.recipient(1).equals(b"TERM1"));
+    assert!(rt; head.preparation(1).equals(b"240305"));
+    assert!(rt; head.preparation(2).equals(b"0910"));
+    assert!(rt; head.reference().equals(b"000001"));
+    assert_eq!(rt; head.number(), 1);
+    assert_eq!(rt; head.moment().text(), *b"2024-03-05 09:10");
+    let frame = envelope.frames().next().ok_or("no message")?;
+    assert!(rt; frame.reference().equals(b"1"));
+    assert!(rt; frame.identity(5).equals(b"ITG14"));
+    assert!(rt; frame.header().has_tag(b"UNH"));
+    let mut segments = frame.segments();
+    assert!(rt;
+        segments
+            .next()
+            .ok_or("no BGM")?
+            .component(3, 1)
+            .equals(b"9")
+    );
+    let equipment = segments.next().ok_or("no EQD")?;
+    assert_eq!(rt; equipment.tag(), b"EQD".as_slice());
+    let size_type = equipment.components(3).next().ok_or("no size-type")?;
+    assert!(rt; size_type.equals(b"22G1"));
+    assert!(rt; equipment.component(6, 1).equals(b"5"));
+    assert!(rt; equipment.component(7, 1).is_empty());
+    assert!(rt; segments.next().is_none());
+    Ok(())
+}
+
+#[test]
+fn answers_each_fault(rt: HostRuntime) {
+    let rows: &[(&[u8], SyntaxFault)] = &[
+        (b"UNA:+", SyntaxFault::Service),
+        (b"UNA++.? 'UNB+UNOA:3'", SyntaxFault::Service),
+        (b"UNA:+.?A'UNB+UNOA:3", SyntaxFault::Segment),
+        (b"UNB", SyntaxFault::Segment),
+        (b"", SyntaxFault::NoEnvelope),
+        (
+            b"UNB+UNOA:3+HAULA+TERM1+240305:0910+1'UNZ+0+1'",
+            SyntaxFault::Empty,
+        ),
+        (
+            b"UNB+UNOA:3+HAULA+TERM1+240305:0910+1'UNG'UNZ+0+1'",
+            SyntaxFault::Group,
+        ),
+        (
+            b"UNB+UNOD:3+HAULA+TERM1+240305:0910+1'UNZ+0+1'",
+            SyntaxFault::Version,
+        ),
+        (
+            b"UNB+UNOA:4+HAULA+TERM1+240305:0910+1'UNZ+0+1'",
+            SyntaxFault::Version,
+        ),
+        (
+            b"UNB+UNOA:3++TERM1+240305:0910+1'UNZ+0+1'",
+            SyntaxFault::NoEnvelope,
+        ),
+        (
+            b"UNB+UNOA:3+HAULA:::\x80+TERM1+240305:0910+1'UNZ+0+1'",
+            SyntaxFault::NoEnvelope,
+        ),
+        (
+            b"UNB+UNOA:3+HAULA+TERM1+240305:0910+1000000000'UNZ+0+1'",
+            SyntaxFault::Number,
+        ),
+        (
+            b"UNB+UNOA:3+HAULA+TERM1+240305:0910+0'UNZ+0+1'",
+            SyntaxFault::Number,
+        ),
+        (
+            b"UNB+UNOA:3+HAULA+TERM1+240305:0910+A1'UNZ+0+1'",
+            SyntaxFault::Number,
+        ),
+        (
+            b"UNB+UNOA:3+HAULA+TERM1+240305:0910+000000000000001'UNZ+0+1'",
+            SyntaxFault::Number,
+        ),
+        (
+            b"UNB+UNOA:3+HAULA+TERM1+240230:0910+1'UNZ+0+1'",
+            SyntaxFault::Moment,
+        ),
+        (
+            b"UNB+UNOA:3+HAULA+TERM1+240305:0910+1++++++1'UNZ+0+1'",
+            SyntaxFault::Test,
+        ),
+        (
+            b"UNB+UNOA:3+HAULA+TERM1+240305:0910+1'BGM'UNZ+0+1'",
+            SyntaxFault::MessageFrame,
+        ),
+        (
+            b"UNB+UNOA:3+HAULA+TERM1+240305:0910+1'UNH+1+A'UNT+3+1'UNZ+1+1'",
+            SyntaxFault::SegmentCount,
+        ),
+        (
+            b"UNB+UNOA:3+HAULA+TERM1+240305:0910+1'UNH+1+A'UNT+2+2'UNZ+1+1'",
+            SyntaxFault::MessageReference,
+        ),
+        (
+            b"UNB+UNOA:3+HAULA+TERM1+240305:0910+1'UNH+1+A'UNT+2+1'UNZ+2+1'",
+            SyntaxFault::ControlCount,
+        ),
+        (
+            b"UNB+UNOA:3+HAULA+TERM1+240305:0910+1'UNH+1+A'UNT+2+1'UNZ+1+01'",
+            SyntaxFault::ControlReference,
+        ),
+    ];
+    for (text, expected) in rows {
+        assert!(rt; fault(text) == Some(*expected), "{expected:?}");
+    }
+}
+
+#[test]
+fn a_reference_is_compared_by_its_value(rt: HostRuntime) {
+    let text = b"UNB+UNOA:3+HAULA+TERM1+240305:0910+1'UNH+M?'1+A'UNT+2+M?'?1'UNZ+1+?1'";
+    assert!(rt; fault(text).is_none());
+}
+
+#[test]
+fn takes_breaks_off_both_ends(rt: HostRuntime) {
+    assert_eq!(rt; interchange_text(b"\r\n\nUNB\n'\r\n"), b"UNB\n'".as_slice());
+    assert!(rt; interchange_text(b"\r\n").is_empty());
+}
+
+#[test]
+fn reads_service_characters(rt: HostRuntime) -> Result<(), Fail> {
+    let (service, start) = Service::read(b"UNA:+.  '")?;
+    assert!(rt; service.release.is_none());
+    assert_eq!(rt; start, 9);
+    let head = Head::open(
+        b"UNA\x01\x02.\x03 \x04\r\nUNB\x02UNOA\x013\x02?\x03A\x02T\x02240305\x010910\x021\x04UNZ\x04",
+    )?;
+    assert!(rt; head.sender(1).equals(b"?A"));
+    Ok(())
+}

@@ -1,0 +1,3 @@
+pub mod Delivering
+pub mod Lines
+pub mod Streams

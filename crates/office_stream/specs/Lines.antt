@@ -1,0 +1,50 @@
+-- The lines that a stream is answered by.
+use Rattle.std.specs.Prelude.{ℕ, List, [], ◌∷◌, ◌++◌, codes, flat_map}
+use Rattle.edi_cutter.specs.declared.cut_fault.CutFault.{CutFault}
+use Rattle.edi_cutter.specs.declared.cut_fault.CutFault.TheVariants.{TooLong, Service, Segment, Memory}
+use Rattle.office_replies.specs.declared.response.Response.{Response}
+use Rattle.office_replies.specs.declared.worst.Worst.{Worst}
+use Rattle.office_replies.specs.declared.worst.Worst.TheVariants.{Fine, Refused, NotNow}
+use Rattle.office_replies.specs.Responses.{body_of, worst_of, worse_of}
+use Rattle.office_stream.specs.declared.stream_end.StreamEnd.{StreamEnd}
+use Rattle.office_stream.specs.declared.stream_end.StreamEnd.TheVariants.{Whole, Open, Cut}
+
+-- a text and LF
+abbrev pub line : List ℕ → List ℕ
+line text = text ++ 10 ∷ []
+
+abbrev pub fault_name : CutFault → List ℕ
+fault_name TooLong = codes "TooLong"
+fault_name Service = codes "Service"
+fault_name Segment = codes "Segment"
+fault_name Memory = codes "Memory"
+
+abbrev pub cut_body : List ℕ → List ℕ
+cut_body name = codes "{\"answer\":\"cut\",\"fault\":\"" ++ name ++ codes "\"}"
+
+-- what is written behind the last answer
+abbrev pub end_text : StreamEnd → List ℕ
+end_text Whole = []
+end_text Open = line (cut_body (codes "End"))
+end_text (Cut fault) = line (cut_body (fault_name fault))
+
+-- a line for each answer
+abbrev pub response_lines : List Response → List ℕ
+response_lines responses = flat_map (λ response. line (body_of response)) responses
+
+-- a cut counts as a refusal, and one for want of memory as NotNow
+abbrev pub fault_worst : CutFault → Worst
+fault_worst TooLong = Refused
+fault_worst Service = Refused
+fault_worst Segment = Refused
+fault_worst Memory = NotNow
+
+abbrev pub end_worst : StreamEnd → Worst
+end_worst Whole = Fine
+end_worst Open = Refused
+end_worst (Cut fault) = fault_worst fault
+
+-- the worst of the answers, from one on
+abbrev pub worst_from : Worst → List Response → Worst
+worst_from worst [] = worst
+worst_from worst (response ∷ responses) = worst_from (worse_of worst (worst_of response)) responses

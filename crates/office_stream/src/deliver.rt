@@ -1,0 +1,19 @@
+ghost use Rattle.std.specs.Prelude.{ℕ, List};
+ghost use Rattle.office_replies.specs.declared.response.Response.{Response};
+ghost use Rattle.office_stream.specs.Delivering.{Delivers};
+
+use office_replies::Response;
+use std::alloc::Global;
+
+/// What interchanges are delivered to.
+pub trait Deliver: Drop {
+    /// From that opening, after those deliveries, it is this. A delivery that was answered NotNow is none.
+    ghost stands: { Self → List (List ℕ) → Self → Type 0 };
+
+    /// From that opening, after those deliveries, the answer to the next.
+    ghost answers: { Self → List (List ℕ) → List ℕ → Response → Type 0 };
+
+    /// Delivers a text. Either it is answered as the next delivery, or NotNow, and then nothing has changed.
+    fn deliver(&mut self, alloc: Global, delivered: &[u8]) -> Response
+        ensures { (opening : Self) (ds : List (List ℕ)) → stands opening ds self.old → Delivers (stands opening) (answers opening) ds delivered.now result self.new };
+}

@@ -1,0 +1,13 @@
+//! Streams of interchanges: they are cut out of what a reader gives, in whatever pieces it comes, delivered one after the
+//! other, and answered by a line each.
+#![tactic(auto)]
+
+mod deliver;
+mod port;
+mod stream;
+mod stream_fault;
+
+pub use deliver::Deliver;
+pub use port::Port;
+pub use stream::run_stream;
+pub use stream_fault::StreamFault;

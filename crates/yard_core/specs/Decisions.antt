@@ -1,0 +1,143 @@
+-- What the calls on a yard answer, as functions of the map: a plain search over all its boxes. The calls themselves are
+-- told by relations; laws tie both together.
+use Rattle.std.specs.Prelude.{ℕ, ◌+◌, ◌-◌, ◌*◌, ◌%◌, Bool, true, false, cond, not, ◌&&◌, ◌||◌, ◌==◌, nat_le, nat_lt, List, [], ◌∷◌, map, flat_map, Option, None, Some, is_some, is_none, Result, Ok, Err, find}
+use Rattle.std.specs.List.{list_any, range_with_len}
+use Rattle.std.specs.Option.{option_map, option_map_or}
+use Rattle.std.specs.FinMap as finite_map
+use Rattle.box6346.specs.declared.length.Length.{Length}
+use Rattle.box6346.specs.declared.length.Length.TheVariants.{Twenty, Forty}
+use Rattle.box6346.specs.declared.slot.Slot.{Slot}
+use Rattle.yard_core.specs.declared.block.Block.{Block}
+use Rattle.yard_core.specs.declared.placement.Placement.{Placement}
+use Rattle.yard_core.specs.declared.yard_fault.YardFault.{YardFault}
+use Rattle.yard_core.specs.declared.yard_fault.YardFault.TheVariants.{Present, Absent, Buried, NoSlot, SlotKind, Taken, OnAir, NoRoom}
+use Rattle.yard_core.specs.Plan.{block_of}
+use Rattle.yard_core.specs.YardMap.{Box, Boxes, YardMap, yard_map, placement, in_bay, above, below}
+
+-- ---- the plan
+
+-- the slot's numbers are among those of the block
+abbrev pub in_block : Slot → Block → Bool
+in_block slot b =
+    nat_le 1 slot.bay && nat_lt slot.bay (2 * b.bays) && nat_le 1 slot.row && nat_le slot.row b.rows && nat_le 1 slot.tier
+    && nat_le slot.tier b.tiers
+
+abbrev pub in_plan : List Block → Slot → Bool
+in_plan plan slot = option_map_or (in_block slot) (block_of plan slot.block) false
+
+-- a twenty stands in an odd bay, a forty in an even one
+abbrev pub is_kind : Length → Slot → Bool
+is_kind Twenty slot = slot.bay % 2 == 1
+is_kind Forty slot = slot.bay % 2 == 0
+
+-- ---- cells
+
+abbrev pub is_same_slot : Slot → Slot → Bool
+is_same_slot a b = a.block == b.block && a.bay == b.bay && a.row == b.row && a.tier == b.tier
+
+-- the cells that a placement covers
+abbrev pub cells : Length → Slot → List Slot
+cells Twenty slot = slot ∷ []
+cells Forty slot = in_bay (slot.bay - 1) slot ∷ in_bay (slot.bay + 1) slot ∷ []
+
+abbrev pub covers : Slot → Placement → Bool
+covers cell s = list_any (is_same_slot cell) (cells s.length s.slot)
+
+-- the box that covers a cell: no two cover one
+unfoldable pub box_at : Boxes → Slot → Option Box
+box_at boxes cell = option_map (λ (e : Box × Placement). e.0) (find (λ (e : Box × Placement). covers cell e.1) (finite_map.entries boxes))
+
+abbrev pub is_taken : Boxes → Placement → Bool
+is_taken boxes s = list_any (λ cell. is_some (box_at boxes cell)) (cells s.length s.slot)
+
+-- ---- support
+
+abbrev pub is_same_length : Length → Length → Bool
+is_same_length Twenty Twenty = true
+is_same_length Forty Forty = true
+is_same_length Twenty Forty = false
+is_same_length Forty Twenty = false
+
+-- some box of this length stands in the slot
+unfoldable pub has : Boxes → Length → Slot → Bool
+has boxes length slot =
+    list_any (λ (e : Box × Placement). is_same_length e.1.length length && is_same_slot e.1.slot slot) (finite_map.entries boxes)
+
+-- a twenty stands on a twenty, a forty on a forty of its bay or on two twenties, one in each bay
+abbrev pub is_supported : Boxes → Length → Slot → Bool
+is_supported boxes Twenty slot = has boxes Twenty (below slot)
+is_supported boxes Forty slot =
+    has boxes Forty (below slot)
+    || has boxes Twenty (in_bay (slot.bay - 1) (below slot)) && has boxes Twenty (in_bay (slot.bay + 1) (below slot))
+
+-- ---- what fits, and what is free
+
+-- why a container does not fit there, if it does not: the first reason
+unfoldable pub misfit_of : List Block → Boxes → Placement → Option YardFault
+misfit_of plan boxes s =
+    cond (not (in_plan plan s.slot)) (Some NoSlot)
+    (cond (not (is_kind s.length s.slot)) (Some SlotKind)
+    (cond (is_taken boxes s) (Some Taken)
+    (cond (s.slot.tier == 1 || is_supported boxes s.length s.slot) None (Some OnAir))))
+
+-- the first that is there
+abbrev pub first_there : List (Option Box) → Option Box
+first_there [] = None
+first_there (None ∷ others) = first_there others
+first_there (Some b ∷ others) = Some b
+
+-- the box directly above one of the cells, if there is one
+unfoldable pub blocker_of : Boxes → Placement → Option Box
+blocker_of boxes s = first_there (map (λ cell. box_at boxes (above cell)) (cells s.length s.slot))
+
+-- every slot that a plan may have, by tier, block letter, bay and row
+unfoldable pub every_slot : List Slot
+every_slot =
+    flat_map (λ tier. flat_map (λ letter. flat_map (λ bay. map (λ row. record { block = letter; bay = bay; row = row; tier = tier })
+    (range_with_len 1 12)) (range_with_len 1 79)) (range_with_len 65 26)) (range_with_len 1 6)
+
+-- the first that fits
+unfoldable pub first_fit : List Block → Boxes → Length → Option Slot
+first_fit plan boxes length = find (λ slot. is_none (misfit_of plan boxes (placement length slot))) every_slot
+
+-- ---- the calls
+
+abbrev pub with_misfit : Option YardFault → YardMap → Result YardMap YardFault
+with_misfit (Some fault) y = Err fault
+with_misfit None y = Ok y
+
+-- one container more, in a named slot
+abbrev pub placed : YardMap → Box → Length → Slot → Result YardMap YardFault
+placed y b length slot =
+    cond (is_some (finite_map.get y.boxes b)) (Err Present)
+    (with_misfit (misfit_of y.plan y.boxes (placement length slot)) (yard_map y.plan (finite_map.insert y.boxes b (placement length slot))))
+
+abbrev pub with_slot : Option Slot → YardMap → Box → Length → Result (YardMap × Slot) YardFault
+with_slot None y b length = Err NoRoom
+with_slot (Some slot) y b length = Ok (yard_map y.plan (finite_map.insert y.boxes b (placement length slot)), slot)
+
+-- one container more, in the first slot that fits
+abbrev pub placed_first : YardMap → Box → Length → Result (YardMap × Slot) YardFault
+placed_first y b length = cond (is_some (finite_map.get y.boxes b)) (Err Present) (with_slot (first_fit y.plan y.boxes length) y b length)
+
+abbrev pub unless_buried : {A : Type 0} → Option Box → Result A YardFault → Result A YardFault
+unless_buried None answer = answer
+unless_buried (Some blocker) answer = Err (Buried blocker)
+
+abbrev pub removed_at : Option Placement → YardMap → Box → Result (YardMap × Placement) YardFault
+removed_at None y b = Err Absent
+removed_at (Some s) y b = unless_buried (blocker_of y.boxes s) (Ok (yard_map y.plan (finite_map.remove y.boxes b), s))
+
+-- one container less
+abbrev pub removed : YardMap → Box → Result (YardMap × Placement) YardFault
+removed y b = removed_at (finite_map.get y.boxes b) y b
+
+abbrev pub shifted_at : Option Placement → YardMap → Box → Slot → Result YardMap YardFault
+shifted_at None y b slot = Err Absent
+shifted_at (Some s) y b slot =
+    unless_buried (blocker_of y.boxes s)
+    (with_misfit (misfit_of y.plan (finite_map.remove y.boxes b) (placement s.length slot)) (yard_map y.plan (finite_map.insert y.boxes b (placement s.length slot))))
+
+-- a container in another slot, which has to fit the yard without it
+abbrev pub shifted : YardMap → Box → Slot → Result YardMap YardFault
+shifted y b slot = shifted_at (finite_map.get y.boxes b) y b slot
