@@ -1,4 +1,4 @@
-use Rattle.std.proofs.Common.{◌≡◌, ◌≤◌, None, length, arith, slice_get, sym, ap, ◌∙◌, List}
+use Rattle.std.proofs.Common.{◌≤◌, length, arith, slice_get, sym, ap, ◌∙◌, List}
 use Rattle.std.proofs.lemmas.Option.{slice_get_past}
 use Rattle.yard_core.specs.YardMap.{Box}
 use Rattle.yard_core.proofs.Somes.{slice_get-somes}

@@ -1,4 +1,4 @@
-use Rattle.std.proofs.Common.{◌≡◌, ◌-◌, length, take, sym, ap, ◌∙◌, arith, List}
+use Rattle.std.proofs.Common.{◌-◌, length, take, sym, ap, ◌∙◌, arith, List}
 use Rattle.yard_core.specs.YardMap.{Box}
 use Rattle.yard_core.specs.Columns.{somes}
 use Rattle.yard_core.proofs.Somes.{take-somes, IsFilled-less}

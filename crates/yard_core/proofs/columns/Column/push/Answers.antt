@@ -1,4 +1,4 @@
-use Rattle.std.proofs.Common.{◌≡◌, ◌<◌, ◌++◌, ◌∷◌, [], length, sym, ap, ◌∙◌, arith, List}
+use Rattle.std.proofs.Common.{◌<◌, ◌++◌, ◌∷◌, [], length, sym, ap, ◌∙◌, arith, List}
 use Rattle.yard_core.specs.YardMap.{Box}
 use Rattle.yard_core.proofs.Somes.{somes-more, IsFilled-more}
 use Rattle.yard_core.proofs.columns.Column.push.Goals as goal

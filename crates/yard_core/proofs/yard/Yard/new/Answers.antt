@@ -1,4 +1,4 @@
-use Rattle.std.proofs.Common.{◌≡◌, ◌*◌, List, [], replicate, ap, ◌∙◌}
+use Rattle.std.proofs.Common.{◌*◌, [], replicate, ap, ◌∙◌}
 use Rattle.yard_core.proofs.Placings.{kept_empty}
 use Rattle.yard_core.proofs.yard.Yard.new.Goals as goal
 
