@@ -1,18 +1,17 @@
 -- What heights and tops tell of the yard.
-use Rattle.std.proofs.Common.{◌≡◌, ◌≢◌, ℕ, ◌+◌, ◌-◌, ◌<◌, ◌≤◌, List, [], ◌∷◌, length, Bool, true, false, zero, suc, ◌==◌, ◌&&◌, ◌||◌, option_and_then, slice_get, refl, sym, ap, subst, ◌∙◌, inl, inr, ◌⊎◌, Option, Some, None, arith, All}
-use Rattle.std.proofs.lemmas.Option.{none-some, same_Some, slice_get_within, slice_get_past, slice_get-get_or}
+use Rattle.std.proofs.Common.{◌≡◌, ◌≢◌, ℕ, ◌+◌, ◌-◌, ◌<◌, ◌≤◌, List, [], ◌∷◌, length, Bool, true, false, zero, suc, ◌==◌, ◌&&◌, ◌||◌, option_and_then, slice_get, refl, sym, ap, subst, ◌∙◌, inl, inr, ◌⊎◌, Option, Some, None, arith}
+use Rattle.std.proofs.lemmas.Option.{none-some, same_Some, slice_get_within, slice_get_past}
 use Rattle.std.proofs.lemmas.Bool.Decides.{eqb_tells}
-use Rattle.std.proofs.Math.ListN.{get_or}
 use Rattle.box6346.specs.declared.length.Length.{Length}
 use Rattle.box6346.specs.declared.length.Length.TheVariants.{Twenty, Forty}
 use Rattle.box6346.specs.declared.slot.Slot.{Slot}
 use Rattle.yard_core.specs.declared.block.Block.{Block}
 use Rattle.yard_core.specs.declared.placement.Placement.{Placement}
-use Rattle.yard_core.specs.Plan.{InPlan, IsSized}
+use Rattle.yard_core.specs.Plan.{InPlan}
 use Rattle.yard_core.specs.YardMap.{IsKind, Box, placement, in_bay, above, below, Covers, CoversAt}
-use Rattle.yard_core.specs.SoundYard.{Has, IsSupported, IsCarried, IsSound}
+use Rattle.yard_core.specs.SoundYard.{IsSupported}
 use Rattle.yard_core.specs.FitsAndFree.{IsTaken, IsAbove, IsFree, IsOpen, Misfits}
-use Rattle.yard_core.specs.Columns.{column_of, first_cell, last_cell, level, near_of, far_of, Tells, IsKept, IsReady, column_at, placement_at, is_twenty, is_twenty_long, is_forty_long, is_forty_in, bears}
+use Rattle.yard_core.specs.Columns.{column_of, first_cell, last_cell, level, near_of, far_of, IsKept, IsReady, column_at, placement_at, is_twenty, is_twenty_long, is_forty_long, is_forty_in, bears}
 use Rattle.yard_core.specs.declared.yard_fault.YardFault.TheVariants.{Taken, OnAir}
 use Rattle.yard_core.proofs.Cells.{InColumn, same_slot, block_at, first_in_column, last_in_column, ends_cover, covered_end, covered_tier, first_covered, last_covered, first_tier, last_tier}
 

@@ -1,8 +1,7 @@
 -- The laws of the definitions.
-use Rattle.std.proofs.Common.{◌≡◌, ◌≢◌, ℕ, ◌+◌, ◌-◌, ◌<◌, ◌≤◌, List, Bool, true, false, cond, refl, sym, ap, subst, ◌∙◌, inl, inr, ◌⊎◌, Option, Some, None, IsSome, is_some, arith}
+use Rattle.std.proofs.Common.{◌≡◌, ℕ, ◌+◌, ◌-◌, ◌<◌, ◌≤◌, List, refl, sym, ap, subst, ◌∙◌, inl, inr, ◌⊎◌, Option, Some, None, IsSome, arith}
 use Rattle.std.specs.FinMap as map
-use Rattle.std.specs.Ordering.{nat_cmp, eq_by_cmp}
-use Rattle.std.specs.Cmp.Lexicographic.{slice_cmp, nat_list_cmp_total}
+use Rattle.std.specs.Cmp.Lexicographic.{nat_list_cmp_total}
 use Rattle.std.proofs.lemmas.Option.{none-some, same_Some}
 use Rattle.box6346.specs.declared.length.Length.{Length}
 use Rattle.box6346.specs.declared.length.Length.TheVariants.{Twenty, Forty}
@@ -13,10 +12,10 @@ use Rattle.yard_core.specs.declared.yard_fault.YardFault.{YardFault}
 use Rattle.yard_core.specs.declared.yard_fault.YardFault.TheVariants.{Present, Absent, Buried, NoSlot, SlotKind, Taken, OnAir, NoRoom, Memory}
 use Rattle.yard_core.specs.Plan.{InPlan, IsPlan}
 use Rattle.yard_core.specs.YardMap.{Box, Boxes, YardMap, placement, IsKind, in_bay, above, below, Covers, CoversAt}
-use Rattle.yard_core.specs.SoundYard.{IsSound, IsSupported, IsCarried}
+use Rattle.yard_core.specs.SoundYard.{IsSound, IsSupported}
 use Rattle.yard_core.specs.FitsAndFree.{Fits, Misfits, IsTaken, IsOpen, IsAbove, IsFree}
 use Rattle.yard_core.specs.FirstFit.{IsBefore, IsFirstFit}
-use Rattle.yard_core.specs.Calls.{Places, PlacesFirst, Removes, Shifts, RefusesPlace, RefusesFirst, RefusesRemove, RefusesShift}
+use Rattle.yard_core.specs.Calls.{Places, PlacesFirst, Shifts, RefusesPlace, RefusesFirst, RefusesRemove, RefusesShift}
 use Rattle.yard_core.proofs.Boxes.{Adds-insert, Drops-remove, box_cases, insert-remove}
 use Rattle.yard_core.proofs.Cells.{block_at, covered_tier, first_covered, same_slot}
 use Rattle.yard_core.specs.Columns.{first_cell}
@@ -30,9 +29,9 @@ some_is_none (Some x) h e = none-some x (sym e)
 
 insert-same : (m : Boxes) (b : Box) (s : Placement) → map.get m b ≡ Some s → map.insert m b s ≡ m
 insert-same m b s here = map.same_map nat_list_cmp_total (map.slice_cmp-IsAntisymmetric map.nat_cmp-IsAntisymmetric) _ _ (λ q. elim (box_cases q b) [
-    | inl same ↦ ap (map.get (map.insert m b s)) same ∙ (Adds-insert m b s).here ∙ sym here ∙ ap (map.get m) (sym same)
-    | inr apart ↦ (Adds-insert m b s).others q apart
-  ])
+  | inl same ↦ ap (map.get (map.insert m b s)) same ∙ (Adds-insert m b s).here ∙ sym here ∙ ap (map.get m) (sym same)
+  | inr apart ↦ (Adds-insert m b s).others q apart
+])
 
 pub home_fits : (plan : List Block) (boxes : Boxes) (b : Box) (s : Placement) → IsSound plan (map.get boxes) → map.get boxes b ≡ Some s → Fits plan (map.remove boxes b) b s
 home_fits plan boxes b s sound here = subst (λ (m : Boxes). IsSound plan (map.get m)) (sym (insert-remove boxes b s ∙ insert-same boxes b s here)) sound
@@ -61,7 +60,7 @@ module _ (plan : List Block) (at : Box → Option Placement) (valid : IsPlan pla
 
   -- what supports a box over a forty is that forty
   carried_by : (a b : Box) (slot : Slot) (long : Length) (tslot cell : Slot) → at a ≡ Some (placement Forty slot) → at b ≡ Some (placement long tslot) → CoversAt Forty slot cell → CoversAt long tslot (above cell)
-    → 1 ≤ tslot.tier → IsSupported at long tslot → placement long tslot ≡ placement Forty (above slot)
+      → 1 ≤ tslot.tier → IsSupported at long tslot → placement long tslot ≡ placement Forty (above slot)
   carried_by a b slot Twenty tslot cell here there c d h (x, e) =
       let is : cell ≡ below tslot = sym (below-above cell) ∙ ap below d in
       absurd (not_both _ _ (same_there a x (placement Forty slot) (placement Twenty (below tslot)) cell here e c is))
@@ -91,7 +90,7 @@ module _ (plan : List Block) (at : Box → Option Placement) (valid : IsPlan pla
       let ts : t ≡ placement Forty (above slot) = over_forty a b slot t cell here e d over in
       let us : u ≡ placement Forty (above slot) = over_forty a c slot u cell' here f d' over' in
       sound.apart b c t u (first_cell Forty (above slot)) e f (subst (λ (p : Placement). Covers p (first_cell Forty (above slot))) (sym ts) (first_covered Forty (above slot)))
-        (subst (λ (p : Placement). Covers p (first_cell Forty (above slot))) (sym us) (first_covered Forty (above slot)))
+      (subst (λ (p : Placement). Covers p (first_cell Forty (above slot))) (sym us) (first_covered Forty (above slot)))
 
 -- one first slot
 
@@ -135,7 +134,7 @@ first_is_one plan boxes b length s t f g = elim (ordered s t) [
 
 -- which reason it is
 misfit_cases : (plan : List Block) (at : Box → Option Placement) (s : Placement) (f : YardFault) → Misfits plan at s f
-  → ((f ≡ NoSlot) × ¬ InPlan plan s.slot) ⊎ (InPlan plan s.slot × (((f ≡ SlotKind) × ¬ IsKind s.length s.slot) ⊎ (IsKind s.length s.slot × (((f ≡ Taken) × IsTaken at s) ⊎ ((f ≡ OnAir) × ¬ IsTaken at s)))))
+    → ((f ≡ NoSlot) × ¬ InPlan plan s.slot) ⊎ (InPlan plan s.slot × (((f ≡ SlotKind) × ¬ IsKind s.length s.slot) ⊎ (IsKind s.length s.slot × (((f ≡ Taken) × IsTaken at s) ⊎ ((f ≡ OnAir) × ¬ IsTaken at s)))))
 misfit_cases plan at s Present h = absurd h
 misfit_cases plan at s Absent h = absurd h
 misfit_cases plan at s (Buried q) h = absurd h
@@ -165,7 +164,7 @@ one_misfit plan at s f g h k = elim (misfit_cases plan at s f h) [
 ]
 
 place_cases : (y : YardMap) (b : Box) (s : Placement) (f : YardFault) → RefusesPlace y b s f
-  → ((f ≡ Present) × IsSome (map.get y.boxes b)) ⊎ ((map.get y.boxes b ≡ None) × (((f ≡ Memory) × Fits y.plan y.boxes b s) ⊎ Misfits y.plan (map.get y.boxes) s f))
+    → ((f ≡ Present) × IsSome (map.get y.boxes b)) ⊎ ((map.get y.boxes b ≡ None) × (((f ≡ Memory) × Fits y.plan y.boxes b s) ⊎ Misfits y.plan (map.get y.boxes) s f))
 place_cases y b s Present h = inl (refl, h)
 place_cases y b s Memory h = inr (h.0, inl (refl, h.1))
 place_cases y b s Absent h = inr (h.0, inr h.1)
@@ -199,7 +198,7 @@ module _ (y : YardMap) (b : Box) (s : Placement) (valid : IsPlan y.plan) where
   ]
 
 first_cases : (y : YardMap) (b : Box) (length : Length) (f : YardFault) → RefusesFirst y b length f
-  → ((f ≡ Present) × IsSome (map.get y.boxes b)) ⊎ ((map.get y.boxes b ≡ None) × (((f ≡ NoRoom) × ((slot : Slot) → ¬ Fits y.plan y.boxes b (placement length slot))) ⊎ ((f ≡ Memory) × ((slot : Slot) × IsFirstFit y.plan y.boxes b length slot))))
+    → ((f ≡ Present) × IsSome (map.get y.boxes b)) ⊎ ((map.get y.boxes b ≡ None) × (((f ≡ NoRoom) × ((slot : Slot) → ¬ Fits y.plan y.boxes b (placement length slot))) ⊎ ((f ≡ Memory) × ((slot : Slot) × IsFirstFit y.plan y.boxes b length slot))))
 first_cases y b length Present h = inl (refl, h)
 first_cases y b length NoRoom h = inr (h.0, inl (refl, h.1))
 first_cases y b length Memory h = inr (h.0, inr (refl, (h.1, h.2)))
@@ -230,7 +229,7 @@ module _ (y : YardMap) (b : Box) (length : Length) where
   ]
 
 remove_cases : (y : YardMap) (b : Box) (f : YardFault) → RefusesRemove y b f
-  → ((f ≡ Absent) × (map.get y.boxes b ≡ None)) ⊎ ((q : Box) × (s : Placement) × (f ≡ Buried q) × (map.get y.boxes b ≡ Some s) × IsAbove (map.get y.boxes) s q)
+    → ((f ≡ Absent) × (map.get y.boxes b ≡ None)) ⊎ ((q : Box) × (s : Placement) × (f ≡ Buried q) × (map.get y.boxes b ≡ Some s) × IsAbove (map.get y.boxes) s q)
 remove_cases y b Absent h = inl (refl, h)
 remove_cases y b (Buried q) (s, e, over) = inr (q, s, refl, e, over)
 remove_cases y b Present h = absurd h
@@ -261,7 +260,7 @@ module _ (y : YardMap) (b : Box) (valid : IsPlan y.plan) (sound : IsSound y.plan
   ]
 
 shift_cases : (y : YardMap) (b : Box) (slot : Slot) (f : YardFault) → RefusesShift y b slot f
-  → RefusesRemove y b f ⊎ ((s : Placement) × (map.get y.boxes b ≡ Some s) × IsFree (map.get y.boxes) s × Misfits y.plan (map.get (map.remove y.boxes b)) (placement s.length slot) f)
+    → RefusesRemove y b f ⊎ ((s : Placement) × (map.get y.boxes b ≡ Some s) × IsFree (map.get y.boxes) s × Misfits y.plan (map.get (map.remove y.boxes b)) (placement s.length slot) f)
 shift_cases y b slot Absent h = inl h
 shift_cases y b slot (Buried q) h = inl h
 shift_cases y b slot Present h = inr h
@@ -280,7 +279,7 @@ module _ (y : YardMap) (b : Box) (slot : Slot) (valid : IsPlan y.plan) (sound : 
       | inl q ↦ absurd (free_not_refused y b p.0 g p.1 p.2 q)
       | inr q ↦ (let same : q.0 ≡ p.0 = same_Some q.0 p.0 (sym q.1 ∙ p.1) in
           one_misfit y.plan (map.get (map.remove y.boxes b)) (placement p.0.length slot) f g p.3
-            (subst (λ (t : Placement). Misfits y.plan (map.get (map.remove y.boxes b)) (placement t.length slot) g) same q.3))
+          (subst (λ (t : Placement). Misfits y.plan (map.get (map.remove y.boxes b)) (placement t.length slot) g) same q.3))
     ]
   ]
 
@@ -289,5 +288,5 @@ module _ (y : YardMap) (b : Box) (slot : Slot) (valid : IsPlan y.plan) (sound : 
     | inl p ↦ free_not_refused y b s f done.stood done.free p
     | inr p ↦ (let same : p.0 ≡ s = same_Some p.0 s (sym p.1 ∙ done.stood) in
         misfits_unfit y.plan (map.remove y.boxes b) b (placement s.length slot) f valid (Drops-remove y.boxes b).gone
-          (subst (λ (t : Placement). Misfits y.plan (map.get (map.remove y.boxes b)) (placement t.length slot) f) same p.3) done.fits)
+        (subst (λ (t : Placement). Misfits y.plan (map.get (map.remove y.boxes b)) (placement t.length slot) f) same p.3) done.fits)
   ]

@@ -1,11 +1,11 @@
 -- What the columns have at a level after a box is pushed or popped.
-use Rattle.std.proofs.Common.{◌≡◌, ◌≢◌, ℕ, zero, suc, ◌+◌, ◌-◌, ◌<◌, ◌≤◌, List, [], ◌∷◌, ◌++◌, length, get_or, take, Bool, true, false, refl, sym, ap, subst, ◌∙◌, inl, inr, ◌⊎◌, Option, Some, None, arith, slice_get, slice_set}
+use Rattle.std.proofs.Common.{◌≡◌, ◌≢◌, ℕ, zero, suc, ◌-◌, ◌<◌, List, [], ◌∷◌, ◌++◌, length, take, refl, sym, ap, subst, ◌∙◌, inl, inr, ◌⊎◌, Some, arith, slice_get, slice_set}
 use Rattle.std.proofs.Math.ListN.{length-set}
 use Rattle.std.proofs.lemmas.List.{get_or-set_same, get_or-set_other}
-use Rattle.std.proofs.lemmas.Option.{none-some, same_Some, slice_get_within}
+use Rattle.std.proofs.lemmas.Option.{none-some, same_Some}
 use Rattle.yard_core.specs.YardMap.{Box}
 use Rattle.yard_core.specs.Columns.{level, column_at}
-use Rattle.yard_core.specs.Levels.{Raised, Lowered}
+use Rattle.yard_core.specs.Levels.{Raised}
 
 pub number_cases : (i j : ℕ) → (i ≡ j) ⊎ (i ≢ j)
 number_cases i j = grind arith

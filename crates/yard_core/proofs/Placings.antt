@@ -1,12 +1,10 @@
 -- What a yard keeps after a call.
 use Rattle.std.proofs.Math.ListN.{length-replicate}
-use Rattle.std.proofs.Common.{◌≡◌, ◌≢◌, ℕ, zero, suc, [], replicate, slice_get, ◌+◌, ◌-◌, ◌*◌, ◌<◌, ◌≤◌, List, length, Bool, true, false, refl, sym, ap, subst, ◌∙◌, inl, inr, ◌⊎◌, Option, Some, None, arith, All, IsSome, is_some, option_and_then, Result, Ok, Err, OnOk, IfErr, MatchResult}
+use Rattle.std.proofs.Common.{◌≡◌, ℕ, zero, suc, [], replicate, slice_get, ◌+◌, ◌-◌, ◌*◌, ◌<◌, ◌≤◌, List, length, false, refl, sym, ap, subst, ◌∙◌, inl, inr, ◌⊎◌, Option, Some, None, arith, All, is_some, option_and_then, Result, Ok, Err, OnOk, IfErr, MatchResult}
 use Rattle.std.specs.FinMap as map
 use Rattle.std.proofs.lemmas.Option.{none-some, slice_get_within}
 use Rattle.std.specs.Ordering.{nat_cmp}
 use Rattle.std.specs.Cmp.Lexicographic.{slice_cmp}
-use Rattle.std.specs.Map.{lookup}
-use Rattle.std.specs.BTreeMap.{is_at}
 use Rattle.yard_core.specs.declared.block.Block.{Block}
 use Rattle.yard_core.specs.declared.placement.Placement.{Placement}
 use Rattle.yard_core.specs.declared.yard_fault.YardFault.{YardFault}
@@ -15,11 +13,11 @@ use Rattle.yard_core.specs.YardMap.{Box, Boxes, YardMap, yard_map, placement_of,
 use Rattle.yard_core.specs.SoundYard.{IsSound}
 use Rattle.yard_core.specs.FitsAndFree.{IsFree, IsAbove, Fits, Misfits, IsOpen}
 use Rattle.yard_core.specs.Calls.{Places, RefusesPlace, RefusesShift, Shifts}
-use Rattle.yard_core.specs.Columns.{IsKept, IsLifted, IsReady, IsSite, AgreeOn, placement_at, level, column_at, near_of, far_of, Tells}
+use Rattle.yard_core.specs.Columns.{IsKept, IsLifted, IsReady, IsSite, AgreeOn, placement_at, level, column_at, near_of, far_of}
 use Rattle.yard_core.specs.Plan.{IsPlan, IsSized}
 use Rattle.yard_core.specs.Levels.{Raised, Lowered}
 use Rattle.box6346.specs.declared.slot.Slot.{Slot}
-use Rattle.yard_core.proofs.Decides.{IsReady-open, filled, at_level, free_by_levels, above_near, above_far}
+use Rattle.yard_core.proofs.Decides.{IsReady-open, filled, free_by_levels, above_near, above_far}
 use Rattle.yard_core.proofs.Boxes.{insert-remove, Adds, Adds-insert, Drops-remove, box_cases}
 use Rattle.yard_core.proofs.Cells.{bounds}
 use Rattle.yard_core.proofs.Sounds.{IsSound-added, IsSound-dropped}

@@ -1,5 +1,5 @@
 -- Where a reason applies, nothing fits.
-use Rattle.std.proofs.Common.{◌≡◌, ◌≢◌, ℕ, ◌+◌, ◌-◌, ◌<◌, ◌≤◌, List, refl, sym, ap, subst, ◌∙◌, inl, inr, ◌⊎◌, Option, Some, None, arith, All}
+use Rattle.std.proofs.Common.{◌≡◌, ◌≢◌, ◌+◌, ◌-◌, ◌≤◌, List, sym, ap, ◌∙◌, inl, inr, Option, None, arith, All}
 use Rattle.std.specs.FinMap as map
 use Rattle.std.proofs.lemmas.Option.{none-some, same_Some}
 use Rattle.box6346.specs.declared.length.Length.{Length}
@@ -10,9 +10,9 @@ use Rattle.yard_core.specs.declared.placement.Placement.{Placement}
 use Rattle.yard_core.specs.declared.yard_fault.YardFault.{YardFault}
 use Rattle.yard_core.specs.declared.yard_fault.YardFault.TheVariants.{Present, Absent, Buried, NoSlot, SlotKind, Taken, OnAir, NoRoom, Memory}
 use Rattle.yard_core.specs.Plan.{InPlan, IsSized}
-use Rattle.yard_core.specs.YardMap.{IsKind, Box, Boxes, placement, placement_of, in_bay, below}
-use Rattle.yard_core.specs.SoundYard.{Has, IsCarried, IsSound}
-use Rattle.yard_core.specs.FitsAndFree.{IsTaken, IsOpen, Fits, Misfits}
+use Rattle.yard_core.specs.YardMap.{Box, Boxes, placement, placement_of, in_bay, below}
+use Rattle.yard_core.specs.SoundYard.{Has, IsCarried}
+use Rattle.yard_core.specs.FitsAndFree.{IsOpen, Fits, Misfits}
 use Rattle.yard_core.proofs.Boxes.{Adds, Adds-insert, box_cases}
 use Rattle.yard_core.proofs.Sounds.{still}
 use Rattle.yard_core.proofs.Cells.{block_at}

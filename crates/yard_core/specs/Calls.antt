@@ -1,5 +1,5 @@
 -- What the calls on a yard do and answer.
-use Rattle.std.specs.Prelude.{◌≡◌, Option, None, Some, IsSome}
+use Rattle.std.specs.Prelude.{◌≡◌, None, Some, IsSome}
 use Rattle.std.specs.FinMap as map
 use Rattle.box6346.specs.declared.length.Length.{Length}
 use Rattle.box6346.specs.declared.slot.Slot.{Slot}

@@ -8,7 +8,7 @@ use Rattle.yard_core.specs.declared.placement.Placement.{Placement}
 use Rattle.yard_core.specs.declared.yard_fault.YardFault.{YardFault}
 use Rattle.yard_core.specs.declared.yard_fault.YardFault.TheVariants.{Memory}
 use Rattle.yard_core.specs.Plan.{IsPlan}
-use Rattle.yard_core.specs.YardMap.{Box, Boxes, YardMap, placement}
+use Rattle.yard_core.specs.YardMap.{Box, Boxes, YardMap}
 use Rattle.yard_core.specs.SoundYard.{IsSound}
 use Rattle.yard_core.specs.FitsAndFree.{Fits, Misfits, IsAbove}
 use Rattle.yard_core.specs.FirstFit.{IsFirstFit}
@@ -33,16 +33,16 @@ OneFirstFit = (plan : List Block) (boxes : Boxes) (b : Box) (length : Length) (s
 -- the yard as it stands has one answer to a call: two faults are one, and beside a success memory alone is refused
 abbrev pub PlaceHasOneAnswer : Type 0
 PlaceHasOneAnswer = (y : YardMap) (b : Box) (s : Placement) → IsPlan y.plan
-  → ((f g : YardFault) → RefusesPlace y b s f → RefusesPlace y b s g → f ≡ g) × ((new : YardMap) (f : YardFault) → Places y new b s → RefusesPlace y b s f → f ≡ Memory)
+    → ((f g : YardFault) → RefusesPlace y b s f → RefusesPlace y b s g → f ≡ g) × ((new : YardMap) (f : YardFault) → Places y new b s → RefusesPlace y b s f → f ≡ Memory)
 
 abbrev pub PlaceFirstHasOneAnswer : Type 0
 PlaceFirstHasOneAnswer = (y : YardMap) (b : Box) (length : Length) → IsPlan y.plan
-  → ((f g : YardFault) → RefusesFirst y b length f → RefusesFirst y b length g → f ≡ g) × ((new : YardMap) (slot : Slot) (f : YardFault) → PlacesFirst y new b length slot → RefusesFirst y b length f → f ≡ Memory)
+    → ((f g : YardFault) → RefusesFirst y b length f → RefusesFirst y b length g → f ≡ g) × ((new : YardMap) (slot : Slot) (f : YardFault) → PlacesFirst y new b length slot → RefusesFirst y b length f → f ≡ Memory)
 
 abbrev pub RemoveHasOneAnswer : Type 0
 RemoveHasOneAnswer = (y : YardMap) (b : Box) → IsPlan y.plan → IsSound y.plan (map.get y.boxes)
-  → ((f g : YardFault) → RefusesRemove y b f → RefusesRemove y b g → f ≡ g) × ((new : YardMap) (s : Placement) (f : YardFault) → Removes y new b s → ¬ RefusesRemove y b f)
+    → ((f g : YardFault) → RefusesRemove y b f → RefusesRemove y b g → f ≡ g) × ((new : YardMap) (s : Placement) (f : YardFault) → Removes y new b s → ¬ RefusesRemove y b f)
 
 abbrev pub ShiftHasOneAnswer : Type 0
 ShiftHasOneAnswer = (y : YardMap) (b : Box) (slot : Slot) → IsPlan y.plan → IsSound y.plan (map.get y.boxes)
-  → ((f g : YardFault) → RefusesShift y b slot f → RefusesShift y b slot g → f ≡ g) × ((new : YardMap) (s : Placement) (f : YardFault) → Shifts y new b s slot → ¬ RefusesShift y b slot f)
+    → ((f g : YardFault) → RefusesShift y b slot f → RefusesShift y b slot g → f ≡ g) × ((new : YardMap) (s : Placement) (f : YardFault) → Shifts y new b s slot → ¬ RefusesShift y b slot f)

@@ -1,5 +1,5 @@
 -- Which yards are sound.
-use Rattle.std.specs.Prelude.{◌≡◌, ℕ, ◌+◌, ◌-◌, List, Option, Some, ◌⊎◌}
+use Rattle.std.specs.Prelude.{◌≡◌, ◌+◌, ◌-◌, List, Option, Some, ◌⊎◌}
 use Rattle.box6346.specs.declared.length.Length.{Length}
 use Rattle.box6346.specs.declared.length.Length.TheVariants.{Twenty, Forty}
 use Rattle.box6346.specs.declared.slot.Slot.{Slot}

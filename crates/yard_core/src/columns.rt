@@ -1,85 +1,10 @@
 ghost use Rattle.std.specs.Prelude.{◌≡◌, ◌+◌, ◌-◌, ◌*◌, ◌<◌, ◌≤◌, [], ◌∷◌, ◌++◌, IfOk, length, replicate, slice_get, slice_set, take};
 ghost use Rattle.yard_core.specs.Columns.{column_at, level};
 
+use crate::column::Column;
 use box6346::BoxNumber;
 use std::alloc::{AllocError, Global};
 use std::marker::Model;
-
-/// The most boxes that stand on one another.
-const TIERS: usize = 6;
-
-/// The boxes that stand on one another, from the ground up.
-#[derive(Drop)]
-struct Column {
-    boxes: [Option<BoxNumber>; TIERS],
-    height: usize,
-}
-
-impl Model for Column {
-    ghost use Rattle.std.specs.Prelude.{ℕ, List, take};
-    ghost use Rattle.yard_core.specs.Columns.{somes, IsFilled};
-
-    ghost Value = { List (List ℕ) };
-
-    ghost view = { λ c. somes (take c.height c.boxes) };
-
-    ghost invariant = { λ c. IsFilled c.height c.boxes };
-}
-
-impl Column {
-    fn new() -> Column
-        ensures { result ≡ [] }
-    {
-        Column {
-            boxes: [None; TIERS],
-            height: 0,
-        }
-    }
-
-    fn copy(&self) -> Column
-        ensures { result ≡ self.now }
-    {
-        let mut copy = Column::new();
-        for level in 0..self.height() {
-            if let Some(number) = self.at(level) {
-                copy.push(number);
-            }
-        }
-        copy
-    }
-
-    fn height(&self) -> usize
-        ensures exact { result ≡ length self.now }
-        ensures low { length self.now ≤ 6 }
-    {
-        self.height
-    }
-
-    fn at(&self, level: usize) -> Option<BoxNumber>
-        ensures { result ≡ slice_get self.now level }
-    {
-        if level < self.height {
-            self.boxes[level]
-        } else {
-            None
-        }
-    }
-
-    fn push(&mut self, number: BoxNumber)
-        requires { length self.old < 6 }
-        ensures { self.new ≡ self.old ++ number ∷ [] }
-    {
-        self.boxes[self.height] = Some(number);
-        self.height += 1;
-    }
-
-    fn pop(&mut self)
-        requires { 0 < length self.old }
-        ensures { self.new ≡ take (length self.old - 1) self.old }
-    {
-        self.height -= 1;
-    }
-}
 
 /// All columns of a yard.
 #[derive(Drop)]

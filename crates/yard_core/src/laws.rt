@@ -5,47 +5,39 @@ ghost use Rattle.yard_core.specs.Laws.{MisfitsDoNotFit, FreeBoxFitsAtHome, OneBl
 /// Where NoSlot, SlotKind, Taken or OnAir applies, the container does not fit.
 pub fn misfits_do_not_fit()
     ensures { MisfitsDoNotFit }
-{
-}
+{}
 
 /// A container fits where it stands, in the yard without it.
 pub fn free_box_fits_at_home()
     ensures { FreeBoxFitsAtHome }
-{
-}
+{}
 
 /// Never more than one container stands on another, so there is one blocker.
 pub fn one_blocker()
     ensures { OneBlocker }
-{
-}
+{}
 
 /// The first slot that fits is one.
 pub fn one_first_fit()
     ensures { OneFirstFit }
-{
-}
+{}
 
 /// No two answers of `place` hold of one yard, but for Memory where the container fits.
 pub fn place_has_one_answer()
     ensures { PlaceHasOneAnswer }
-{
-}
+{}
 
 /// No two answers of `place_first` hold of one yard, but for Memory where the container fits.
 pub fn place_first_has_one_answer()
     ensures { PlaceFirstHasOneAnswer }
-{
-}
+{}
 
 /// No two answers of `remove` hold of one yard.
 pub fn remove_has_one_answer()
     ensures { RemoveHasOneAnswer }
-{
-}
+{}
 
 /// No two answers of `shift` hold of one yard.
 pub fn shift_has_one_answer()
     ensures { ShiftHasOneAnswer }
-{
-}
+{}

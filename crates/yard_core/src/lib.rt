@@ -3,6 +3,7 @@
 #![tactic(auto)]
 
 pub mod block;
+mod column;
 mod columns;
 mod first_fit;
 pub mod laws;

@@ -1,4 +1,4 @@
-ghost use Rattle.std.specs.Prelude.{◌≡◌, ◌+◌, ◌↔◌, ◌==◌, ◌≤◌, ◌<◌, IsTrue, IfSome, MatchResult, length, position, slice_get, take};
+ghost use Rattle.std.specs.Prelude.{◌≡◌, ◌+◌, ◌*◌, ◌↔◌, ◌==◌, ◌≤◌, ◌<◌, IsTrue, IfSome, MatchResult, length, position, slice_get, take};
 ghost use Rattle.std.specs.List.{position_or_len};
 ghost use Rattle.yard_core.specs.declared.block.Block.{Block};
 ghost use Rattle.yard_core.specs.Plan.{block_of, AreApart, InBlock, InPlan, IsPlan, IsFaulty, IsSized};
@@ -14,6 +14,11 @@ const BLOCKS: usize = 20;
 
 /// The letters from A to Z.
 const LETTERS: usize = 26;
+
+/// The columns that each bay and each block has, whatever its size: 12 rows, and 40 odd bays of them.
+const BAY_COLUMNS: usize = 12;
+
+const BLOCK_COLUMNS: usize = 40 * BAY_COLUMNS;
 
 /// The blocks of a yard, seen as their list.
 #[derive(Drop)]
@@ -81,11 +86,12 @@ impl Plan {
         }
     }
 
-    pub(crate) fn len(&self) -> usize
-        ensures exact { result ≡ length self.now }
+    /// How many columns its blocks have.
+    pub(crate) fn columns(&self) -> usize
+        ensures exact { result ≡ 480 * length self.now }
         ensures plan { IsPlan self.now }
     {
-        self.count
+        BLOCK_COLUMNS * self.count
     }
 
     pub(crate) fn block(&self, letter: u8) -> Option<Block>
@@ -112,7 +118,9 @@ impl Plan {
         requires { 1 ≤ cell.row }
         ensures { result ≡ column_of self.now cell }
     {
-        480 * self.position(cell.block) + 12 * (cell.bay as usize / 2) + (cell.row as usize - 1)
+        BLOCK_COLUMNS * self.position(cell.block)
+            + BAY_COLUMNS * (cell.bay as usize / 2)
+            + (cell.row as usize - 1)
     }
 }
 

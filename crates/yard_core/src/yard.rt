@@ -52,7 +52,7 @@ impl Yard {
     pub fn new(alloc: Global, plan: Plan) -> Result<Yard, AllocError>
         ensures { IfOk result (λ y. (y.plan ≡ plan) × (y.boxes ≡ finite_map.empty)) }
     {
-        let columns = Columns::new(alloc, 480 * plan.len())?;
+        let columns = Columns::new(alloc, plan.columns())?;
         Ok(Yard {
             plan,
             columns,

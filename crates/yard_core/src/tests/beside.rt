@@ -9,14 +9,14 @@ use std::test::Fail;
 const BLOCKS: [Block; 2] = [
     Block {
         letter: b'C',
-        bays: 3,
+        bays: 4,
         rows: 2,
-        tiers: 4,
+        tiers: 3,
     },
     Block {
         letter: b'B',
         bays: 2,
-        rows: 1,
+        rows: 2,
         tiers: 3,
     },
 ];
@@ -222,7 +222,7 @@ fn slots(alloc: Global) -> Result<Vec<Slot>, AllocError> {
     let mut slots = Vec::new(alloc);
     for tier in 1..5u8 {
         for block in [b'B', b'C'] {
-            for bay in 1..6u16 {
+            for bay in 1..8u16 {
                 for row in 1..3u8 {
                     let slot = Slot {
                         block,
@@ -245,13 +245,20 @@ fn next(drawn: u32) -> u32 {
     drawn.wrapping_mul(1_664_525).wrapping_add(1_013_904_223)
 }
 
-/// A slot of the plan or next to it.
-fn drawn_slot(drawn: u32) -> Slot {
+/// A slot of the plan, or one time in eight a slot of another kind or next to the plan.
+fn drawn_slot(drawn: u32, length: Length) -> Slot {
+    let half = (drawn >> 10 & 1) as u16;
+    let near = 2 * half + if length == Length::Twenty { 1 } else { 2 };
+    let odd_one = drawn >> 12 & 7 == 0;
     Slot {
         block: b'B' + (drawn >> 8 & 1) as u8,
-        bay: (drawn >> 10 & 7) as u16,
-        row: (drawn >> 14 & 3) as u8,
-        tier: (drawn >> 18 & 3) as u8 + (drawn >> 20 & 1) as u8,
+        bay: if odd_one {
+            (drawn >> 16 & 15) as u16
+        } else {
+            near
+        },
+        row: 1 + (drawn >> 18 & 1) as u8,
+        tier: 1 + (drawn >> 20 & 1) as u8 + (drawn >> 22 & 1) as u8,
     }
 }
 
@@ -267,30 +274,30 @@ fn columns_answer_as_a_plain_list(rt: HostRuntime) -> Result<(), Fail> {
     for turn in 0..4000u32 {
         drawn = next(drawn);
         let call = drawn >> 28;
-        let number = number(&rt, drawn >> 20 & 31);
+        let number = number(&rt, drawn >> 20 & 63);
         drawn = next(drawn);
         let length = if drawn >> 25 & 3 == 0 {
             Length::Forty
         } else {
             Length::Twenty
         };
-        let slot = drawn_slot(drawn);
+        let slot = drawn_slot(drawn, length);
         match call {
-            0..=4 => {
+            0..=5 => {
                 assert_eq!(rt;
                     yard.place(number, length, slot),
                     list.place(number, length, slot)?,
                     "{turn}"
                 );
             }
-            5..=7 => {
+            6 => {
                 assert_eq!(rt;
                     yard.place_first(number, length),
                     list.place_first(&slots, number, length)?,
                     "{turn}"
                 );
             }
-            8..=10 => assert_eq!(rt; yard.remove(number), list.remove(number), "{turn}"),
+            7..=11 => assert_eq!(rt; yard.remove(number), list.remove(number), "{turn}"),
             _ => assert_eq!(rt;
                 yard.shift(number, slot),
                 list.shift(number, slot)?,

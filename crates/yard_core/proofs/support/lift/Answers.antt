@@ -1,7 +1,6 @@
-use Rattle.std.proofs.Common.{◌≡◌, ◌+◌, ◌-◌, ◌<◌, length, sym, ap, ◌∙◌, arith}
+use Rattle.std.proofs.Common.{sym, ◌∙◌, arith}
 use Rattle.std.specs.FinMap as map
-use Rattle.yard_core.specs.Columns.{column_at}
-use Rattle.yard_core.proofs.Placings.{blocked, IsClear, clear_of, lifted, tier_low}
+use Rattle.yard_core.proofs.Placings.{blocked, clear_of, lifted, tier_low}
 use Rattle.yard_core.proofs.support.lift.Goals as goal
 
 pub blocker-requires-clause-low : goal.blocker-requires-clause-low

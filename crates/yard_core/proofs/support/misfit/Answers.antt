@@ -1,7 +1,7 @@
-use Rattle.std.proofs.Common.{◌≡◌, ℕ, ◌-◌, ◌<◌, ◌≤◌, length, Bool, true, false, sym, ap, ◌∙◌, arith, rules, subst}
+use Rattle.std.proofs.Common.{◌≡◌, ◌-◌, length, true, false, sym, ap, ◌∙◌, arith, rules}
 use Rattle.std.specs.FinMap as map
 use Rattle.yard_core.specs.Plan.{InPlan}
-use Rattle.yard_core.specs.YardMap.{IsKind, boxes_of, placement_of}
+use Rattle.yard_core.specs.YardMap.{IsKind}
 use Rattle.yard_core.specs.Columns.{column_at, near_of, far_of, placement_at, bears}
 use Rattle.yard_core.proofs.Decides.{Misfits-taken_near, Misfits-taken_far, Misfits-air_near, Misfits-air_far, Misfits-air_tops, IsReady-ground, IsReady-tops}
 use Rattle.yard_core.proofs.Placings.{placement_at-agree}

@@ -1,8 +1,8 @@
-use Rattle.std.proofs.Common.{◌≡◌, Some, IsSome, is_some, cond, sym, ap, subst, ◌∙◌}
+use Rattle.std.proofs.Common.{Some, is_some, cond, sym, ap, ◌∙◌}
 use Rattle.std.specs.FinMap as map
 use Rattle.std.specs.Map.{lookup}
 use Rattle.std.specs.Str.{bytes_eq}
-use Rattle.yard_core.specs.YardMap.{Box, Boxes}
+use Rattle.yard_core.specs.YardMap.{Boxes}
 use Rattle.yard_core.proofs.Boxes.{boxes_of-insert, placement_of-boxes_of}
 use Rattle.yard_core.proofs.placements.Placements.replace.Goals as goal
 

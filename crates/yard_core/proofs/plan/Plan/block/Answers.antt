@@ -1,4 +1,4 @@
-use Rattle.std.proofs.Common.{◌≡◌, List, slice_get, take, sym, ap, ◌∙◌}
+use Rattle.std.proofs.Common.{List, slice_get, take, sym, ap, ◌∙◌}
 use Rattle.yard_core.specs.declared.block.Block.{Block}
 use Rattle.yard_core.proofs.PlanLemmas.{place, block_of-place}
 use Rattle.yard_core.proofs.plan.Plan.block.Goals as goal

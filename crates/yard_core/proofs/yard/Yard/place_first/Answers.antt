@@ -1,4 +1,4 @@
-use Rattle.std.proofs.Common.{◌≡◌, ◌∙◌, None, refl, sym, subst, ap, MatchResult, Result, Ok, Err, IsErrAnd}
+use Rattle.std.proofs.Common.{◌≡◌, ◌∙◌, None, sym, subst, ap, MatchResult, Result, Ok, Err, IsErrAnd}
 use Rattle.std.specs.FinMap as map
 use Rattle.box6346.specs.declared.slot.Slot.{Slot}
 use Rattle.yard_core.specs.declared.yard_fault.YardFault.{YardFault}

@@ -2,7 +2,6 @@ use Rattle.std.proofs.Common.{◌≡◌, None, sym, subst}
 use Rattle.std.specs.FinMap as map
 use Rattle.yard_core.specs.YardMap.{YardMap}
 use Rattle.yard_core.specs.FitsAndFree.{IsOpen}
-use Rattle.yard_core.specs.Columns.{IsReady}
 use Rattle.yard_core.proofs.Decides.{IsReady-open}
 use Rattle.yard_core.proofs.Placings.{room_for, put_there}
 use Rattle.yard_core.proofs.yard.Yard.put.Goals as goal

@@ -1,4 +1,4 @@
-use Rattle.std.proofs.Common.{◌≡◌, refl}
+use Rattle.std.proofs.Common.{refl}
 use Rattle.yard_core.proofs.yard.Yard.remove.Goals as goal
 
 pub returns-clause-answer : goal.returns-clause-answer

@@ -1,6 +1,5 @@
-use Rattle.std.proofs.Common.{◌≡◌, ◌<◌, ◌-◌, length, sym, ap, subst, ◌∙◌, Some, arith}
+use Rattle.std.proofs.Common.{◌≡◌, sym, ap, subst, ◌∙◌, Some, arith}
 use Rattle.std.specs.FinMap as map
-use Rattle.yard_core.specs.Columns.{column_at, IsReady}
 use Rattle.yard_core.specs.YardMap.{YardMap, placement, yard_map}
 use Rattle.std.proofs.lemmas.Option.{same_Some}
 use Rattle.yard_core.specs.declared.placement.Placement.{Placement}
@@ -89,4 +88,4 @@ returns-in-Some-clause-home c = λ s here free same.
     let without = map.get (map.remove c.self.inside.placements c.args.number) in
     let misfits = c.in-Some.ensures without up_.kept (lifted_agrees c.self.inside.plan c.lift.new.columns c.self.inside.placements c.args.number _ _ _ up_) in
     absurd (misfits_not_open c.self.inside.plan without s c.in-Some.fault (subst (λ (t : Placement). Misfits c.self.inside.plan without t c.in-Some.fault) home misfits)
-      (home_open c.self.inside.plan c.self.inside.placements c.args.number s c.self.invariant.valid c.self.invariant.sound bare))
+    (home_open c.self.inside.plan c.self.inside.placements c.args.number s c.self.invariant.valid c.self.invariant.sound bare))
