@@ -6,6 +6,7 @@ use Rattle.std.proofs.lemmas.List.{append-nil}
 use Rattle.std.proofs.lemmas.List.Elements.{All-nil, All-cons, All-append, All-weaker, filter-append}
 use Rattle.std.proofs.lemmas.List.Kept.{AllPairs-cons}
 use Rattle.std.proofs.lemmas.Bool.{cases_eq, cond-false, cond-true, eq-eqb, eqb-true, ne_eqb, or_cases, or_left, or_right}
+use Rattle.partner_core.specs.Machine.{Taking}
 use Rattle.partner_core.specs.Deliveries.{Delivery, run}
 use Rattle.partner_core.specs.Order.{is_of, numbers_above, made_next, order_after, order, text_under, reply_among, reply_of}
 use Rattle.partner_core.proofs.OnePartner.{run_grows, run_of_none, numbers_above-join}
@@ -188,7 +189,7 @@ numbers_above-any p low (suc n) k a b =
       | inr ne ↦ or_right (low + 1 == k) (list_any (is_numbered k) (numbers_above p (low + 1) n)) (numbers_above-any p (low + 1) n k (omega arith) (omega arith))
     ]
 
-module _ {S : Type 0} (taken : S → ℕ → List ℕ → S × List ℕ) where
+module _ {S : Type 0} (taken : Taking S) where
   replied-among : (texts : ℕ → ℕ → List ℕ) (xs : List (ℕ × ℕ)) (s : S) (p k : ℕ) → is_some (reply_among taken texts xs s p k) ≡ list_any (λ e. (e.0 == p) && (e.1 == k)) xs
   replied-among texts [] s p k = refl
   replied-among texts (x ∷ xs) s p k =

@@ -5,65 +5,79 @@
 //! before it. Those from `stands_as_kept` on speak of what is kept after a list of deliveries,
 //! wherever it is kept: `Runs` goes by them, and so can tables.
 
-ghost use Rattle.std.specs.Prelude.{◌≡◌, ◌≢◌, ◌↔◌, ℕ, ◌+◌, ◌≤◌, List, [], ◌∷◌, ◌++◌, None, IsSome, AllPairs, filter};
-ghost use Rattle.partner_core.specs.declared.standing.Standing.TheVariants.{Known, Other, Early, Next};
+ghost use Rattle.std.specs.Prelude.{◌≡◌, ◌≢◌, ◌↔◌, ℕ, ◌+◌, ◌≤◌, List, [], ◌∷◌, ◌++◌, None};
+ghost use Rattle.std.specs.Prelude.{IsSome, AllPairs, filter};
+ghost use Rattle.partner_core.specs.declared.standing.Standing.TheVariants.{Known, Other};
+ghost use Rattle.partner_core.specs.declared.standing.Standing.TheVariants.{Early, Next};
 ghost use Rattle.partner_core.specs.Deliveries.{Delivery, first_text, run};
 ghost use Rattle.partner_core.specs.Order.{is_of, numbers_above, order, reply_of};
 ghost use Rattle.partner_core.specs.Standings.{standing_at};
-ghost use Rattle.partner_core.specs.Growth.{AddsNothing, AddsText, AddsRun, EndsRun, IsNextNumber, IsAllOf, ComesToSame};
-ghost use Rattle.partner_core.specs.Keeping.{StandsAsKept, KeepsOn, KeepsOneMore, KeepsRun, AnswersAsKept};
+ghost use Rattle.partner_core.specs.Growth.{AddsNothing, AddsText, AddsRun, EndsRun, IsNextNumber};
+ghost use Rattle.partner_core.specs.Growth.{IsAllOf, HasSameFirsts, ComesToSame};
+ghost use Rattle.partner_core.specs.Keeping.{StandsAsKept, KeepsOn, KeepsOneMore, KeepsRun};
+ghost use Rattle.partner_core.specs.Keeping.{AnswersAsKept};
 ghost use Rattle.partner_core.specs.Cascade.{TakesNone, TakesOneMore};
 
 use crate::Machine;
 
-/// Run: each number up to it is used, the number after it is free, and so each free number is beyond
-/// it.
+/// Run: each number up to it is used, the number after it is free, and so each free number is
+/// beyond it.
 pub fn unbroken_run()
-    ensures used { (ds : List Delivery) (p k : ℕ) → 1 ≤ k → k ≤ run ds p → IsSome (first_text ds p k) }
+    ensures used { (ds : List Delivery) (p k : ℕ) →
+        1 ≤ k → k ≤ run ds p → IsSome (first_text ds p k) }
     ensures free_after { (ds : List Delivery) (p : ℕ) → first_text ds p (run ds p + 1) ≡ None }
-    ensures free_beyond { (ds : List Delivery) (p k : ℕ) → 1 ≤ k → first_text ds p k ≡ None → run ds p + 1 ≤ k }
+    ensures free_beyond { (ds : List Delivery) (p k : ℕ) →
+        1 ≤ k → first_text ds p k ≡ None → run ds p + 1 ≤ k }
 {}
 
 /// The same text again adds nothing.
 pub fn known<M: Machine>()
-    ensures { (opening : M) (ds : List Delivery) (d : Delivery) → standing_at ds d ≡ Known → AddsNothing M.taken opening ds d }
+    ensures { (opening : M) (ds : List Delivery) (d : Delivery) →
+        standing_at ds d ≡ Known → AddsNothing M.taken opening ds d }
 {}
 
 /// Another text under a used number adds nothing.
 pub fn other<M: Machine>()
-    ensures { (opening : M) (ds : List Delivery) (d : Delivery) → standing_at ds d ≡ Other → AddsNothing M.taken opening ds d }
+    ensures { (opening : M) (ds : List Delivery) (d : Delivery) →
+        standing_at ds d ≡ Other → AddsNothing M.taken opening ds d }
 {}
 
 /// A text before its time adds itself to First, and nothing else.
 pub fn early<M: Machine>()
-    ensures { (opening : M) (ds : List Delivery) (d : Delivery) → standing_at ds d ≡ Early → AddsText M.taken opening ds d }
+    ensures { (opening : M) (ds : List Delivery) (d : Delivery) →
+        standing_at ds d ≡ Early → AddsText M.taken opening ds d }
 {}
 
-/// The text that is next has the number after the run, and adds itself to First, and to Order what it
-/// makes next: the numbers up to the last of its run.
+/// The text that is next has the number after the run, and adds itself to First, and to Order what
+/// it makes next: the numbers up to the last of its run.
 pub fn next<M: Machine>()
-    ensures number { (ds : List Delivery) (d : Delivery) → 1 ≤ d.number → standing_at ds d ≡ Next → IsNextNumber ds d }
-    ensures ends { (ds : List Delivery) (d : Delivery) → IsNextNumber ds d → EndsRun ds d (run (ds ++ d ∷ []) d.partner) }
-    ensures adds { (opening : M) (ds : List Delivery) (d : Delivery) (last : ℕ) → EndsRun ds d last → AddsRun M.taken opening ds d last }
+    ensures number { (ds : List Delivery) (d : Delivery) →
+        1 ≤ d.number → standing_at ds d ≡ Next → IsNextNumber ds d }
+    ensures ends { (ds : List Delivery) (d : Delivery) →
+        IsNextNumber ds d → EndsRun ds d (run (ds ++ d ∷ []) d.partner) }
+    ensures adds { (opening : M) (ds : List Delivery) (d : Delivery) (last : ℕ) →
+        EndsRun ds d last → AddsRun M.taken opening ds d last }
 {}
 
 /// Order has no pair of a partner and a number twice, and of each partner it has the run, in number
 /// order.
 pub fn once_each()
     ensures once { (ds : List Delivery) → AllPairs (λ x y. x ≢ y) (order ds) }
-    ensures in_number_order { (ds : List Delivery) (p : ℕ) → filter (is_of p) (order ds) ≡ numbers_above p 0 (run ds p) }
+    ensures in_number_order { (ds : List Delivery) (p : ℕ) →
+        filter (is_of p) (order ds) ≡ numbers_above p 0 (run ds p) }
 {}
 
 /// A number has a reply exactly where it is within the run.
 pub fn replied<M: Machine>()
-    ensures { (opening : M) (ds : List Delivery) (p k : ℕ) → IsSome (reply_of M.taken opening ds p k) ↔ ((1 ≤ k) × (k ≤ run ds p)) }
+    ensures { (opening : M) (ds : List Delivery) (p k : ℕ) →
+        IsSome (reply_of M.taken opening ds p k) ↔ ((1 ≤ k) × (k ≤ run ds p)) }
 {}
 
 /// Texts of one partner come to the same in whatever order and however often they come, if each
 /// number's first text is the same.
 pub fn one_partner<M: Machine>()
     ensures { (opening : M) (p : ℕ) (ds es : List Delivery) →
-        IsAllOf p ds → IsAllOf p es → ((k : ℕ) → first_text ds p k ≡ first_text es p k) → ComesToSame M.taken opening ds es }
+        IsAllOf p ds → IsAllOf p es → HasSameFirsts p ds es → ComesToSame M.taken opening ds es }
 {}
 
 /// What is kept tells how a delivery stands.

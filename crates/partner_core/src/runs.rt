@@ -1,4 +1,4 @@
-ghost use Rattle.std.specs.Prelude.{◌≡◌, ℕ, ◌+◌, ◌≤◌, ◌<◌, List, [], ◌∷◌, ◌++◌, length, IfOk, OnErr, IsOk};
+ghost use Rattle.std.specs.Prelude.{◌≡◌, ℕ, ◌+◌, ◌≤◌, List, [], IfOk, OnErr, IsOk};
 ghost use Rattle.std.specs.Option.{option_copied};
 ghost use Rattle.partner_core.specs.Deliveries.{Delivery, delivery, run};
 ghost use Rattle.partner_core.specs.Order.{reply_of, state};
@@ -13,7 +13,7 @@ use std::alloc::{AllocError, Global};
 /// each, in number order, as each becomes next.
 ///
 /// A value stands at a list of deliveries, from an opening state on, where its texts, replies, next
-/// numbers and machine are those of the definitions over that list.
+/// numbers and machine are those of the definitions over that list (`specs/Runs.antt`).
 #[derive(Drop)]
 pub struct Runs<M> {
     machine: M,
@@ -34,10 +34,11 @@ impl<M: Machine> Runs<M> {
         Ok(Runs { machine, ledgers })
     }
 
-    /// Answers a delivery, and takes it and each kept text that becomes next by it. At whatever list
-    /// of deliveries the value stands, the answer is that of the definitions, and it stands at the
-    /// list with this one then. A refusal for want of memory leaves it at the list, also in the midst
-    /// of a cascade; a clash, and a text that waits already, are never refused so.
+    /// Answers a delivery, and takes it and each kept text that becomes next by it.
+    ///
+    /// At whatever list of deliveries the value stands, the answer is that of the definitions, and
+    /// it stands at the list with this one then. A refusal for want of memory leaves it at the list,
+    /// also in the midst of a cascade. A clash, and a text that waits already, are never refused so.
     pub fn deliver(
         &mut self,
         alloc: Global,
@@ -49,11 +50,13 @@ impl<M: Machine> Runs<M> {
         requires known { partner ≤ partner_count self.old }
         requires positive { 1 ≤ number }
         requires limit { number ≤ LAST_NUMBER }
-        ensures ok { IfOk result (λ answer. (opening : M) (ds : List Delivery) → StandsAt M.taken opening ds self.old →
+        ensures ok { IfOk result (λ answer. (opening : M) (ds : List Delivery) →
+            StandsAt M.taken opening ds self.old →
             Answers M.taken opening ds (delivery partner number text.now) answer self.new) }
-        ensures err { OnErr result ((opening : M) (ds : List Delivery) → StandsAt M.taken opening ds self.old →
-            StandsAt M.taken opening ds self.new) }
-        ensures sure { (opening : M) (ds : List Delivery) → StandsAt M.taken opening ds self.old →
+        ensures err { OnErr result ((opening : M) (ds : List Delivery) →
+            StandsAt M.taken opening ds self.old → StandsAt M.taken opening ds self.new) }
+        ensures sure { (opening : M) (ds : List Delivery) →
+            StandsAt M.taken opening ds self.old →
             NeedsNoMemory M.taken opening ds (delivery partner number text.now) → IsOk result }
         ensures partners { partner_count self.new ≡ partner_count self.old }
     {
@@ -77,7 +80,8 @@ impl<M: Machine> Runs<M> {
     pub fn next_of(&self, partner: u16) -> u32
         requires from_one { 1 ≤ partner }
         requires known { partner ≤ partner_count self.now }
-        ensures { (opening : M) (ds : List Delivery) → StandsAt M.taken opening ds self.now → result ≡ run ds partner + 1 }
+        ensures { (opening : M) (ds : List Delivery) →
+            StandsAt M.taken opening ds self.now → result ≡ run ds partner + 1 }
     {
         self.ledgers[partner as usize - 1].next()
     }
@@ -87,7 +91,8 @@ impl<M: Machine> Runs<M> {
         requires from_one { 1 ≤ partner }
         requires known { partner ≤ partner_count self.now }
         requires number { 1 ≤ number }
-        ensures { (opening : M) (ds : List Delivery) → StandsAt M.taken opening ds self.now →
+        ensures { (opening : M) (ds : List Delivery) →
+            StandsAt M.taken opening ds self.now →
             option_copied result ≡ reply_of M.taken opening ds partner number }
     {
         self.ledgers[partner as usize - 1].reply(number)
@@ -95,7 +100,8 @@ impl<M: Machine> Runs<M> {
 
     /// The machine, in the state that what was taken left it in.
     pub fn machine(&self) -> &M
-        ensures { (opening : M) (ds : List Delivery) → StandsAt M.taken opening ds self.now → result.now ≡ state M.taken opening ds }
+        ensures { (opening : M) (ds : List Delivery) →
+            StandsAt M.taken opening ds self.now → result.now ≡ state M.taken opening ds }
     {
         &self.machine
     }

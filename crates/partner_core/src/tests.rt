@@ -10,7 +10,18 @@ use crate::{Answer, LAST_NUMBER, Machine, Runs, Standing, judge, laws};
 use std::alloc::{AllocError, Global};
 use std::test::Fail;
 
-/// What the answer to a delivery says, in a line.
+/// What an answer says, in a line.
+fn told(alloc: Global, answer: &Answer) -> Result<String, AllocError> {
+    match answer {
+        Answer::Taken(reply) => format!(in alloc; "taken {reply}"),
+        Answer::Repeat(reply) => format!(in alloc; "repeat {reply}"),
+        Answer::Waiting { next } => format!(in alloc; "waiting {next}"),
+        Answer::Clash => format!(in alloc; "clash"),
+    }
+}
+
+/// What the answer to a delivery says. A delivery that is refused memory is delivered once more, so
+/// that the tests end alike whichever of its allocations `rt try --test --fail-alloc` refuses.
 fn said<M: Machine>(
     alloc: Global,
     runs: &mut Runs<M>,
@@ -24,11 +35,13 @@ fn said<M: Machine>(
     requires limit { number ≤ LAST_NUMBER }
     ensures { partner_count runs.new ≡ partner_count runs.old }
 {
-    match &runs.deliver(alloc, partner, number, text.as_bytes())? {
-        Answer::Taken(reply) => format!(in alloc; "taken {reply}"),
-        Answer::Repeat(reply) => format!(in alloc; "repeat {reply}"),
-        Answer::Waiting { next } => format!(in alloc; "waiting {next}"),
-        Answer::Clash => format!(in alloc; "clash"),
+    let answer = match runs.deliver(alloc, partner, number, text.as_bytes()) {
+        Ok(answer) => answer,
+        Err(AllocError) => runs.deliver(alloc, partner, number, text.as_bytes())?,
+    };
+    match told(alloc, &answer) {
+        Ok(line) => Ok(line),
+        Err(AllocError) => told(alloc, &answer),
     }
 }
 

@@ -59,10 +59,8 @@ fn is_refused_at(rt: &impl Abort, alloc: Global, step: u32) -> Result<(), Fail> 
     assert_eq!(rt; said(alloc, &mut runs, 1, 3, "c")?.as_str(), "waiting 1");
     assert_eq!(rt; said(alloc, &mut runs, 1, 2, "b")?.as_str(), "waiting 1");
     steps.set(step);
-    assert!(rt;
-        said(alloc, &mut runs, 1, 1, "a").is_err(),
-        "at step {step}"
-    );
+    let refused = runs.deliver(alloc, 1, 1, b"a");
+    assert!(rt; matches!(&refused, Err(AllocError)), "at step {step}");
     assert_eq!(rt; runs.next_of(1), 1);
     assert_eq!(rt; runs.reply_of(1, 1), None);
     assert_eq!(rt; runs.machine().diary.text(0), None);
