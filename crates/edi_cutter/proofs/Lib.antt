@@ -3,3 +3,4 @@ pub mod CutLemmas
 pub mod HoldLemmas
 pub mod FeedLemmas
 pub mod FirstLemmas
+pub mod StreamLemmas

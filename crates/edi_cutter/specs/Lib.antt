@@ -2,3 +2,4 @@ pub mod Places
 pub mod Cuts
 pub mod Steps
 pub mod Held
+pub mod Streams

@@ -1,5 +1,6 @@
 ghost use Rattle.edi_cutter.specs.Places.{RefusedWhereNothingGoesOn, ClosedWhereATrailerEnds};
 ghost use Rattle.edi_cutter.specs.Cuts.{FirstIsOne};
+ghost use Rattle.edi_cutter.specs.Streams.{CutsTheStream, CutsAreOne};
 
 /// Bytes are refused just where no continuation of them is a text of segments.
 pub fn refused_where_nothing_goes_on()
@@ -14,4 +15,14 @@ pub fn closed_where_a_trailer_ends()
 /// A stream has one first interchange, and not a fault besides.
 pub fn first_is_one()
     ensures { FirstIsOne }
+{}
+
+/// The interchanges that a cutter gives for pieces are those of the stream that the pieces make.
+pub fn cuts_the_stream()
+    ensures { CutsTheStream }
+{}
+
+/// A stream has one list of interchanges and one rest.
+pub fn cuts_are_one()
+    ensures { CutsAreOne }
 {}

@@ -14,6 +14,8 @@ pub mod segments;
 pub mod service;
 pub mod spelling;
 pub mod syntax_fault;
+#[cfg(test)]
+mod tests;
 pub mod token;
 
 pub use bytes::Bytes;

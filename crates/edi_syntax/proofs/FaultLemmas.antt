@@ -1,8 +1,9 @@
 -- The first fault of a text, from those of its bytes, its envelope and its messages.
-use Rattle.std.proofs.Common.{◌≡◌, ℕ, ◌≤◌, Bool, true, false, cond, not, ◌&&◌, nat_le, nat_eq, List, [], ◌∷◌, ◌++◌, length, Option, Some, None, refl, sym, ap, ◌∙◌, inl, inr, IsSome, arith}
+use Rattle.std.proofs.Common.{◌≡◌, ℕ, ◌≤◌, Bool, true, false, cond, not, ◌&&◌, nat_le, nat_eq, List, [], ◌∷◌, ◌++◌, length, codes, Option, Some, None, refl, sym, ap, ◌∙◌, inl, inr, IsSome, arith}
 use Rattle.std.specs.Option.{is_none, option_or}
 use Rattle.std.proofs.lemmas.List.Folds.{find-append}
-use Rattle.std.specs.List.{find}
+use Rattle.std.specs.List.{find, list_all}
+use Rattle.std.specs.Str.{bytes_eq}
 use Rattle.std.proofs.lemmas.Bool.{cases_Bool, le-ltb, not-false, and_parts, leb-true, true≢false}
 use Rattle.std.proofs.lemmas.Option.{cond_some, option_and_then_some}
 use Rattle.edi_segments.specs.Text.{Content}
@@ -10,11 +11,11 @@ use Rattle.edi_segments.specs.Advice.{has_bad_advice}
 use Rattle.edi_segments.specs.Segment.{fixed}
 use Rattle.edi_segments.specs.Interchange.{segments_in, is_segment_text, read_fault}
 use Rattle.edi_segments.specs.declared.syntax_fault.SyntaxFault.{SyntaxFault}
-use Rattle.edi_segments.specs.declared.syntax_fault.SyntaxFault.TheVariants.{Service, Segment, NoEnvelope, Group, Version, Number, Moment}
+use Rattle.edi_segments.specs.declared.syntax_fault.SyntaxFault.TheVariants.{Service, Segment, NoEnvelope, Group, Version, Number, Moment, Test, MessageFrame, SegmentCount, MessageReference, Empty, ControlCount, ControlReference}
 use Rattle.edi_syntax.specs.Numbers.{number_of, as_control_number}
-use Rattle.edi_syntax.specs.Header.{control_number, control_reference, preparation, is_known_syntax}
-use Rattle.edi_syntax.specs.Envelope.{header_of, has_envelope}
-use Rattle.edi_syntax.specs.Messages.{messages_in, begins_message}
+use Rattle.edi_syntax.specs.Header.{control_number, control_reference, preparation, test_indicator, is_known_syntax}
+use Rattle.edi_syntax.specs.Envelope.{header_of, behind_header, has_envelope, messages_of, counts_messages, repeats_reference}
+use Rattle.edi_syntax.specs.Messages.{messages_in, begins_message, are_messages, is_counted, is_referenced}
 use Rattle.edi_syntax.specs.Faults.{applies, applies_to, text_faults, header_faults, body_faults, fault_of, head_fault_of, header_fault_of, body_fault_of}
 
 -- ---- faults of the bytes
@@ -69,6 +70,35 @@ header_found segments none =
       syntax = not-false (is_known_syntax (header_of segments)) three.0;
       numbered = four.0;
       dated = five.0;
+    }
+
+-- what the segments of an interchange without fault have
+pub record HasBody (segments : List Content) : Type 0 where
+  pub no_test : bytes_eq (test_indicator (header_of segments)) (codes "1") ≡ false
+  pub messages : are_messages false (behind_header segments) ≡ true
+  pub counted : list_all is_counted (messages_of segments) ≡ true
+  pub referenced : list_all is_referenced (messages_of segments) ≡ true
+  pub some : nat_eq (length (messages_of segments)) 0 ≡ false
+  pub count : counts_messages segments ≡ true
+  pub reference : repeats_reference segments ≡ true
+
+pub body_found : (segments : List Content) → body_fault_of segments ≡ None → HasBody segments
+body_found segments none =
+    let one = past_first (applies_to segments Test) Test _ none in
+    let two = past_first (applies_to segments MessageFrame) MessageFrame _ one.1 in
+    let three = past_first (applies_to segments SegmentCount) SegmentCount _ two.1 in
+    let four = past_first (applies_to segments MessageReference) MessageReference _ three.1 in
+    let five = past_first (applies_to segments Empty) Empty _ four.1 in
+    let six = past_first (applies_to segments ControlCount) ControlCount _ five.1 in
+    let seven = past_first (applies_to segments ControlReference) ControlReference _ six.1 in
+    record {
+      no_test = one.0;
+      messages = not-false (are_messages false (behind_header segments)) two.0;
+      counted = not-false (list_all is_counted (messages_of segments)) three.0;
+      referenced = not-false (list_all is_referenced (messages_of segments)) four.0;
+      some = five.0;
+      count = not-false (counts_messages segments) six.0;
+      reference = not-false (repeats_reference segments) seven.0;
     }
 
 pub some_from : {A : Type 0} (o : Option A) → is_none o ≡ false → IsSome o

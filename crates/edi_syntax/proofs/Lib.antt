@@ -1,3 +1,4 @@
 pub mod NumberLemmas
 pub mod FaultLemmas
 pub mod MessageLemmas
+pub mod BlockLemmas

@@ -3,6 +3,7 @@ pub mod Messages
 pub mod Header
 pub mod Envelope
 pub mod Faults
+pub mod Laws
 pub mod Frames
 pub mod Heads
 pub mod Envelopes

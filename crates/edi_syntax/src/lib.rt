@@ -7,6 +7,7 @@ pub mod frame;
 pub mod frames;
 pub mod head;
 mod header;
+pub mod laws;
 pub mod message_segments;
 pub mod numbers;
 pub mod opening;

@@ -1,0 +1,45 @@
+-- A stream that is fed in pieces, and its interchanges.
+use Rattle.std.specs.Prelude.{◌≡◌, ℕ, List, [], ◌∷◌, ◌++◌, take, drop, None, Some}
+use Rattle.std.specs.List.{flat_map}
+use Rattle.edi_segments.specs.Advice.{without_breaks}
+use Rattle.edi_cutter.specs.Cuts.{Cutting, pending, interchange, IsInterchange, Answers}
+
+-- no front of the bytes is an interchange
+abbrev pub HasNone : List ℕ → Type 0
+HasNone bytes = (n : ℕ) → IsInterchange (take n bytes) → ⊥
+
+-- The interchanges of a stream, each behind any number of CR and LF, and what is left over without those at its front.
+abbrev pub AreCuts : List ℕ → List (List ℕ) → List ℕ → Type 0
+AreCuts stream [] rest = (rest ≡ without_breaks stream) × HasNone rest
+AreCuts stream (first ∷ others) rest =
+    (behind : List ℕ) × IsInterchange first × (without_breaks stream ≡ first ++ behind) × AreCuts behind others rest
+
+-- the interchanges that calls of `feed` give for a piece, each with what the one before left of it, until it is used up
+abbrev pub Feeds : Cutting → List ℕ → List (List ℕ) → Cutting → Type 0
+Feeds c piece [] new = Answers (pending c) piece new None
+Feeds c piece (first ∷ others) new =
+    (n : ℕ) × (next : Cutting) × Answers (pending c) piece next (Some n) × (first ≡ interchange next)
+    × Feeds next (drop n piece) others new
+
+-- the interchanges of pieces, one after the other
+abbrev pub FeedsAll : Cutting → List (List ℕ) → List (List ℕ) → Cutting → Type 0
+FeedsAll c [] interchanges new = (interchanges ≡ []) × (new ≡ c)
+FeedsAll c (piece ∷ pieces) interchanges new =
+    (here later : List (List ℕ)) × (next : Cutting) × Feeds c piece here next × FeedsAll next pieces later new
+    × (interchanges ≡ here ++ later)
+
+-- the stream that pieces make
+abbrev pub joined : List (List ℕ) → List ℕ
+joined pieces = flat_map (λ piece. piece) pieces
+
+-- Where no call is refused, the interchanges of pieces are those of the stream that they make, and what is pending is its rest.
+abbrev pub CutsTheStream : Type 0
+CutsTheStream =
+    (c new : Cutting) (pieces interchanges : List (List ℕ)) → pending c ≡ [] → FeedsAll c pieces interchanges new
+    → AreCuts (joined pieces) interchanges (pending new)
+
+-- A stream has one list of interchanges and one rest. So these depend on the stream alone, however it is cut into pieces.
+abbrev pub CutsAreOne : Type 0
+CutsAreOne =
+    (stream rest rest' : List ℕ) (interchanges interchanges' : List (List ℕ)) → AreCuts stream interchanges rest
+    → AreCuts stream interchanges' rest' → (interchanges ≡ interchanges') × (rest ≡ rest')
