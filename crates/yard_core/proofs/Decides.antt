@@ -1,7 +1,7 @@
 -- What heights and tops tell of the yard.
 use Rattle.std.proofs.Common.{◌≡◌, ◌≢◌, ℕ, ◌+◌, ◌-◌, ◌<◌, ◌≤◌, List, [], ◌∷◌, length, Bool, true, false, zero, suc, ◌==◌, ◌&&◌, ◌||◌, option_and_then, slice_get, refl, sym, ap, subst, ◌∙◌, inl, inr, ◌⊎◌, Option, Some, None, arith}
 use Rattle.std.proofs.lemmas.Option.{none-some, same_Some, slice_get_within, slice_get_past}
-use Rattle.std.proofs.lemmas.Bool.Decides.{eqb_tells}
+use Rattle.std.proofs.lemmas.Bool.{eq-eqb, eqb-true}
 use Rattle.box6346.specs.declared.length.Length.{Length}
 use Rattle.box6346.specs.declared.length.Length.TheVariants.{Twenty, Forty}
 use Rattle.box6346.specs.declared.slot.Slot.{Slot}
@@ -32,16 +32,6 @@ either : (a b : Bool) → (a || b) ≡ true → (a ≡ true) ⊎ (b ≡ true)
 either true b e = inl refl
 either false b e = inr e
 
-or_right : (a : Bool) → (a || true) ≡ true
-or_right true = refl
-or_right false = refl
-
-same_number : (a b : ℕ) → (a == b) ≡ true → a ≡ b
-same_number a b e = elim (eqb_tells a b) [ inl h ↦ h.1 | inr h ↦ (let f : (a == b) ≡ false = h.0 in cc) ]
-
-reflexive : (a : ℕ) → (a == a) ≡ true
-reflexive a = elim (eqb_tells a a) [ inl h ↦ h.0 | inr h ↦ absurd (h.1 refl) ]
-
 twenty_at : (at : Box → Option Placement) (o : Option Box) → is_twenty (option_and_then at o) ≡ true → (x : Box) × (t : Placement) × (o ≡ Some x) × (at x ≡ Some t) × (t.length ≡ Twenty)
 twenty_at at None e = cc
 twenty_at at (Some x) e =
@@ -55,7 +45,7 @@ forty_at at bay None e = cc
 forty_at at bay (Some x) e =
     elim (at x) as (λ v. at x ≡ v → is_forty_in bay v ≡ true → (y : Box) × (t : Placement) × (Some x ≡ Some y) × (at y ≡ Some t) × (t.length ≡ Forty) × (t.slot.bay ≡ bay)) [
       | None ↦ λ h k. cc
-      | Some t ↦ λ h k. (let p = both (is_forty_long t.length) (t.slot.bay == bay) k in (x, t, refl, h, long_forty t.length p.0, same_number t.slot.bay bay p.1))
+      | Some t ↦ λ h k. (let p = both (is_forty_long t.length) (t.slot.bay == bay) k in (x, t, refl, h, long_forty t.length p.0, eqb-true t.slot.bay bay p.1))
     ] refl e
 
 -- a forty that covers a cell of the slot's and stands in its bay stands in the slot
@@ -192,7 +182,7 @@ module _ (plan : List Block) (columns : List (List Box)) (at : Box → Option Pl
       ap is_twenty (placement_found (near_of plan (placement Twenty slot)) (slot.tier - 1 - 1) b (placement Twenty (below slot)) (at_level b Twenty (below slot) (below slot) e refl) e)
   supported_bears Forty slot (inl (b, e)) =
       let f = placement_found (near_of plan (placement Forty slot)) (slot.tier - 1 - 1) b (placement Forty (below slot)) (at_level b Forty (below slot) (in_bay (slot.bay - 1) (below slot)) e (inl refl)) e in
-      ap (λ o. is_forty_in slot.bay o || (is_twenty o && is_twenty (placement_at columns at (far_of plan (placement Forty slot)) (slot.tier - 1 - 1)))) f ∙ ap (λ v. v || false) (reflexive slot.bay)
+      ap (λ o. is_forty_in slot.bay o || (is_twenty o && is_twenty (placement_at columns at (far_of plan (placement Forty slot)) (slot.tier - 1 - 1)))) f ∙ ap (λ v. v || false) (eq-eqb slot.bay slot.bay refl)
   supported_bears Forty slot (inr ((b, e), (d, g))) =
       let f = placement_found (near_of plan (placement Forty slot)) (slot.tier - 1 - 1) b (placement Twenty (in_bay (slot.bay - 1) (below slot))) (at_level b Twenty (in_bay (slot.bay - 1) (below slot)) (in_bay (slot.bay - 1) (below slot)) e refl) e in
       let h = placement_found (far_of plan (placement Forty slot)) (slot.tier - 1 - 1) d (placement Twenty (in_bay (slot.bay + 1) (below slot))) (at_level d Twenty (in_bay (slot.bay + 1) (below slot)) (in_bay (slot.bay + 1) (below slot)) g refl) g in

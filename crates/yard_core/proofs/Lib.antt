@@ -1,6 +1,4 @@
 pub mod Boxes
-pub mod PlanLemmas
-pub mod Levels
 pub mod Somes
 pub mod Cells
 pub mod Sounds
@@ -10,3 +8,4 @@ pub mod Placings
 pub mod Refusals
 pub mod Searches
 pub mod LawLemmas
+pub mod PlanLemmas

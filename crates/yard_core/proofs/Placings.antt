@@ -23,17 +23,6 @@ use Rattle.yard_core.proofs.Cells.{bounds}
 use Rattle.yard_core.proofs.Sounds.{IsSound-added, IsSound-dropped}
 use Rattle.yard_core.proofs.Keeps.{Tells-raised, Tells-lowered}
 
-pub refuses : (y : YardMap) (b : Box) (s : Placement) → map.get y.boxes b ≡ None → (f : YardFault) → Misfits y.plan (map.get y.boxes) s f → RefusesPlace y b s f
-refuses y b s absent Present h = absurd h
-refuses y b s absent Absent h = absurd h
-refuses y b s absent (Buried q) h = absurd h
-refuses y b s absent NoSlot h = (absent, h)
-refuses y b s absent SlotKind h = (absent, h)
-refuses y b s absent Taken h = (absent, h)
-refuses y b s absent OnAir h = (absent, h)
-refuses y b s absent NoRoom h = absurd h
-refuses y b s absent Memory h = absurd h
-
 pub fits_open : (plan : List Block) (boxes : Boxes) (b : Box) (s : Placement) → IsSound plan (placement_of boxes) → map.get boxes b ≡ None → IsOpen plan (placement_of boxes) s → Fits plan boxes b s
 fits_open plan boxes b s sound absent open_ = IsSound-added plan (placement_of boxes) (placement_of (map.insert boxes b s)) b s (Adds-insert boxes b s) absent sound open_
 

@@ -50,7 +50,8 @@ impl Yard {
 
     /// A yard with no containers.
     pub fn new(alloc: Global, plan: Plan) -> Result<Yard, AllocError>
-        ensures { IfOk result (λ y. (y.plan ≡ plan) × (y.boxes ≡ finite_map.empty)) }
+        ensures empty { IfOk result (λ y. (y.plan ≡ plan) × (y.boxes ≡ finite_map.empty)) }
+        ensures sound { IfOk result (λ y. IsSound y.plan (finite_map.get y.boxes)) }
     {
         let columns = Columns::new(alloc, plan.columns())?;
         Ok(Yard {
@@ -143,7 +144,8 @@ impl Yard {
 
     /// The same yard once more.
     pub fn copy(&self, alloc: Global) -> Result<Yard, AllocError>
-        ensures { IfOk result (λ y. y ≡ self.now) }
+        ensures same { IfOk result (λ y. y ≡ self.now) }
+        ensures sound { IfOk result (λ y. IsSound y.plan (finite_map.get y.boxes)) }
     {
         let columns = self.columns.copy(alloc)?;
         let placements = self.placements.copy()?;
