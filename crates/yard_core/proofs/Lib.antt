@@ -10,3 +10,7 @@ pub mod Placings
 pub mod Refusals
 pub mod Searches
 pub mod LawLemmas
+pub mod Deciding
+pub mod Fitting
+pub mod FirstSlots
+pub mod Exact
