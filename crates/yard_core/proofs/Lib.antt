@@ -9,3 +9,7 @@ pub mod Refusals
 pub mod Searches
 pub mod LawLemmas
 pub mod PlanLemmas
+pub mod Deciding
+pub mod Fitting
+pub mod FirstSlots
+pub mod Exact

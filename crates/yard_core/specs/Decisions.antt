@@ -43,9 +43,13 @@ cells Forty slot = in_bay (slot.bay - 1) slot ∷ in_bay (slot.bay + 1) slot ∷
 abbrev pub covers : Slot → Placement → Bool
 covers cell s = list_any (is_same_slot cell) (cells s.length s.slot)
 
+-- the first box that stands so
+unfoldable pub standing : Boxes → (Placement → Bool) → Option Box
+standing boxes test = find (λ b. option_map_or test (finite_map.get boxes b) false) (finite_map.keys boxes)
+
 -- the box that covers a cell: no two cover one
-unfoldable pub box_at : Boxes → Slot → Option Box
-box_at boxes cell = option_map (λ (e : Box × Placement). e.0) (find (λ (e : Box × Placement). covers cell e.1) (finite_map.entries boxes))
+abbrev pub box_at : Boxes → Slot → Option Box
+box_at boxes cell = standing boxes (covers cell)
 
 abbrev pub is_taken : Boxes → Placement → Bool
 is_taken boxes s = list_any (λ cell. is_some (box_at boxes cell)) (cells s.length s.slot)
@@ -58,10 +62,13 @@ is_same_length Forty Forty = true
 is_same_length Twenty Forty = false
 is_same_length Forty Twenty = false
 
+-- of this length and in this slot
+abbrev pub is_placement : Length → Slot → Placement → Bool
+is_placement length slot s = is_same_length s.length length && is_same_slot s.slot slot
+
 -- some box of this length stands in the slot
-unfoldable pub has : Boxes → Length → Slot → Bool
-has boxes length slot =
-    list_any (λ (e : Box × Placement). is_same_length e.1.length length && is_same_slot e.1.slot slot) (finite_map.entries boxes)
+abbrev pub has : Boxes → Length → Slot → Bool
+has boxes length slot = is_some (standing boxes (is_placement length slot))
 
 -- a twenty stands on a twenty, a forty on a forty of its bay or on two twenties, one in each bay
 abbrev pub is_supported : Boxes → Length → Slot → Bool
@@ -69,6 +76,10 @@ is_supported boxes Twenty slot = has boxes Twenty (below slot)
 is_supported boxes Forty slot =
     has boxes Forty (below slot)
     || has boxes Twenty (in_bay (slot.bay - 1) (below slot)) && has boxes Twenty (in_bay (slot.bay + 1) (below slot))
+
+-- in tier 1 the ground carries a container
+abbrev pub is_carried : Boxes → Length → Slot → Bool
+is_carried boxes length slot = slot.tier == 1 || is_supported boxes length slot
 
 -- ---- what fits, and what is free
 
@@ -78,7 +89,7 @@ misfit_of plan boxes s =
     cond (not (in_plan plan s.slot)) (Some NoSlot)
     (cond (not (is_kind s.length s.slot)) (Some SlotKind)
     (cond (is_taken boxes s) (Some Taken)
-    (cond (s.slot.tier == 1 || is_supported boxes s.length s.slot) None (Some OnAir))))
+    (cond (is_carried boxes s.length s.slot) None (Some OnAir))))
 
 -- the first that is there
 abbrev pub first_there : List (Option Box) → Option Box
@@ -90,11 +101,21 @@ first_there (Some b ∷ others) = Some b
 unfoldable pub blocker_of : Boxes → Placement → Option Box
 blocker_of boxes s = first_there (map (λ cell. box_at boxes (above cell)) (cells s.length s.slot))
 
+abbrev pub slot_at : ℕ → ℕ → ℕ → ℕ → Slot
+slot_at tier letter bay row = record { block = letter; bay = bay; row = row; tier = tier }
+
+abbrev pub slots_in_bay : ℕ → ℕ → ℕ → List Slot
+slots_in_bay tier letter bay = map (slot_at tier letter bay) (range_with_len 1 12)
+
+abbrev pub slots_in_block : ℕ → ℕ → List Slot
+slots_in_block tier letter = flat_map (slots_in_bay tier letter) (range_with_len 1 79)
+
+abbrev pub slots_in_tier : ℕ → List Slot
+slots_in_tier tier = flat_map (slots_in_block tier) (range_with_len 65 26)
+
 -- every slot that a plan may have, by tier, block letter, bay and row
 unfoldable pub every_slot : List Slot
-every_slot =
-    flat_map (λ tier. flat_map (λ letter. flat_map (λ bay. map (λ row. record { block = letter; bay = bay; row = row; tier = tier })
-    (range_with_len 1 12)) (range_with_len 1 79)) (range_with_len 65 26)) (range_with_len 1 6)
+every_slot = flat_map slots_in_tier (range_with_len 1 6)
 
 -- the first that fits
 unfoldable pub first_fit : List Block → Boxes → Length → Option Slot

@@ -6,6 +6,7 @@ pub mod block;
 mod column;
 mod columns;
 mod first_fit;
+pub mod decided;
 pub mod laws;
 pub mod placement;
 mod placements;

@@ -1,0 +1,218 @@
+-- The calls' answers are those that are decided.
+use Rattle.std.proofs.Common.{◌≡◌, ◌≢◌, ℕ, ◌+◌, ◌<◌, ◌≤◌, Bool, true, false, cond, not, ◌⊎◌, inl, inr, List, Option, None, Some, IsSome, is_some, is_none, Result, Ok, Err, refl, sym, ap, subst, ◌∙◌, arith, IsTrue, All, nat_le}
+use Rattle.std.specs.Prelude.{find}
+use Rattle.std.specs.FinMap as finite_map
+use Rattle.std.specs.Char.{is_ascii_uppercase}
+use Rattle.box6346.specs.declared.length.Length.{Length}
+use Rattle.box6346.specs.declared.slot.Slot.{Slot}
+use Rattle.yard_core.specs.declared.block.Block.{Block}
+use Rattle.yard_core.specs.declared.placement.Placement.{Placement}
+use Rattle.yard_core.specs.declared.yard_fault.YardFault.{YardFault}
+use Rattle.yard_core.specs.declared.yard_fault.YardFault.TheVariants.{Present, Absent, Buried, NoSlot, SlotKind, Taken, OnAir, NoRoom, Memory}
+use Rattle.yard_core.specs.Plan.{IsPlan, InPlan, block_of}
+use Rattle.yard_core.specs.YardMap.{Box, Boxes, YardMap, yard_map, placement}
+use Rattle.yard_core.specs.SoundYard.{IsSound}
+use Rattle.yard_core.specs.FitsAndFree.{Fits, Misfits, IsOpen, IsAbove, IsFree}
+use Rattle.yard_core.specs.FirstFit.{IsBefore, IsFirstFit, FitsNowhere}
+use Rattle.yard_core.specs.Calls.{Places, PlacesFirst, Removes, Shifts, RefusesPlace, RefusesFirst, RefusesRemove, RefusesShift}
+use Rattle.yard_core.specs.Decisions.{misfit_of, blocker_of, first_fit, every_slot, placed, placed_first, removed, shifted, with_misfit, with_slot, unless_buried, removed_at, shifted_at}
+use Rattle.yard_core.specs.Exact.{IsYard, PlaceIsDecided, PlaceFirstIsDecided, RemoveIsDecided, ShiftIsDecided}
+use Rattle.std.proofs.lemmas.Bool.{and_parts, leb-true}
+use Rattle.std.proofs.lemmas.Option.{slice_get_within, get_or_from_slice_get}
+use Rattle.yard_core.proofs.Boxes.{Drops-remove}
+use Rattle.yard_core.proofs.Cells.{place, StandsIn, block_at}
+use Rattle.yard_core.proofs.Refusals.{open_of_fits, misfits_not_open}
+use Rattle.yard_core.proofs.Placings.{fits_open}
+use Rattle.yard_core.proofs.LawLemmas.{one_misfit, on_one}
+use Rattle.yard_core.proofs.Fitting.{Judges, misfit_judges, Blocks, blocker_tells}
+use Rattle.yard_core.proofs.FirstSlots.{IsNumbered, first_of_all, none_of_all}
+
+-- ---- fitting
+
+open_judged : (plan : List Block) (boxes : Boxes) (s : Placement) (o : Option YardFault) → Judges plan boxes s o → IsOpen plan (finite_map.get boxes) s → o ≡ None
+open_judged plan boxes s None judged is = refl
+open_judged plan boxes s (Some f) judged is = absurd (misfits_not_open plan (finite_map.get boxes) s f judged is)
+
+misfit_judged : (plan : List Block) (boxes : Boxes) (s : Placement) (f : YardFault) (o : Option YardFault) → Judges plan boxes s o → Misfits plan (finite_map.get boxes) s f → o ≡ Some f
+misfit_judged plan boxes s f None judged misfits = absurd (misfits_not_open plan (finite_map.get boxes) s f misfits judged)
+misfit_judged plan boxes s f (Some g) judged misfits = ap Some (one_misfit plan (finite_map.get boxes) s g f judged misfits)
+
+-- what fits is not refused
+pub fits_decided : (plan : List Block) (boxes : Boxes) (b : Box) (s : Placement) → IsPlan plan → finite_map.get boxes b ≡ None → Fits plan boxes b s → misfit_of plan boxes s ≡ None
+fits_decided plan boxes b s valid absent fits =
+    open_judged plan boxes s (misfit_of plan boxes s) (misfit_judges plan boxes s) (open_of_fits plan boxes b s valid.sized absent fits)
+
+pub misfits_decided : (plan : List Block) (boxes : Boxes) (s : Placement) (f : YardFault) → Misfits plan (finite_map.get boxes) s f → misfit_of plan boxes s ≡ Some f
+misfits_decided plan boxes s f misfits = misfit_judged plan boxes s f (misfit_of plan boxes s) (misfit_judges plan boxes s) misfits
+
+-- what is not refused fits
+decided_fits : (plan : List Block) (boxes : Boxes) (b : Box) (s : Placement) → IsSound plan (finite_map.get boxes) → finite_map.get boxes b ≡ None → misfit_of plan boxes s ≡ None → Fits plan boxes b s
+decided_fits plan boxes b s sound absent none =
+    fits_open plan boxes b s sound absent (let P : Option YardFault → Type 0 = Judges plan boxes s in subst P none (misfit_judges plan boxes s))
+
+-- ---- the first fit
+
+is_none_of : {A : Type 0} (o : Option A) → o ≡ None → is_none o ≡ true
+is_none_of o e = rw e refl
+
+some_or_none : (o : Option YardFault) → ((f : YardFault) × (o ≡ Some f)) ⊎ (o ≡ None)
+some_or_none None = inr refl
+some_or_none (Some f) = inl (f, refl)
+
+refused_of_unfit : (plan : List Block) (boxes : Boxes) (b : Box) (s : Placement) → IsSound plan (finite_map.get boxes) → finite_map.get boxes b ≡ None → ¬ Fits plan boxes b s → is_none (misfit_of plan boxes s) ≡ false
+refused_of_unfit plan boxes b s sound absent unfit = elim (some_or_none (misfit_of plan boxes s)) [
+    inl fault ↦ rw fault.1 refl
+  | inr none ↦ absurd (unfit (decided_fits plan boxes b s sound absent none))
+  ]
+
+numbered : (plan : List Block) (slot : Slot) → IsPlan plan → InPlan plan slot → IsNumbered slot
+numbered plan slot valid inside =
+    let (b, stands) = block_at plan slot valid.sized inside in
+    let k = place plan slot.block in
+    let capital : is_ascii_uppercase b.letter ≡ true =
+      subst (λ (x : Block). is_ascii_uppercase x.letter ≡ true) (get_or_from_slice_get plan k b b stands.at) (valid.lettered k b (slice_get_within plan k b stands.at)) in
+    let parts = and_parts (nat_le 65 b.letter) (nat_le b.letter 90) capital in
+    let low = leb-true 65 b.letter parts.0 in
+    let high = leb-true b.letter 90 parts.1 in
+    let i = stands.inside in
+    let s = stands.sized in
+    record {
+      tier_low = i.4;
+      tier_high = omega (arith, i.5, s.5);
+      letter_low = omega (arith, stands.letter);
+      letter_high = omega (arith, stands.letter);
+      bay_low = i.0;
+      bay_high = omega (arith, i.1, s.1);
+      row_low = i.2;
+      row_high = omega (arith, i.3, s.3);
+    }
+
+first_decided : (plan : List Block) (boxes : Boxes) (b : Box) (length : Length) (slot : Slot) → IsPlan plan → IsSound plan (finite_map.get boxes) → finite_map.get boxes b ≡ None →
+    IsFirstFit plan boxes b length slot → first_fit plan boxes length ≡ Some slot
+unfolding first_fit
+first_decided plan boxes b length slot valid sound absent first =
+    let fits : misfit_of plan boxes (placement length slot) ≡ None = fits_decided plan boxes b (placement length slot) valid absent first.fits in
+    let inside : InPlan plan slot = (open_of_fits plan boxes b (placement length slot) valid.sized absent first.fits).in_plan in
+    first_of_all (λ other. is_none (misfit_of plan boxes (placement length other))) slot (numbered plan slot valid inside) (is_none_of _ fits)
+    (λ other before. refused_of_unfit plan boxes b (placement length other) sound absent (first.first other before))
+
+nowhere_decided : (plan : List Block) (boxes : Boxes) (b : Box) (length : Length) → IsSound plan (finite_map.get boxes) → finite_map.get boxes b ≡ None →
+    FitsNowhere plan boxes b length → first_fit plan boxes length ≡ None
+unfolding first_fit
+nowhere_decided plan boxes b length sound absent nowhere =
+    none_of_all (λ other. is_none (misfit_of plan boxes (placement length other))) (λ other. refused_of_unfit plan boxes b (placement length other) sound absent (nowhere other))
+
+-- ---- placing
+
+absent_is : (o : Option Placement) → o ≡ None → is_some o ≡ false
+absent_is o e = rw e refl
+
+present_is : (o : Option Placement) → IsSome o → is_some o ≡ true
+present_is None h = h
+present_is (Some s) h = refl
+
+same_yard : (old new : YardMap) (boxes : Boxes) → new.plan ≡ old.plan → new.boxes ≡ boxes → yard_map old.plan boxes ≡ new
+same_yard old new boxes plan is = rw (sym plan, sym is) refl
+
+place_present : (y : YardMap) (b : Box) (length : Length) (slot : Slot) → IsSome (finite_map.get y.boxes b) → placed y b length slot ≡ Err Present
+place_present y b length slot h = rw (present_is (finite_map.get y.boxes b) h) refl
+
+place_misfit : (y : YardMap) (b : Box) (length : Length) (slot : Slot) (f : YardFault) → finite_map.get y.boxes b ≡ None → Misfits y.plan (finite_map.get y.boxes) (placement length slot) f →
+    placed y b length slot ≡ Err f
+place_misfit y b length slot f absent misfits =
+    rw (absent_is (finite_map.get y.boxes b) absent, misfits_decided y.plan y.boxes (placement length slot) f misfits) refl
+
+place_refused : (y : YardMap) (b : Box) (length : Length) (slot : Slot) (f : YardFault) → f ≢ Memory → RefusesPlace y b (placement length slot) f → placed y b length slot ≡ Err f
+place_refused y b length slot Present other h = place_present y b length slot h
+place_refused y b length slot Absent other h = absurd h.1
+place_refused y b length slot (Buried q) other h = absurd h.1
+place_refused y b length slot NoSlot other h = place_misfit y b length slot NoSlot h.0 h.1
+place_refused y b length slot SlotKind other h = place_misfit y b length slot SlotKind h.0 h.1
+place_refused y b length slot Taken other h = place_misfit y b length slot Taken h.0 h.1
+place_refused y b length slot OnAir other h = place_misfit y b length slot OnAir h.0 h.1
+place_refused y b length slot NoRoom other h = absurd h.1
+place_refused y b length slot Memory other h = absurd (other refl)
+
+pub place_is_decided_lem : PlaceIsDecided
+place_is_decided_lem y b length slot is =
+    ( λ new places.
+        rw (absent_is (finite_map.get y.boxes b) places.absent, fits_decided y.plan y.boxes b (placement length slot) is.0 places.absent places.fits)
+        (ap Ok (same_yard y new _ places.plan places.boxes))
+    , λ f other h. place_refused y b length slot f other h )
+
+first_refused : (y : YardMap) (b : Box) (length : Length) (f : YardFault) → IsSound y.plan (finite_map.get y.boxes) → f ≢ Memory → RefusesFirst y b length f → placed_first y b length ≡ Err f
+first_refused y b length Present sound other h = rw (present_is (finite_map.get y.boxes b) h) refl
+first_refused y b length Absent sound other h = absurd h
+first_refused y b length (Buried q) sound other h = absurd h
+first_refused y b length NoSlot sound other h = absurd h
+first_refused y b length SlotKind sound other h = absurd h
+first_refused y b length Taken sound other h = absurd h
+first_refused y b length OnAir sound other h = absurd h
+first_refused y b length NoRoom sound other h =
+    rw (absent_is (finite_map.get y.boxes b) h.0, nowhere_decided y.plan y.boxes b length sound h.0 h.1) refl
+first_refused y b length Memory sound other h = absurd (other refl)
+
+pub place_first_is_decided_lem : PlaceFirstIsDecided
+place_first_is_decided_lem y b length is =
+    ( λ new slot places.
+        rw (absent_is (finite_map.get y.boxes b) places.places.absent, first_decided y.plan y.boxes b length slot is.0 is.1 places.places.absent places.first)
+        (ap (λ (x : YardMap). Ok (x, slot)) (same_yard y new _ places.places.plan places.places.boxes))
+    , λ f other h. first_refused y b length f is.1 other h )
+
+-- ---- leaving
+
+free_judged : (boxes : Boxes) (s : Placement) (o : Option Box) → Blocks boxes s o → IsFree (finite_map.get boxes) s → o ≡ None
+free_judged boxes s None blocks free = refl
+free_judged boxes s (Some b) blocks free = absurd (free b blocks)
+
+buried_judged : (plan : List Block) (boxes : Boxes) (a b : Box) (length : Length) (slot : Slot) (o : Option Box) → IsPlan plan → IsSound plan (finite_map.get boxes) →
+    finite_map.get boxes a ≡ Some (placement length slot) → Blocks boxes (placement length slot) o → IsAbove (finite_map.get boxes) (placement length slot) b → o ≡ Some b
+buried_judged plan boxes a b length slot None valid sound at blocks upon = absurd (blocks b upon)
+buried_judged plan boxes a b length slot (Some c) valid sound at blocks upon = ap Some (on_one plan (finite_map.get boxes) valid sound a c b length slot at blocks upon)
+
+remove_refused : (y : YardMap) (b : Box) (f : YardFault) → IsYard y → RefusesRemove y b f → removed y b ≡ Err f
+remove_refused y b Absent is h = rw h refl
+remove_refused y b (Buried q) is (s, at, upon) =
+    rw (at, buried_judged y.plan y.boxes b q s.length s.slot (blocker_of y.boxes s) is.0 is.1 at (blocker_tells y.boxes s.length s.slot) upon) refl
+remove_refused y b Present is h = absurd h
+remove_refused y b NoSlot is h = absurd h
+remove_refused y b SlotKind is h = absurd h
+remove_refused y b Taken is h = absurd h
+remove_refused y b OnAir is h = absurd h
+remove_refused y b NoRoom is h = absurd h
+remove_refused y b Memory is h = absurd h
+
+pub remove_is_decided_lem : RemoveIsDecided
+remove_is_decided_lem y b is =
+    ( λ new s removes. rw (removes.stood, free_judged y.boxes s (blocker_of y.boxes s) (blocker_tells y.boxes s.length s.slot) removes.free) (ap (λ (x : YardMap). Ok (x, s)) (same_yard y new _ removes.plan removes.boxes))
+    , λ f h. remove_refused y b f is h )
+
+-- ---- shifting
+
+gone : (boxes : Boxes) (b : Box) → finite_map.get (finite_map.remove boxes b) b ≡ None
+gone boxes b = (Drops-remove boxes b).gone
+
+shift_misfit : (y : YardMap) (b : Box) (slot : Slot) (f : YardFault) (s : Placement) → finite_map.get y.boxes b ≡ Some s → IsFree (finite_map.get y.boxes) s →
+    Misfits y.plan (finite_map.get (finite_map.remove y.boxes b)) (placement s.length slot) f → shifted y b slot ≡ Err f
+shift_misfit y b slot f s at free misfits =
+    rw (at, free_judged y.boxes s (blocker_of y.boxes s) (blocker_tells y.boxes s.length s.slot) free, misfits_decided y.plan (finite_map.remove y.boxes b) (placement s.length slot) f misfits) refl
+
+shift_refused : (y : YardMap) (b : Box) (slot : Slot) (f : YardFault) → IsYard y → RefusesShift y b slot f → shifted y b slot ≡ Err f
+shift_refused y b slot Absent is h = rw h refl
+shift_refused y b slot (Buried q) is (s, at, upon) =
+    rw (at, buried_judged y.plan y.boxes b q s.length s.slot (blocker_of y.boxes s) is.0 is.1 at (blocker_tells y.boxes s.length s.slot) upon) refl
+shift_refused y b slot Present is h = absurd h.3
+shift_refused y b slot NoSlot is h = shift_misfit y b slot NoSlot h.0 h.1 h.2 h.3
+shift_refused y b slot SlotKind is h = shift_misfit y b slot SlotKind h.0 h.1 h.2 h.3
+shift_refused y b slot Taken is h = shift_misfit y b slot Taken h.0 h.1 h.2 h.3
+shift_refused y b slot OnAir is h = shift_misfit y b slot OnAir h.0 h.1 h.2 h.3
+shift_refused y b slot NoRoom is h = absurd h.3
+shift_refused y b slot Memory is h = absurd h.3
+
+pub shift_is_decided_lem : ShiftIsDecided
+shift_is_decided_lem y b slot is =
+    ( λ new s shifts.
+        rw (shifts.stood, free_judged y.boxes s (blocker_of y.boxes s) (blocker_tells y.boxes s.length s.slot) shifts.free,
+          fits_decided y.plan (finite_map.remove y.boxes b) b (placement s.length slot) is.0 (gone y.boxes b) shifts.fits)
+        (ap Ok (same_yard y new _ shifts.plan shifts.boxes))
+    , λ f h. shift_refused y b slot f is h )
