@@ -69,15 +69,20 @@ less m n = record { holds = λ e. ltb-true m n e; shows = λ e. lt-ltb m n e }
 block_tells : (slot : Slot) (b : Block) → Tells (in_block slot b) (InBlock slot b)
 block_tells slot b = record {
   holds = λ e.
-    let six = and_parts (nat_le 1 slot.bay && nat_lt slot.bay (2 * b.bays) && nat_le 1 slot.row && nat_le slot.row b.rows && nat_le 1 slot.tier) (nat_le slot.tier b.tiers) e in
-    let five = and_parts (nat_le 1 slot.bay && nat_lt slot.bay (2 * b.bays) && nat_le 1 slot.row && nat_le slot.row b.rows) (nat_le 1 slot.tier) six.0 in
-    let four = and_parts (nat_le 1 slot.bay && nat_lt slot.bay (2 * b.bays) && nat_le 1 slot.row) (nat_le slot.row b.rows) five.0 in
-    let three = and_parts (nat_le 1 slot.bay && nat_lt slot.bay (2 * b.bays)) (nat_le 1 slot.row) four.0 in
-    let two = and_parts (nat_le 1 slot.bay) (nat_lt slot.bay (2 * b.bays)) three.0 in
-    ( (at_most 1 slot.bay).holds two.0, (less slot.bay (2 * b.bays)).holds two.1, (at_most 1 slot.row).holds three.1
-    , (at_most slot.row b.rows).holds four.1, (at_most 1 slot.tier).holds five.1, (at_most slot.tier b.tiers).holds six.1 );
+      let six = and_parts (nat_le 1 slot.bay && nat_lt slot.bay (2 * b.bays) && nat_le 1 slot.row && nat_le slot.row b.rows && nat_le 1 slot.tier) (nat_le slot.tier b.tiers) e in
+      let five = and_parts (nat_le 1 slot.bay && nat_lt slot.bay (2 * b.bays) && nat_le 1 slot.row && nat_le slot.row b.rows) (nat_le 1 slot.tier) six.0 in
+      let four = and_parts (nat_le 1 slot.bay && nat_lt slot.bay (2 * b.bays) && nat_le 1 slot.row) (nat_le slot.row b.rows) five.0 in
+      let three = and_parts (nat_le 1 slot.bay && nat_lt slot.bay (2 * b.bays)) (nat_le 1 slot.row) four.0 in
+      let two = and_parts (nat_le 1 slot.bay) (nat_lt slot.bay (2 * b.bays)) three.0 in (
+        (at_most 1 slot.bay).holds two.0,
+        (less slot.bay (2 * b.bays)).holds two.1,
+        (at_most 1 slot.row).holds three.1,
+        (at_most slot.row b.rows).holds four.1,
+        (at_most 1 slot.tier).holds five.1,
+        (at_most slot.tier b.tiers).holds six.1,
+      );
   shows = λ (low, high, front, back, ground, top).
-    and_from _ _ (and_from _ _ (and_from _ _ (and_from _ _ (and_from _ _ (le-leb 1 slot.bay low) (lt-ltb slot.bay (2 * b.bays) high)) (le-leb 1 slot.row front)) (le-leb slot.row b.rows back)) (le-leb 1 slot.tier ground)) (le-leb slot.tier b.tiers top);
+      and_from _ _ (and_from _ _ (and_from _ _ (and_from _ _ (and_from _ _ (le-leb 1 slot.bay low) (lt-ltb slot.bay (2 * b.bays) high)) (le-leb 1 slot.row front)) (le-leb slot.row b.rows back)) (le-leb 1 slot.tier ground)) (le-leb slot.tier b.tiers top);
 }
 
 in_some : (slot : Slot) (o : Option Block) → Tells (option_map_or (in_block slot) o false) (IsSomeAnd o (InBlock slot))
@@ -96,12 +101,12 @@ kind_tells Forty slot = same_number (slot.bay % 2) 0
 pub slot_tells : (a b : Slot) → Tells (is_same_slot a b) (a ≡ b)
 slot_tells a b = record {
   holds = λ e.
-    let three = and_parts (a.block == b.block && a.bay == b.bay && a.row == b.row) (a.tier == b.tier) e in
-    let two = and_parts (a.block == b.block && a.bay == b.bay) (a.row == b.row) three.0 in
-    let one = and_parts (a.block == b.block) (a.bay == b.bay) two.0 in
-    same_slot a b (eqb-true a.block b.block one.0) (eqb-true a.bay b.bay one.1) (eqb-true a.row b.row two.1) (eqb-true a.tier b.tier three.1);
+      let three = and_parts (a.block == b.block && a.bay == b.bay && a.row == b.row) (a.tier == b.tier) e in
+      let two = and_parts (a.block == b.block && a.bay == b.bay) (a.row == b.row) three.0 in
+      let one = and_parts (a.block == b.block) (a.bay == b.bay) two.0 in
+      same_slot a b (eqb-true a.block b.block one.0) (eqb-true a.bay b.bay one.1) (eqb-true a.row b.row two.1) (eqb-true a.tier b.tier three.1);
   shows = λ e. subst (λ c. is_same_slot a c ≡ true) e
-    (and_from _ _ (and_from _ _ (and_from _ _ (eq-eqb a.block a.block refl) (eq-eqb a.bay a.bay refl)) (eq-eqb a.row a.row refl)) (eq-eqb a.tier a.tier refl));
+      (and_from _ _ (and_from _ _ (and_from _ _ (eq-eqb a.block a.block refl) (eq-eqb a.bay a.bay refl)) (eq-eqb a.row a.row refl)) (eq-eqb a.tier a.tier refl));
 }
 
 pub or_nothing : (v : Bool) → (v || false) ≡ v
@@ -133,23 +138,23 @@ none_is v a others holds e = let here : ◌≡◌ {A = Option Box} (Some a) None
 find_some : (test : Box → Bool) (boxes : List Box) (b : Box) → find test boxes ≡ Some b → test b ≡ true
 find_some test [] b e = cc
 find_some test (a ∷ boxes) b e = elim (cases_Bool (test a)) [
-    inl yes_ ↦ let same : a ≡ b = first_is (test a) a b (find test boxes) yes_ e in subst (λ x. test x ≡ true) same yes_
+  | inl yes_ ↦ let same : a ≡ b = first_is (test a) a b (find test boxes) yes_ e in subst (λ x. test x ≡ true) same yes_
   | inr no_ ↦ find_some test boxes b (rest_is (test a) a (find test boxes) (Some b) no_ e)
-  ]
+]
 
 find_none : (test : Box → Bool) (boxes : List Box) → find test boxes ≡ None → list_any test boxes ≡ false
 find_none test [] e = refl
 find_none test (a ∷ boxes) e = elim (cases_Bool (test a)) [
-    inl yes_ ↦ absurd (none_is (test a) a (find test boxes) yes_ e)
+  | inl yes_ ↦ absurd (none_is (test a) a (find test boxes) yes_ e)
   | inr no_ ↦ rw no_ (find_none test boxes (rest_is (test a) a (find test boxes) None no_ e))
-  ]
+]
 
 any_more : (test : Box → Bool) (b : Box) → test b ≡ true → (boxes : List Box) → list_any (eq_by_cmp (slice_cmp nat_cmp) b) boxes ≡ true → list_any test boxes ≡ true
 any_more test b passes [] e = e
 any_more test b passes (a ∷ boxes) e =
     elim (or_false (eq_by_cmp (slice_cmp nat_cmp) b a) (list_any (eq_by_cmp (slice_cmp nat_cmp) b) boxes) e) [
-      inl same ↦ or_true (test a) (list_any test boxes) (inl (subst (λ x. test x ≡ true) (same_box b a same) passes))
-    | inr behind ↦ or_true (test a) (list_any test boxes) (inr (any_more test b passes boxes behind))
+      | inl same ↦ or_true (test a) (list_any test boxes) (inl (subst (λ x. test x ≡ true) (same_box b a same) passes))
+      | inr behind ↦ or_true (test a) (list_any test boxes) (inr (any_more test b passes boxes behind))
     ]
 
 some_passes : (test : Placement → Bool) (o : Option Placement) → option_map_or test o false ≡ true → (t : Placement) × (o ≡ Some t) × (test t ≡ true)
@@ -172,7 +177,7 @@ unfolding standing
 standing_none boxes test e b t at passes =
     let here : option_map_or test (finite_map.get boxes b) false ≡ true = rw at passes in
     let among : list_any (eq_by_cmp (slice_cmp nat_cmp) b) (finite_map.keys boxes) ≡ true =
-      sym (finite_map.contains_key-keys boxes b) ∙ is_some_of (finite_map.get boxes b) t at in
+    sym (finite_map.contains_key-keys boxes b) ∙ is_some_of (finite_map.get boxes b) t at in
     not_true _ (find_none _ (finite_map.keys boxes) e) (any_more (λ a. option_map_or test (finite_map.get boxes a) false) b here (finite_map.keys boxes) among)
 
 pub some_or_none : (o : Option Box) → ((b : Box) × (o ≡ Some b)) ⊎ (o ≡ None)
@@ -184,11 +189,11 @@ pub standing_tells : (boxes : Boxes) (test : Placement → Bool) (P : Placement 
     Tells (is_some (standing boxes test)) ((b : Box) × (t : Placement) × (finite_map.get boxes b ≡ Some t) × P t)
 standing_tells boxes test P tells = record {
   holds = λ e. elim (some_or_none (standing boxes test)) [
-      inl found ↦ let stands = standing_some boxes test found.0 found.1 in (found.0, stands.0, stands.1, (tells stands.0).holds stands.2)
+    | inl found ↦ let stands = standing_some boxes test found.0 found.1 in (found.0, stands.0, stands.1, (tells stands.0).holds stands.2)
     | inr none ↦ absurd (not_true (is_some (standing boxes test)) (ap is_some none) e)
-    ];
+  ];
   shows = λ (b, t, at, holds). elim (some_or_none (standing boxes test)) [
-      inl found ↦ ap is_some found.1
+    | inl found ↦ ap is_some found.1
     | inr none ↦ absurd (standing_none boxes test none b t at ((tells t).shows holds))
-    ];
+  ];
 }

@@ -61,16 +61,16 @@ some_or_none (Some f) = inl (f, refl)
 
 refused_of_unfit : (plan : List Block) (boxes : Boxes) (b : Box) (s : Placement) → IsSound plan (finite_map.get boxes) → finite_map.get boxes b ≡ None → ¬ Fits plan boxes b s → is_none (misfit_of plan boxes s) ≡ false
 refused_of_unfit plan boxes b s sound absent unfit = elim (some_or_none (misfit_of plan boxes s)) [
-    inl fault ↦ rw fault.1 refl
+  | inl fault ↦ rw fault.1 refl
   | inr none ↦ absurd (unfit (decided_fits plan boxes b s sound absent none))
-  ]
+]
 
 numbered : (plan : List Block) (slot : Slot) → IsPlan plan → InPlan plan slot → IsNumbered slot
 numbered plan slot valid inside =
     let (b, stands) = block_at plan slot valid.sized inside in
     let k = place plan slot.block in
     let capital : is_ascii_uppercase b.letter ≡ true =
-      subst (λ (x : Block). is_ascii_uppercase x.letter ≡ true) (get_or_from_slice_get plan k b b stands.at) (valid.lettered k b (slice_get_within plan k b stands.at)) in
+    subst (λ (x : Block). is_ascii_uppercase x.letter ≡ true) (get_or_from_slice_get plan k b b stands.at) (valid.lettered k b (slice_get_within plan k b stands.at)) in
     let parts = and_parts (nat_le 65 b.letter) (nat_le b.letter 90) capital in
     let low = leb-true 65 b.letter parts.0 in
     let high = leb-true b.letter 90 parts.1 in
@@ -134,11 +134,12 @@ place_refused y b length slot NoRoom other h = absurd h.1
 place_refused y b length slot Memory other h = absurd (other refl)
 
 pub place_is_decided_lem : PlaceIsDecided
-place_is_decided_lem y b length slot is =
-    ( λ new places.
-        rw (absent_is (finite_map.get y.boxes b) places.absent, fits_decided y.plan y.boxes b (placement length slot) is.0 places.absent places.fits)
-        (ap Ok (same_yard y new _ places.plan places.boxes))
-    , λ f other h. place_refused y b length slot f other h )
+place_is_decided_lem y b length slot is = (
+  λ new places.
+      rw (absent_is (finite_map.get y.boxes b) places.absent, fits_decided y.plan y.boxes b (placement length slot) is.0 places.absent places.fits)
+      (ap Ok (same_yard y new _ places.plan places.boxes)),
+  λ f other h. place_refused y b length slot f other h,
+)
 
 first_refused : (y : YardMap) (b : Box) (length : Length) (f : YardFault) → IsSound y.plan (finite_map.get y.boxes) → f ≢ Memory → RefusesFirst y b length f → placed_first y b length ≡ Err f
 first_refused y b length Present sound other h = rw (present_is (finite_map.get y.boxes b) h) refl
@@ -153,11 +154,12 @@ first_refused y b length NoRoom sound other h =
 first_refused y b length Memory sound other h = absurd (other refl)
 
 pub place_first_is_decided_lem : PlaceFirstIsDecided
-place_first_is_decided_lem y b length is =
-    ( λ new slot places.
-        rw (absent_is (finite_map.get y.boxes b) places.places.absent, first_decided y.plan y.boxes b length slot is.0 is.1 places.places.absent places.first)
-        (ap (λ (x : YardMap). Ok (x, slot)) (same_yard y new _ places.places.plan places.places.boxes))
-    , λ f other h. first_refused y b length f is.1 other h )
+place_first_is_decided_lem y b length is = (
+  λ new slot places.
+      rw (absent_is (finite_map.get y.boxes b) places.places.absent, first_decided y.plan y.boxes b length slot is.0 is.1 places.places.absent places.first)
+      (ap (λ (x : YardMap). Ok (x, slot)) (same_yard y new _ places.places.plan places.places.boxes)),
+  λ f other h. first_refused y b length f is.1 other h,
+)
 
 -- ---- leaving
 
@@ -183,9 +185,10 @@ remove_refused y b NoRoom is h = absurd h
 remove_refused y b Memory is h = absurd h
 
 pub remove_is_decided_lem : RemoveIsDecided
-remove_is_decided_lem y b is =
-    ( λ new s removes. rw (removes.stood, free_judged y.boxes s (blocker_of y.boxes s) (blocker_tells y.boxes s.length s.slot) removes.free) (ap (λ (x : YardMap). Ok (x, s)) (same_yard y new _ removes.plan removes.boxes))
-    , λ f h. remove_refused y b f is h )
+remove_is_decided_lem y b is = (
+  λ new s removes. rw (removes.stood, free_judged y.boxes s (blocker_of y.boxes s) (blocker_tells y.boxes s.length s.slot) removes.free) (ap (λ (x : YardMap). Ok (x, s)) (same_yard y new _ removes.plan removes.boxes)),
+  λ f h. remove_refused y b f is h,
+)
 
 -- ---- shifting
 
@@ -210,9 +213,13 @@ shift_refused y b slot NoRoom is h = absurd h.3
 shift_refused y b slot Memory is h = absurd h.3
 
 pub shift_is_decided_lem : ShiftIsDecided
-shift_is_decided_lem y b slot is =
-    ( λ new s shifts.
-        rw (shifts.stood, free_judged y.boxes s (blocker_of y.boxes s) (blocker_tells y.boxes s.length s.slot) shifts.free,
-          fits_decided y.plan (finite_map.remove y.boxes b) b (placement s.length slot) is.0 (gone y.boxes b) shifts.fits)
-        (ap Ok (same_yard y new _ shifts.plan shifts.boxes))
-    , λ f h. shift_refused y b slot f is h )
+shift_is_decided_lem y b slot is = (
+  λ new s shifts.
+      rw (
+        shifts.stood,
+        free_judged y.boxes s (blocker_of y.boxes s) (blocker_tells y.boxes s.length s.slot) shifts.free,
+        fits_decided y.plan (finite_map.remove y.boxes b) b (placement s.length slot) is.0 (gone y.boxes b) shifts.fits,
+      )
+      (ap Ok (same_yard y new _ shifts.plan shifts.boxes)),
+  λ f h. shift_refused y b slot f is h,
+)

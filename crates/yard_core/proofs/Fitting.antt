@@ -95,19 +95,19 @@ pub misfit_judges : (plan : List Block) (boxes : Boxes) (s : Placement) → Judg
 unfolding misfit_of
 misfit_judges plan boxes s =
     elim (cases_Bool (in_plan plan s.slot)) [
-      inr out ↦ rw out (fails _ _ (plan_tells plan s.slot) out)
-    | inl within ↦ rw within (elim (cases_Bool (is_kind s.length s.slot)) [
-        inr other ↦ rw other ((plan_tells plan s.slot).holds within, fails _ _ (kind_tells s.length s.slot) other)
-      | inl kind ↦ rw kind (elim (cases_Bool (is_taken boxes s)) [
-          inl taken ↦ rw taken ((plan_tells plan s.slot).holds within, (kind_tells s.length s.slot).holds kind, (taken_tells boxes s).holds taken)
-        | inr free ↦ rw free (elim (cases_Bool (is_carried boxes s.length s.slot)) [
-            inl carried ↦ rw carried (record {
+      | inr out ↦ rw out (fails _ _ (plan_tells plan s.slot) out)
+      | inl within ↦ rw within (elim (cases_Bool (is_kind s.length s.slot)) [
+        | inr other ↦ rw other ((plan_tells plan s.slot).holds within, fails _ _ (kind_tells s.length s.slot) other)
+        | inl kind ↦ rw kind (elim (cases_Bool (is_taken boxes s)) [
+          | inl taken ↦ rw taken ((plan_tells plan s.slot).holds within, (kind_tells s.length s.slot).holds kind, (taken_tells boxes s).holds taken)
+          | inr free ↦ rw free (elim (cases_Bool (is_carried boxes s.length s.slot)) [
+            | inl carried ↦ rw carried (record {
               in_plan = (plan_tells plan s.slot).holds within;
               of_kind = (kind_tells s.length s.slot).holds kind;
               not_taken = fails _ _ (taken_tells boxes s) free;
               carried = (carried_tells boxes s.length s.slot).holds carried;
             })
-          | inr air ↦ rw air ((plan_tells plan s.slot).holds within, (kind_tells s.length s.slot).holds kind, fails _ _ (taken_tells boxes s) free, fails _ _ (carried_tells boxes s.length s.slot) air)
+            | inr air ↦ rw air ((plan_tells plan s.slot).holds within, (kind_tells s.length s.slot).holds kind, fails _ _ (taken_tells boxes s) free, fails _ _ (carried_tells boxes s.length s.slot) air)
           ])
         ])
       ])
@@ -131,19 +131,19 @@ pub blocker_tells : (boxes : Boxes) (length : Length) (slot : Slot) → Blocks b
 unfolding blocker_of
 blocker_tells boxes Twenty slot =
     elim (some_or_none (box_at boxes (above slot))) [
-      inl found ↦ rw found.1 (above_one boxes Twenty slot slot found.0 refl found.1)
-    | inr none ↦ rw none (λ b (t, cell, at, covered, covers). above_none boxes slot none b t at (subst (λ c. Covers t (above c)) covered covers))
+      | inl found ↦ rw found.1 (above_one boxes Twenty slot slot found.0 refl found.1)
+      | inr none ↦ rw none (λ b (t, cell, at, covered, covers). above_none boxes slot none b t at (subst (λ c. Covers t (above c)) covered covers))
     ]
 blocker_tells boxes Forty slot =
     let near = in_bay (slot.bay - 1) slot in
     let far = in_bay (slot.bay + 1) slot in
     elim (some_or_none (box_at boxes (above near))) [
-      inl found ↦ rw found.1 (above_one boxes Forty slot near found.0 (inl refl) found.1)
-    | inr none ↦ rw none (elim (some_or_none (box_at boxes (above far))) [
-        inl found ↦ rw found.1 (above_one boxes Forty slot far found.0 (inr refl) found.1)
-      | inr free ↦ rw free (λ b (t, cell, at, covered, covers). elim covered [
-          inl e ↦ above_none boxes near none b t at (subst (λ c. Covers t (above c)) e covers)
-        | inr e ↦ above_none boxes far free b t at (subst (λ c. Covers t (above c)) e covers)
+      | inl found ↦ rw found.1 (above_one boxes Forty slot near found.0 (inl refl) found.1)
+      | inr none ↦ rw none (elim (some_or_none (box_at boxes (above far))) [
+        | inl found ↦ rw found.1 (above_one boxes Forty slot far found.0 (inr refl) found.1)
+        | inr free ↦ rw free (λ b (t, cell, at, covered, covers). elim covered [
+          | inl e ↦ above_none boxes near none b t at (subst (λ c. Covers t (above c)) e covers)
+          | inr e ↦ above_none boxes far free b t at (subst (λ c. Covers t (above c)) e covers)
         ])
       ])
     ]

@@ -5,8 +5,8 @@
 pub mod block;
 mod column;
 mod columns;
-mod first_fit;
 pub mod decided;
+mod first_fit;
 pub mod laws;
 pub mod placement;
 mod placements;
