@@ -1,14 +1,28 @@
 //! The terminal: which containers are here, by whom they came and went, and what is still to be loaded or discharged.
 #![tactic(auto)]
 
+pub mod arrival;
+pub mod change;
+pub mod departure;
 pub mod line_state;
+pub mod listing;
 pub mod outcome;
 pub mod reason;
 pub mod side;
 pub mod source;
+pub mod stay;
+pub mod visit;
+pub mod way;
 
+pub use arrival::Arrival;
+pub use change::Change;
+pub use departure::Departure;
 pub use line_state::LineState;
+pub use listing::Listing;
 pub use outcome::Outcome;
 pub use reason::Reason;
 pub use side::Side;
 pub use source::Source;
+pub use stay::Stay;
+pub use visit::Visit;
+pub use way::Way;

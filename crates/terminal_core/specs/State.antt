@@ -1,0 +1,80 @@
+-- What a terminal holds: its yard, every visit, and the lines of the vessels' lists.
+use Rattle.std.specs.Prelude.{◌≡◌, ℕ, ◌+◌, ◌≤◌, ◌<◌, Bool, true, false, List, [], ◌∷◌, length, map, filter, find, slice_get, Option, None, Some, is_none, is_some, ◌&&◌, ◌==◌, IsSome}
+use Rattle.std.specs.Option.{option_map}
+use Rattle.std.specs.Str.{bytes_eq}
+use Rattle.std.specs.Ordering.{nat_cmp}
+use Rattle.std.specs.Cmp.Lexicographic.{slice_cmp}
+use Rattle.std.specs.FinMap as finite_map
+use Rattle.box6346.specs.declared.box_number.BoxNumber.{BoxNumber}
+use Rattle.edi_messages.specs.Purposes.{CallContent}
+use Rattle.yard_core.specs.YardMap.{YardMap}
+use Rattle.yard_core.specs.SoundYard.{IsSound}
+use Rattle.yard_core.specs.Plan.{IsPlan}
+use Rattle.terminal_core.specs.declared.line_state.LineState.{LineState}
+use Rattle.terminal_core.specs.declared.side.Side.{Side}
+use Rattle.terminal_core.specs.declared.side.Side.TheVariants.{Load, Discharge}
+use Rattle.terminal_core.specs.Rows.{VisitContent}
+
+-- ---- lists
+
+-- a line's port, and whether it is done
+pub record LineContent : Type 0 where
+  pub port : List ℕ
+  pub state : LineState
+
+abbrev pub side_code : Side → ℕ
+side_code Load = 1
+side_code Discharge = 2
+
+-- a line goes by its call, its side and its container: no list has one twice
+abbrev pub LineKey : Type 0
+LineKey = List (List ℕ)
+
+abbrev pub line_key : CallContent → Side → BoxNumber → LineKey
+line_key call side container = call.vessel ∷ call.voyage ∷ (side_code side ∷ []) ∷ container ∷ []
+
+abbrev pub Lines : Type 0
+Lines = finite_map.FinMap (slice_cmp (slice_cmp nat_cmp)) LineContent
+
+-- ---- the state
+
+pub record TerminalState : Type 0 where
+  pub yard : YardMap
+  pub limit : ℕ
+  pub visits : List VisitContent
+  pub lines : Lines
+
+-- nothing came, nothing is listed
+abbrev pub empty_state : YardMap → ℕ → TerminalState
+empty_state yard limit = record { yard = yard; limit = limit; visits = []; lines = finite_map.empty }
+
+abbrev pub line_of : TerminalState → CallContent → Side → BoxNumber → Option LineContent
+line_of state call side container = finite_map.get state.lines (line_key call side container)
+
+-- the container is in the yard
+abbrev pub is_in : TerminalState → BoxNumber → Bool
+is_in state container = is_some (finite_map.get state.yard.boxes container)
+
+-- the container's visit that is open
+abbrev pub is_open_visit : BoxNumber → VisitContent → Bool
+is_open_visit container visit = bytes_eq visit.container container && is_none visit.departure
+
+abbrev pub open_visit : TerminalState → BoxNumber → Option VisitContent
+open_visit state container = find (is_open_visit container) state.visits
+
+-- ---- whole states
+
+-- visits are numbered 1, 2, .. as they stand
+abbrev pub AreNumbered : ℕ → List VisitContent → Type 0
+AreNumbered next [] = Unit {0}
+AreNumbered next (visit ∷ visits) = (visit.number ≡ next) × AreNumbered (next + 1) visits
+
+-- The yard is sound, the visits are numbered within the limit, and the containers of the yard are exactly those with an open
+-- visit, each having one.
+pub record IsWhole (state : TerminalState) : Type 0 where
+  pub plan : IsPlan state.yard.plan
+  pub sound : IsSound state.yard.plan (finite_map.get state.yard.boxes)
+  pub numbered : AreNumbered 1 state.visits
+  pub within : length state.visits ≤ state.limit
+  pub one_visit : (container : BoxNumber) → length (filter (is_open_visit container) state.visits) ≤ 1
+  pub here : (container : BoxNumber) → is_in state container ≡ is_some (open_visit state container)

@@ -1,0 +1,189 @@
+-- What an order does at a terminal: the refusals in their order, and otherwise the new state, the outcome and the changes.
+use Rattle.std.specs.Prelude.{ℕ, ◌+◌, Bool, cond, List, [], ◌∷◌, ◌++◌, length, map, nat_le, Option, None, Some, Result, Ok, Err}
+use Rattle.std.specs.Option.{option_map, option_map_or}
+use Rattle.std.specs.FinMap as finite_map
+use Rattle.box6346.specs.SizeCode.{length_of}
+use Rattle.box6346.specs.declared.box_number.BoxNumber.{BoxNumber}
+use Rattle.box6346.specs.declared.slot.Slot.{Slot}
+use Rattle.edi_moments.specs.Moments.{CivilMoment}
+use Rattle.edi_messages.specs.Purposes.{CallContent}
+use Rattle.edi_messages.specs.Orders.{EntryContent, OrderContent, gate_in, gate_out, move, list_discharge, list_load, discharge, load}
+use Rattle.yard_core.specs.YardMap.{YardMap}
+use Rattle.yard_core.specs.Decisions.{placed, placed_first, removed, shifted}
+use Rattle.yard_core.specs.declared.placement.Placement.{Placement}
+use Rattle.yard_core.specs.declared.yard_fault.YardFault.{YardFault}
+use Rattle.yard_core.specs.declared.yard_fault.YardFault.TheVariants as yard
+use Rattle.terminal_core.specs.declared.departure.Departure.{Departure}
+use Rattle.terminal_core.specs.declared.line_state.LineState.{LineState}
+use Rattle.terminal_core.specs.declared.line_state.LineState.TheVariants.{Pending, Done as LineIsDone}
+use Rattle.terminal_core.specs.declared.outcome.Outcome.{Outcome}
+use Rattle.terminal_core.specs.declared.outcome.Outcome.TheVariants.{Done, Gone, Listed, Refused}
+use Rattle.terminal_core.specs.declared.reason.Reason.{Reason}
+use Rattle.terminal_core.specs.declared.reason.Reason.TheVariants.{AlreadyIn, NotIn, AlreadyListed, NotListed, ListLineDone, Buried, NoSlot, SlotKind, Taken, OnAir, NoRoom, VisitLimit}
+use Rattle.terminal_core.specs.declared.side.Side.{Side}
+use Rattle.terminal_core.specs.declared.side.Side.TheVariants.{Load, Discharge}
+use Rattle.terminal_core.specs.declared.source.Source.{Source}
+use Rattle.terminal_core.specs.declared.way.Way.{Way}
+use Rattle.terminal_core.specs.declared.way.Way.TheVariants.{Gate, Ship}
+use Rattle.terminal_core.specs.Rows.{VisitContent, ChangeContent, visit_opened, visit_closed, placed_at, moved_to, removed_from, listed_on, line_done}
+use Rattle.terminal_core.specs.State.{TerminalState, LineContent, line_key, line_of, is_in, is_open_visit, open_visit}
+
+-- what a step leaves, answers and changes
+pub record Stepped : Type 0 where
+  pub state : TerminalState
+  pub outcome : Outcome
+  pub changes : List ChangeContent
+
+abbrev pub stepped : TerminalState → Outcome → List ChangeContent → Stepped
+stepped state outcome changes = record { state = state; outcome = outcome; changes = changes }
+
+-- a refused order changes nothing
+abbrev pub refused : TerminalState → Reason → Stepped
+refused state reason = stepped state (Refused reason) []
+
+-- the yard's faults as reasons
+abbrev pub reason_of : YardFault → Reason
+reason_of yard.Present = AlreadyIn
+reason_of yard.Absent = NotIn
+reason_of (yard.Buried blocker) = Buried blocker
+reason_of yard.NoSlot = NoSlot
+reason_of yard.SlotKind = SlotKind
+reason_of yard.Taken = Taken
+reason_of yard.OnAir = OnAir
+reason_of yard.NoRoom = NoRoom
+reason_of yard.Memory = NoRoom
+
+-- ---- coming
+
+abbrev pub with_slot : Slot → Result YardMap YardFault → Result (YardMap × Slot) YardFault
+with_slot slot (Ok y) = Ok (y, slot)
+with_slot slot (Err fault) = Err fault
+
+abbrev pub settled_in : YardMap → EntryContent → Option Slot → Result (YardMap × Slot) YardFault
+settled_in y entry (Some slot) = with_slot slot (placed y entry.number (length_of entry.size_type) slot)
+settled_in y entry None = placed_first y entry.number (length_of entry.size_type)
+
+-- the yard with the container in the slot that it names, or in the first that fits where it names none
+abbrev pub settled : YardMap → EntryContent → Result (YardMap × Slot) YardFault
+settled y entry = settled_in y entry entry.slot
+
+-- as many visits stand as the set-up allows
+abbrev pub is_full : TerminalState → Bool
+is_full state = nat_le state.limit (length state.visits)
+
+abbrev pub visit_of : TerminalState → Way → Source → EntryContent → Slot → VisitContent
+visit_of state way source entry slot = record {
+  number = length state.visits + 1;
+  container = entry.number;
+  size_type = entry.size_type;
+  is_laden = entry.is_laden;
+  booking = entry.booking;
+  arrival = record { way = way; source = source; moment = entry.moment; slot = slot };
+  departure = None;
+}
+
+-- the container stands, and its visit is opened
+abbrev pub entered_at : TerminalState → Way → Source → EntryContent → Result (YardMap × Slot) YardFault → Stepped
+entered_at state way source entry (Err fault) = refused state (reason_of fault)
+entered_at state way source entry (Ok (y, slot)) =
+    stepped (record state { yard = y; visits = state.visits ++ visit_of state way source entry slot ∷ [] }) (Done slot)
+    (visit_opened (visit_of state way source entry slot) ∷ placed_at entry.number (length state.visits + 1) slot ∷ [])
+
+abbrev pub entered : TerminalState → Way → Source → EntryContent → Stepped
+entered state way source entry = cond (is_full state) (refused state VisitLimit) (entered_at state way source entry (settled state.yard entry))
+
+-- ---- going
+
+abbrev pub closed : Departure → BoxNumber → VisitContent → VisitContent
+closed departure container visit = cond (is_open_visit container visit) (record visit { departure = Some departure }) visit
+
+-- the container's open visit is closed
+abbrev pub close_visit : TerminalState → BoxNumber → Departure → List VisitContent
+close_visit state container departure = map (closed departure container) state.visits
+
+abbrev pub number_of_visit : Option VisitContent → ℕ
+number_of_visit None = 0
+number_of_visit (Some visit) = visit.number
+
+abbrev pub departed_at : TerminalState → BoxNumber → Departure → Result (YardMap × Placement) YardFault → Stepped
+departed_at state container departure (Err fault) = refused state (reason_of fault)
+departed_at state container departure (Ok (y, stood)) =
+    stepped (record state { yard = y; visits = close_visit state container departure }) Gone
+    (removed_from container ∷ visit_closed (number_of_visit (open_visit state container)) departure ∷ [])
+
+abbrev pub departed : TerminalState → Way → Source → BoxNumber → CivilMoment → Stepped
+departed state way source container moment =
+    departed_at state container (record { way = way; source = source; moment = moment }) (removed state.yard container)
+
+-- ---- moving
+
+abbrev pub moved_at : TerminalState → BoxNumber → Slot → Result YardMap YardFault → Stepped
+moved_at state container slot (Err fault) = refused state (reason_of fault)
+moved_at state container slot (Ok y) = stepped (record state { yard = y }) (Done slot) (moved_to container slot ∷ [])
+
+abbrev pub moved : TerminalState → BoxNumber → Slot → Stepped
+moved state container slot = moved_at state container slot (shifted state.yard container slot)
+
+-- ---- lists
+
+abbrev pub with_line : TerminalState → CallContent → Side → BoxNumber → LineContent → TerminalState
+with_line state call side container line = record state { lines = finite_map.insert state.lines (line_key call side container) line }
+
+abbrev pub listed_at : TerminalState → CallContent → Side → BoxNumber → List ℕ → Option LineContent → Stepped
+listed_at state call side container port (Some line) = refused state AlreadyListed
+listed_at state call side container port None =
+    stepped (with_line state call side container (record { port = port; state = Pending })) Listed (listed_on call side container port ∷ [])
+
+abbrev pub listed : TerminalState → CallContent → Side → BoxNumber → List ℕ → Stepped
+listed state call side container port = listed_at state call side container port (line_of state call side container)
+
+-- where the order is carried out, the line is done too
+abbrev pub then_line_done_at : CallContent → Side → BoxNumber → LineContent → Stepped → Outcome → Stepped
+then_line_done_at call side container line after (Refused reason) = after
+then_line_done_at call side container line after outcome =
+    stepped (with_line after.state call side container (record line { state = LineIsDone })) after.outcome (after.changes ++ line_done call side container ∷ [])
+
+abbrev pub then_line_done : CallContent → Side → BoxNumber → LineContent → Stepped → Stepped
+then_line_done call side container line after = then_line_done_at call side container line after after.outcome
+
+abbrev pub by_state : TerminalState → CallContent → Side → BoxNumber → LineContent → Stepped → LineState → Stepped
+by_state state call side container line after LineIsDone = refused state ListLineDone
+by_state state call side container line after Pending = then_line_done call side container line after
+
+-- the order of a list's line: it has to stand, and to be open
+abbrev pub by_line : TerminalState → CallContent → Side → BoxNumber → Option LineContent → Stepped → Stepped
+by_line state call side container None after = refused state NotListed
+by_line state call side container (Some line) after = by_state state call side container line after line.state
+
+-- ---- the table of orders
+
+-- GateIn: AlreadyIn; VisitLimit; the slot
+abbrev pub step_gate_in : TerminalState → Source → EntryContent → Stepped
+step_gate_in state source entry = cond (is_in state entry.number) (refused state AlreadyIn) (entered state Gate source entry)
+
+-- GateOut: NotIn; Buried
+abbrev pub step_gate_out : TerminalState → Source → BoxNumber → CivilMoment → Stepped
+step_gate_out state source container moment = departed state Gate source container moment
+
+-- Discharge: AlreadyIn; NotListed; ListLineDone; VisitLimit; the slot
+abbrev pub step_discharge : TerminalState → Source → CallContent → EntryContent → Stepped
+step_discharge state source call entry =
+    cond (is_in state entry.number) (refused state AlreadyIn)
+    (by_line state call Discharge entry.number (line_of state call Discharge entry.number) (entered state Ship source entry))
+
+-- Load: NotIn; NotListed; ListLineDone; Buried
+abbrev pub step_load : TerminalState → Source → CallContent → BoxNumber → CivilMoment → Stepped
+step_load state source call container moment =
+    cond (is_in state container)
+    (by_line state call Load container (line_of state call Load container) (departed state Ship source container moment))
+    (refused state NotIn)
+
+-- what an order does
+abbrev pub step : TerminalState → Source → OrderContent → Stepped
+step state source (gate_in entry) = step_gate_in state source entry
+step state source (gate_out container moment) = step_gate_out state source container moment
+step state source (move container slot) = moved state container slot
+step state source (list_discharge call container) = listed state call Discharge container []
+step state source (list_load call container port) = listed state call Load container port
+step state source (discharge call entry) = step_discharge state source call entry
+step state source (load call container moment) = step_load state source call container moment

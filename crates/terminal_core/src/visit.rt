@@ -1,0 +1,19 @@
+use crate::arrival::Arrival;
+use crate::departure::Departure;
+use box6346::{BoxNumber, SizeType};
+
+/// A container's stay at the terminal.
+#[derive(Debug, Drop)]
+pub struct Visit {
+    /// Visits are numbered 1, 2, .. as they are opened.
+    pub number: u32,
+    pub container: BoxNumber,
+    pub size_type: SizeType,
+    /// Whether it is full.
+    pub is_laden: bool,
+    /// The booking, empty where none was given.
+    pub booking: String,
+    pub arrival: Arrival,
+    /// None while the container is here.
+    pub departure: Option<Departure>,
+}
