@@ -6,12 +6,12 @@
 //! wherever it is kept: `Runs` goes by them, and so can tables.
 
 ghost use Rattle.std.specs.Prelude.{◌≡◌, ◌≢◌, ◌↔◌, ℕ, ◌+◌, ◌≤◌, List, [], ◌∷◌, ◌++◌, None};
-ghost use Rattle.std.specs.Prelude.{IsSome, AllPairs, filter};
+ghost use Rattle.std.specs.Prelude.{IsTrue, IsSome, AllPairs, filter};
 ghost use Rattle.partner_core.specs.declared.standing.Standing.TheVariants.{Known, Other};
 ghost use Rattle.partner_core.specs.declared.standing.Standing.TheVariants.{Early, Next};
 ghost use Rattle.partner_core.specs.Deliveries.{Delivery, first_text, run};
 ghost use Rattle.partner_core.specs.Order.{is_of, numbers_above, order, reply_of};
-ghost use Rattle.partner_core.specs.Standings.{standing_at};
+ghost use Rattle.partner_core.specs.Standings.{is_same_text, standing_at};
 ghost use Rattle.partner_core.specs.Growth.{AddsNothing, AddsText, AddsRun, EndsRun, IsNextNumber};
 ghost use Rattle.partner_core.specs.Growth.{IsAllOf, HasSameFirsts, ComesToSame};
 ghost use Rattle.partner_core.specs.Keeping.{StandsAsKept, KeepsOn, KeepsOneMore, KeepsRun};
@@ -19,6 +19,11 @@ ghost use Rattle.partner_core.specs.Keeping.{AnswersAsKept};
 ghost use Rattle.partner_core.specs.Cascade.{TakesNone, TakesOneMore};
 
 use crate::Machine;
+
+/// Two texts are the same where they have the same bytes.
+pub fn same_text()
+    ensures { (s t : List ℕ) → IsTrue (is_same_text s t) ↔ (s ≡ t) }
+{}
 
 /// Run: each number up to it is used, the number after it is free, and so each free number is
 /// beyond it.

@@ -204,6 +204,7 @@ fn a_copied_diary_is_the_same(rt: HostRuntime) -> Result<(), Fail> {
 
 #[test]
 fn each_law_is_there_for_a_diary(_rt: HostRuntime) {
+    laws::same_text();
     laws::unbroken_run();
     laws::known::<Diary>();
     laws::other::<Diary>();
