@@ -4,3 +4,4 @@ pub mod Members
 pub mod Lines
 pub mod Bodies
 pub mod Responses
+pub mod Messages

@@ -6,6 +6,8 @@ use Rattle.edi_segments.specs.declared.syntax_fault.SyntaxFault.{SyntaxFault}
 use Rattle.edi_segments.specs.declared.syntax_fault.SyntaxFault.TheVariants as syntax
 use Rattle.office_replies.specs.declared.fault.Fault.{Fault}
 use Rattle.office_replies.specs.declared.fault.Fault.TheVariants as fault
+use Rattle.edi_messages.specs.declared.message_fault.MessageFault.{MessageFault}
+use Rattle.edi_messages.specs.declared.message_fault.MessageFault.TheVariants as message
 
 abbrev pub reason_name : Reason → List ℕ
 reason_name Form = codes "Form"
@@ -47,3 +49,14 @@ abbrev pub fault_name : Fault → List ℕ
 fault_name (fault.Syntax syntax) = syntax_name syntax
 fault_name fault.UnknownSender = codes "UnknownSender"
 fault_name fault.WrongRecipient = codes "WrongRecipient"
+
+abbrev pub message_fault_name : MessageFault → List ℕ
+message_fault_name message.OtherType = codes "OtherType"
+message_fault_name message.NoBgm = codes "NoBgm"
+message_fault_name message.Code = codes "Code"
+message_fault_name message.Function = codes "Function"
+message_fault_name message.NoTransport = codes "NoTransport"
+message_fault_name message.NoEquipment = codes "NoEquipment"
+message_fault_name message.EquipmentCount = codes "EquipmentCount"
+message_fault_name message.TooMany = codes "TooMany"
+message_fault_name message.Memory = codes "Memory"

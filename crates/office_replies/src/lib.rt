@@ -4,7 +4,10 @@
 
 mod body;
 mod fault;
+mod kept;
 mod line_report;
+mod message_report;
+mod message_verdict;
 mod names;
 mod refusal;
 mod response;
@@ -13,7 +16,10 @@ mod worst;
 
 pub use body::{answered, clash, refused, waiting};
 pub use fault::Fault;
+pub use kept::reply;
 pub use line_report::LineReport;
+pub use message_report::MessageReport;
+pub use message_verdict::MessageVerdict;
 pub use response::Response;
 pub use text::text_of;
 pub use worst::Worst;

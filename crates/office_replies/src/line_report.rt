@@ -22,7 +22,7 @@ pub struct LineReport {
 }
 
 /// The JSON of a line, counted from 1 in its message.
-pub(crate) fn line_value(alloc: Global, line: u32, report: LineReport) -> Result<Value, AllocError>
+pub(crate) fn line_value(alloc: Global, line: u64, report: LineReport) -> Result<Value, AllocError>
     ensures { IfOk result (λ v. view v ≡ line_data line report) }
 {
     let name = number_text(alloc, report.number)?;
@@ -41,7 +41,7 @@ pub(crate) fn line_value(alloc: Global, line: u32, report: LineReport) -> Result
 fn refusal(
     alloc: Global,
     name: Option<&String>,
-    line: u32,
+    line: u64,
     reason: Reason,
 ) -> Result<Value, AllocError>
     ensures { IfOk result (λ v. view v ≡ object (refusal_members (name_text name.entry) line reason)) }
@@ -64,7 +64,7 @@ fn number_text(alloc: Global, number: Option<BoxNumber>) -> Result<Option<String
     }
 }
 
-fn done(alloc: Global, name: Option<&String>, line: u32, slot: &str) -> Result<Value, AllocError>
+fn done(alloc: Global, name: Option<&String>, line: u64, slot: &str) -> Result<Value, AllocError>
     ensures { IfOk result (λ v. view v ≡ object (done_members (name_text name.entry) line slot.now)) }
 {
     match name {
@@ -76,7 +76,7 @@ fn done(alloc: Global, name: Option<&String>, line: u32, slot: &str) -> Result<V
 fn settled(
     alloc: Global,
     name: Option<&String>,
-    line: u32,
+    line: u64,
     outcome: &str,
 ) -> Result<Value, AllocError>
     ensures { IfOk result (λ v. view v ≡ object (settled_members (name_text name.entry) line outcome.now)) }
@@ -90,7 +90,7 @@ fn settled(
 fn refused(
     alloc: Global,
     name: Option<&String>,
-    line: u32,
+    line: u64,
     reason: &str,
 ) -> Result<Value, AllocError>
     ensures { IfOk result (λ v. view v ≡ object (refused_members (name_text name.entry) line reason.now)) }
@@ -106,7 +106,7 @@ fn refused(
 fn buried(
     alloc: Global,
     name: Option<&String>,
-    line: u32,
+    line: u64,
     blocker: &str,
 ) -> Result<Value, AllocError>
     ensures { IfOk result (λ v. view v ≡ object (buried_members (name_text name.entry) line blocker.now)) }

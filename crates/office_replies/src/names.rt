@@ -1,6 +1,7 @@
 ghost use Rattle.std.specs.Prelude.{◌≡◌};
-ghost use Rattle.office_replies.specs.Names.{reason_name};
+ghost use Rattle.office_replies.specs.Names.{reason_name, message_fault_name};
 
+use edi_messages::MessageFault;
 use terminal_core::Reason;
 
 /// The name of a reason, as a reply gives it.
@@ -25,5 +26,22 @@ pub(crate) fn reason_name(reason: Reason) -> &'static str
         Reason::OnAir => "OnAir",
         Reason::NoRoom => "NoRoom",
         Reason::VisitLimit => "VisitLimit",
+    }
+}
+
+/// The name of a message's fault.
+pub(crate) fn message_fault_name(fault: MessageFault) -> &'static str
+    ensures { result.now ≡ message_fault_name fault }
+{
+    match fault {
+        MessageFault::OtherType => "OtherType",
+        MessageFault::NoBgm => "NoBgm",
+        MessageFault::Code => "Code",
+        MessageFault::Function => "Function",
+        MessageFault::NoTransport => "NoTransport",
+        MessageFault::NoEquipment => "NoEquipment",
+        MessageFault::EquipmentCount => "EquipmentCount",
+        MessageFault::TooMany => "TooMany",
+        MessageFault::Memory => "Memory",
     }
 }

@@ -1,0 +1,59 @@
+-- A reply has no float, so its text is known.
+use Rattle.std.proofs.Common.{◌≡◌, ℕ, ◌+◌, List, [], ◌∷◌, false, Option, Some, None, refl, map}
+use Rattle.serde_json.specs.View.{items_of}
+use Rattle.serde_json.specs.Written.{has_float, items_have_float, members_have_float}
+use Rattle.terminal_core.specs.declared.outcome.Outcome.{Outcome}
+use Rattle.terminal_core.specs.declared.outcome.Outcome.TheVariants.{Done, Gone, Listed, Refused}
+use Rattle.terminal_core.specs.declared.reason.Reason.{Reason}
+use Rattle.terminal_core.specs.declared.reason.Reason.TheVariants.{Form, CheckDigit, Size, Moment, SlotText, AlreadyIn, NotIn, AlreadyListed, NotListed, ListLineDone, Buried, NoSlot, SlotKind, Taken, OnAir, NoRoom, VisitLimit}
+use Rattle.office_replies.specs.declared.line_report.LineReport.{LineReport}
+use Rattle.office_replies.specs.Members.{refused_members}
+use Rattle.office_replies.specs.Lines.{refusal_members, outcome_members, lines_from}
+use Rattle.office_replies.specs.Messages.{VerdictContent, accepted, rejected, ReportContent, verdict_data, report_data, reply_data}
+
+refused_has_no_float : (name : Option (List ℕ)) (line : ℕ) (reason : List ℕ) → members_have_float (refused_members name line reason) ≡ false
+refused_has_no_float None line reason = refl
+refused_has_no_float (Some name) line reason = refl
+
+refusal_has_no_float : (name : Option (List ℕ)) (line : ℕ) (reason : Reason) → members_have_float (refusal_members name line reason) ≡ false
+refusal_has_no_float name line (Buried blocker) = refused_has_no_float name line _
+refusal_has_no_float name line Form = refused_has_no_float name line _
+refusal_has_no_float name line CheckDigit = refused_has_no_float name line _
+refusal_has_no_float name line Size = refused_has_no_float name line _
+refusal_has_no_float name line Moment = refused_has_no_float name line _
+refusal_has_no_float name line SlotText = refused_has_no_float name line _
+refusal_has_no_float name line AlreadyIn = refused_has_no_float name line _
+refusal_has_no_float name line NotIn = refused_has_no_float name line _
+refusal_has_no_float name line AlreadyListed = refused_has_no_float name line _
+refusal_has_no_float name line NotListed = refused_has_no_float name line _
+refusal_has_no_float name line ListLineDone = refused_has_no_float name line _
+refusal_has_no_float name line NoSlot = refused_has_no_float name line _
+refusal_has_no_float name line SlotKind = refused_has_no_float name line _
+refusal_has_no_float name line Taken = refused_has_no_float name line _
+refusal_has_no_float name line OnAir = refused_has_no_float name line _
+refusal_has_no_float name line NoRoom = refused_has_no_float name line _
+refusal_has_no_float name line VisitLimit = refused_has_no_float name line _
+
+outcome_has_no_float : (name : Option (List ℕ)) (line : ℕ) (outcome : Outcome) → members_have_float (outcome_members name line outcome) ≡ false
+outcome_has_no_float None line (Done slot) = refl
+outcome_has_no_float (Some name) line (Done slot) = refl
+outcome_has_no_float None line Gone = refl
+outcome_has_no_float (Some name) line Gone = refl
+outcome_has_no_float None line Listed = refl
+outcome_has_no_float (Some name) line Listed = refl
+outcome_has_no_float name line (Refused reason) = refusal_has_no_float name line reason
+
+lines_have_no_float : (line : ℕ) (reports : List LineReport) → items_have_float (items_of (lines_from line reports)) ≡ false
+lines_have_no_float line [] = refl
+lines_have_no_float line (report ∷ reports) = rw (outcome_has_no_float _ line report.outcome) (lines_have_no_float (line + 1) reports)
+
+verdict_has_no_float : (reference : List ℕ) (verdict : VerdictContent) → has_float (verdict_data reference verdict) ≡ false
+verdict_has_no_float reference (accepted lines) = rw (lines_have_no_float 1 lines) refl
+verdict_has_no_float reference (rejected fault) = refl
+
+reports_have_no_float : (reports : List ReportContent) → items_have_float (items_of (map report_data reports)) ≡ false
+reports_have_no_float [] = refl
+reports_have_no_float (report ∷ reports) = rw (verdict_has_no_float report.reference report.verdict) (reports_have_no_float reports)
+
+pub reply_has_no_float : (contrl : List ℕ) (reports : List ReportContent) → has_float (reply_data contrl reports) ≡ false
+reply_has_no_float contrl reports = rw (reports_have_no_float reports) refl

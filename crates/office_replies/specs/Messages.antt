@@ -1,0 +1,56 @@
+-- The JSON of a reply: the text that is kept of an interchange.
+use Rattle.std.specs.Prelude.{ℕ, List, map, string_bytes, codes}
+use Rattle.serde_json.specs.Data.{Data, array, object, member, no_members}
+use Rattle.serde_json.specs.View.{items_of}
+use Rattle.serde_json.specs.Written.{compact_text}
+use Rattle.edi_messages.specs.declared.message_fault.MessageFault.{MessageFault}
+use Rattle.office_replies.specs.declared.line_report.LineReport.{LineReport}
+use Rattle.office_replies.specs.declared.message_report.MessageReport.{MessageReport}
+use Rattle.office_replies.specs.declared.message_verdict.MessageVerdict.{MessageVerdict}
+use Rattle.office_replies.specs.declared.message_verdict.MessageVerdict.TheVariants as verdict
+use Rattle.office_replies.specs.Names.{message_fault_name}
+use Rattle.office_replies.specs.Members.{text_member}
+use Rattle.office_replies.specs.Lines.{lines_from}
+
+-- what became of a message's lines, or why it gave no orders
+pub data VerdictContent : Type 0 where
+  accepted : List LineReport → VerdictContent
+  rejected : MessageFault → VerdictContent
+
+-- a message's reference, and what became of it
+pub record ReportContent : Type 0 where
+  pub reference : List ℕ
+  pub verdict : VerdictContent
+
+abbrev pub verdict_content : MessageVerdict → VerdictContent
+verdict_content (verdict.Accepted lines) = accepted lines.items
+verdict_content (verdict.Rejected fault) = rejected fault
+
+abbrev pub report_content : MessageReport → ReportContent
+report_content report = record { reference = string_bytes report.reference; verdict = verdict_content report.verdict }
+
+abbrev pub verdict_data : List ℕ → VerdictContent → Data
+verdict_data reference (accepted lines) =
+    object (member (codes "lines") (array (items_of (lines_from 1 lines))) (text_member (codes "reference") reference (text_member (codes "result") (codes "accepted") no_members)))
+verdict_data reference (rejected fault) =
+    object (text_member (codes "fault") (message_fault_name fault) (text_member (codes "reference") reference (text_member (codes "result") (codes "rejected") no_members)))
+
+abbrev pub report_data : ReportContent → Data
+report_data report = verdict_data report.reference report.verdict
+
+abbrev pub message_data : MessageReport → Data
+message_data report = report_data (report_content report)
+
+abbrev pub messages_data : List MessageReport → Data
+messages_data reports = array (items_of (map report_data (map report_content reports)))
+
+abbrev pub reply_data : List ℕ → List ReportContent → Data
+reply_data contrl reports =
+    object (text_member (codes "contrl") contrl (member (codes "messages") (array (items_of (map report_data reports))) no_members))
+
+-- the text of a reply, as it is kept
+unfoldable pub reply_content_text : List ℕ → List ReportContent → List ℕ
+reply_content_text contrl reports = compact_text (reply_data contrl reports)
+
+abbrev pub reply_text : List ℕ → List MessageReport → List ℕ
+reply_text contrl reports = reply_content_text contrl (map report_content reports)
