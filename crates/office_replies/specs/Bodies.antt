@@ -9,14 +9,18 @@ abbrev pub answer_data : List ℕ → ℕ → List ℕ → Data → Data
 answer_data answer n partner reply =
     object (text_member (codes "answer") answer (member (codes "number") (number (unsigned n)) (text_member (codes "partner") partner (member (codes "reply") reply no_members))))
 
--- the members of an answer, each as its text
-unfoldable pub joined_text : List ℕ → ℕ → List ℕ → List ℕ → List ℕ
-joined_text answer n partner reply =
-    codes "{\"answer\":" ++ answer ++ codes ",\"number\":" ++ decimal n ++ codes ",\"partner\":" ++ partner ++ codes ",\"reply\":" ++ reply ++ codes "}"
+-- an answer's members before its reply, each as its text
+unfoldable pub joined_head : List ℕ → ℕ → List ℕ → List ℕ
+joined_head answer n partner =
+    codes "{\"answer\":" ++ answer ++ codes ",\"number\":" ++ decimal n ++ codes ",\"partner\":" ++ partner ++ codes ",\"reply\":"
+
+-- what an answer has before its reply
+abbrev pub head_text : List ℕ → ℕ → List ℕ → List ℕ
+head_text answer n partner = joined_head (quoted answer) n (quoted partner)
 
 -- the text of an answer, round a reply that is a text already
 abbrev pub answer_text : List ℕ → ℕ → List ℕ → List ℕ → List ℕ
-answer_text answer n partner reply = joined_text (quoted answer) n (quoted partner) reply
+answer_text answer n partner reply = head_text answer n partner ++ reply ++ codes "}"
 
 abbrev pub waiting_data : ℕ → ℕ → List ℕ → Data
 waiting_data next n partner =

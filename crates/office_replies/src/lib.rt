@@ -14,7 +14,7 @@ mod response;
 mod text;
 mod worst;
 
-pub use body::{answered, clash, refused, waiting};
+pub use body::{answer_head, clash, refused, waiting};
 pub use fault::Fault;
 pub use kept::reply;
 pub use line_report::LineReport;

@@ -11,8 +11,8 @@ use Rattle.office_stream.specs.Streams.{Answered}
 module _ {D : Type 0} (stands : List (List ℕ) → D → Type 0) (answers : List (List ℕ) → List ℕ → Response → Type 0) where
   delivers_next : (ds : List (List ℕ)) (text : List ℕ) (response : Response) (new : D) → Delivers stands answers ds text response new →
       AnswersNext answers ds text response × stands (answered ds text response) new
-  delivers_next ds text (Taken body) new h = h
-  delivers_next ds text (Repeat body) new h = h
+  delivers_next ds text (Taken head reply) new h = h
+  delivers_next ds text (Repeat head reply) new h = h
   delivers_next ds text (Waiting body) new h = h
   delivers_next ds text (Clash body) new h = h
   delivers_next ds text (Refused fault) new h = h

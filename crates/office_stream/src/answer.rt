@@ -8,7 +8,7 @@ ghost use Rattle.office_stream.specs.Lines.{line};
 ghost use Rattle.office_stream.specs.Pieces.{AnsweredOne, EndsPiece, PieceAnswered, PieceDelivered};
 
 use crate::deliver::Deliver;
-use crate::line::write_line;
+use crate::line::write_response;
 use crate::port::Port;
 use crate::stream_fault::StreamFault;
 use edi_cutter::{CutFault, Cutter};
@@ -29,7 +29,7 @@ fn answer_one<W: Write, D: Deliver>(
     ensures delivered { IfErr result (λ fault. (opening : D) (ds : List (List ℕ)) → D.stands opening ds desk.old → (response : Response) × Delivers (D.stands opening) (D.answers opening) ds text.now response desk.new) }
 {
     let response = desk.deliver(alloc, text);
-    match write_line(writer, response.body()) {
+    match write_response(writer, &response) {
         Ok(()) => Ok(response.worst()),
         Err(_) => Err(StreamFault::Write),
     }

@@ -1,11 +1,12 @@
 ghost use Rattle.std.specs.Prelude.{◌≡◌, true, OnOk, OnErr};
 ghost use Rattle.std.specs.Io.KnownBytes.{Appends};
+ghost use Rattle.office_replies.specs.Responses.{body_of};
 ghost use Rattle.office_stream.specs.Lines.{line, end_text, end_worst};
 
 use crate::port::Port;
 use crate::stream_end::StreamEnd;
 use edi_cutter::CutFault;
-use office_replies::Worst;
+use office_replies::{Response, Worst};
 use std::io::{Result, Write};
 
 /// Writes a text and LF.
@@ -16,6 +17,17 @@ pub(crate) fn write_line<W: Write>(writer: &mut Port<W>, text: &str) -> Result<(
 {
     writer.write_all(text.as_bytes())?;
     writer.write_all(b"\n")
+}
+
+/// Writes the body of a response, and LF.
+pub(crate) fn write_response<W: Write>(writer: &mut Port<W>, response: &Response) -> Result<()>
+    ensures ok { OnOk result (Appends (W.contents writer.old.inner) (W.contents writer.new.inner) (line (body_of response.now))) }
+    ensures kept { OnOk result (writer.new.failed ≡ writer.old.failed) }
+    ensures err { OnErr result (writer.new.failed ≡ true) }
+{
+    writer.write_all(response.front().as_bytes())?;
+    writer.write_all(response.reply().as_bytes())?;
+    write_line(writer, response.back())
 }
 
 /// Writes what stands behind the last answer.

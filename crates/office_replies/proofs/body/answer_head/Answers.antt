@@ -1,13 +1,14 @@
-use Rattle.std.proofs.Common.{◌≡◌, ◌∙◌, ℕ, List, ap, ap₂, string_bytes, append_assoc}
+use Rattle.std.proofs.Common.{◌≡◌, ◌∙◌, ◌++◌, ℕ, List, ap, ap₂, codes, string_bytes, append_assoc}
 use Rattle.std.proofs.lemmas.Result.{IfOk-weaker}
-use Rattle.office_replies.specs.Bodies.{joined_text, answer_text}
+use Rattle.serde_json.specs.Written.{compact_text}
+use Rattle.office_replies.specs.Bodies.{joined_head}
 use Rattle.office_replies.proofs.Joined.{answer_text-data}
-use Rattle.office_replies.proofs.body.answered.Goals as goal
+use Rattle.office_replies.proofs.body.answer_head.Goals as goal
 
 pub returns-clause-bytes : goal.returns-clause-bytes
-unfolding joined_text
+unfolding joined_head
 returns-clause-bytes c =
-    let text : List ℕ → List ℕ → List ℕ = λ answer partner. joined_text answer c.args.number partner c.args.reply.now in
+    let text : List ℕ → List ℕ → List ℕ = λ answer partner. joined_head answer c.args.number partner in
     IfOk-weaker c.format.result _ _
     (λ s e.
     let joined : string_bytes s ≡ text (string_bytes c.in_ok-answer.answer) (string_bytes c.in_ok-partner.partner) = e ∙ simp append_assoc in
@@ -17,5 +18,5 @@ returns-clause-bytes c =
 pub returns-clause-json : goal.returns-clause-json
 returns-clause-json c =
     IfOk-weaker c.format.result _ _
-    (λ s bytes d e. bytes ∙ ap (answer_text c.args.answer.now c.args.number c.args.partner.now) e ∙ answer_text-data c.args.answer.now c.args.number c.args.partner.now d)
+    (λ s bytes d. ap (λ head. head ++ compact_text d ++ codes "}") bytes ∙ answer_text-data c.args.answer.now c.args.number c.args.partner.now d)
     (returns-clause-bytes c)
