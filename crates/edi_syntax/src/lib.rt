@@ -8,9 +8,11 @@ pub mod frames;
 pub mod head;
 mod header;
 pub mod laws;
+mod message_end;
 pub mod message_segments;
 mod numbers;
 pub mod opening;
+mod tally;
 #[cfg(test)]
 mod tests;
 
