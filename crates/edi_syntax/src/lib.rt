@@ -19,7 +19,7 @@ mod tests;
 pub use edi_cutter::{CutFault, Cutter};
 pub use edi_moments::Moment;
 pub use edi_segments::{
-    Bytes, Component, Components, Segment, SegmentWriter, Segments, Service, SyntaxFault,
+    Bytes, Component, Components, Elements, Segment, SegmentWriter, Segments, Service, SyntaxFault,
     interchange_text, write_component,
 };
 pub use envelope::Envelope;
