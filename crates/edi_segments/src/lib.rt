@@ -9,6 +9,7 @@ pub mod elements;
 pub mod interchange;
 pub mod laws;
 mod part;
+mod reader;
 pub mod segment;
 pub mod segment_writer;
 pub mod segments;

@@ -5,7 +5,7 @@ use Rattle.std.proofs.lemmas.Bool.{eqb-true, eqb-false}
 use Rattle.edi_segments.specs.Text.{Content}
 use Rattle.edi_segments.specs.Reading.{are_segments}
 use Rattle.edi_segments.proofs.SegmentsLemmas.{next_of_are_segments, nothing_is_segments}
-use Rattle.edi_segments.proofs.segments.are_segments.Goals as goal
+use Rattle.edi_segments.proofs.reader.are_segments.Goals as goal
 
 pub loop-rest-preserved : goal.loop-rest-preserved
 loop-rest-preserved c =

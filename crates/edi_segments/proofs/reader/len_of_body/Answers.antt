@@ -3,7 +3,7 @@ use Rattle.std.specs.Option.{option_map}
 use Rattle.std.proofs.lemmas.List.{length-drop}
 use Rattle.edi_segments.proofs.LoopLemmas.{no_end}
 use Rattle.edi_segments.specs.Reading.{end_of}
-use Rattle.edi_segments.proofs.segments.len_of_body.Goals as goal
+use Rattle.edi_segments.proofs.reader.len_of_body.Goals as goal
 
 pub returns-then-bytes-lt3-clause-found : goal.returns-then-bytes-lt3-clause-found
 returns-then-bytes-lt3-clause-found c =

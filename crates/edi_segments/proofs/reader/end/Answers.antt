@@ -2,7 +2,7 @@
 use Rattle.std.proofs.Common.{◌+◌, ◌<◌, ap, sym, ◌∙◌, length, Some, arith}
 use Rattle.std.specs.Option.{option_map}
 use Rattle.edi_segments.proofs.LoopLemmas.{end_more, end_inside, end_past, inside_from}
-use Rattle.edi_segments.proofs.segments.end.Goals as goal
+use Rattle.edi_segments.proofs.reader.end.Goals as goal
 
 pub returns-in-Terminator-clause-found : goal.returns-in-Terminator-clause-found
 returns-in-Terminator-clause-found c =
