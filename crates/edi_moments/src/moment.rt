@@ -7,7 +7,7 @@ use jiff::civil::{Date, date};
 use std::marker::Model;
 
 /// A day of the calendar from the year 0 to 9999, and an hour and a minute of that day.
-#[derive(Clone, Copy, PartialEq, Eq)]
+#[derive(Clone, Copy, PartialEq, Eq, Debug)]
 pub struct Moment {
     year: u16,
     month: u8,

@@ -10,7 +10,7 @@ mod header;
 pub mod laws;
 mod message_end;
 pub mod message_segments;
-mod numbers;
+pub mod numbers;
 pub mod opening;
 mod tally;
 #[cfg(test)]

@@ -5,7 +5,7 @@ ghost use Rattle.edi_syntax.specs.Numbers.{number_of, is_count};
 use edi_segments::Component;
 
 /// The value is one to six digits with this number.
-pub(crate) fn is_count(component: Component<'_>, number: u64) -> bool
+pub fn is_count(component: Component<'_>, number: u64) -> bool
     ensures { result ≡ is_count (value component.entry) number }
 {
     match number_of(component, 6) {
@@ -15,7 +15,7 @@ pub(crate) fn is_count(component: Component<'_>, number: u64) -> bool
 }
 
 /// The number that one to `limit` digits write.
-pub(crate) fn number_of(component: Component<'_>, limit: u32) -> Option<u64>
+pub fn number_of(component: Component<'_>, limit: u32) -> Option<u64>
     requires { limit ≤ 14 }
     ensures { result ≡ number_of limit (value component.entry) }
 {
