@@ -11,7 +11,8 @@ pub fn interchange_text(delivered: &[u8]) -> &[u8]
     ensures exact { result.now ≡ interchange_of delivered.now }
 
     // Nothing but line breaks is taken off.
-    ensures breaks { (front back : List ℕ) × IsTrue (list_all is_break front) × IsTrue (list_all is_break back) × (delivered.now ≡ front ++ (result.now ++ back)) }
+    ensures breaks { (front back : List ℕ) × IsTrue (list_all is_break front)
+        × IsTrue (list_all is_break back) × (delivered.now ≡ front ++ (result.now ++ back)) }
 {
     let mut rest = &delivered[len_of_breaks(delivered)..];
     while let Some((last, before)) = rest.split_last() {

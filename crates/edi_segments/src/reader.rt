@@ -43,7 +43,8 @@ pub(crate) fn are_segments(service: Service, bytes: &[u8]) -> bool
 
 /// The segment at the front, and what stands behind its terminator and the line breaks after it.
 fn next_segment<'a>(service: Service, bytes: &'a [u8]) -> Option<(Segment<'a>, &'a [u8])>
-    ensures exact { option_map (λ found. (content found.0, found.1.now)) result ≡ next_at service bytes.now }
+    ensures exact { option_map
+        (λ found. (content found.0, found.1.now)) result ≡ next_at service bytes.now }
     ensures shorter { IfSome result (λ found. length found.1.now < length bytes.now) }
 {
     let n = len_of_body(service, bytes)?;
@@ -58,7 +59,8 @@ pub(crate) fn next_of_segments<'a>(
     bytes: &'a [u8],
 ) -> Option<(Segment<'a>, &'a [u8])>
     requires { are_segments service bytes.now ≡ true }
-    ensures exact { option_map (λ found. (content found.0, found.1.now)) result ≡ next_at service bytes.now }
+    ensures exact { option_map
+        (λ found. (content found.0, found.1.now)) result ≡ next_at service bytes.now }
     ensures others { IfSome result (λ found. are_segments service found.1.now ≡ true) }
 {
     if bytes.len() < 3 {

@@ -24,7 +24,8 @@ impl<'a> Segments<'a> {
     /// `SyntaxFault::Service` where the advice is bad, and else `SyntaxFault::Segment` where what follows is not a list of
     /// segments, each with its terminator.
     pub fn read(text: &'a [u8]) -> Result<Segments<'a>, SyntaxFault>
-        ensures ok { IfOk result (λ found. (read_fault text.now ≡ None) × (segments_left found ≡ segments_in text.now)) }
+        ensures ok { IfOk result (λ found. (read_fault text.now ≡ None)
+            × (segments_left found ≡ segments_in text.now)) }
         ensures err { IfErr result (λ fault. read_fault text.now ≡ Some fault) }
 
         // No segment takes less than one byte.
@@ -32,7 +33,8 @@ impl<'a> Segments<'a> {
 
         // The segments that are read are those of the grammar, and no others are.
         ensures spelled { IfOk result (λ found. InterchangeText (segments_left found) text.now) }
-        ensures only { (segments : List Content) → InterchangeText segments text.now → IsOkAnd result (λ found. segments_left found ≡ segments) }
+        ensures only { (segments : List Content) → InterchangeText segments text.now
+            → IsOkAnd result (λ found. segments_left found ≡ segments) }
     {
         let (service, start) = Service::read(text)?;
         let rest = behind_advice(text, start);

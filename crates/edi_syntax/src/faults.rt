@@ -39,7 +39,8 @@ pub(crate) fn header_fault(
 /// The last segment, or the header where there is no other, and whether one of them is of a functional group.
 pub(crate) fn survey<'a>(header: Segment<'a>, rest: Segments<'a>) -> (Segment<'a>, bool)
     ensures last { content result.0 ≡ last_of (content header.entry) (segments_left rest.entry) }
-    ensures group { result.1 ≡ list_any is_of_group (content header.entry ∷ segments_left rest.entry) }
+    ensures group { result.1 ≡ list_any is_of_group (content header.entry
+        ∷ segments_left rest.entry) }
 {
     let mut last = header;
     let mut has_group = is_of_group(header);
@@ -93,7 +94,9 @@ fn trailer_fault(
 ) -> Option<SyntaxFault>
     requires counted { messages ≡ length (messages_in (segments_left rest)) }
     requires last { content trailer ≡ last_of (content header) (segments_left rest) }
-    ensures { result ≡ find (applies_to (content header.entry ∷ segments_left rest.entry)) (SyntaxFault.Empty ∷ SyntaxFault.ControlCount ∷ SyntaxFault.ControlReference ∷ []) }
+    ensures { result ≡ find (applies_to (content header.entry
+        ∷ segments_left rest.entry)) (SyntaxFault.Empty ∷ SyntaxFault.ControlCount
+        ∷ SyntaxFault.ControlReference ∷ []) }
 {
     if messages == 0 {
         Some(SyntaxFault::Empty)

@@ -18,7 +18,8 @@ impl<'a> Frame<'a> {
 
     pub(crate) fn new(header: Segment<'a>, behind: Segments<'a>) -> Frame<'a>
         requires { length (segments_left behind) ≤ 1048576 }
-        ensures { message result ≡ message_from (content header.entry) (segments_left behind.entry) }
+        ensures { message result
+            ≡ message_from (content header.entry) (segments_left behind.entry) }
     {
         Frame { header, behind }
     }

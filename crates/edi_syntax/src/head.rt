@@ -33,7 +33,8 @@ impl<'a> Head<'a> {
     /// Reads the text of an interchange as far as its header: the first of faults 1 to 8 that applies to the whole text, or
     /// the head where none does.
     pub fn open(text: &'a [u8]) -> Result<Head<'a>, SyntaxFault>
-        ensures ok { IfOk result (λ head. (head_fault_of text.now ≡ None) × (head_segments head ≡ segments_in text.now)) }
+        ensures ok { IfOk result (λ head. (head_fault_of text.now ≡ None)
+            × (head_segments head ≡ segments_in text.now)) }
         ensures err { IfErr result (λ fault. head_fault_of text.now ≡ Some fault) }
         ensures spelled { IfOk result (λ head. InterchangeText (head_segments head) text.now) }
     {
@@ -46,8 +47,10 @@ impl<'a> Head<'a> {
 
     fn of(segments: Segments<'a>) -> Result<Head<'a>, SyntaxFault>
         requires { length (segments_left segments) ≤ 1048576 }
-        ensures ok { IfOk result (λ head. (header_fault_of (segments_left segments.entry) ≡ None) × (head_segments head ≡ segments_left segments.entry)) }
-        ensures err { IfErr result (λ fault. header_fault_of (segments_left segments.entry) ≡ Some fault) }
+        ensures ok { IfOk result (λ head. (header_fault_of (segments_left segments.entry) ≡ None)
+            × (head_segments head ≡ segments_left segments.entry)) }
+        ensures err { IfErr result
+            (λ fault. header_fault_of (segments_left segments.entry) ≡ Some fault) }
     {
         let mut rest = segments;
         let Some(header) = rest.next() else {
@@ -67,8 +70,10 @@ impl<'a> Head<'a> {
     /// Reads what the header announces: the first of faults 9 to 15 that applies to the whole text, or the envelope where
     /// none does.
     pub fn body(self) -> Result<Envelope<'a>, SyntaxFault>
-        ensures ok { IfOk result (λ envelope. (body_fault_of (head_segments self.entry) ≡ None) × (envelope_segments envelope ≡ head_segments self.entry)) }
-        ensures err { IfErr result (λ fault. body_fault_of (head_segments self.entry) ≡ Some fault) }
+        ensures ok { IfOk result (λ envelope. (body_fault_of (head_segments self.entry) ≡ None)
+            × (envelope_segments envelope ≡ head_segments self.entry)) }
+        ensures err { IfErr result
+            (λ fault. body_fault_of (head_segments self.entry) ≡ Some fault) }
     {
         match body_fault(self.header, self.rest, self.trailer) {
             Some(fault) => Err(fault),

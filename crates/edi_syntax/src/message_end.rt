@@ -20,7 +20,8 @@ pub struct MessageEnd<'a> {
 /// stand in a message.
 pub(crate) fn message_end<'a>(behind: Segments<'a>) -> Option<MessageEnd<'a>>
     requires { length (segments_left behind) ≤ 1048576 }
-    ensures { MatchOption result (are_messages true (segments_left behind.entry) ≡ false) (EndsMessage (segments_left behind.entry)) }
+    ensures { MatchOption result (are_messages true (segments_left behind.entry)
+        ≡ false) (EndsMessage (segments_left behind.entry)) }
 {
     let mut rest = behind;
     let mut between = 0u64;

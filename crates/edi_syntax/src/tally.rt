@@ -21,7 +21,8 @@ pub struct Tally {
 /// What the messages come to. `None` where there is anything but messages, and a UNZ behind them.
 pub(crate) fn tally_of(segments: Segments<'_>) -> Option<Tally>
     requires { length (segments_left segments) ≤ 1048576 }
-    ensures { MatchOption result (are_messages false (segments_left segments.entry) ≡ false) (IsTally (segments_left segments.entry)) }
+    ensures { MatchOption result (are_messages false (segments_left segments.entry)
+        ≡ false) (IsTally (segments_left segments.entry)) }
 {
     let mut rest = segments;
     let mut tally = Tally {
@@ -58,7 +59,8 @@ fn is_at_end(segments: Segments<'_>) -> bool
 
 /// The reference of the message is good and the same in the trailer, and its identity can be printed.
 fn is_referenced(header: Segment<'_>, trailer: Segment<'_>) -> bool
-    ensures { result ≡ is_referenced (message_of_ends (content header.entry) (content trailer.entry)) }
+    ensures { result
+        ≡ is_referenced (message_of_ends (content header.entry) (content trailer.entry)) }
 {
     let reference = header.component(1, 1);
     is_reference(reference)
