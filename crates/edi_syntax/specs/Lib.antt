@@ -18,3 +18,4 @@ pub use Rattle.edi_segments.specs.Spelling
 pub use Rattle.edi_segments.specs.Written
 pub use Rattle.edi_cutter.specs.Places
 pub use Rattle.edi_cutter.specs.Cuts
+pub use Rattle.edi_cutter.specs.Streams
