@@ -35,8 +35,10 @@ impl Reading {
 
     /// Reads the last byte of the text, behind what was read of the bytes before it.
     pub(crate) fn read_on(self, text: &[u8], byte: u8) -> Result<Reading, CutFault>
-        requires grown { (before : List ℕ) × (text.now ≡ before ++ byte ∷ []) × IsReadingOf self before }
-        ensures ok { IfOk result (λ reading. IsReadingOf reading text.now × (fault_of text.now ≡ None)) }
+        requires grown { (before : List ℕ) × (text.now ≡ before ++ byte ∷ [])
+            × IsReadingOf self before }
+        ensures ok { IfOk result (λ reading. IsReadingOf reading text.now
+            × (fault_of text.now ≡ None)) }
         ensures err { IfErr result (λ fault. fault_of text.now ≡ Some fault) }
     {
         if text.len() > LIMIT {
@@ -58,7 +60,8 @@ impl Reading {
 /// What is read where the text is within an advice, or ends with it.
 fn read_advice(text: &[u8]) -> Result<Reading, CutFault>
     requires within { is_in_advice text.now ≡ true }
-    ensures ok { IfOk result (λ reading. IsReadingOf reading text.now × (fault_of text.now ≡ None)) }
+    ensures ok { IfOk result (λ reading. IsReadingOf reading text.now
+        × (fault_of text.now ≡ None)) }
     ensures err { IfErr result (λ fault. fault_of text.now ≡ Some fault) }
 {
     if text.len() < 9 {
@@ -76,5 +79,5 @@ fn read_advice(text: &[u8]) -> Result<Reading, CutFault>
 fn is_in_advice(text: &[u8]) -> bool
     ensures { result ≡ is_in_advice text.now }
 {
-    begins_with_advice(text) && text.len() <= 9
+    text.len() <= 9 && begins_with_advice(text)
 }

@@ -16,7 +16,8 @@ pub struct Components<'a> {
 
 impl<'a> Components<'a> {
     pub(crate) fn new(service: Service, text: &'a [u8]) -> Components<'a>
-        ensures { components_left result ≡ map (value_of service false) (parts_of service service.component false text.now) }
+        ensures { components_left result
+            ≡ map (value_of service false) (parts_of service service.component false text.now) }
     {
         Components {
             service,

@@ -4,14 +4,15 @@ ghost use Rattle.edi_segments.specs.Characters.{is_break};
 ghost use Rattle.edi_segments.specs.Interchange.{interchange_of};
 
 use super::characters::is_break;
-use super::segments::len_of_breaks;
+use super::reader::len_of_breaks;
 
 /// What was delivered, without the CR and LF at both ends.
 pub fn interchange_text(delivered: &[u8]) -> &[u8]
     ensures exact { result.now ≡ interchange_of delivered.now }
 
     // Nothing but line breaks is taken off.
-    ensures breaks { (front back : List ℕ) × IsTrue (list_all is_break front) × IsTrue (list_all is_break back) × (delivered.now ≡ front ++ (result.now ++ back)) }
+    ensures breaks { (front back : List ℕ) × IsTrue (list_all is_break front)
+        × IsTrue (list_all is_break back) × (delivered.now ≡ front ++ (result.now ++ back)) }
 {
     let mut rest = &delivered[len_of_breaks(delivered)..];
     while let Some((last, before)) = rest.split_last() {

@@ -28,14 +28,15 @@ pub(crate) fn split_once<'a>(
     separator: u8,
     bytes: &'a [u8],
 ) -> Option<(&'a [u8], &'a [u8])>
-    ensures { option_map (λ found. (found.0.now, found.1.now)) result ≡ split_of service separator bytes.now }
+    ensures { option_map
+        (λ found. (found.0.now, found.1.now)) result ≡ split_of service separator bytes.now }
 {
     let mut released = false;
     for (i, byte) in bytes.iter().enumerate() {
         if !released && *byte == separator {
             return Some((&bytes[..i], &bytes[i + 1..]));
         }
-        released = service.token(released, *byte).releases();
+        released = service.releases(released, *byte);
     }
     None
 }

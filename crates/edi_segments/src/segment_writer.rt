@@ -51,9 +51,11 @@ impl SegmentWriter {
 
     /// Writes an element by the values of its components. An empty list is an empty element.
     pub fn element(&mut self, values: &[&[u8]]) -> Result<(), AllocError>
-        requires writable { IsTrue (list_all (λ value. list_all is_data_byte value.now) values.now) }
+        requires writable { IsTrue (list_all
+            (λ value. list_all is_data_byte value.now) values.now) }
         requires within { self.old.is_open ≡ true }
-        ensures ok { OnOk result (self.new ≡ with_element self.old (map (λ value. value.now) values.now)) }
+        ensures ok { OnOk result (self.new ≡ with_element self.old (map
+            (λ value. value.now) values.now)) }
         ensures err { OnErr result (self.new ≡ self.old) }
     {
         let start = self.text.as_slice().len();

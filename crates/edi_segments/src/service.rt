@@ -20,7 +20,7 @@ pub struct Service {
 }
 
 impl Service {
-    ghost use Rattle.edi_segments.specs.Tokens.{token_of, is_service};
+    ghost use Rattle.edi_segments.specs.Tokens.{token_of, is_service, releases};
     ghost use Rattle.edi_segments.specs.Advice.{service_at, has_bad_advice, advice_len};
 
     /// The characters that stand where no service string advice does.
@@ -34,9 +34,11 @@ impl Service {
     /// The service characters of a text, and how long its service string advice is: nine bytes or none. Answers
     /// `SyntaxFault::Service` where the advice is cut short or names characters that may not be used, and nothing else.
     pub fn read(text: &[u8]) -> Result<(Service, usize), SyntaxFault>
-        ensures ok { IfOk result (λ found. (has_bad_advice text.now ≡ false) × (found.0 ≡ service_at text.now) × (found.1 ≡ advice_len text.now)) }
+        ensures ok { IfOk result (λ found. (has_bad_advice text.now ≡ false)
+            × (found.0 ≡ service_at text.now) × (found.1 ≡ advice_len text.now)) }
         ensures within { IfOk result (λ found. found.1 ≤ length text.now) }
-        ensures err { IfErr result (λ fault. (fault ≡ SyntaxFault.Service) × (has_bad_advice text.now ≡ true)) }
+        ensures err { IfErr result (λ fault. (fault ≡ SyntaxFault.Service)
+            × (has_bad_advice text.now ≡ true)) }
     {
         if !begins_with_advice(text) {
             return Ok((Service::DEFAULT, 0));
@@ -83,6 +85,14 @@ impl Service {
         } else {
             Token::Invalid
         }
+    }
+
+    /// The byte releases the one behind it, unless it is released itself.
+    #[tactic(auto, unfolding(crate::specs::Tokens::token_of))]
+    pub fn releases(&self, released: bool, byte: u8) -> bool
+        ensures { result ≡ releases (token_of self.now released byte) }
+    {
+        !released && self.is_release(byte)
     }
 
     /// What the byte is, released or not.

@@ -45,7 +45,8 @@ fn serves(byte: u8) -> bool
 /// Writes the values as components, without the empty ones at the end.
 pub(crate) fn write_composite(values: &[&[u8]], out: &mut Vec<u8>) -> Result<(), AllocError>
     requires { IsTrue (list_all (λ value. list_all is_data_byte value.now) values.now) }
-    ensures ok { OnOk result (out.new.items ≡ out.old.items ++ composite (map (λ value. value.now) values.now)) }
+    ensures ok { OnOk result (out.new.items ≡ out.old.items ++ composite (map
+        (λ value. value.now) values.now)) }
     ensures err { OnErr result (out.new.items ≡ out.old.items) }
 {
     let start = out.len();
@@ -65,7 +66,8 @@ pub(crate) fn write_composite(values: &[&[u8]], out: &mut Vec<u8>) -> Result<(),
 /// Writes a value, and a separator behind it where it is not the last.
 fn write_part(value: &[u8], is_last: bool, out: &mut Vec<u8>) -> Result<(), AllocError>
     requires { IsWritable value.now }
-    ensures ok { OnOk result (out.new.items ≡ out.old.items ++ (spelling value.now ++ cond is_last [] (58 ∷ []))) }
+    ensures ok { OnOk result (out.new.items ≡ out.old.items ++ (spelling value.now
+        ++ cond is_last [] (58 ∷ []))) }
     ensures err { OnErr result (out.new.items ≡ out.old.items) }
 {
     let start = out.len();

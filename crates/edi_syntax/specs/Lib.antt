@@ -4,6 +4,7 @@ pub mod Header
 pub mod Envelope
 pub mod Faults
 pub mod Laws
+pub mod Tallies
 pub mod Frames
 pub mod Heads
 pub mod Envelopes
@@ -17,3 +18,4 @@ pub use Rattle.edi_segments.specs.Spelling
 pub use Rattle.edi_segments.specs.Written
 pub use Rattle.edi_cutter.specs.Places
 pub use Rattle.edi_cutter.specs.Cuts
+pub use Rattle.edi_cutter.specs.Streams

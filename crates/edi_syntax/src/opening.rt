@@ -9,9 +9,11 @@ use edi_segments::SyntaxFault;
 
 /// Reads the text of an interchange: the first fault that applies to the whole text, or the envelope where none does.
 pub fn open_envelope<'a>(text: &'a [u8]) -> Result<Envelope<'a>, SyntaxFault>
-    ensures ok { IfOk result (λ envelope. (fault_of text.now ≡ None) × (envelope_segments envelope ≡ segments_in text.now)) }
+    ensures ok { IfOk result (λ envelope. (fault_of text.now ≡ None)
+        × (envelope_segments envelope ≡ segments_in text.now)) }
     ensures err { IfErr result (λ fault. fault_of text.now ≡ Some fault) }
-    ensures spelled { IfOk result (λ envelope. InterchangeText (envelope_segments envelope) text.now) }
+    ensures spelled { IfOk result
+        (λ envelope. InterchangeText (envelope_segments envelope) text.now) }
 {
     Head::open(text)?.body()
 }
