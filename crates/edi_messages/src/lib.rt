@@ -13,6 +13,7 @@ pub mod entry;
 mod entry_facts;
 mod faults;
 mod group;
+pub mod laws;
 pub mod line;
 pub mod line_fault;
 pub mod line_refusal;
