@@ -1,5 +1,5 @@
 -- What a line is refused for is the first of its faults.
-use Rattle.std.proofs.Common.{◌≡◌, ℕ, Bool, true, false, cond, not, ◌&&◌, List, codes, Option, None, Some, refl, ap, ◌∙◌}
+use Rattle.std.proofs.Common.{◌≡◌, Bool, true, false, cond, not, ◌&&◌, codes, Option, None, Some, refl, ◌∙◌}
 use Rattle.std.specs.Prelude.{if◌then◌else◌, Result, Ok, Err}
 use Rattle.std.specs.Option.{is_none, ok_or, option_map_or}
 use Rattle.std.specs.Result.{result_err, result_map_both}
@@ -23,7 +23,7 @@ use Rattle.edi_messages.specs.Purposes.{CallContent, Purpose, kind_of}
 use Rattle.edi_messages.specs.Purposes as purpose
 use Rattle.edi_messages.specs.Orders.{OrderContent, EntryContent, number_text, size_text, location, names_slot, moment_stated, then_read, line_fault_of, read_number, read_size, read_moment, read_slot, read_slot_if_named, read_entry, order_of}
 use Rattle.edi_messages.specs.Orders as order
-use Rattle.edi_messages.specs.LineFaults.{is_size, has_bad_moment, has_bad_slot, line_fault_in}
+use Rattle.edi_messages.specs.LineFaults.{is_size, has_bad_moment, line_fault_in}
 use Rattle.edi_messages.specs.declared.line_fault.LineFault.{LineFault}
 use Rattle.edi_messages.specs.declared.line_fault.LineFault.TheVariants.{Form, CheckDigit, Size, Moment, SlotText}
 

@@ -8,7 +8,7 @@ use Rattle.edi_segments.specs.Text.{Content}
 use Rattle.edi_syntax.specs.Messages.{Message}
 use Rattle.edi_messages.specs.Codes.{code_text, order_meant, meanings}
 use Rattle.edi_messages.specs.Purposes.{CallContent, Purpose, purpose_with, gate_in, gate_out, yard_move, discharge_list, load_list, discharge_report, load_report}
-use Rattle.edi_messages.specs.Faults.{document_name, beginning, transport, names_call, call_named, call_if_named, call_in, speaks_of_call, order_kind_of, purpose_of, applies, fault_of, lacks_transport}
+use Rattle.edi_messages.specs.Faults.{document_name, beginning, transport, names_call, call_named, call_if_named, speaks_of_call, purpose_of, applies, fault_of}
 use Rattle.edi_messages.specs.Types.{message_type_of}
 use Rattle.edi_messages.specs.declared.code_table.CodeTable.{CodeTable}
 use Rattle.edi_messages.specs.declared.codes.Codes.{Codes}

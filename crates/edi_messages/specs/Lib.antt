@@ -12,3 +12,4 @@ pub mod Laws
 pub mod Spans
 pub mod Owned
 pub mod Contrl
+pub mod ErrorCodes
