@@ -2,3 +2,5 @@ pub mod Names
 pub mod CodeTexts
 pub mod Meanings
 pub mod SlotTexts
+pub mod PurposeLemmas
+pub mod LineLemmas

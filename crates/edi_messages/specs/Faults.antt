@@ -18,7 +18,9 @@ use Rattle.edi_messages.specs.declared.message_type.MessageType.TheVariants.{Cod
 use Rattle.edi_messages.specs.declared.message_fault.MessageFault.{MessageFault}
 use Rattle.edi_messages.specs.declared.message_fault.MessageFault.TheVariants.{OtherType, NoBgm, Code, Function, NoTransport, NoEquipment, EquipmentCount, TooMany, Memory}
 
--- BGM of the heading; 1001 document name code, 1225 message function
+-- ---- what the message says of itself
+
+-- the first BGM of the heading; 1001 document name code, 1225 message function
 abbrev pub beginning : Message → Option Content
 beginning message = find (has_tag (codes "BGM")) (heading message.segments)
 
@@ -28,7 +30,7 @@ document_name segment = component_of segment 1 1
 abbrev pub message_function : Content → List ℕ
 message_function segment = component_of segment 3 1
 
--- the main carriage's TDT of the heading; 8028 voyage, 8213 vessel
+-- the first TDT of the heading with 8051 20, main carriage; 8028 voyage, 8213 vessel
 abbrev pub transport : Message → Option Content
 transport message = find (is_qualified (codes "TDT") (codes "20")) (heading message.segments)
 
@@ -38,24 +40,26 @@ voyage_of segment = component_of segment 2 1
 abbrev pub vessel_of : Content → List ℕ
 vessel_of segment = component_of segment 8 1
 
--- the number of equipments that the message says it has; 6069, 6066
+-- the first CNT of the whole message with 6069 16, number of equipments; 6066 that number
 abbrev pub control : Message → Option Content
 control message = find (is_qualified (codes "CNT") (codes "16")) message.segments
 
 abbrev pub control_value : Content → List ℕ
 control_value segment = component_of segment 1 2
 
--- an equipment that is a container; 8053
+-- an equipment (EQD) with 8053 CN, a container
 abbrev pub is_container : Content → Bool
 is_container segment = is_qualified (codes "EQD") (codes "CN") segment
 
--- 1225 says an original, or nothing
+-- 1225 is empty or 9, an original
 abbrev pub is_original : Content → Bool
 is_original segment = bytes_eq (message_function segment) [] || bytes_eq (message_function segment) (codes "9")
 
+-- voyage and vessel are within the limits
 abbrev pub names_call : Content → Bool
 names_call segment = is_name (voyage_of segment) && is_name (vessel_of segment)
 
+-- COPRAR and COARRI are about a vessel's call
 abbrev pub speaks_of_call : MessageType → Bool
 speaks_of_call Codeco = false
 speaks_of_call Coprar = true
@@ -80,6 +84,8 @@ call_in message = option_and_then call_if_named (transport message)
 abbrev pub purpose_of : Codes → Message → Option Purpose
 purpose_of codes message = option_and_then (λ kind. purpose_with kind (call_in message)) (order_kind_of codes message)
 
+-- ---- the faults
+
 abbrev pub is_of_other_type : Message → Bool
 is_of_other_type message = is_none (message_type_of message.header)
 
@@ -93,6 +99,7 @@ lacks_transport message =
 abbrev pub lacks_equipment : Message → Bool
 lacks_equipment message = not (list_any is_container message.segments)
 
+-- 6066 isn't one to six digits with the number of all equipments
 abbrev pub miscounts_equipment : Message → Bool
 miscounts_equipment message =
     not (option_map_or (λ segment. is_count (control_value segment) (count_by is_equipment message.segments)) (control message) true)
@@ -100,7 +107,7 @@ miscounts_equipment message =
 abbrev pub has_too_many : Message → Bool
 has_too_many message = nat_lt 999 (count_by is_container message.segments)
 
--- whether the fault applies to the message
+-- whether the fault applies to the message; want of memory is no fault of it
 abbrev pub applies : Codes → Message → MessageFault → Bool
 applies codes message OtherType = is_of_other_type message
 applies codes message NoBgm = is_none (beginning message)

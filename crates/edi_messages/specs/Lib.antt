@@ -7,6 +7,9 @@ pub mod Purposes
 pub mod Faults
 pub mod Orders
 pub mod Message
+pub mod LineFaults
+pub mod Laws
 pub mod Spans
 pub mod Owned
 pub mod Contrl
+pub mod ErrorCodes

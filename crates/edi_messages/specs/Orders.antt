@@ -49,10 +49,11 @@ number_text group = component_of group.equipment 2 1
 abbrev pub size_text : EquipmentGroup → List ℕ
 size_text group = component_of group.equipment 3 1
 
+-- 4 is empty, anything else is full
 abbrev pub is_laden : EquipmentGroup → Bool
 is_laden group = not (bytes_eq (component_of group.equipment 6 1) (codes "4"))
 
--- a location (LOC) with the qualifier (3227), empty where there is none
+-- the first location (LOC) with the qualifier (3227), empty where there is none; ZZZ is a slot of the yard
 abbrev pub location : List ℕ → EquipmentGroup → List ℕ
 location qualifier group =
     option_map_or (λ segment. component_of segment 2 1) (find (is_qualified (codes "LOC") qualifier) group.details) []
@@ -61,11 +62,12 @@ location qualifier group =
 abbrev pub name_kept : List ℕ → List ℕ
 name_kept text = cond (is_name text) text []
 
--- RFF: 1153 BN, 1154 booking
+-- the first RFF with 1153 BN; 1154 booking
 abbrev pub booking : EquipmentGroup → List ℕ
 booking group =
     option_map_or (λ segment. name_kept (component_of segment 1 2)) (find (is_qualified (codes "RFF") (codes "BN")) group.details) []
 
+-- the first LOC with 3227 11, port of discharge
 abbrev pub port : EquipmentGroup → List ℕ
 port group =
     option_map_or (λ segment. name_kept (component_of segment 2 1)) (find (is_qualified (codes "LOC") (codes "11")) group.details) []
@@ -78,7 +80,7 @@ digits_wanted format = cond (bytes_eq format (codes "203")) 12 8
 abbrev pub moment_of_length : ℕ → List ℕ → Option CivilMoment
 moment_of_length wanted text = cond (length text == wanted) (moment_of text) None
 
--- DTM: 2380 in the format 2379
+-- the moment (2380) that a DTM states in its format (2379), if there is one
 abbrev pub moment_stated : Content → Option CivilMoment
 moment_stated segment = moment_of_length (digits_wanted (component_of segment 1 3)) (component_of segment 1 2)
 

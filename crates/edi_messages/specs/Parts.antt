@@ -9,6 +9,7 @@ use Rattle.edi_messages.specs.declared.part.Part.{Part}
 use Rattle.edi_messages.specs.declared.part.PartEnd.{PartEnd}
 use Rattle.edi_messages.specs.declared.part.PartEnd.TheVariants.{Equipment, Group, Whole}
 
+-- EQD
 abbrev pub is_equipment : Content → Bool
 is_equipment segment = has_tag (codes "EQD") segment
 
@@ -26,7 +27,7 @@ before_end end (segment ∷ segments) = cond (ends_part end segment) [] (segment
 abbrev pub part_left : Part → List Content
 part_left part = before_end part.end (message_segments_left part.rest)
 
--- what stands before the first equipment
+-- the header: what stands before the first equipment
 abbrev pub heading : List Content → List Content
 heading segments = before_end Equipment segments
 
@@ -47,7 +48,8 @@ groups_of (segment ∷ segments) =
 abbrev pub is_qualified : List ℕ → List ℕ → Content → Bool
 is_qualified tag qualifier segment = has_tag tag segment && bytes_eq (component_of segment 1 1) qualifier
 
--- a date or time in one of the formats that are read, CCYYMMDDHHMM and CCYYMMDD
+-- a date or time (DTM) in one of the formats (2379) that are read, 203 CCYYMMDDHHMM and 102 CCYYMMDD, whatever it
+-- qualifies (2005)
 abbrev pub states_moment : Content → Bool
 states_moment segment =
     has_tag (codes "DTM") segment

@@ -1,8 +1,8 @@
-/// Why seven texts are no table of codes.
+/// Why seven texts are no table of codes. Of those that apply the first is answered.
 #[derive(Clone, Copy, PartialEq, Eq, Debug)]
 pub enum CodeFault {
     /// One of them isn't 1 to 3 capitals or digits.
-    Form,
+    Form = 1,
     /// Two codes of one message type are the same.
     Twice,
 }

@@ -5,7 +5,8 @@ ghost use Rattle.edi_syntax.specs.Envelope.{header_of, messages_of};
 ghost use Rattle.edi_syntax.specs.Heads.{head_segments};
 ghost use Rattle.edi_syntax.specs.Envelopes.{envelope_segments};
 ghost use Rattle.edi_syntax.specs.Frames.{message, messages_left};
-ghost use Rattle.edi_messages.specs.Contrl.{serves, spelling, is_empty, composite, sender, recipient, prepared, parties, parties_answered, preparation, opening_start, response_start, reference, referenced, identity, opening, interchange_response, closing, verdict_text, message_response, message_responses, contrl_text, rejection_text};
+ghost use Rattle.edi_segments.specs.Spelling.{is_empty_value, composite};
+ghost use Rattle.edi_messages.specs.Contrl.{sender, recipient, prepared, parties, parties_answered, preparation, opening_start, response_start, reference, referenced, identity, opening, interchange_response, closing, verdict_text, message_response, message_responses, contrl_text, rejection_text};
 
 use crate::verdict::Verdict;
 use edi_segments::Component;
@@ -45,30 +46,12 @@ pub fn write_rejection(alloc: Global, head: &Head<'_>, code: u8) -> Result<Vec<u
     Ok(text)
 }
 
-fn serves(byte: u8) -> bool
-    ensures { result ≡ serves byte }
-{
-    byte == b':' || byte == b'+' || byte == b'?' || byte == b'\''
-}
-
-/// Writes the value under the default service characters.
-pub fn write_value(component: Component<'_>, out: &mut Vec<u8>) -> Result<(), AllocError>
-    ensures { OnOk result (out.new.items ≡ out.old.items ++ spelling (value component.entry)) }
-{
-    for byte in component.bytes() {
-        if serves(byte) {
-            out.push(b'?')?;
-        }
-        out.push(byte)?;
-    }
-    Ok(())
-}
-
+/// No component has a value.
 fn are_empty(components: &[Component<'_>]) -> bool
-    ensures { result ≡ list_all is_empty (map value components.now) }
+    ensures { result ≡ list_all is_empty_value (map value components.now) }
 {
     for component in components {
-        if component.len() != 0 {
+        if !component.is_empty() {
             return false;
         }
     }
@@ -80,7 +63,7 @@ fn write_composite(components: &[Component<'_>], out: &mut Vec<u8>) -> Result<()
     ensures { OnOk result (out.new.items ≡ out.old.items ++ composite (map value components.now)) }
 {
     for (i, component) in components.iter().enumerate() {
-        write_value(*component, out)?;
+        component.spell_into(out)?;
         if are_empty(&components[i + 1..]) {
             return Ok(());
         }
@@ -131,14 +114,14 @@ fn write_identity(frame: &Frame<'_>, out: &mut Vec<u8>) -> Result<(), AllocError
 fn write_reference(head: &Head<'_>, out: &mut Vec<u8>) -> Result<(), AllocError>
     ensures { OnOk result (out.new.items ≡ out.old.items ++ reference (header_of (head_segments head.now))) }
 {
-    write_value(head.reference(), out)
+    head.reference().spell_into(out)
 }
 
 #[tactic(auto, unfolding(crate::specs::Contrl::referenced))]
 fn write_message_reference(frame: &Frame<'_>, out: &mut Vec<u8>) -> Result<(), AllocError>
     ensures { OnOk result (out.new.items ≡ out.old.items ++ referenced (message frame.now)) }
 {
-    write_value(frame.reference(), out)
+    frame.reference().spell_into(out)
 }
 
 #[tactic(auto, unfolding(crate::specs::Contrl::parties))]

@@ -4,6 +4,7 @@ use box6346::BoxNumber;
 /// A line that gives no order.
 #[derive(Clone, Copy, Debug)]
 pub struct LineRefusal {
+    /// The lowest fault that applies.
     pub fault: LineFault,
     /// The line's container, where its number could be read.
     pub number: Option<BoxNumber>,

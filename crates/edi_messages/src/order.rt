@@ -23,7 +23,8 @@ pub enum Order {
         call: Call,
         number: BoxNumber,
     },
-    /// It is a line of the call's load list, for a port of discharge (3225 behind `11`), empty where none is given.
+    /// It is a line of the call's load list, for a port of discharge (3225 behind `11`), 1 to 35 bytes from
+    /// 0x20 to 0x7E, or empty.
     ListLoad {
         call: Call,
         number: BoxNumber,

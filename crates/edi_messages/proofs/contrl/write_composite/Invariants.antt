@@ -1,6 +1,6 @@
 use Rattle.std.proofs.Common.{◌≡◌, ◌++◌, map, drop}
 use Rattle.edi_segments.specs.Segment.{value}
-use Rattle.edi_messages.specs.Contrl.{composite}
+use Rattle.edi_segments.specs.Spelling.{composite}
 use Rattle.edi_messages.proofs.contrl.write_composite.Given as goal
 
 abbrev pub invariant-loop-i : goal.invariant-loop-i

@@ -1,0 +1,24 @@
+-- Laws of what a message says.
+use Rattle.std.specs.Prelude.{◌≡◌, None, Ok}
+use Rattle.std.specs.Result.{result_err}
+use Rattle.edi_syntax.specs.Moments.{CivilMoment}
+use Rattle.edi_syntax.specs.Messages.{Message}
+use Rattle.edi_messages.specs.Parts.{EquipmentGroup}
+use Rattle.edi_messages.specs.Purposes.{Purpose, kind_of}
+use Rattle.edi_messages.specs.Faults.{fault_of}
+use Rattle.edi_messages.specs.LineFaults.{line_fault_in}
+use Rattle.edi_messages.specs.Orders.{order_of}
+use Rattle.edi_messages.specs.Message.{message_of, reading}
+use Rattle.edi_messages.specs.declared.codes.Codes.{Codes}
+
+-- A message to which no fault applies is read for a purpose.
+abbrev pub FaultlessAreRead : Type 0
+FaultlessAreRead =
+    (codes : Codes) (message : Message) → fault_of codes message ≡ None
+    → (purpose : Purpose) × ((opened : CivilMoment) → reading codes opened message ≡ Ok (message_of purpose opened message))
+
+-- What a line is refused for is the first of its faults, and a line without fault is an order.
+abbrev pub LinesAnswerTheirFirstFault : Type 0
+LinesAnswerTheirFirstFault =
+    (purpose : Purpose) (opened : CivilMoment) (group : EquipmentGroup)
+    → result_err (order_of purpose opened group) ≡ line_fault_in (kind_of purpose) group

@@ -1,0 +1,11 @@
+ghost use Rattle.edi_messages.specs.Laws.{FaultlessAreRead, LinesAnswerTheirFirstFault};
+
+/// A message to which no fault applies is read for a purpose: as a list of lines of one kind of order.
+pub fn faultless_are_read()
+    ensures { FaultlessAreRead }
+{}
+
+/// What a line is refused for is the first of its faults in their order, and a line without fault is an order.
+pub fn lines_answer_their_first_fault()
+    ensures { LinesAnswerTheirFirstFault }
+{}
