@@ -1,5 +1,5 @@
 ghost use Rattle.edi_cutter.specs.Places.{RefusedWhereNothingGoesOn, ClosedWhereATrailerEnds};
-ghost use Rattle.edi_cutter.specs.Cuts.{FirstIsOne};
+ghost use Rattle.edi_cutter.specs.Cuts.{FirstIsOne, CutsGoByTheGrammar};
 ghost use Rattle.edi_cutter.specs.Streams.{CutsTheStream, CutsAreOne};
 
 /// Bytes are refused just where no continuation of them is a text of segments.
@@ -25,4 +25,9 @@ pub fn cuts_the_stream()
 /// A stream has one list of interchanges and one rest.
 pub fn cuts_are_one()
     ensures { CutsAreOne }
+{}
+
+/// Where a stream can't go on, and where an interchange ends, in the words of the grammar.
+pub fn cuts_go_by_the_grammar()
+    ensures { CutsGoByTheGrammar }
 {}

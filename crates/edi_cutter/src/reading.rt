@@ -76,5 +76,5 @@ fn read_advice(text: &[u8]) -> Result<Reading, CutFault>
 fn is_in_advice(text: &[u8]) -> bool
     ensures { result ≡ is_in_advice text.now }
 {
-    begins_with_advice(text) && text.len() <= 9
+    text.len() <= 9 && begins_with_advice(text)
 }

@@ -8,3 +8,4 @@ pub mod AdviceLemmas
 pub mod TestLemmas
 pub mod BreakLemmas
 pub mod WriterLemmas
+pub mod ReaderLemmas

@@ -30,7 +30,7 @@ impl<'a> Iterator for Bytes<'a> {
 
     fn next(&mut self) -> Option<u8> {
         let (first, rest) = self.text.split_first()?;
-        if self.service.token(false, *first).releases() {
+        if self.service.releases(false, *first) {
             let (second, rest) = rest.split_first()?;
             self.text = rest;
             Some(*second)

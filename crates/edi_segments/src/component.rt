@@ -46,7 +46,7 @@ impl<'a> Component<'a> {
         let mut len = 0;
         let mut released = false;
         for byte in self.text {
-            released = self.service.token(released, *byte).releases();
+            released = self.service.releases(released, *byte);
             if !released {
                 len += 1;
             }

@@ -4,7 +4,7 @@ ghost use Rattle.edi_segments.specs.Characters.{is_break};
 ghost use Rattle.edi_segments.specs.Interchange.{interchange_of};
 
 use super::characters::is_break;
-use super::segments::len_of_breaks;
+use super::reader::len_of_breaks;
 
 /// What was delivered, without the CR and LF at both ends.
 pub fn interchange_text(delivered: &[u8]) -> &[u8]

@@ -35,7 +35,7 @@ pub(crate) fn split_once<'a>(
         if !released && *byte == separator {
             return Some((&bytes[..i], &bytes[i + 1..]));
         }
-        released = service.token(released, *byte).releases();
+        released = service.releases(released, *byte);
     }
     None
 }

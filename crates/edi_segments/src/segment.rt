@@ -1,10 +1,11 @@
 ghost use Rattle.std.specs.Prelude.{◌≡◌, ℕ, ◌<◌};
 ghost use Rattle.edi_segments.specs.Text.{has_tag, component_of, element_of};
 ghost use Rattle.edi_segments.specs.Reading.{content_of};
-ghost use Rattle.edi_segments.specs.Segment.{content, value, components_left, element_text};
+ghost use Rattle.edi_segments.specs.Segment.{content, value, components_left, element_text, elements_left};
 
 use super::component::Component;
 use super::components::Components;
+use super::elements::Elements;
 use super::part::part;
 use super::service::Service;
 
@@ -35,6 +36,14 @@ impl<'a> Segment<'a> {
         ensures { result ≡ has_tag tag.now (content self.now) }
     {
         self.tag() == tag
+    }
+
+    /// The values of the elements, one element after the other.
+    pub fn elements(&self) -> Elements<'a>
+        ensures { elements_left result ≡ (content self.now).elements }
+    {
+        let body = self.body;
+        Elements::new(self.service, &body[body.len().min(3)..])
     }
 
     /// The values of an element, counted from one. One that isn't there has one empty value.

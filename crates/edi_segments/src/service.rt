@@ -20,7 +20,7 @@ pub struct Service {
 }
 
 impl Service {
-    ghost use Rattle.edi_segments.specs.Tokens.{token_of, is_service};
+    ghost use Rattle.edi_segments.specs.Tokens.{token_of, is_service, releases};
     ghost use Rattle.edi_segments.specs.Advice.{service_at, has_bad_advice, advice_len};
 
     /// The characters that stand where no service string advice does.
@@ -83,6 +83,14 @@ impl Service {
         } else {
             Token::Invalid
         }
+    }
+
+    /// The byte releases the one behind it, unless it is released itself.
+    #[tactic(auto, unfolding(crate::specs::Tokens::token_of))]
+    pub fn releases(&self, released: bool, byte: u8) -> bool
+        ensures { result ≡ releases (token_of self.now released byte) }
+    {
+        !released && self.is_release(byte)
     }
 
     /// What the byte is, released or not.

@@ -19,6 +19,19 @@ fn reads_values_that_are_released(rt: HostRuntime) -> Result<(), Fail> {
     assert!(rt; segment.component(2, 2).is_empty());
     assert_eq!(rt; segment.component(1, 1).fixed::<2>(), Some(*b"BN"));
     assert!(rt; segment.component(1, 1).fixed::<3>().is_none());
+    let mut elements = segment.elements();
+    let mut values = elements.next().ok_or("no element")?;
+    assert!(rt; values.next().ok_or("no value")?.equals(b"BN"));
+    assert!(rt; values.next().ok_or("no value")?.equals(b"A+B"));
+    assert!(rt;
+        elements
+            .next()
+            .ok_or("no element")?
+            .next()
+            .ok_or("no value")?
+            .equals(b"\xff")
+    );
+    assert!(rt; elements.next().is_none());
     let mut value = Vec::new(rt.alloc());
     segment.component(1, 4).value_into(&mut value)?;
     assert_eq!(rt; value.as_slice(), b"':\x80".as_slice());

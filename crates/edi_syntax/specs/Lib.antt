@@ -4,6 +4,7 @@ pub mod Header
 pub mod Envelope
 pub mod Faults
 pub mod Laws
+pub mod Tallies
 pub mod Frames
 pub mod Heads
 pub mod Envelopes

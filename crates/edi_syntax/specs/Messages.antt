@@ -43,6 +43,10 @@ abbrev pub messages_in : List Content → List Message
 messages_in [] = []
 messages_in (segment ∷ segments) = cond (begins_message segment) (message_from segment segments ∷ messages_in segments) (messages_in segments)
 
+-- a message of which only header and trailer are looked at
+abbrev pub message_of_ends : Content → Content → Message
+message_of_ends header trailer = record { header = header; segments = []; trailer = trailer }
+
 -- 0062, message reference number
 abbrev pub message_reference : Message → List ℕ
 message_reference message = component_of message.header 1 1

@@ -1,4 +1,4 @@
-ghost use Rattle.std.specs.Prelude.{◌≡◌, ℕ, ◌<◌, ◌≤◌, length, MatchOption, IfSome};
+ghost use Rattle.std.specs.Prelude.{◌≡◌, ℕ, ◌<◌, ◌≤◌, length};
 ghost use Rattle.edi_segments.specs.Segment.{content, segments_left, value};
 ghost use Rattle.edi_syntax.specs.Messages.{message_from, message_reference, message_identity};
 
@@ -14,7 +14,6 @@ pub struct Frame<'a> {
 }
 
 impl<'a> Frame<'a> {
-    ghost use Rattle.edi_segments.specs.Text.{no_segment};
     ghost use Rattle.edi_syntax.specs.Frames.{message, message_segments_left};
 
     pub(crate) fn new(header: Segment<'a>, behind: Segments<'a>) -> Frame<'a>
@@ -51,20 +50,5 @@ impl<'a> Frame<'a> {
         ensures { message_segments_left result ≡ (message self.now).segments }
     {
         MessageSegments::new(self.behind)
-    }
-
-    /// How many segments stand between header and trailer, and the trailer. `None` where there is no trailer.
-    pub(crate) fn end(&self) -> Option<(u64, Segment<'a>)>
-        ensures found { MatchOption result ((message self.now).trailer ≡ no_segment) (λ found. (found.0 ≡ length (message self.now).segments) × (content found.1 ≡ (message self.now).trailer)) }
-        ensures few { IfSome result (λ found. found.0 ≤ 1048576) }
-    {
-        let mut count = 0u64;
-        for segment in self.behind {
-            if segment.has_tag(b"UNT") {
-                return Some((count, segment));
-            }
-            count += 1;
-        }
-        None
     }
 }

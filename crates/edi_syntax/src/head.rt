@@ -2,12 +2,12 @@ ghost use Rattle.std.specs.Prelude.{◌≡◌, ◌∷◌, ℕ, ◌<◌, ◌≤�
 ghost use Rattle.edi_segments.specs.Interchange.{InterchangeText, segments_in};
 ghost use Rattle.edi_segments.specs.Segment.{content, segments_left, value};
 ghost use Rattle.edi_segments.specs.Text.{component_of};
-ghost use Rattle.edi_syntax.specs.Envelope.{header_of, behind_header};
+ghost use Rattle.edi_syntax.specs.Envelope.{header_of, behind_header, last_of};
 ghost use Rattle.edi_syntax.specs.Header.{sender, recipient, control_reference, control_number, preparation};
 ghost use Rattle.edi_syntax.specs.Faults.{head_fault_of, header_fault_of, body_fault_of};
 
 use super::envelope::Envelope;
-use super::faults::{body_fault, header_fault};
+use super::faults::{body_fault, header_fault, survey};
 use super::header::{control_number, preparation};
 use edi_moments::Moment;
 use edi_segments::{Component, Segment, Segments, SyntaxFault};
@@ -20,7 +20,9 @@ const LIMIT: usize = 1_048_576;
 pub struct Head<'a> {
     header: Segment<'a>,
     rest: Segments<'a>,
+    trailer: Segment<'a>,
     pub ghost faultless: { header_fault_of (content header ∷ segments_left rest) ≡ None },
+    pub ghost closed: { content trailer ≡ last_of (content header) (segments_left rest) },
     pub ghost bounded: { length (segments_left rest) ≤ 1048576 },
 }
 
@@ -51,9 +53,14 @@ impl<'a> Head<'a> {
         let Some(header) = rest.next() else {
             return Err(SyntaxFault::NoEnvelope);
         };
-        match header_fault(header, rest) {
+        let (trailer, has_group) = survey(header, rest);
+        match header_fault(header, rest, trailer, has_group) {
             Some(fault) => Err(fault),
-            None => Ok(Head { header, rest }),
+            None => Ok(Head {
+                header,
+                rest,
+                trailer,
+            }),
         }
     }
 
@@ -63,7 +70,7 @@ impl<'a> Head<'a> {
         ensures ok { IfOk result (λ envelope. (body_fault_of (head_segments self.entry) ≡ None) × (envelope_segments envelope ≡ head_segments self.entry)) }
         ensures err { IfErr result (λ fault. body_fault_of (head_segments self.entry) ≡ Some fault) }
     {
-        match body_fault(self.header, self.rest) {
+        match body_fault(self.header, self.rest, self.trailer) {
             Some(fault) => Err(fault),
             None => Ok(Envelope::new(self)),
         }

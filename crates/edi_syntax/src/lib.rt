@@ -8,16 +8,18 @@ pub mod frames;
 pub mod head;
 mod header;
 pub mod laws;
+mod message_end;
 pub mod message_segments;
 pub mod numbers;
 pub mod opening;
+mod tally;
 #[cfg(test)]
 mod tests;
 
 pub use edi_cutter::{CutFault, Cutter};
 pub use edi_moments::Moment;
 pub use edi_segments::{
-    Bytes, Component, Components, Segment, SegmentWriter, Segments, Service, SyntaxFault,
+    Bytes, Component, Components, Elements, Segment, SegmentWriter, Segments, Service, SyntaxFault,
     interchange_text, write_component,
 };
 pub use envelope::Envelope;

@@ -42,6 +42,69 @@ fn reads_a_gate_in(rt: HostRuntime) -> Result<(), Fail> {
 }
 
 #[test]
+fn answers_the_faults_of_whole_texts(rt: HostRuntime) {
+    let question: &[u8] =
+        b"UNA:+.  'UNB+UNOA:3+HAULA+TERM1+240305:0910+000001'UNH+1+CODECO:D:95B:UN:ITG14'BGM+34+G1+9'EQD+CN+ABCU0000017+22G1:102:5+++5'FTX+AAI+++WHY?'UNT+5+1'UNZ+1+000001'";
+    let advised: &[u8] =
+        b"UNA:+.? '\nUNB+UNOA:3+HAULA+TERM1+240305:0910+000001'UNH+1+CODECO:D:95B:UN:ITG14'BGM+34+G1+9'EQD+CN+ABCU0000017+22G1:102:5+++5'UNT+4+1'UNZ+1+000001'";
+    let broken: &[u8] =
+        b"UNB+UNOA:3+HAULA+TERM1+240305:0910+000001'\nUNH+1+CODECO:D:95B:UN:ITG14'\r\nBGM+34+G1+9'\nEQD+CN+ABCU0000017+22G1:102:5+++5'\nUNT+4+1'\nUNZ+1+000001'";
+    let released: &[u8] =
+        b"UNB+UNOA:3+HAULA+TERM1+240305:0910+1'UNH+M?'1+CODECO:D:95B:UN'BGM+34+G1+9'EQD+CN+ABCU0000017+22G1+++4'RFF+BN:A?+B'UNT+5+M?'1'UNZ+1+1'";
+    for text in [GATE_IN, question, advised, broken, released] {
+        assert!(rt; fault(text).is_none());
+    }
+    assert!(rt; fault(&GATE_IN[..GATE_IN.len() - 1]) == Some(SyntaxFault::Segment));
+    let rows: &[(&[u8], SyntaxFault)] = &[
+        (
+            b"UNB+UNOA:3+HAULA+TERM1+240305:0910+000001'UNH+1+CODECO:D:95B:UN:ITG14'BGM+34+G1+9'EQD+CN+ABCU0000017+22G1:102:5+++5'UNT+3+1'UNZ+1+000001'",
+            SyntaxFault::SegmentCount,
+        ),
+        (
+            b"UNB+UNOA:3+HAULA+TERM1+240305:0910+000001'UNH+1+CODECO:D:95B:UN:ITG14'BGM+34+G1+9'EQD+CN+ABCU0000017+22G1:102:5+++5'UNT+4+1'UNZ+2+000001'",
+            SyntaxFault::ControlCount,
+        ),
+        (
+            b"UNB+UNOA:3+HAULA+TERM1+240305:0910+000001'UNH+1+CODECO:D:95B:UN:ITG14'BGM+34+G1+9'EQD+CN+ABCU0000017+22G1:102:5+++5'UNT+4+1'UNZ+1+1'",
+            SyntaxFault::ControlReference,
+        ),
+        (
+            b"UNB+UNOA:3+HAULA+TERM1+240305:0910+000001'UNH+1+CODECO:D:95B:UN:ITG14'BGM+34+G1+9'EQD+CN+ABCU0000017+22G1:102:5+++5'UNT+4+2'UNZ+1+000001'",
+            SyntaxFault::MessageReference,
+        ),
+        // A fault of a later message is answered where its number is lower.
+        (
+            b"UNB+UNOA:3+HAULA+TERM1+240305:0910+1'UNH+1+A'UNT+2+2'UNH+2+A'UNT+3+2'UNZ+3+1'",
+            SyntaxFault::SegmentCount,
+        ),
+        (
+            b"UNB+UNOA:3+HAULA+TERM1+240305:0910+1'UNH+1+A'UNT+3+2'UNH+2+A'UNZ+3+1'",
+            SyntaxFault::MessageFrame,
+        ),
+        (
+            b"UNB+UNOA:3+HAULA+TERM1+240305:0910+1'UNH+1+A'UNH+2+A'UNT+2+1'UNZ+1+1'",
+            SyntaxFault::MessageFrame,
+        ),
+        (
+            b"UNB+UNOD:9+HAULA+TERM1+240305:0910+A'UNH+1+A'UNE'UNZ+1+1'",
+            SyntaxFault::Group,
+        ),
+    ];
+    for (text, expected) in rows {
+        assert!(rt; fault(text) == Some(*expected), "{expected:?}");
+    }
+}
+
+#[test]
+fn the_longest_text_and_one_byte_more(rt: HostRuntime) -> Result<(), Fail> {
+    let longest = vec![in rt.alloc(); b'A'; 1_048_576]?;
+    assert!(rt; fault(&longest) == Some(SyntaxFault::Segment));
+    let longer = vec![in rt.alloc(); b'A'; 1_048_577]?;
+    assert!(rt; fault(&longer) == Some(SyntaxFault::TooLong));
+    Ok(())
+}
+
+#[test]
 fn answers_each_fault(rt: HostRuntime) {
     let rows: &[(&[u8], SyntaxFault)] = &[
         (b"UNA:+", SyntaxFault::Service),

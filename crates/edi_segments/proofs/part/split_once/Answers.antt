@@ -23,7 +23,7 @@ loop-i-preserved c =
       | else-not-released-via-then-not-released+else-byte-separator w ↦ rw w.if-not-released.true (ne_eqb b c.args.separator w.if-byte-separator.false)
       | else-not-released-via-else-not-released w ↦ rw w.if-not-released.false refl
     ] in
-    rw (c.releases-released.ensures, c.token.ensures)
+    rw c.releases-released.ensures
     (c.loop-i.invariant ∙ separator_further c.args.service c.args.separator c.loop-i.released c.args.bytes.now c.loop-i.i c.loop-i-test.true other)
 
 pub returns : goal.returns

@@ -17,7 +17,7 @@ pub returns-in_err-second-clause-steps : goal.returns-in_err-second-clause-steps
 returns-in_err-second-clause-steps c =
     let s = c.args.self.now.service in
     let b = c.in_ok-first.first.now in
-    let hides : releases (token_of s false b) ≡ true = rw (← c.token.ensures, ← c.releases.ensures) c.if-releases.true in
+    let hides : releases (token_of s false b) ≡ true = rw (← c.releases.ensures) c.if-releases.true in
     let text_is : c.args.self.now.text.now ≡ b ∷ [] = c.in_ok-first.ensures.cases.0 ∙ ap (λ (t : List ℕ). b ∷ t) (nil_from_length c.in_ok-first.rest.now c.in_err-second.ensures.cases) in
     let none : bytes_left c.args.self.now ≡ [] = ap (value_of s false) text_is ∙ value_cut s b hides in
     rw c.from_residual-in_err-second.ensures (none, none)
@@ -26,7 +26,7 @@ second_left : (c : goal.After-row_known-then-releases-1) → bytes_left c.args.s
 second_left c =
     let s = c.args.self.now.service in
     let b = c.in_ok-first.first.now in
-    let hides : releases (token_of s false b) ≡ true = rw (← c.token.ensures, ← c.releases.ensures) c.if-releases.true in
+    let hides : releases (token_of s false b) ≡ true = rw (← c.releases.ensures) c.if-releases.true in
     let text_is : c.args.self.now.text.now ≡ b ∷ c.in_ok-second.second.now ∷ c.in_ok-second.rest.now = c.in_ok-first.ensures.cases.0 ∙ ap (λ (t : List ℕ). b ∷ t) c.in_ok-second.ensures.cases.0 in
     ap (value_of s false) text_is ∙ value_released s b c.in_ok-second.second.now c.in_ok-second.rest.now hides
 
@@ -42,13 +42,13 @@ pub returns-else-releases-clause-steps : goal.returns-else-releases-clause-steps
 returns-else-releases-clause-steps c =
     let s = c.args.self.now.service in
     let b = c.in_ok-first.first.now in
-    let shows : releases (token_of s false b) ≡ false = rw (← c.token.ensures, ← c.releases.ensures) c.if-releases.false in
+    let shows : releases (token_of s false b) ≡ false = rw (← c.releases.ensures) c.if-releases.false in
     ap (value_of s false) c.in_ok-first.ensures.cases.0 ∙ value_plain s b c.in_ok-first.rest.now shows
 
 pub returns-else-releases-clause-goes : goal.returns-else-releases-clause-goes
 returns-else-releases-clause-goes c =
     let s = c.args.self.now.service in
     let b = c.in_ok-first.first.now in
-    let shows : releases (token_of s false b) ≡ false = rw (← c.token.ensures, ← c.releases.ensures) c.if-releases.false in
+    let shows : releases (token_of s false b) ≡ false = rw (← c.releases.ensures) c.if-releases.false in
     let shorter = ap length (ap (value_of s false) c.in_ok-first.ensures.cases.0 ∙ value_plain s b c.in_ok-first.rest.now shows) in
     record { on = λ finite. (tt, tt, omega arith); keeps = tt; rests = λ finite. tt }

@@ -9,7 +9,7 @@ pub loop-byte-preserved : goal.loop-byte-preserved
 loop-byte-preserved c =
     let s = c.args.self.now.service in
     let text = c.args.self.now.text.now in
-    let hides : c.releases-released.result ≡ releases (token_of s c.loop-byte.released (get_or text c.loop-byte.byte-index 0)) = rw (← c.token.ensures) c.releases-released.ensures in
+    let hides : c.releases-released.result ≡ releases (token_of s c.loop-byte.released (get_or text c.loop-byte.byte-index 0)) = c.releases-released.ensures in
     let more = length_value_more s c.loop-byte.released text c.loop-byte.byte-index c.releases-released.result c.loop-byte-test.true hides in
     elim c.if-not-released.branch [
       | then-not-released w ↦ let one = rw w.if-not-released.true at more in record { counted = rw w.if-not-released.true (omega (arith, one)); within = omega arith }

@@ -15,7 +15,7 @@ returns-in_err-segment-clause-steps c =
     ∙ ap (λ (o : Option (Content × List ℕ)). option_map_or (λ (x : Content × List ℕ). x.0 ∷ segments_of s x.1) o []) (sym c.in_err-segment.ensures.exact) in
     rw c.from_residual.ensures (none, none)
 
-first_left : (c : goal.After-rest-2-1) → segments_left c.args.self.now ≡ content c.in_ok-segment.segment ∷ segments_left record { service = c.args.self.now.service; rest = c.in_ok-segment.rest }
+first_left : (c : goal.After-rest-2-1) → segments_left c.args.self.now ≡ content c.in_ok-segment.segment ∷ segments_of c.args.self.now.service c.in_ok-segment.rest.now
 first_left c =
     let s = c.args.self.now.service in
     next_of_segments s c.args.self.now.rest.now

@@ -1,0 +1,134 @@
+ghost use Rattle.std.specs.Prelude.{◌≡◌, ℕ, IfSome, ◌+◌, ◌<◌, ◌≤◌, length, false, true};
+ghost use Rattle.std.specs.Option.{option_map};
+ghost use Rattle.std.specs.List.{list_all};
+ghost use Rattle.edi_segments.specs.Characters.{is_tag_byte};
+ghost use Rattle.edi_segments.specs.Advice.{behind_advice, advice_len};
+ghost use Rattle.edi_segments.specs.Reading.{end_of, begins_elements, body_len, next_at, breaks_len, are_segments};
+ghost use Rattle.edi_segments.specs.Segment.{content};
+
+use super::characters::{is_break, is_tag_byte};
+use super::part::split_once;
+use super::segment::Segment;
+use super::service::Service;
+use super::token::Token;
+
+/// What stands behind a service string advice of that length and the line breaks after it: the whole text, where there is
+/// none.
+pub(crate) fn behind_advice<'a>(text: &'a [u8], start: usize) -> &'a [u8]
+    requires within { start ≤ length text.now }
+    requires advised { start ≡ advice_len text.now }
+    ensures behind { result.now ≡ behind_advice text.now }
+    ensures shorter { length result.now ≤ length text.now }
+{
+    if start == 0 {
+        return text;
+    }
+    let behind = &text[start..];
+    &behind[len_of_breaks(behind)..]
+}
+
+/// There is nothing but segments, each with its terminator.
+pub(crate) fn are_segments(service: Service, bytes: &[u8]) -> bool
+    ensures { result ≡ are_segments service bytes.now }
+{
+    let mut rest = bytes;
+    while !rest.is_empty() {
+        match next_segment(service, rest) {
+            Some((_, behind)) => rest = behind,
+            None => return false,
+        }
+    }
+    true
+}
+
+/// The segment at the front, and what stands behind its terminator and the line breaks after it.
+fn next_segment<'a>(service: Service, bytes: &'a [u8]) -> Option<(Segment<'a>, &'a [u8])>
+    ensures exact { option_map (λ found. (content found.0, found.1.now)) result ≡ next_at service bytes.now }
+    ensures shorter { IfSome result (λ found. length found.1.now < length bytes.now) }
+{
+    let n = len_of_body(service, bytes)?;
+    let behind = &bytes[n + 1..];
+    let segment = Segment::new(service, &bytes[..n]);
+    Some((segment, &behind[len_of_breaks(behind)..]))
+}
+
+/// The same, where there is nothing but segments: then the first terminator that is not released ends the first of them.
+pub(crate) fn next_of_segments<'a>(
+    service: Service,
+    bytes: &'a [u8],
+) -> Option<(Segment<'a>, &'a [u8])>
+    requires { are_segments service bytes.now ≡ true }
+    ensures exact { option_map (λ found. (content found.0, found.1.now)) result ≡ next_at service bytes.now }
+    ensures others { IfSome result (λ found. are_segments service found.1.now ≡ true) }
+{
+    if bytes.len() < 3 {
+        return None;
+    }
+    let (before, behind) = split_once(service, service.terminator, &bytes[3..])?;
+    let segment = Segment::new(service, &bytes[..3 + before.len()]);
+    Some((segment, &behind[len_of_breaks(behind)..]))
+}
+
+/// How many CR and LF stand at the front.
+pub(crate) fn len_of_breaks(bytes: &[u8]) -> usize
+    ensures found { result ≡ breaks_len bytes.now }
+    ensures within { result ≤ length bytes.now }
+{
+    for (i, byte) in bytes.iter().enumerate() {
+        if !is_break(*byte) {
+            return i;
+        }
+    }
+    bytes.len()
+}
+
+/// How many bytes the segment at the front has before its terminator.
+fn len_of_body(service: Service, bytes: &[u8]) -> Option<usize>
+    ensures found { result ≡ body_len service bytes.now }
+    ensures within { IfSome result (λ n. n < length bytes.now) }
+{
+    if bytes.len() < 3 {
+        return None;
+    }
+    let (tag, rest) = bytes.split_at(3);
+    if !is_tag(tag) || !begins(service, rest) {
+        return None;
+    }
+    Some(3 + end(service, rest)?)
+}
+
+/// All bytes may stand in a tag.
+fn is_tag(bytes: &[u8]) -> bool
+    ensures { result ≡ list_all is_tag_byte bytes.now }
+{
+    bytes.iter().all(|byte| is_tag_byte(*byte))
+}
+
+/// The elements begin with an element separator, where there are any.
+fn begins(service: Service, bytes: &[u8]) -> bool
+    ensures { result ≡ begins_elements service bytes.now }
+{
+    match bytes.first() {
+        Some(byte) => *byte == service.element || *byte == service.terminator,
+        None => true,
+    }
+}
+
+/// How many bytes stand before the first terminator that is not released. `None` where there is no terminator, or an
+/// invalid byte stands before it.
+fn end(service: Service, bytes: &[u8]) -> Option<usize>
+    ensures found { result ≡ end_of service false bytes.now }
+    ensures within { IfSome result (λ n. n < length bytes.now) }
+{
+    let mut released = false;
+    for (i, byte) in bytes.iter().enumerate() {
+        let token = service.token(released, *byte);
+        match token {
+            Token::Terminator => return Some(i),
+            Token::Invalid => return None,
+            _ => {}
+        }
+        released = token.releases();
+    }
+    None
+}

@@ -1,0 +1,86 @@
+ghost use Rattle.std.specs.Prelude.{◌≡◌, ◌≤◌, ◌==◌, length, MatchOption, true, false};
+ghost use Rattle.edi_segments.specs.Segment.{content, segments_left, value};
+ghost use Rattle.edi_syntax.specs.Messages.{are_messages, is_reference, is_printable_identity, is_referenced, message_of_ends};
+ghost use Rattle.edi_syntax.specs.Tallies.{IsTally};
+
+use super::message_end::message_end;
+use super::numbers::is_count;
+use edi_segments::{Component, Segment, Segments};
+
+/// What the messages of an interchange come to.
+#[derive(Clone, Copy)]
+pub struct Tally {
+    /// Each trailer gives the number of its message's segments.
+    pub(crate) are_counted: bool,
+    /// Each message has a good reference, the same in its trailer, and an identity that can be printed.
+    pub(crate) are_referenced: bool,
+    /// How many messages there are.
+    pub(crate) messages: u64,
+}
+
+/// What the messages come to. `None` where there is anything but messages, and a UNZ behind them.
+pub(crate) fn tally_of(segments: Segments<'_>) -> Option<Tally>
+    requires { length (segments_left segments) ≤ 1048576 }
+    ensures { MatchOption result (are_messages false (segments_left segments.entry) ≡ false) (IsTally (segments_left segments.entry)) }
+{
+    let mut rest = segments;
+    let mut tally = Tally {
+        are_counted: true,
+        are_referenced: true,
+        messages: 0,
+    };
+    while let Some(segment) = rest.next() {
+        if !segment.has_tag(b"UNH") {
+            return if segment.has_tag(b"UNZ") && is_at_end(rest) {
+                Some(tally)
+            } else {
+                None
+            };
+        }
+        let end = message_end(rest)?;
+        let is_counted = is_count(end.trailer.component(1, 1), end.between + 2);
+        tally = Tally {
+            are_counted: tally.are_counted && is_counted,
+            are_referenced: tally.are_referenced && is_referenced(segment, end.trailer),
+            messages: tally.messages + 1,
+        };
+        rest = end.rest;
+    }
+    None
+}
+
+fn is_at_end(segments: Segments<'_>) -> bool
+    ensures { result ≡ (length (segments_left segments.entry) == 0) }
+{
+    let mut rest = segments;
+    rest.next().is_none()
+}
+
+/// The reference of the message is good and the same in the trailer, and its identity can be printed.
+fn is_referenced(header: Segment<'_>, trailer: Segment<'_>) -> bool
+    ensures { result ≡ is_referenced (message_of_ends (content header.entry) (content trailer.entry)) }
+{
+    let reference = header.component(1, 1);
+    is_reference(reference)
+        && trailer.component(2, 1).has_same_value(&reference)
+        && is_printable_identity(header)
+}
+
+/// 1 to 14 bytes that can be printed.
+fn is_reference(component: Component<'_>) -> bool
+    ensures { result ≡ is_reference (value component.entry) }
+{
+    let len = component.len();
+    len >= 1 && len <= 14 && component.is_printable()
+}
+
+/// The five components of the message identifier can be printed.
+fn is_printable_identity(header: Segment<'_>) -> bool
+    ensures { result ≡ is_printable_identity (content header.entry) }
+{
+    header.component(2, 1).is_printable()
+        && header.component(2, 2).is_printable()
+        && header.component(2, 3).is_printable()
+        && header.component(2, 4).is_printable()
+        && header.component(2, 5).is_printable()
+}
