@@ -1,0 +1,55 @@
+-- Which texts the office takes.
+use Rattle.std.specs.Prelude.{ℕ, ◌+◌, List, [], ◌∷◌, cond, Option, None, Some, Result, Ok, Err}
+use Rattle.std.specs.Option.{unwrap_or}
+use Rattle.std.specs.Str.{bytes_eq}
+use Rattle.edi_segments.specs.Text.{Content}
+use Rattle.edi_segments.specs.Interchange.{interchange_of, segments_in}
+use Rattle.edi_segments.specs.declared.syntax_fault.SyntaxFault.{SyntaxFault}
+use Rattle.edi_syntax.specs.Envelope.{header_of}
+use Rattle.edi_syntax.specs.Faults.{fault_of}
+use Rattle.edi_syntax.specs.Header.{sender, recipient, control_number}
+use Rattle.partner_core.specs.Deliveries.{Delivery, delivery}
+use Rattle.office_replies.specs.declared.fault.Fault.{Fault}
+use Rattle.office_replies.specs.declared.fault.Fault.TheVariants.{Syntax, UnknownSender, WrongRecipient}
+
+-- the terminal's own code, and those of the partners that have an account
+pub record Parties : Type 0 where
+  pub terminal : List ℕ
+  pub partners : List (List ℕ)
+
+-- the number of the first partner with a code, where partners are counted from a number on
+abbrev pub partner_from : ℕ → List ℕ → List (List ℕ) → Option ℕ
+partner_from number code [] = None
+partner_from number code (partner ∷ partners) = cond (bytes_eq code partner) (Some number) (partner_from (number + 1) code partners)
+
+-- the partner that a header names as the sender, counted from 1
+abbrev pub sender_of : Parties → Content → Option ℕ
+sender_of parties header = partner_from 1 (sender header 1) parties.partners
+
+-- what the control reference writes. Where a text has no fault it is from 1 to 999,999,999.
+abbrev pub number_in : Content → ℕ
+number_in header = unwrap_or (control_number header) 0
+
+abbrev pub addressed : Parties → Content → Option ℕ → Result (ℕ × ℕ) Fault
+addressed parties header None = Err UnknownSender
+addressed parties header (Some partner) =
+    cond (bytes_eq (recipient header 1) parties.terminal) (Ok (partner, number_in header)) (Err WrongRecipient)
+
+abbrev pub admitted : Parties → Content → Option SyntaxFault → Result (ℕ × ℕ) Fault
+admitted parties header (Some fault) = Err (Syntax fault)
+admitted parties header None = addressed parties header (sender_of parties header)
+
+-- Admitted: the partner and the number of a text, or the first refusal: its syntax fault, UnknownSender, WrongRecipient
+abbrev pub admission : Parties → List ℕ → Result (ℕ × ℕ) Fault
+admission parties text = admitted parties (header_of (segments_in text)) (fault_of text)
+
+-- a text that is admitted, as a delivery of its partner under its number; the others add nothing
+abbrev pub added : List ℕ → Result (ℕ × ℕ) Fault → List Delivery → List Delivery
+added text (Ok place) later = delivery place.0 place.1 text ∷ later
+added text (Err fault) later = later
+
+-- what was delivered, each text without the CR and LF at both ends
+abbrev pub deliveries_of : Parties → List (List ℕ) → List Delivery
+deliveries_of parties [] = []
+deliveries_of parties (delivered ∷ later) =
+    added (interchange_of delivered) (admission parties (interchange_of delivered)) (deliveries_of parties later)

@@ -1,0 +1,30 @@
+-- At which deliveries a desk stands.
+use Rattle.std.specs.Prelude.{◌≡◌, ℕ, List, [], ◌∷◌, ◌++◌, map, string_bytes}
+use Rattle.partner_core.specs.Machine.{Taking}
+use Rattle.partner_core.specs.Deliveries.{Delivery}
+use Rattle.partner_core.specs.Answers.{answer_of}
+use Rattle.partner_core.specs.declared.runs.Runs.{Runs}
+use Rattle.partner_core.specs.Runs.{StandsAt}
+use Rattle.office_replies.specs.declared.response.Response.{Response}
+use Rattle.office_desk.specs.declared.desk.Desk.{Desk}
+use Rattle.office_desk.specs.Admission.{Parties, deliveries_of}
+use Rattle.office_desk.specs.Answers.{answer_to, told_answer, content_of}
+
+abbrev pub parties : {M : Type 0} → Desk M → Parties
+parties desk = record { terminal = string_bytes desk.terminal; partners = map string_bytes desk.partners.items }
+
+-- from that opening, after those deliveries, it is this desk
+pub record DeskStands {M : Type 0} (taken : Taking M) (opening : Desk M) (ds : List (List ℕ)) (desk : Desk M) : Type 0 where
+  pub same_parties : parties desk ≡ parties opening
+  pub runs_stand : StandsAt taken opening.runs.machine (deliveries_of (parties opening) ds) desk.runs
+
+-- from that opening, after those deliveries, the response is the answer to the next
+abbrev pub DeskAnswers : {M : Type 0} → Taking M → Desk M → List (List ℕ) → List ℕ → Response → Type 0
+DeskAnswers taken opening ds delivered response =
+    content_of response ≡ answer_to (parties opening) taken opening.runs.machine ds delivered
+
+-- the response is what the runs tell of a delivery of the partner with a code, and they stand behind it
+pub record Taken {M : Type 0} (taken : Taking M) (opening : M) (ds : List Delivery) (d : Delivery) (code : List ℕ)
+    (response : Response) (runs : Runs M) : Type 0 where
+  pub answers : content_of response ≡ told_answer code d.number (answer_of taken opening ds d)
+  pub stands : StandsAt taken opening (ds ++ d ∷ []) runs
