@@ -33,3 +33,6 @@ pub use stay::Stay;
 pub use terminal::Terminal;
 pub use visit::Visit;
 pub use way::Way;
+
+#[cfg(test)]
+mod tests;
