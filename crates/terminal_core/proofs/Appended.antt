@@ -1,5 +1,5 @@
 -- Rows that were appended.
-use Rattle.std.proofs.Common.{◌≡◌, ℕ, ◌+◌, ◌<◌, List, [], ◌∷◌, ◌++◌, map, length, refl, sym, ap, ◌∙◌, append_assoc, Vec, vec_len, Global, arith, rules}
+use Rattle.std.proofs.Common.{◌≡◌, ℕ, ◌+◌, ◌<◌, List, [], ◌∷◌, ◌++◌, map, length, ap, ◌∙◌, append_assoc, Vec, vec_len, Global, arith, rules}
 use Rattle.std.proofs.lemmas.List.{map-append, length-map}
 use Rattle.box6346.specs.declared.slot.Slot.{Slot}
 use Rattle.edi_messages.specs.Orders.{EntryContent}

@@ -6,6 +6,9 @@ use Rattle.std.specs.Ordering.{nat_cmp, eq_by_cmp}
 use Rattle.std.specs.Cmp.{eq_by_cmp_equiv}
 use Rattle.std.specs.Cmp.Lexicographic.{slice_cmp, nat_list_cmp_total, texts_ties}
 use Rattle.std.specs.Str.{bytes_eq}
+use Rattle.yard_core.specs.declared.block.Block.{Block}
+use Rattle.yard_core.specs.Plan.{InPlan}
+use Rattle.yard_core.specs.SoundYard.{IsSound}
 use Rattle.yard_core.specs.YardMap.{Box, Boxes}
 use Rattle.yard_core.specs.declared.placement.Placement.{Placement}
 use Rattle.yard_core.proofs.Boxes.{same_box}
@@ -36,3 +39,7 @@ in_placed m b q s =
 pub in_removed : (m : Boxes) (b q : Box) → is_some (map.get (map.remove m b) q) ≡ (is_some (map.get m q) && not (bytes_eq b q))
 in_removed m b q =
     ap is_some (map.get-remove nat_list_cmp_total m b q ∙ ap (λ v. cond v None (map.get m q)) (tied b q)) ∙ there_and (bytes_eq b q) (map.get m q)
+
+-- a container stands in a slot of the plan
+pub planned : (plan : List Block) (m : Boxes) (b : Box) (s : Placement) → IsSound plan (map.get (map.insert m b s)) → InPlan plan s.slot
+planned plan m b s sound = sound.in_plan b s (map.get-insert nat_list_cmp_total m b s b ∙ ap (λ v. cond v (Some s) (map.get m b)) ((eq_by_cmp_equiv nat_list_cmp_total).refl b))

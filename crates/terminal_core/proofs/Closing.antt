@@ -1,5 +1,5 @@
 -- The open visit of a container is closed where it stands.
-use Rattle.std.proofs.Common.{◌≡◌, ◌≢◌, ℕ, ◌+◌, ◌≤◌, ◌<◌, zero, suc, List, [], ◌∷◌, length, map, Bool, true, false, cond, Option, None, Some, is_some, refl, sym, ap, ◌∙◌, arith, subst}
+use Rattle.std.proofs.Common.{◌≡◌, ℕ, ◌+◌, ◌≤◌, ◌<◌, zero, suc, List, [], ◌∷◌, length, map, Bool, true, false, cond, Some, is_some, refl, sym, ap, ◌∙◌, arith}
 use Rattle.std.specs.Prelude.{find, filter, slice_get, slice_set, nat_le, ◌-◌}
 use Rattle.std.proofs.lemmas.Bool.{leb-true, leb-false}
 use Rattle.box6346.specs.declared.box_number.BoxNumber.{BoxNumber}
@@ -7,8 +7,8 @@ use Rattle.terminal_core.specs.declared.visit.Visit.{Visit}
 use Rattle.terminal_core.specs.declared.departure.Departure.{Departure}
 use Rattle.terminal_core.specs.Rows.{VisitContent, visit_content}
 use Rattle.terminal_core.specs.State.{is_open_visit}
-use Rattle.terminal_core.specs.Step.{closed, number_of_visit}
-use Rattle.terminal_core.specs.Calls.{HasOneVisit, NoneOpenFrom, IsOpenAt}
+use Rattle.terminal_core.specs.Step.{closed}
+use Rattle.terminal_core.specs.Calls.{HasOneVisit, NoneOpenFrom}
 
 module _ (b : BoxNumber) where
   counted : (v : Bool) (x : VisitContent) (xs : List VisitContent) → length (cond v (x ∷ xs) xs) ≡ cond v 1 0 + length xs

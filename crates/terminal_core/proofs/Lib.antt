@@ -5,3 +5,4 @@ pub mod Settled
 pub mod Appended
 pub mod Closing
 pub mod Steps
+pub mod Lined

@@ -1,10 +1,10 @@
 -- The yard's calls as what an order decides.
-use Rattle.std.proofs.Common.{◌≡◌, ◌≢◌, Option, None, Some, Result, Ok, Err, refl, sym, ap, subst, ◌∙◌}
+use Rattle.std.proofs.Common.{◌≡◌, ◌≢◌, None, Some, sym, ap, subst, ◌∙◌}
 use Rattle.box6346.specs.SizeCode.{length_of}
 use Rattle.box6346.specs.declared.length.Length.{Length}
 use Rattle.box6346.specs.declared.slot.Slot.{Slot}
 use Rattle.edi_messages.specs.Orders.{EntryContent}
-use Rattle.yard_core.specs.YardMap.{Box, YardMap, placement}
+use Rattle.yard_core.specs.YardMap.{YardMap, placement}
 use Rattle.yard_core.specs.Calls.{Places, PlacesFirst, RefusesPlace, RefusesFirst}
 use Rattle.yard_core.specs.Decisions.{placed, placed_first}
 use Rattle.yard_core.specs.Exact.{IsYard}
@@ -12,7 +12,7 @@ use Rattle.yard_core.specs.declared.yard_fault.YardFault.{YardFault}
 use Rattle.yard_core.specs.declared.yard_fault.YardFault.TheVariants.{Memory}
 use Rattle.yard_core.proofs.Exact.{place_is_decided_lem, place_first_is_decided_lem}
 use Rattle.terminal_core.specs.declared.reason.Reason.{Reason}
-use Rattle.terminal_core.specs.Step.{settled, settled_in, with_slot, reason_of}
+use Rattle.terminal_core.specs.Step.{settled_in, with_slot, reason_of}
 use Rattle.terminal_core.specs.Calls.{Settles, Unsettled}
 
 pub settled_there : (y new : YardMap) (entry : EntryContent) (length : Length) (slot : Slot) → IsYard y → length ≡ length_of entry.size_type → entry.slot ≡ Some slot

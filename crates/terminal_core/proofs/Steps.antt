@@ -1,28 +1,34 @@
 -- What was done is what the order does.
-use Rattle.std.proofs.Common.{◌≡◌, ℕ, ◌+◌, ◌≤◌, ◌<◌, List, [], ◌∷◌, ◌++◌, length, map, Bool, true, false, cond, Option, None, Some, Result, Ok, Err, refl, sym, ap, ◌∙◌, arith, append-nil}
-use Rattle.std.specs.Prelude.{nat_le}
+use Rattle.std.proofs.Common.{◌≡◌, ℕ, ◌+◌, ◌≤◌, ◌<◌, List, [], ◌∷◌, ◌++◌, length, true, false, cond, Option, None, Some, Result, Ok, Err, refl, sym, ap, ◌∙◌, append-nil, append_assoc}
+use Rattle.std.specs.Option.{option_map}
+use Rattle.std.specs.FinMap as finite_map
 use Rattle.std.proofs.lemmas.Bool.{lt-leb, le-leb}
 use Rattle.box6346.specs.declared.box_number.BoxNumber.{BoxNumber}
 use Rattle.box6346.specs.declared.slot.Slot.{Slot}
 use Rattle.edi_moments.specs.Moments.{CivilMoment}
+use Rattle.edi_messages.specs.Purposes.{CallContent}
 use Rattle.edi_messages.specs.Orders.{EntryContent}
 use Rattle.yard_core.specs.YardMap.{YardMap}
 use Rattle.yard_core.specs.Calls.{Removes, Shifts, RefusesRemove, RefusesShift}
-use Rattle.yard_core.specs.Decisions.{placed, placed_first, removed, shifted}
 use Rattle.yard_core.specs.Exact.{IsYard}
 use Rattle.yard_core.specs.declared.placement.Placement.{Placement}
 use Rattle.yard_core.specs.declared.yard_fault.YardFault.{YardFault}
 use Rattle.yard_core.proofs.Exact.{remove_is_decided_lem, shift_is_decided_lem}
 use Rattle.terminal_core.specs.declared.outcome.Outcome.{Outcome}
-use Rattle.terminal_core.specs.declared.outcome.Outcome.TheVariants.{Done, Gone, Refused}
+use Rattle.terminal_core.specs.declared.outcome.Outcome.TheVariants.{Done, Gone, Listed, Refused}
 use Rattle.terminal_core.specs.declared.reason.Reason.{Reason}
-use Rattle.terminal_core.specs.declared.reason.Reason.TheVariants.{VisitLimit}
+use Rattle.terminal_core.specs.declared.reason.Reason.TheVariants.{AlreadyIn, NotIn, VisitLimit}
+use Rattle.terminal_core.specs.declared.line_state.LineState.{LineState}
+use Rattle.terminal_core.specs.declared.line_state.LineState.TheVariants.{Pending, Done as LineIsDone}
+use Rattle.terminal_core.specs.declared.side.Side.{Side}
+use Rattle.terminal_core.specs.declared.side.Side.TheVariants.{Load, Discharge}
 use Rattle.terminal_core.specs.declared.source.Source.{Source}
 use Rattle.terminal_core.specs.declared.way.Way.{Way}
-use Rattle.terminal_core.specs.Rows.{VisitContent, ChangeContent, visit_opened, visit_closed, placed_at, moved_to, removed_from}
-use Rattle.terminal_core.specs.State.{TerminalState, IsWhole, open_visit}
-use Rattle.terminal_core.specs.Step.{Stepped, stepped, refused, reason_of, is_full, entered, entered_at, visit_of, settled, departed, departed_at, departure_by, close_visit, number_of_visit, moved, moved_at}
-use Rattle.terminal_core.specs.Calls.{Follows, Settles, Unsettled}
+use Rattle.terminal_core.specs.declared.way.Way.TheVariants.{Ship}
+use Rattle.terminal_core.specs.Rows.{VisitContent, ChangeContent, visit_opened, visit_closed, placed_at, moved_to, removed_from, line_done}
+use Rattle.terminal_core.specs.State.{TerminalState, LineContent, Lines, is_in, line_key, line_of, IsWhole, open_visit}
+use Rattle.terminal_core.specs.Step.{Stepped, stepped, refused, reason_of, is_full, entered, entered_at, visit_of, settled, departed, departed_at, departure_by, close_visit, number_of_visit, moved, moved_at, with_line, step_discharge, step_load, then_line_done, then_line_done_at, by_line, by_state}
+use Rattle.terminal_core.specs.Calls.{Follows, Settles, Unsettled, is_refused}
 
 pub follows : (a b : Stepped) (now : TerminalState) (answer : Outcome) (old new : List ChangeContent) → a ≡ b → Follows b now answer old new → Follows a now answer old new
 follows a b now answer old new e f = record { state = f.state ∙ sym (ap (λ s. s.state) e); outcome = f.outcome ∙ sym (ap (λ s. s.outcome) e); changes = f.changes ∙ sym (ap (λ s. old ++ s.changes) e) }
@@ -103,3 +109,67 @@ pub has_not_moved : (state : TerminalState) (b : BoxNumber) (slot : Slot) (f : Y
 has_not_moved state b slot f reason y changes whole refuses is stays =
     follows (moved state b slot) (refused state reason) _ _ changes changes
     (ap (moved_at state b slot) ((shift_is_decided_lem state.yard b slot (yard_of state whole)).1 f refuses) ∙ ap (refused state) (sym is)) (yard_stays state y reason changes stays)
+
+-- ---- lines
+
+pub line_done_in : (inside now : TerminalState) (call : CallContent) (side : Side) (b : BoxNumber) (line : LineContent) (lines : Lines) → inside ≡ now → line_of now call side b ≡ Some line
+    → (finite_map.get inside.lines (line_key call side b) ≡ Some line → lines ≡ finite_map.insert inside.lines (line_key call side b) (record line { state = LineIsDone }))
+    → record inside { lines = lines } ≡ with_line now call side b (record line { state = LineIsDone })
+line_done_in inside now call side b line lines same there is =
+    ap (λ (l : Lines). record inside { lines = l }) (is (ap (λ (s : TerminalState). line_of s call side b) same ∙ there)) ∙ ap (λ (s : TerminalState). with_line s call side b (record line { state = LineIsDone })) same
+
+pub mapped_some : (o : Option LineContent) (s : LineState) → option_map (λ l. l.state) o ≡ Some s → (line : LineContent) × (o ≡ Some line) × (line.state ≡ s)
+mapped_some None s e = cc
+mapped_some (Some line) s e = (line, refl, cc)
+
+-- a refused order leaves its line
+not_carried : (call : CallContent) (side : Side) (b : BoxNumber) (line : LineContent) (after : Stepped) (o : Outcome) → is_refused o ≡ true → then_line_done_at call side b line after o ≡ after
+not_carried call side b line after (Done slot) e = cc
+not_carried call side b line after Gone e = cc
+not_carried call side b line after Listed e = cc
+not_carried call side b line after (Refused reason) e = refl
+
+carried : (call : CallContent) (side : Side) (b : BoxNumber) (line : LineContent) (after : Stepped) (o : Outcome) → is_refused o ≡ false
+    → then_line_done_at call side b line after o ≡ stepped (with_line after.state call side b (record line { state = LineIsDone })) after.outcome (after.changes ++ line_done call side b ∷ [])
+carried call side b line after (Done slot) e = refl
+carried call side b line after Gone e = refl
+carried call side b line after Listed e = refl
+carried call side b line after (Refused reason) e = cc
+
+by_pending : (state : TerminalState) (call : CallContent) (side : Side) (b : BoxNumber) (line : LineContent) (after : Stepped) → line_of state call side b ≡ Some line → line.state ≡ Pending
+    → by_line state call side b (line_of state call side b) after ≡ then_line_done call side b line after
+by_pending state call side b line after there open_ = ap (λ o. by_line state call side b o after) there ∙ ap (by_state state call side b line after) open_
+
+pub line_kept : (state : TerminalState) (call : CallContent) (side : Side) (b : BoxNumber) (line : LineContent) (after : Stepped) (now : TerminalState) (answer : Outcome) (old new : List ChangeContent)
+    → line_of state call side b ≡ Some line → line.state ≡ Pending → Follows after now answer old new → is_refused answer ≡ true
+    → Follows (by_line state call side b (line_of state call side b) after) now answer old new
+line_kept state call side b line after now answer old new there open_ follows_ refused_ =
+    follows (by_line state call side b (line_of state call side b) after) after now answer old new
+    (by_pending state call side b line after there open_ ∙ not_carried call side b line after after.outcome (ap is_refused (sym follows_.outcome) ∙ refused_)) follows_
+
+pub line_closed : (state : TerminalState) (call : CallContent) (side : Side) (b : BoxNumber) (line : LineContent) (after : Stepped) (mid now : TerminalState) (answer : Outcome) (old between new : List ChangeContent)
+    → line_of state call side b ≡ Some line → line.state ≡ Pending → Follows after mid answer old between → is_refused answer ≡ false
+    → now ≡ with_line mid call side b (record line { state = LineIsDone }) → new ≡ between ++ line_done call side b ∷ []
+    → Follows (by_line state call side b (line_of state call side b) after) now answer old new
+line_closed state call side b line after mid now answer old between new there open_ follows_ carried_ is made =
+    follows (by_line state call side b (line_of state call side b) after) (stepped (with_line after.state call side b (record line { state = LineIsDone })) after.outcome (after.changes ++ line_done call side b ∷ [])) now answer old new
+    (by_pending state call side b line after there open_ ∙ carried call side b line after after.outcome (ap is_refused (sym follows_.outcome) ∙ carried_))
+    (record {
+      state = is ∙ ap (λ (s : TerminalState). with_line s call side b (record line { state = LineIsDone })) follows_.state;
+      outcome = follows_.outcome;
+      changes = made ∙ ap (λ l. l ++ line_done call side b ∷ []) follows_.changes ∙ append_assoc old after.changes (line_done call side b ∷ []);
+    })
+
+pub came_off : (state : TerminalState) (source : Source) (call : CallContent) (entry : EntryContent) (now : TerminalState) (answer : Outcome) (old new : List ChangeContent)
+    → is_in state entry.number ≡ false → Follows (by_line state call Discharge entry.number (line_of state call Discharge entry.number) (entered state Ship source entry)) now answer old new
+    → Follows (step_discharge state source call entry) now answer old new
+came_off state source call entry now answer old new out follows_ =
+    follows (step_discharge state source call entry) (by_line state call Discharge entry.number (line_of state call Discharge entry.number) (entered state Ship source entry)) now answer old new
+    (ap (λ v. cond v (refused state AlreadyIn) (by_line state call Discharge entry.number (line_of state call Discharge entry.number) (entered state Ship source entry))) out) follows_
+
+pub went_on : (state : TerminalState) (source : Source) (call : CallContent) (b : BoxNumber) (moment : CivilMoment) (now : TerminalState) (answer : Outcome) (old new : List ChangeContent)
+    → is_in state b ≡ true → Follows (by_line state call Load b (line_of state call Load b) (departed state Ship source b moment)) now answer old new
+    → Follows (step_load state source call b moment) now answer old new
+went_on state source call b moment now answer old new in_ follows_ =
+    follows (step_load state source call b moment) (by_line state call Load b (line_of state call Load b) (departed state Ship source b moment)) now answer old new
+    (ap (λ v. cond v (by_line state call Load b (line_of state call Load b) (departed state Ship source b moment)) (refused state NotIn)) in_) follows_

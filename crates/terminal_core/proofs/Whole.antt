@@ -1,22 +1,22 @@
 -- What an order leaves is whole.
-use Rattle.std.proofs.Common.{◌≡◌, ℕ, ◌+◌, ◌≤◌, ◌<◌, List, [], ◌∷◌, ◌++◌, length, map, Bool, true, false, cond, Option, None, Some, is_some, is_none, refl, sym, ap, ◌∙◌, arith, subst, length-append}
+use Rattle.std.proofs.Common.{◌≡◌, ℕ, ◌+◌, ◌≤◌, ◌<◌, List, [], ◌∷◌, ◌++◌, length, map, Bool, true, false, cond, None, Some, is_some, is_none, refl, sym, ap, ◌∙◌, arith, subst, length-append}
 use Rattle.std.proofs.lemmas.List.{length-map}
-use Rattle.std.specs.Prelude.{find, filter, ◌&&◌, ◌||◌, not}
+use Rattle.std.specs.Prelude.{filter, ◌&&◌, ◌||◌, not}
 use Rattle.std.specs.FinMap as finite_map
 use Rattle.std.specs.Str.{bytes_eq}
 use Rattle.box6346.specs.declared.box_number.BoxNumber.{BoxNumber}
 use Rattle.box6346.specs.declared.slot.Slot.{Slot}
 use Rattle.yard_core.specs.declared.block.Block.{Block}
 use Rattle.yard_core.specs.declared.placement.Placement.{Placement}
-use Rattle.yard_core.specs.YardMap.{Boxes, YardMap}
-use Rattle.yard_core.specs.Plan.{IsPlan}
+use Rattle.yard_core.specs.YardMap.{Boxes, YardMap, placement}
+use Rattle.yard_core.specs.Plan.{IsPlan, InPlan}
 use Rattle.yard_core.specs.SoundYard.{IsSound}
 use Rattle.yard_core.specs.Calls.{Places, Removes, Shifts}
 use Rattle.terminal_core.specs.declared.departure.Departure.{Departure}
 use Rattle.terminal_core.specs.Rows.{VisitContent}
 use Rattle.terminal_core.specs.State.{TerminalState, Lines, is_in, open_visit, is_open_visit, IsWhole}
 use Rattle.terminal_core.specs.Step.{closed}
-use Rattle.terminal_core.proofs.Boxes.{in_placed, in_removed, same_bytes}
+use Rattle.terminal_core.proofs.Boxes.{in_placed, in_removed, same_bytes, planned}
 use Rattle.terminal_core.proofs.Open.{find_one_more, count_one_more, none_counted, find_mapped, count_mapped, closed_open, numbered_one_more, numbered_closed, or_turned, and_true}
 
 pub whole_empty : (plan : List Block) (yard : YardMap) (limit : ℕ) (visits : List VisitContent) (lines : Lines) → IsPlan plan → yard.plan ≡ plan → yard.boxes ≡ finite_map.empty
@@ -113,3 +113,11 @@ whole_moved state y b slot s whole shifts sound = record {
   one_visit = whole.one_visit;
   here = λ q. in_after state y b q _ shifts.boxes ∙ still_in state b q s (bytes_eq b q) shifts.stood refl ∙ whole.here q;
 }
+
+-- ---- slots of the plan
+
+pub placed_in_plan : (old new : YardMap) (b : BoxNumber) (s : Placement) → Places old new b s → InPlan new.plan s.slot
+placed_in_plan old new b s places = let P : List Block → Type 0 = λ p. InPlan p s.slot in subst P (sym places.plan) (planned old.plan old.boxes b s places.fits)
+
+pub shifted_in_plan : (old new : YardMap) (b : BoxNumber) (s : Placement) (slot : Slot) → Shifts old new b s slot → InPlan new.plan slot
+shifted_in_plan old new b s slot shifts = let P : List Block → Type 0 = λ p. InPlan p slot in subst P (sym shifts.plan) (planned old.plan (finite_map.remove old.boxes b) b (placement s.length slot) shifts.fits)

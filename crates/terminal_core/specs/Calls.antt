@@ -1,13 +1,16 @@
 -- What the calls on a terminal do and answer.
-use Rattle.std.specs.Prelude.{◌≡◌, ℕ, ◌≤◌, ◌<◌, true, false, List, ◌++◌, slice_get, Some, Ok, Err, find, filter, length, is_some}
+use Rattle.std.specs.Prelude.{◌≡◌, ℕ, ◌≤◌, Bool, true, false, List, ◌++◌, slice_get, Some, Ok, Err, find, filter, length, is_some}
 use Rattle.box6346.specs.SizeCode.{length_of}
 use Rattle.box6346.specs.declared.box_number.BoxNumber.{BoxNumber}
 use Rattle.box6346.specs.declared.slot.Slot.{Slot}
 use Rattle.edi_messages.specs.Orders.{EntryContent}
+use Rattle.yard_core.specs.declared.block.Block.{Block}
+use Rattle.yard_core.specs.Plan.{InPlan}
 use Rattle.yard_core.specs.YardMap.{YardMap, placement}
 use Rattle.yard_core.specs.Calls.{Places}
 use Rattle.yard_core.specs.declared.yard_fault.YardFault.{YardFault}
 use Rattle.terminal_core.specs.declared.outcome.Outcome.{Outcome}
+use Rattle.terminal_core.specs.declared.outcome.Outcome.TheVariants.{Done, Gone, Listed, Refused}
 use Rattle.terminal_core.specs.declared.reason.Reason.{Reason}
 use Rattle.terminal_core.specs.declared.visit.Visit.{Visit}
 use Rattle.terminal_core.specs.Rows.{VisitContent, ChangeContent, visit_content}
@@ -43,3 +46,16 @@ NoneOpenFrom container visits first = (k : ℕ) (visit : Visit) → first ≤ k 
 -- the visit at that place is
 abbrev pub IsOpenAt : BoxNumber → List Visit → ℕ → Type 0
 IsOpenAt container visits place = (visit : Visit) × (slice_get visits place ≡ Some visit) × (is_open_visit container (visit_content visit) ≡ true)
+
+-- the slot that an outcome tells is one of the plan's
+abbrev pub IsPlanned : List Block → Outcome → Type 0
+IsPlanned plan (Done slot) = InPlan plan slot
+IsPlanned plan Gone = Unit {0}
+IsPlanned plan Listed = Unit {0}
+IsPlanned plan (Refused reason) = Unit {0}
+
+abbrev pub is_refused : Outcome → Bool
+is_refused (Done slot) = false
+is_refused Gone = false
+is_refused Listed = false
+is_refused (Refused reason) = true

@@ -12,7 +12,7 @@ use Rattle.terminal_core.specs.contracts.arrival.Arrival as arrivals
 use Rattle.terminal_core.specs.contracts.departure.Departure as departures
 use Rattle.terminal_core.specs.contracts.line_state.LineState as line_states
 use Rattle.terminal_core.specs.Rows.{VisitContent}
-use Rattle.terminal_core.specs.State.{LineContent, LineKey, Lines, TerminalState}
+use Rattle.terminal_core.specs.State.{LineContent, Lines, TerminalState}
 
 abbrev pub VisitParts : Type 0
 VisitParts = ℕ × (BoxNumber × (SizeType × (Bool × (List ℕ × (Arrival × Option Departure)))))

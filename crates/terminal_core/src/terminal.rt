@@ -1,30 +1,32 @@
-ghost use Rattle.std.specs.Prelude.{◌≡◌, ◌≢◌, ℕ, ◌+◌, ◌<◌, ◌≤◌, List, [], ◌∷◌, ◌++◌, map, length, find, filter, Some, None, IfOk, IfErr, OnErr, OnOk, MatchResult, MatchOption, is_some, vec_len, vec_capacity, string_bytes};
+ghost use Rattle.std.specs.Prelude.{◌≡◌, ◌+◌, ◌≤◌, [], ◌∷◌, ◌++◌, map, Some, IfOk, OnErr, vec_len, vec_capacity};
 ghost use Rattle.std.specs.FinMap as finite_map;
-ghost use Rattle.std.specs.Option.{option_map, option_map_or};
-ghost use Rattle.yard_core.specs.YardMap.{YardMap};
+ghost use Rattle.std.specs.Option.{option_map};
 ghost use Rattle.yard_core.specs.Plan.{IsPlan};
-ghost use Rattle.yard_core.specs.SoundYard.{IsSound};
-ghost use Rattle.edi_messages.specs.Owned.{entry_content};
-ghost use Rattle.terminal_core.specs.Rows.{visit_content, change_content, visit_closed};
-ghost use Rattle.terminal_core.specs.State.{empty_state, is_in, is_open_visit, open_visit, IsWhole};
-ghost use Rattle.terminal_core.specs.Step.{entered, departed, moved, closed, number_of_visit, reason_of, opened_by, departure_by};
-ghost use Rattle.terminal_core.specs.Calls.{Follows, Settles, Unsettled, HasOneVisit, NoneOpenFrom, IsOpenAt};
+ghost use Rattle.edi_messages.specs.Owned.{call_content, entry_content, order_content};
+ghost use Rattle.terminal_core.specs.Rows.{visit_content, change_content, line_done};
+ghost use Rattle.terminal_core.specs.State.{LineContent, empty_state, is_in, line_of, IsWhole};
+ghost use Rattle.terminal_core.specs.Step.{entered, departed, moved, listed, step, step_gate_in, step_discharge, step_load, with_line};
+ghost use Rattle.terminal_core.specs.Calls.{Follows, IsPlanned, is_refused};
 
-use crate::arrival::Arrival;
 use crate::change::Change;
-use crate::departure::Departure;
+use crate::line_state::LineState;
+use crate::lines::{line_done, line_listed, pending_line};
 use crate::lists::Lists;
 use crate::outcome::Outcome;
 use crate::reason::Reason;
+use crate::rows::append;
+use crate::settling::{reason_of, settle};
+use crate::side::Side;
 use crate::source::Source;
 use crate::visit::Visit;
+use crate::visits::{close, copied_visits, opened_visit, visit_closed};
 use crate::way::Way;
 use box6346::{BoxNumber, Slot};
-use edi_messages::Entry;
+use edi_messages::{Call, Entry, Order};
 use edi_moments::Moment;
 use std::alloc::{AllocError, Global};
 use std::marker::Model;
-use yard_core::{Plan, Yard, YardFault};
+use yard_core::{Plan, Yard};
 
 /// The containers at the terminal with every visit, and the vessels' lists. It is always whole.
 #[derive(Drop)]
@@ -83,6 +85,220 @@ impl Terminal {
         &self.visits
     }
 
+    /// How far a line of a call's list is, if there is one.
+    pub fn line_state(&self, call: &Call, side: Side, container: BoxNumber) -> Option<LineState>
+        ensures told { result ≡ option_map (λ l. l.state) (line_of self.now (call_content call.now) side container) }
+        ensures whole { IsWhole self.now }
+    {
+        self.lists.state(call, side, container)
+    }
+
+    /// Carries an order out, or refuses it: the first reason that applies. What it added, altered or removed is appended
+    /// to the changes. Where memory is refused, the terminal and the changes stay as they were.
+    pub fn step(
+        &mut self,
+        alloc: Global,
+        source: Source,
+        order: &Order,
+        changes: &mut Vec<Change>,
+    ) -> Result<Outcome, AllocError>
+        ensures ok { IfOk result (λ outcome. Follows (step self.old source (order_content order.now)) self.new outcome (map change_content changes.old.items) (map change_content changes.new.items)) }
+        ensures err { OnErr result (self.new ≡ self.old) }
+        ensures kept { OnErr result (changes.new.items ≡ changes.old.items) }
+        ensures planned { IfOk result (IsPlanned self.new.yard.plan) }
+        ensures whole { IsWhole self.new }
+    {
+        let _ = &self.limit;
+        changes.reserve(3)?;
+        let result = self.carry_out(alloc, source, order, changes);
+        let _ = &self.limit;
+        result
+    }
+
+    fn carry_out(
+        &mut self,
+        alloc: Global,
+        source: Source,
+        order: &Order,
+        changes: &mut Vec<Change>,
+    ) -> Result<Outcome, AllocError>
+        requires { vec_len changes.old + 3 ≤ vec_capacity changes.old }
+        ensures ok { IfOk result (λ outcome. Follows (step self.old source (order_content order.now)) self.new outcome (map change_content changes.old.items) (map change_content changes.new.items)) }
+        ensures err { OnErr result (self.new ≡ self.old) }
+        ensures kept { OnErr result (changes.new.items ≡ changes.old.items) }
+        ensures planned { IfOk result (IsPlanned self.new.yard.plan) }
+    {
+        match order {
+            Order::GateIn(entry) => self.gate_in(alloc, source, entry, changes),
+            Order::GateOut { number, moment } => {
+                Ok(self.depart(Way::Gate, source, *number, *moment, changes))
+            }
+            Order::Move { number, slot } => Ok(self.shift(*number, *slot, changes)),
+            Order::ListDischarge { call, number } => {
+                self.list(alloc, call, Side::Discharge, *number, "", changes)
+            }
+            Order::ListLoad { call, number, port } => {
+                self.list(alloc, call, Side::Load, *number, port.as_str(), changes)
+            }
+            Order::Discharge { call, entry } => {
+                self.discharge(alloc, source, call, entry, changes)
+            }
+            Order::Load {
+                call,
+                number,
+                moment,
+            } => self.load(alloc, source, call, *number, *moment, changes),
+        }
+    }
+
+    // By the gate: AlreadyIn, VisitLimit, or why the container is not placed.
+    fn gate_in(
+        &mut self,
+        alloc: Global,
+        source: Source,
+        entry: &Entry,
+        changes: &mut Vec<Change>,
+    ) -> Result<Outcome, AllocError>
+        requires { vec_len changes.old + 2 ≤ vec_capacity changes.old }
+        ensures ok { IfOk result (λ outcome. Follows (step_gate_in self.old source (entry_content entry.now)) self.new outcome (map change_content changes.old.items) (map change_content changes.new.items)) }
+        ensures err { OnErr result (self.new ≡ self.old) }
+        ensures kept { OnErr result (changes.new.items ≡ changes.old.items) }
+        ensures planned { IfOk result (IsPlanned self.new.yard.plan) }
+    {
+        if self.is_in(entry.number) {
+            return Ok(Outcome::Refused(Reason::AlreadyIn));
+        }
+        self.enter(alloc, Way::Gate, source, entry, changes)
+    }
+
+    // Off a vessel: AlreadyIn, NotListed, ListLineDone, VisitLimit, or why the container is not placed.
+    fn discharge(
+        &mut self,
+        alloc: Global,
+        source: Source,
+        call: &Call,
+        entry: &Entry,
+        changes: &mut Vec<Change>,
+    ) -> Result<Outcome, AllocError>
+        requires { vec_len changes.old + 3 ≤ vec_capacity changes.old }
+        ensures ok { IfOk result (λ outcome. Follows (step_discharge self.old source (call_content call.now) (entry_content entry.now)) self.new outcome (map change_content changes.old.items) (map change_content changes.new.items)) }
+        ensures err { OnErr result (self.new ≡ self.old) }
+        ensures kept { OnErr result (changes.new.items ≡ changes.old.items) }
+        ensures planned { IfOk result (IsPlanned self.new.yard.plan) }
+    {
+        if self.is_in(entry.number) {
+            return Ok(Outcome::Refused(Reason::AlreadyIn));
+        }
+        match self.line_state(call, Side::Discharge, entry.number) {
+            None => Ok(Outcome::Refused(Reason::NotListed)),
+            Some(LineState::Done) => Ok(Outcome::Refused(Reason::ListLineDone)),
+            Some(LineState::Pending) => {
+                let done = line_done(alloc, call, Side::Discharge, entry.number)?;
+                let outcome = self.enter(alloc, Way::Ship, source, entry, changes)?;
+                if is_refused(&outcome) {
+                    return Ok(outcome);
+                }
+                self.finish(call, Side::Discharge, entry.number, done, changes);
+                Ok(outcome)
+            }
+        }
+    }
+
+    // Onto a vessel: NotIn, NotListed, ListLineDone or Buried.
+    fn load(
+        &mut self,
+        alloc: Global,
+        source: Source,
+        call: &Call,
+        container: BoxNumber,
+        moment: Moment,
+        changes: &mut Vec<Change>,
+    ) -> Result<Outcome, AllocError>
+        requires { vec_len changes.old + 3 ≤ vec_capacity changes.old }
+        ensures ok { IfOk result (λ outcome. Follows (step_load self.old source (call_content call.now) container moment) self.new outcome (map change_content changes.old.items) (map change_content changes.new.items)) }
+        ensures err { OnErr result (self.new ≡ self.old) }
+        ensures kept { OnErr result (changes.new.items ≡ changes.old.items) }
+        ensures planned { IfOk result (IsPlanned self.new.yard.plan) }
+    {
+        if !self.is_in(container) {
+            return Ok(Outcome::Refused(Reason::NotIn));
+        }
+        match self.line_state(call, Side::Load, container) {
+            None => Ok(Outcome::Refused(Reason::NotListed)),
+            Some(LineState::Done) => Ok(Outcome::Refused(Reason::ListLineDone)),
+            Some(LineState::Pending) => {
+                let done = line_done(alloc, call, Side::Load, container)?;
+                let outcome = self.depart(Way::Ship, source, container, moment, changes);
+                if is_refused(&outcome) {
+                    return Ok(outcome);
+                }
+                self.finish(call, Side::Load, container, done, changes);
+                Ok(outcome)
+            }
+        }
+    }
+
+    // A line more: AlreadyListed.
+    fn list(
+        &mut self,
+        alloc: Global,
+        call: &Call,
+        side: Side,
+        container: BoxNumber,
+        port: &str,
+        changes: &mut Vec<Change>,
+    ) -> Result<Outcome, AllocError>
+        requires { vec_len changes.old + 1 ≤ vec_capacity changes.old }
+        ensures ok { IfOk result (λ outcome. Follows (listed self.old (call_content call.now) side container port.now) self.new outcome (map change_content changes.old.items) (map change_content changes.new.items)) }
+        ensures err { OnErr result (self.new ≡ self.old) }
+        ensures kept { OnErr result (changes.new.items ≡ changes.old.items) }
+        ensures no_slot { IfOk result (IsPlanned self.new.yard.plan) }
+    {
+        if self.line_state(call, side, container).is_some() {
+            return Ok(Outcome::Refused(Reason::AlreadyListed));
+        }
+        let line = pending_line(alloc, call, side, container, port)?;
+        let change = line_listed(alloc, call, side, container, port)?;
+        self.lists.add(line)?;
+        append(changes, change);
+        Ok(Outcome::Listed)
+    }
+
+    // The line is done.
+    fn finish(
+        &mut self,
+        call: &Call,
+        side: Side,
+        container: BoxNumber,
+        done: Change,
+        changes: &mut Vec<Change>,
+    )
+        requires room { vec_len changes.old + 1 ≤ vec_capacity changes.old }
+        requires told { change_content done ≡ line_done (call_content call.now) side container }
+        ensures done { (line : LineContent) → line_of self.old (call_content call.now) side container ≡ Some line → self.new ≡ with_line self.old (call_content call.now) side container (record line { state = LineState.Done }) }
+        ensures changes { map change_content changes.new.items ≡ map change_content changes.old.items ++ line_done (call_content call.now) side container ∷ [] }
+        ensures yard { self.new.yard ≡ self.old.yard }
+    {
+        self.lists.finish(call, side, container);
+        append(changes, done);
+    }
+
+    /// The same terminal once more.
+    pub fn copy(&self, alloc: Global) -> Result<Terminal, AllocError>
+        ensures same { IfOk result (λ t. t ≡ self.now) }
+        ensures whole { IfOk result IsWhole }
+    {
+        let yard = self.yard.copy(alloc)?;
+        let visits = copied_visits(alloc, &self.visits)?;
+        let lists = self.lists.copy(alloc)?;
+        Ok(Terminal {
+            yard,
+            limit: self.limit,
+            visits,
+            lists,
+        })
+    }
+
     fn is_in(&self, container: BoxNumber) -> bool
         ensures { result ≡ is_in self.now container }
     {
@@ -104,6 +320,8 @@ impl Terminal {
         ensures kept { OnErr result (changes.new.items ≡ changes.old.items) }
         ensures len { vec_len changes.new ≤ vec_len changes.old + 2 }
         ensures capacity { vec_capacity changes.old ≤ vec_capacity changes.new }
+        ensures planned { IfOk result (IsPlanned self.new.yard.plan) }
+        ensures lines { self.new.lines ≡ self.old.lines }
     {
         if self.visits.len() >= self.limit as usize {
             return Ok(Outcome::Refused(Reason::VisitLimit));
@@ -156,6 +374,8 @@ impl Terminal {
         ensures step { Follows (departed self.old way source container moment) self.new result (map change_content changes.old.items) (map change_content changes.new.items) }
         ensures len { vec_len changes.new ≤ vec_len changes.old + 2 }
         ensures capacity { vec_capacity changes.old ≤ vec_capacity changes.new }
+        ensures no_slot { IsPlanned self.new.yard.plan result }
+        ensures lines { self.new.lines ≡ self.old.lines }
     {
         match self.yard.remove(container) {
             Ok(_) => {
@@ -171,7 +391,8 @@ impl Terminal {
     // The container goes to another slot: NotIn, Buried, or why it does not fit there.
     fn shift(&mut self, container: BoxNumber, slot: Slot, changes: &mut Vec<Change>) -> Outcome
         requires { vec_len changes.old + 1 ≤ vec_capacity changes.old }
-        ensures { Follows (moved self.old container slot) self.new result (map change_content changes.old.items) (map change_content changes.new.items) }
+        ensures step { Follows (moved self.old container slot) self.new result (map change_content changes.old.items) (map change_content changes.new.items) }
+        ensures planned { IsPlanned self.new.yard.plan result }
     {
         match self.yard.shift(container, slot) {
             Ok(()) => {
@@ -183,145 +404,11 @@ impl Terminal {
     }
 }
 
-// The container of an entry into the slot that it names, or into the first that fits.
-fn settle(yard: &mut Yard, entry: &Entry) -> Result<Result<Slot, Reason>, AllocError>
-    requires plan { IsPlan yard.old.plan }
-    requires sound { IsSound yard.old.plan (finite_map.get yard.old.boxes) }
-    ensures ok { IfOk result (λ answer. MatchResult answer (Settles yard.old yard.new (entry_content entry.now)) (Unsettled yard.old (entry_content entry.now))) }
-    ensures refused { IfOk result (λ answer. OnErr answer (yard.new ≡ yard.old)) }
-    ensures err { OnErr result (yard.new ≡ yard.old) }
-    ensures sound { IsSound yard.new.plan (finite_map.get yard.new.boxes) }
+fn is_refused(outcome: &Outcome) -> bool
+    ensures { result ≡ is_refused outcome.now }
 {
-    let length = entry.size_type.length();
-    match entry.slot {
-        Some(slot) => match yard.place(entry.number, length, slot) {
-            Ok(()) => Ok(Ok(slot)),
-            Err(fault) => Ok(Err(refusal(fault)?)),
-        },
-        None => match yard.place_first(entry.number, length) {
-            Ok(slot) => Ok(Ok(slot)),
-            Err(fault) => Ok(Err(refusal(fault)?)),
-        },
+    match outcome {
+        Outcome::Refused(_) => true,
+        _ => false,
     }
-}
-
-// A fault that is not want of memory, as a reason.
-fn refusal(fault: YardFault) -> Result<Reason, AllocError>
-    ensures ok { IfOk result (λ reason. reason ≡ reason_of fault) }
-    ensures not_memory { OnOk result (fault ≢ YardFault.Memory) }
-{
-    match fault {
-        YardFault::Memory => Err(AllocError),
-        other => Ok(reason_of(other)),
-    }
-}
-
-fn reason_of(fault: YardFault) -> Reason
-    ensures { result ≡ reason_of fault }
-{
-    match fault {
-        YardFault::Present => Reason::AlreadyIn,
-        YardFault::Absent => Reason::NotIn,
-        YardFault::Buried(blocker) => Reason::Buried(blocker),
-        YardFault::NoSlot => Reason::NoSlot,
-        YardFault::SlotKind => Reason::SlotKind,
-        YardFault::Taken => Reason::Taken,
-        YardFault::OnAir => Reason::OnAir,
-        YardFault::NoRoom => Reason::NoRoom,
-        YardFault::Memory => Reason::NoRoom,
-    }
-}
-
-fn opened_visit(
-    number: u32,
-    entry: &Entry,
-    booking: String,
-    way: Way,
-    source: Source,
-    slot: Slot,
-) -> Visit
-    requires { string_bytes booking ≡ string_bytes entry.now.booking }
-    ensures { visit_content result ≡ opened_by number way source (entry_content entry.now) slot }
-{
-    Visit {
-        number,
-        container: entry.number,
-        size_type: entry.size_type,
-        is_laden: entry.is_laden,
-        booking,
-        arrival: Arrival {
-            way,
-            source,
-            moment: entry.moment,
-            slot,
-        },
-        departure: None,
-    }
-}
-
-fn visit_closed(visit: u32, way: Way, source: Source, moment: Moment) -> Change
-    ensures { change_content result ≡ visit_closed visit (departure_by way source moment) }
-{
-    Change::VisitClosed {
-        visit,
-        departure: Departure {
-            way,
-            source,
-            moment,
-        },
-    }
-}
-
-// Closes the container's open visit, and tells its number. It looks from the latest visit back.
-fn close(
-    visits: &mut Vec<Visit>,
-    container: BoxNumber,
-    way: Way,
-    source: Source,
-    moment: Moment,
-) -> u32
-    requires { HasOneVisit container (map visit_content visits.old.items) }
-    ensures closed { map visit_content visits.new.items ≡ map (closed (departure_by way source moment) container) (map visit_content visits.old.items) }
-    ensures number { result ≡ number_of_visit (find (is_open_visit container) (map visit_content visits.old.items)) }
-{
-    let Some(place) = open_place(visits, container) else {
-        return 0;
-    };
-    let visit = &mut visits[place];
-    visit.departure = Some(Departure {
-        way,
-        source,
-        moment,
-    });
-    visit.number
-}
-
-// Where the container's open visit stands.
-fn open_place(visits: &[Visit], container: BoxNumber) -> Option<usize>
-    ensures { MatchOption result (NoneOpenFrom container visits.now 0) (IsOpenAt container visits.now) }
-{
-    let mut place = visits.len();
-    while place > 0 {
-        place -= 1;
-        if is_open(&visits[place], container) {
-            return Some(place);
-        }
-    }
-    None
-}
-
-fn is_open(visit: &Visit, container: BoxNumber) -> bool
-    ensures { result ≡ is_open_visit container (visit_content visit.now) }
-{
-    visit.container == container && visit.departure.is_none()
-}
-
-// Appends a row where there is room for it.
-fn append<T: Drop>(rows: &mut Vec<T>, row: T)
-    requires { vec_len rows.old < vec_capacity rows.old }
-    ensures rows { rows.new.items ≡ rows.old.items ++ row ∷ [] }
-    ensures len { vec_len rows.new ≡ vec_len rows.old + 1 }
-    ensures capacity { vec_capacity rows.old ≤ vec_capacity rows.new }
-{
-    let _ = rows.push(row);
 }

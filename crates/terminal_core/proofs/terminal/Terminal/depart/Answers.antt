@@ -3,7 +3,7 @@ use Rattle.yard_core.specs.YardMap.{placement}
 use Rattle.std.specs.Prelude.{map}
 use Rattle.terminal_core.specs.Rows.{visit_content, change_content}
 use Rattle.terminal_core.specs.Step.{departure_by}
-use Rattle.terminal_core.proofs.Whole.{whole_departed, whole_with, whole_stays}
+use Rattle.terminal_core.proofs.Whole.{whole_departed, whole_with}
 use Rattle.terminal_core.proofs.Appended.{two_more}
 use Rattle.terminal_core.proofs.Steps.{has_departed, has_not_departed}
 use Rattle.terminal_core.proofs.terminal.Terminal.depart.Goals as goal

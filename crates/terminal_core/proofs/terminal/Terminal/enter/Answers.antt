@@ -1,4 +1,4 @@
-use Rattle.std.proofs.Common.{◌≡◌, ◌∙◌, ◌+◌, ◌<◌, ℕ, List, length, ap, sym, refl, arith, subst}
+use Rattle.std.proofs.Common.{◌+◌, refl, arith, subst}
 use Rattle.std.specs.Prelude.{map}
 use Rattle.std.proofs.lemmas.Result.{MatchResult-at_ok}
 use Rattle.edi_messages.specs.Owned.{entry_content}
@@ -8,7 +8,7 @@ use Rattle.terminal_core.specs.State.{TerminalState}
 use Rattle.terminal_core.specs.Step.{entered}
 use Rattle.terminal_core.specs.Calls.{Follows, Settles, Unsettled}
 use Rattle.terminal_core.proofs.Appended.{visits_after, changes_after, room_for_visits}
-use Rattle.terminal_core.proofs.Whole.{whole_entered, whole_with}
+use Rattle.terminal_core.proofs.Whole.{whole_entered, whole_with, placed_in_plan}
 use Rattle.terminal_core.proofs.Steps.{has_entered}
 use Rattle.terminal_core.proofs.terminal.Terminal.enter.Goals as goal
 
@@ -32,3 +32,8 @@ returns-in-Ok-clause-ok c =
     (omega (arith, c.reserve.ensures.len)))
     (changes_after c.self.inside.visits c.args.changes.now.items c.append-in-Ok.new.rows.items c.append-in-Ok-2.new.rows.items c.opened_visit-in-Ok.result c.args.way c.args.source (entry_content c.args.entry.now) c.in-Ok.slot (c.len-2.result + 1)
     c.append-in-Ok.ensures.rows c.append-in-Ok-2.ensures.rows c.opened_visit-in-Ok.ensures (omega (arith, c.reserve.ensures.len))))
+
+pub returns-in-Ok-clause-planned : goal.returns-in-Ok-clause-planned
+returns-in-Ok-clause-planned c =
+    let settles = MatchResult-at_ok (Settles c.self.inside.yard c.settle.new.yard (entry_content c.args.entry.now)) (Unsettled c.self.inside.yard (entry_content c.args.entry.now)) c.in-Ok.slot c.in-Ok.is c.in_ok-slot.ensures.ok in
+    placed_in_plan c.self.inside.yard c.settle.new.yard _ _ settles.places

@@ -1,7 +1,7 @@
-use Rattle.std.proofs.Common.{◌≡◌, ◌≤◌, ◌<◌, refl, sym, ◌∙◌, arith, length}
+use Rattle.std.proofs.Common.{refl, sym, ◌∙◌, arith, length}
 use Rattle.std.proofs.lemmas.Option.{slice_get_read}
 use Rattle.terminal_core.proofs.Closing.{none_from}
-use Rattle.terminal_core.proofs.terminal.open_place.Goals as goal
+use Rattle.terminal_core.proofs.visits.open_place.Goals as goal
 
 pub returns-then-is_open : goal.returns-then-is_open
 returns-then-is_open c =

@@ -1,4 +1,4 @@
-use Rattle.std.proofs.Common.{◌≡◌, ◌<◌, List, Some, refl, sym, ap, ◌∙◌, arith, subst}
+use Rattle.std.proofs.Common.{◌≡◌, List, Some, sym, ap, ◌∙◌, arith, subst}
 use Rattle.std.specs.Prelude.{slice_get}
 use Rattle.std.proofs.lemmas.Option.{slice_get_within, slice_get-get_or}
 use Rattle.terminal_core.specs.declared.visit.Visit.{Visit}
@@ -6,7 +6,7 @@ use Rattle.terminal_core.specs.Rows.{visit_content}
 use Rattle.terminal_core.specs.Calls.{NoneOpenFrom, IsOpenAt}
 use Rattle.terminal_core.specs.Step.{departure_by, number_of_visit}
 use Rattle.terminal_core.proofs.Closing.{closes, finds, is_found}
-use Rattle.terminal_core.proofs.terminal.close.Goals as goal
+use Rattle.terminal_core.proofs.visits.close.Goals as goal
 
 pub returns-in_default-clause-closed : goal.returns-in_default-clause-closed
 returns-in_default-clause-closed c =

@@ -1,6 +1,6 @@
 use Rattle.edi_messages.specs.Owned.{entry_content}
 use Rattle.terminal_core.proofs.Settled.{settled_there, unsettled_there, settled_first, unsettled_first}
-use Rattle.terminal_core.proofs.terminal.settle.Goals as goal
+use Rattle.terminal_core.proofs.settling.settle.Goals as goal
 
 pub returns-in-Ok-clause-ok : goal.returns-in-Ok-clause-ok
 returns-in-Ok-clause-ok c =

@@ -1,6 +1,6 @@
-use Rattle.std.proofs.Common.{ℕ, ◌≤◌, length}
+use Rattle.std.proofs.Common.{◌≤◌, length}
 use Rattle.terminal_core.specs.Calls.{NoneOpenFrom}
-use Rattle.terminal_core.proofs.terminal.open_place.Given as goal
+use Rattle.terminal_core.proofs.visits.open_place.Given as goal
 
 abbrev pub invariant-loop-place : goal.invariant-loop-place
 invariant-loop-place l = record { within : l.place ≤ length l.visits; none : NoneOpenFrom l.container l.visits l.place }
