@@ -1,3 +1,6 @@
 pub mod Rows
 pub mod State
+pub mod Listings
 pub mod Step
+pub mod Codes
+pub mod Calls

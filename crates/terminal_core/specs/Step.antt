@@ -1,6 +1,5 @@
 -- What an order does at a terminal: the refusals in their order, and otherwise the new state, the outcome and the changes.
 use Rattle.std.specs.Prelude.{ℕ, ◌+◌, Bool, cond, List, [], ◌∷◌, ◌++◌, length, map, nat_le, Option, None, Some, Result, Ok, Err}
-use Rattle.std.specs.Option.{option_map, option_map_or}
 use Rattle.std.specs.FinMap as finite_map
 use Rattle.box6346.specs.SizeCode.{length_of}
 use Rattle.box6346.specs.declared.box_number.BoxNumber.{BoxNumber}
@@ -71,9 +70,10 @@ settled y entry = settled_in y entry entry.slot
 abbrev pub is_full : TerminalState → Bool
 is_full state = nat_le state.limit (length state.visits)
 
-abbrev pub visit_of : TerminalState → Way → Source → EntryContent → Slot → VisitContent
-visit_of state way source entry slot = record {
-  number = length state.visits + 1;
+-- the visit of that number, opened
+abbrev pub opened_by : ℕ → Way → Source → EntryContent → Slot → VisitContent
+opened_by number way source entry slot = record {
+  number = number;
   container = entry.number;
   size_type = entry.size_type;
   is_laden = entry.is_laden;
@@ -81,6 +81,9 @@ visit_of state way source entry slot = record {
   arrival = record { way = way; source = source; moment = entry.moment; slot = slot };
   departure = None;
 }
+
+abbrev pub visit_of : TerminalState → Way → Source → EntryContent → Slot → VisitContent
+visit_of state way source entry slot = opened_by (length state.visits + 1) way source entry slot
 
 -- the container stands, and its visit is opened
 abbrev pub entered_at : TerminalState → Way → Source → EntryContent → Result (YardMap × Slot) YardFault → Stepped
@@ -111,9 +114,11 @@ departed_at state container departure (Ok (y, stood)) =
     stepped (record state { yard = y; visits = close_visit state container departure }) Gone
     (removed_from container ∷ visit_closed (number_of_visit (open_visit state container)) departure ∷ [])
 
+abbrev pub departure_by : Way → Source → CivilMoment → Departure
+departure_by way source moment = record { way = way; source = source; moment = moment }
+
 abbrev pub departed : TerminalState → Way → Source → BoxNumber → CivilMoment → Stepped
-departed state way source container moment =
-    departed_at state container (record { way = way; source = source; moment = moment }) (removed state.yard container)
+departed state way source container moment = departed_at state container (departure_by way source moment) (removed state.yard container)
 
 -- ---- moving
 

@@ -5,13 +5,19 @@ pub mod arrival;
 pub mod change;
 pub mod departure;
 pub mod line_state;
+mod lines;
 pub mod listing;
+mod lists;
 pub mod outcome;
 pub mod reason;
+mod rows;
+mod settling;
 pub mod side;
 pub mod source;
 pub mod stay;
+pub mod terminal;
 pub mod visit;
+mod visits;
 pub mod way;
 
 pub use arrival::Arrival;
@@ -24,5 +30,9 @@ pub use reason::Reason;
 pub use side::Side;
 pub use source::Source;
 pub use stay::Stay;
+pub use terminal::Terminal;
 pub use visit::Visit;
 pub use way::Way;
+
+#[cfg(test)]
+mod tests;

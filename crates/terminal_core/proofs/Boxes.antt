@@ -1,0 +1,45 @@
+-- Which containers are in the yard, one more or less.
+use Rattle.std.proofs.Common.{◌≡◌, List, Bool, true, false, cond, Option, None, Some, is_some, refl, sym, ap, ◌∙◌}
+use Rattle.std.specs.Prelude.{◌&&◌, ◌||◌, not}
+use Rattle.std.specs.FinMap as map
+use Rattle.std.specs.Ordering.{nat_cmp, eq_by_cmp}
+use Rattle.std.specs.Cmp.{eq_by_cmp_equiv}
+use Rattle.std.specs.Cmp.Lexicographic.{slice_cmp, nat_list_cmp_total, texts_ties}
+use Rattle.std.specs.Str.{bytes_eq}
+use Rattle.yard_core.specs.declared.block.Block.{Block}
+use Rattle.yard_core.specs.Plan.{InPlan}
+use Rattle.yard_core.specs.SoundYard.{IsSound}
+use Rattle.yard_core.specs.YardMap.{Box, Boxes}
+use Rattle.yard_core.specs.declared.placement.Placement.{Placement}
+use Rattle.yard_core.proofs.Boxes.{same_box}
+
+pub tied : (b q : Box) → eq_by_cmp (slice_cmp nat_cmp) q b ≡ bytes_eq b q
+tied b q = sym (texts_ties b q ∙ (eq_by_cmp_equiv nat_list_cmp_total).symm b q)
+
+pub same_bytes : (b q : Box) → bytes_eq b q ≡ true → q ≡ b
+same_bytes b q e = same_box q b (tied b q ∙ e)
+
+pub bytes_turned : (a b : Box) → bytes_eq a b ≡ true → bytes_eq b a ≡ true
+bytes_turned a b e = sym (tied b a) ∙ sym (texts_ties a b) ∙ e
+
+there_or : (v : Bool) (s : Placement) (o : Option Placement) → is_some (cond v (Some s) o) ≡ (v || is_some o)
+there_or true s o = refl
+there_or false s o = refl
+
+there_and : (v : Bool) (o : Option Placement) → is_some (cond v None o) ≡ (is_some o && not v)
+there_and true None = refl
+there_and true (Some s) = refl
+there_and false None = refl
+there_and false (Some s) = refl
+
+pub in_placed : (m : Boxes) (b q : Box) (s : Placement) → is_some (map.get (map.insert m b s) q) ≡ (bytes_eq b q || is_some (map.get m q))
+in_placed m b q s =
+    ap is_some (map.get-insert nat_list_cmp_total m b s q ∙ ap (λ v. cond v (Some s) (map.get m q)) (tied b q)) ∙ there_or (bytes_eq b q) s (map.get m q)
+
+pub in_removed : (m : Boxes) (b q : Box) → is_some (map.get (map.remove m b) q) ≡ (is_some (map.get m q) && not (bytes_eq b q))
+in_removed m b q =
+    ap is_some (map.get-remove nat_list_cmp_total m b q ∙ ap (λ v. cond v None (map.get m q)) (tied b q)) ∙ there_and (bytes_eq b q) (map.get m q)
+
+-- a container stands in a slot of the plan
+pub planned : (plan : List Block) (m : Boxes) (b : Box) (s : Placement) → IsSound plan (map.get (map.insert m b s)) → InPlan plan s.slot
+planned plan m b s sound = sound.in_plan b s (map.get-insert nat_list_cmp_total m b s b ∙ ap (λ v. cond v (Some s) (map.get m b)) ((eq_by_cmp_equiv nat_list_cmp_total).refl b))

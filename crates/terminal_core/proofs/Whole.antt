@@ -1,0 +1,123 @@
+-- What an order leaves is whole.
+use Rattle.std.proofs.Common.{◌≡◌, ℕ, ◌+◌, ◌≤◌, ◌<◌, List, [], ◌∷◌, ◌++◌, length, map, Bool, true, false, cond, None, Some, is_some, is_none, refl, sym, ap, ◌∙◌, arith, subst, length-append}
+use Rattle.std.proofs.lemmas.List.{length-map}
+use Rattle.std.specs.Prelude.{filter, ◌&&◌, ◌||◌, not}
+use Rattle.std.specs.FinMap as finite_map
+use Rattle.std.specs.Str.{bytes_eq}
+use Rattle.box6346.specs.declared.box_number.BoxNumber.{BoxNumber}
+use Rattle.box6346.specs.declared.slot.Slot.{Slot}
+use Rattle.yard_core.specs.declared.block.Block.{Block}
+use Rattle.yard_core.specs.declared.placement.Placement.{Placement}
+use Rattle.yard_core.specs.YardMap.{Boxes, YardMap, placement}
+use Rattle.yard_core.specs.Plan.{IsPlan, InPlan}
+use Rattle.yard_core.specs.SoundYard.{IsSound}
+use Rattle.yard_core.specs.Calls.{Places, Removes, Shifts}
+use Rattle.terminal_core.specs.declared.departure.Departure.{Departure}
+use Rattle.terminal_core.specs.Rows.{VisitContent}
+use Rattle.terminal_core.specs.State.{TerminalState, Lines, is_in, open_visit, is_open_visit, IsWhole}
+use Rattle.terminal_core.specs.Step.{closed}
+use Rattle.terminal_core.proofs.Boxes.{in_placed, in_removed, same_bytes, planned}
+use Rattle.terminal_core.proofs.Open.{find_one_more, count_one_more, none_counted, find_mapped, count_mapped, closed_open, numbered_one_more, numbered_closed, or_turned, and_true}
+
+pub whole_empty : (plan : List Block) (yard : YardMap) (limit : ℕ) (visits : List VisitContent) (lines : Lines) → IsPlan plan → yard.plan ≡ plan → yard.boxes ≡ finite_map.empty
+    → IsSound yard.plan (finite_map.get yard.boxes) → visits ≡ [] → IsWhole (record { yard = yard; limit = limit; visits = visits; lines = lines })
+whole_empty plan yard limit visits lines is same none sound nothing =
+    let P : List VisitContent → Type 0 = λ v. IsWhole (record { yard = yard; limit = limit; visits = v; lines = lines }) in
+    subst P (sym nothing) (record {
+      plan = let Q : List Block → Type 0 = IsPlan in subst Q (sym same) is;
+      sound = sound;
+      numbered = tt;
+      within = omega arith;
+      one_visit = λ container. omega arith;
+      here = λ container. ap (λ (boxes : Boxes). is_some (finite_map.get boxes container)) none ∙ ap is_some (finite_map.get-empty _ container);
+    })
+
+-- lists have no part in it
+pub whole_listed : (state : TerminalState) (lines : Lines) → IsWhole state → IsWhole (record state { lines = lines })
+whole_listed state lines whole = record { plan = whole.plan; sound = whole.sound; numbered = whole.numbered; within = whole.within; one_visit = whole.one_visit; here = whole.here }
+
+-- the yard stayed
+pub whole_stays : (state : TerminalState) (y : YardMap) → IsWhole state → y ≡ state.yard → IsWhole (record state { yard = y })
+whole_stays state y whole e = let P : YardMap → Type 0 = λ v. IsWhole (record state { yard = v }) in subst P (sym e) whole
+
+-- the visits are these
+pub whole_with : (state : TerminalState) (y : YardMap) (visits others : List VisitContent) → others ≡ visits → IsWhole (record state { yard = y; visits = visits }) → IsWhole (record state { yard = y; visits = others })
+whole_with state y visits others e whole = let P : List VisitContent → Type 0 = λ v. IsWhole (record state { yard = y; visits = v }) in subst P (sym e) whole
+
+-- ---- coming
+
+in_after : (state : TerminalState) (y : YardMap) (b q : BoxNumber) (s : Placement) → y.boxes ≡ finite_map.insert state.yard.boxes b s → is_some (finite_map.get y.boxes q) ≡ (bytes_eq b q || is_in state q)
+in_after state y b q s e = ap (λ (boxes : Boxes). is_some (finite_map.get boxes q)) e ∙ in_placed state.yard.boxes b q s
+
+one_open : (state : TerminalState) (visit : VisitContent) (q : BoxNumber) (is : Bool) → IsWhole state → finite_map.get state.yard.boxes visit.container ≡ None → bytes_eq visit.container q ≡ is
+    → length (filter (is_open_visit q) state.visits) + cond is 1 0 ≤ 1
+one_open state visit q true whole absent e =
+    let same : q ≡ visit.container = same_bytes visit.container q e in
+    let gone : is_in state q ≡ false = ap (is_in state) same ∙ ap is_some absent in
+    let none : length (filter (is_open_visit q) state.visits) ≡ 0 = none_counted (is_open_visit q) state.visits (sym (whole.here q) ∙ gone) in
+    omega arith
+one_open state visit q false whole absent e = let one : length (filter (is_open_visit q) state.visits) ≤ 1 = whole.one_visit q in omega arith
+
+pub whole_entered : (state : TerminalState) (y : YardMap) (visit : VisitContent) (s : Placement) → IsWhole state → Places state.yard y visit.container s → IsSound y.plan (finite_map.get y.boxes)
+    → visit.number ≡ length state.visits + 1 → visit.departure ≡ None → length state.visits < state.limit
+    → IsWhole (record state { yard = y; visits = state.visits ++ visit ∷ [] })
+whole_entered state y visit s whole places sound number still room =
+    let open_ : (q : BoxNumber) → is_open_visit q visit ≡ bytes_eq visit.container q = λ q. ap (λ d. bytes_eq visit.container q && is_none d) still ∙ and_true _ in
+    record {
+      plan = let P : List Block → Type 0 = IsPlan in subst P (sym places.plan) whole.plan;
+      sound = sound;
+      numbered = numbered_one_more 1 state.visits visit whole.numbered number;
+      within = simp length-append (omega arith);
+      one_visit = λ q.
+          let counted : length (filter (is_open_visit q) (state.visits ++ visit ∷ [])) ≡ length (filter (is_open_visit q) state.visits) + cond (bytes_eq visit.container q) 1 0 =
+          count_one_more (is_open_visit q) state.visits visit ∙ ap (λ v. length (filter (is_open_visit q) state.visits) + cond v 1 0) (open_ q) in
+          let few : length (filter (is_open_visit q) state.visits) + cond (bytes_eq visit.container q) 1 0 ≤ 1 = one_open state visit q (bytes_eq visit.container q) whole places.absent refl in
+          omega arith;
+      here = λ q.
+          in_after state y visit.container q s places.boxes ∙ ap (λ v. bytes_eq visit.container q || v) (whole.here q) ∙ or_turned (bytes_eq visit.container q) (is_some (open_visit state q))
+          ∙ ap (λ v. is_some (open_visit state q) || v) (sym (open_ q)) ∙ sym (find_one_more (is_open_visit q) state.visits visit);
+    }
+
+-- ---- going
+
+pub whole_departed : (state : TerminalState) (y : YardMap) (b : BoxNumber) (departure : Departure) (s : Placement) → IsWhole state → Removes state.yard y b s → IsSound y.plan (finite_map.get y.boxes)
+    → IsWhole (record state { yard = y; visits = map (closed departure b) state.visits })
+whole_departed state y b departure s whole removes sound = record {
+  plan = let P : List Block → Type 0 = IsPlan in subst P (sym removes.plan) whole.plan;
+  sound = sound;
+  numbered = numbered_closed departure b 1 state.visits whole.numbered;
+  within = let same : length (map (closed departure b) state.visits) ≡ length state.visits = length-map state.visits (closed departure b) in let few : length state.visits ≤ state.limit = whole.within in omega arith;
+  one_visit = λ q.
+      let fewer : length (filter (is_open_visit q) (map (closed departure b) state.visits)) ≤ length (filter (is_open_visit q) state.visits) =
+      count_mapped (is_open_visit q) (is_open_visit q) (closed departure b) (not (bytes_eq b q)) (closed_open departure b q) state.visits in
+      let few : length (filter (is_open_visit q) state.visits) ≤ 1 = whole.one_visit q in
+      omega arith;
+  here = λ q.
+      ap (λ (boxes : Boxes). is_some (finite_map.get boxes q)) removes.boxes ∙ in_removed state.yard.boxes b q ∙ ap (λ v. v && not (bytes_eq b q)) (whole.here q)
+      ∙ sym (find_mapped (is_open_visit q) (is_open_visit q) (closed departure b) (not (bytes_eq b q)) (closed_open departure b q) state.visits);
+}
+
+-- ---- moving
+
+still_in : (state : TerminalState) (b q : BoxNumber) (s : Placement) (is : Bool) → finite_map.get state.yard.boxes b ≡ Some s → bytes_eq b q ≡ is → (is || is_in state q) ≡ is_in state q
+still_in state b q s true stood e = sym (ap (is_in state) (same_bytes b q e) ∙ ap is_some stood)
+still_in state b q s false stood e = refl
+
+pub whole_moved : (state : TerminalState) (y : YardMap) (b : BoxNumber) (slot : Slot) (s : Placement) → IsWhole state → Shifts state.yard y b s slot → IsSound y.plan (finite_map.get y.boxes)
+    → IsWhole (record state { yard = y })
+whole_moved state y b slot s whole shifts sound = record {
+  plan = let P : List Block → Type 0 = IsPlan in subst P (sym shifts.plan) whole.plan;
+  sound = sound;
+  numbered = whole.numbered;
+  within = whole.within;
+  one_visit = whole.one_visit;
+  here = λ q. in_after state y b q _ shifts.boxes ∙ still_in state b q s (bytes_eq b q) shifts.stood refl ∙ whole.here q;
+}
+
+-- ---- slots of the plan
+
+pub placed_in_plan : (old new : YardMap) (b : BoxNumber) (s : Placement) → Places old new b s → InPlan new.plan s.slot
+placed_in_plan old new b s places = let P : List Block → Type 0 = λ p. InPlan p s.slot in subst P (sym places.plan) (planned old.plan old.boxes b s places.fits)
+
+pub shifted_in_plan : (old new : YardMap) (b : BoxNumber) (s : Placement) (slot : Slot) → Shifts old new b s slot → InPlan new.plan slot
+shifted_in_plan old new b s slot shifts = let P : List Block → Type 0 = λ p. InPlan p slot in subst P (sym shifts.plan) (planned old.plan (finite_map.remove old.boxes b) b (placement s.length slot) shifts.fits)

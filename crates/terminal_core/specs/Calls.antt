@@ -1,0 +1,61 @@
+-- What the calls on a terminal do and answer.
+use Rattle.std.specs.Prelude.{◌≡◌, ℕ, ◌≤◌, Bool, true, false, List, ◌++◌, slice_get, Some, Ok, Err, find, filter, length, is_some}
+use Rattle.box6346.specs.SizeCode.{length_of}
+use Rattle.box6346.specs.declared.box_number.BoxNumber.{BoxNumber}
+use Rattle.box6346.specs.declared.slot.Slot.{Slot}
+use Rattle.edi_messages.specs.Orders.{EntryContent}
+use Rattle.yard_core.specs.declared.block.Block.{Block}
+use Rattle.yard_core.specs.Plan.{InPlan}
+use Rattle.yard_core.specs.YardMap.{YardMap, placement}
+use Rattle.yard_core.specs.Calls.{Places}
+use Rattle.yard_core.specs.declared.yard_fault.YardFault.{YardFault}
+use Rattle.terminal_core.specs.declared.outcome.Outcome.{Outcome}
+use Rattle.terminal_core.specs.declared.outcome.Outcome.TheVariants.{Done, Gone, Listed, Refused}
+use Rattle.terminal_core.specs.declared.reason.Reason.{Reason}
+use Rattle.terminal_core.specs.declared.visit.Visit.{Visit}
+use Rattle.terminal_core.specs.Rows.{VisitContent, ChangeContent, visit_content}
+use Rattle.terminal_core.specs.State.{TerminalState, is_open_visit}
+use Rattle.terminal_core.specs.Step.{Stepped, settled, reason_of}
+
+-- the state, the answer and the changes that were added are those of a step
+pub record Follows (step : Stepped) (now : TerminalState) (answer : Outcome) (old new : List ChangeContent) : Type 0 where
+  pub state : now ≡ step.state
+  pub outcome : answer ≡ step.outcome
+  pub changes : new ≡ old ++ step.changes
+
+-- the container of an entry was placed
+pub record Settles (old new : YardMap) (entry : EntryContent) (slot : Slot) : Type 0 where
+  pub settled : settled old entry ≡ Ok (new, slot)
+  pub places : Places old new entry.number (placement (length_of entry.size_type) slot)
+
+-- the container of an entry was not placed
+pub record Unsettled (old : YardMap) (entry : EntryContent) (given : Reason) : Type 0 where
+  pub fault : YardFault
+  pub settled : settled old entry ≡ Err fault
+  pub reason : given ≡ reason_of fault
+
+-- the container has one open visit
+pub record HasOneVisit (container : BoxNumber) (visits : List VisitContent) : Type 0 where
+  pub one_visit : length (filter (is_open_visit container) visits) ≤ 1
+  pub here : is_some (find (is_open_visit container) visits) ≡ true
+
+-- no visit from that place on is the container's and open
+abbrev pub NoneOpenFrom : BoxNumber → List Visit → ℕ → Type 0
+NoneOpenFrom container visits first = (k : ℕ) (visit : Visit) → first ≤ k → slice_get visits k ≡ Some visit → is_open_visit container (visit_content visit) ≡ false
+
+-- the visit at that place is
+abbrev pub IsOpenAt : BoxNumber → List Visit → ℕ → Type 0
+IsOpenAt container visits place = (visit : Visit) × (slice_get visits place ≡ Some visit) × (is_open_visit container (visit_content visit) ≡ true)
+
+-- the slot that an outcome tells is one of the plan's
+abbrev pub IsPlanned : List Block → Outcome → Type 0
+IsPlanned plan (Done slot) = InPlan plan slot
+IsPlanned plan Gone = Unit {0}
+IsPlanned plan Listed = Unit {0}
+IsPlanned plan (Refused reason) = Unit {0}
+
+abbrev pub is_refused : Outcome → Bool
+is_refused (Done slot) = false
+is_refused Gone = false
+is_refused Listed = false
+is_refused (Refused reason) = true

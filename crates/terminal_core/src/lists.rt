@@ -1,0 +1,117 @@
+ghost use Rattle.std.specs.Prelude.{◌≡◌, length, IfOk, OnOk, OnErr, MatchOption, None, Some};
+ghost use Rattle.std.specs.Option.{option_map};
+ghost use Rattle.std.specs.FinMap as finite_map;
+ghost use Rattle.edi_messages.specs.Owned.{call_content};
+ghost use Rattle.terminal_core.specs.State.{LineContent, line_key};
+ghost use Rattle.terminal_core.specs.Listings.{key_of, line_content, is_line, is_side, NoneBefore, IsFirstAt};
+
+use crate::line_state::LineState;
+use crate::lines::copied_lines;
+use crate::listing::Listing;
+use crate::side::Side;
+use box6346::BoxNumber;
+use edi_messages::Call;
+use std::alloc::{AllocError, Global};
+use std::marker::Model;
+
+/// The vessels' lists, seen as the map from each line's call, side and container to its port and state.
+#[derive(Drop)]
+pub(crate) struct Lists {
+    rows: Vec<Listing>,
+}
+
+impl Model for Lists {
+    ghost use Rattle.terminal_core.specs.State.{Lines};
+    ghost use Rattle.terminal_core.specs.Codes.{lines_code};
+
+    ghost Value = { Lines };
+
+    ghost coded = { lines_code };
+
+    ghost use Rattle.terminal_core.specs.Listings.{lines_of};
+
+    ghost view = { λ l. lines_of l.rows.items };
+}
+
+impl Lists {
+    pub(crate) fn new(alloc: Global) -> Lists
+        ensures { result ≡ finite_map.empty }
+    {
+        Lists {
+            rows: Vec::new(alloc),
+        }
+    }
+
+    pub(crate) fn copy(&self, alloc: Global) -> Result<Lists, AllocError>
+        ensures { IfOk result (λ l. l ≡ self.now) }
+    {
+        let rows = copied_lines(alloc, &self.rows)?;
+        Ok(Lists { rows })
+    }
+
+    /// How far a line is, if there is one.
+    pub(crate) fn state(&self, call: &Call, side: Side, container: BoxNumber) -> Option<LineState>
+        ensures { result ≡ option_map (λ l. l.state) (finite_map.get self.now (line_key (call_content call.now) side container)) }
+    {
+        match place_of(&self.rows, call, side, container) {
+            Some(place) => Some(self.rows[place].state),
+            None => None,
+        }
+    }
+
+    /// Adds a line that isn't there.
+    pub(crate) fn add(&mut self, line: Listing) -> Result<(), AllocError>
+        requires { finite_map.get self.old (key_of line) ≡ None }
+        ensures ok { OnOk result (self.new ≡ finite_map.insert self.old (key_of line) (line_content line)) }
+        ensures err { OnErr result (self.new ≡ self.old) }
+    {
+        self.rows.push(line)?;
+        Ok(())
+    }
+
+    /// Has a line that is there be done.
+    pub(crate) fn finish(&mut self, call: &Call, side: Side, container: BoxNumber)
+        ensures { (line : LineContent) → finite_map.get self.old (line_key (call_content call.now) side container) ≡ Some line → self.new ≡ finite_map.insert self.old (line_key (call_content call.now) side container) (record line { state = LineState.Done }) }
+    {
+        if let Some(place) = place_of(&self.rows, call, side, container) {
+            let row = &mut self.rows[place];
+            row.state = LineState::Done;
+        }
+    }
+}
+
+// Where the line stands.
+fn place_of(rows: &[Listing], call: &Call, side: Side, container: BoxNumber) -> Option<usize>
+    ensures { MatchOption result (NoneBefore (call_content call.now) side container rows.now (length rows.now)) (IsFirstAt (call_content call.now) side container rows.now) }
+{
+    for (place, row) in rows.iter().enumerate() {
+        if is_line(row, call, side, container) {
+            return Some(place);
+        }
+    }
+    None
+}
+
+fn is_line(row: &Listing, call: &Call, side: Side, container: BoxNumber) -> bool
+    ensures { result ≡ is_line (call_content call.now) side container row.now }
+{
+    row.container == container
+        && is_side(row.side, side)
+        && row.call.voyage.as_str() == call.voyage.as_str()
+        && row.call.vessel.as_str() == call.vessel.as_str()
+}
+
+fn is_side(a: Side, b: Side) -> bool
+    ensures { result ≡ is_side a b }
+{
+    match a {
+        Side::Load => match b {
+            Side::Load => true,
+            Side::Discharge => false,
+        },
+        Side::Discharge => match b {
+            Side::Load => false,
+            Side::Discharge => true,
+        },
+    }
+}
