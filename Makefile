@@ -1,19 +1,24 @@
-.PHONY: demo test build strength
+.PHONY: demo test build strength bench
 
 # The main job on a real interchange, by a build that proves nothing (`make build` leaves the proved program).
 demo:
 	@echo "(an unproved build: 'make build' leaves the proved one)"
-	@cd crates/office && rt try < ../../examples/gate-in.edi
+	@cd crates/office && rt try -- demo < ../../examples/gate-in.edi
 
 # The gate: every proof from nothing, the edits that must fail, every test, and the program as two compilers build it.
 test:
 	rt ci
 
-# The proved program, as crates/office/out/office.
+# The proved program, as crates/office/out/office, which then answers the example.
 build:
-	rt all check
-	cd crates/office && rt build
+	cd crates/office && rt run -- demo < ../../examples/gate-in.edi
 
 # The planted edits, which the gate does not try: `make strength` or `make strength NAME=yard_core`.
 strength:
 	scripts/strength $(NAME)
+
+# The times of syntax, yard and stream.
+bench: build
+	crates/edi_syntax/bench.sh
+	crates/yard_core/bench.sh
+	crates/office/bench.sh
