@@ -1,13 +1,12 @@
 ghost use Rattle.std.specs.Prelude.{◌≡◌, List, IfOk, IfErr, string_bytes, length};
 ghost use Rattle.edi_syntax.specs.Envelope.{header_of, messages_of};
 ghost use Rattle.edi_syntax.specs.Envelopes.{envelope_segments};
-ghost use Rattle.edi_moments.specs.Moments.{CivilMoment};
-ghost use Rattle.edi_syntax.specs.Header.{preparation};
 ghost use Rattle.partner_core.specs.Numbered.{with_number};
 ghost use Rattle.office_machine.specs.Taking.{MachineState, messages_taken, reply_to, source_in};
 
 use crate::message::{take_messages, verdicts_of};
 use edi_messages::{CodeTable, Codes, PartnerKind, write_contrl};
+use edi_moments::Moment;
 use edi_syntax::{Envelope, open_envelope};
 use office_replies::{reply, text_of};
 use partner_core::Machine;
@@ -77,7 +76,15 @@ impl Machine for TerminalMachine {
             Ok(envelope) => {
                 let mut terminal = self.terminal.copy(alloc)?;
                 let codes = Codes::for_kind(&self.codes, kind);
-                let reply = take_interchange(alloc, &mut terminal, &codes, partner, &envelope)?;
+                let opened = envelope.head().moment();
+                let reply = take_interchange(
+                    alloc,
+                    &mut terminal,
+                    &codes,
+                    partner,
+                    opened,
+                    &envelope,
+                )?;
                 self.terminal = terminal;
                 Ok(reply)
             }
@@ -96,32 +103,24 @@ impl Machine for TerminalMachine {
     }
 }
 
-/// Takes the messages of an interchange, and answers the reply.
+/// Takes the messages of an interchange that was prepared at that moment, and answers the reply.
 fn take_interchange(
     alloc: Global,
     terminal: &mut Terminal,
     codes: &Codes,
     partner: u16,
+    opened: Moment,
     envelope: &Envelope<'_>,
 ) -> Result<String, AllocError>
-    ensures state { IfOk result (λ text. (opened : CivilMoment) → preparation (header_of (envelope_segments envelope.now)) ≡ Some opened →
-        terminal.new ≡ (messages_taken terminal.old codes.now (source_in partner (header_of (envelope_segments envelope.now))) opened (messages_of (envelope_segments envelope.now))).0) }
-    ensures reply { IfOk result (λ text. (opened : CivilMoment) → preparation (header_of (envelope_segments envelope.now)) ≡ Some opened →
-        string_bytes text ≡ reply_to (envelope_segments envelope.now) (messages_taken terminal.old codes.now (source_in partner (header_of (envelope_segments envelope.now))) opened (messages_of (envelope_segments envelope.now))).1) }
+    ensures state { IfOk result (λ text. terminal.new ≡ (messages_taken terminal.old codes.now (source_in partner (header_of (envelope_segments envelope.now))) opened (messages_of (envelope_segments envelope.now))).0) }
+    ensures reply { IfOk result (λ text. string_bytes text ≡ reply_to (envelope_segments envelope.now) (messages_taken terminal.old codes.now (source_in partner (header_of (envelope_segments envelope.now))) opened (messages_of (envelope_segments envelope.now))).1) }
 {
     let head = envelope.head();
     let source = Source {
         partner,
         number: head.number(),
     };
-    let reports = take_messages(
-        alloc,
-        terminal,
-        codes,
-        source,
-        head.moment(),
-        envelope.frames(),
-    )?;
+    let reports = take_messages(alloc, terminal, codes, source, opened, envelope.frames())?;
     let verdicts = verdicts_of(alloc, &reports)?;
     let contrl = write_contrl(alloc, envelope, &verdicts)?;
     let contrl = text_of(alloc, &contrl)?;

@@ -1,8 +1,9 @@
-ghost use Rattle.std.specs.Prelude.{◌≡◌, IfOk, map, string_bytes, encode_utf8_all};
+ghost use Rattle.std.specs.Prelude.{◌≡◌, ◌≢◌, IfOk, OnOk, map, string_bytes, encode_utf8_all};
 ghost use Rattle.edi_syntax.specs.Frames.{message, messages_left};
 ghost use Rattle.edi_syntax.specs.Messages.{message_reference};
 ghost use Rattle.edi_messages.specs.Message.{reading};
 ghost use Rattle.office_replies.specs.Messages.{verdict_content, report_content};
+ghost use Rattle.edi_messages.specs.declared.message_fault.MessageFault.{MessageFault};
 ghost use Rattle.office_machine.specs.Taking.{verdict_on, verdict_of, verdicts_of, messages_taken};
 
 use crate::line::take_lines;
@@ -51,8 +52,18 @@ fn take_message(
             let lines = take_lines(alloc, terminal, source, message.lines.as_slice())?;
             Ok(MessageVerdict::Accepted(lines))
         }
-        Err(MessageFault::Memory) => Err(AllocError),
-        Err(fault) => Ok(MessageVerdict::Rejected(fault)),
+        Err(fault) => Ok(MessageVerdict::Rejected(unless_memory(fault)?)),
+    }
+}
+
+/// A fault that a reply can tell.
+fn unless_memory(fault: MessageFault) -> Result<MessageFault, AllocError>
+    ensures same { IfOk result (λ told. told ≡ fault) }
+    ensures told { OnOk result (fault ≢ MessageFault.Memory) }
+{
+    match fault {
+        MessageFault::Memory => Err(AllocError),
+        other => Ok(other),
     }
 }
 
@@ -83,8 +94,6 @@ fn verdict_of(verdict: &MessageVerdict) -> Verdict
 {
     match verdict {
         MessageVerdict::Accepted(_) => Verdict::Accepted,
-        MessageVerdict::Rejected(fault) => {
-            Verdict::Rejected(message_error(*fault).unwrap_or(0))
-        }
+        MessageVerdict::Rejected(fault) => { Verdict::Rejected(message_error(*fault).unwrap_or(0)) }
     }
 }
