@@ -38,20 +38,10 @@ impl Setup {
 
     /// A desk to which nothing has been delivered, with an empty terminal behind it.
     pub fn open(self, alloc: Global) -> Result<Desk<TerminalMachine>, SetupFault> {
-        if self.accounts.len() > 999 {
-            return Err(SetupFault::Partners);
-        }
         let plan = match Plan::new(self.blocks.as_slice()) {
             Ok(plan) => plan,
             Err(fault) => return Err(SetupFault::Blocks(fault)),
         };
-        match self.open_planned(alloc, plan) {
-            Ok(desk) => Ok(desk),
-            Err(_) => Err(SetupFault::Memory),
-        }
-    }
-
-    fn open_planned(self, alloc: Global, plan: Plan) -> Result<Desk<TerminalMachine>, AllocError> {
         let Setup {
             terminal,
             codes,
@@ -59,16 +49,36 @@ impl Setup {
             blocks: _,
             visit_limit,
         } = self;
-        let mut partners = Vec::new(alloc);
-        let mut kinds = Vec::new(alloc);
-        for account in accounts {
-            let Account { code, kind } = account;
-            partners.push(code)?;
-            kinds.push(kind)?;
+        let Ok((partners, kinds)) = parted(alloc, accounts) else {
+            return Err(SetupFault::Memory);
+        };
+        if partners.len() > 999 {
+            return Err(SetupFault::Partners);
         }
-        let machine = TerminalMachine::new(codes, kinds, Terminal::new(alloc, plan, visit_limit)?);
-        Desk::new(alloc, terminal, partners, machine)
+        let Ok(empty) = Terminal::new(alloc, plan, visit_limit) else {
+            return Err(SetupFault::Memory);
+        };
+        let machine = TerminalMachine::new(codes, kinds, empty);
+        match Desk::new(alloc, terminal, partners, machine) {
+            Ok(desk) => Ok(desk),
+            Err(_) => Err(SetupFault::Memory),
+        }
     }
+}
+
+/// The codes of the accounts, and beside them what each is.
+fn parted(
+    alloc: Global,
+    accounts: Vec<Account>,
+) -> Result<(Vec<String>, Vec<PartnerKind>), AllocError> {
+    let mut partners = Vec::new(alloc);
+    let mut kinds = Vec::new(alloc);
+    for account in accounts {
+        let Account { code, kind } = account;
+        partners.push(code)?;
+        kinds.push(kind)?;
+    }
+    Ok((partners, kinds))
 }
 
 fn demo_setup(alloc: Global, codes: CodeTable) -> Result<Setup, AllocError> {
