@@ -1,0 +1,9 @@
+use edi_messages::PartnerKind;
+
+/// A partner of the terminal.
+#[derive(Drop)]
+pub struct Account {
+    /// The code by which interchanges name it as their sender.
+    pub code: String,
+    pub kind: PartnerKind,
+}

@@ -1,0 +1,29 @@
+use crate::demo_fault::DemoFault;
+use crate::setup::Setup;
+use office_replies::Worst;
+use office_stream::{Port, run_stream};
+use std::alloc::Global;
+use std::io::{Read, Write};
+
+/// How many reads of the input are made.
+const TURNS: u64 = 100_000_000;
+
+/// Delivers the interchanges of a reader to a desk of the demonstration's set-up, and writes the answer to each as a line.
+pub fn run_demo<R: Read, W: Write>(
+    alloc: Global,
+    reader: &mut Port<R>,
+    writer: &mut Port<W>,
+) -> Result<Worst, DemoFault> {
+    let setup = match Setup::demo(alloc) {
+        Ok(setup) => setup,
+        Err(fault) => return Err(DemoFault::Setup(fault)),
+    };
+    let mut desk = match setup.open(alloc) {
+        Ok(desk) => desk,
+        Err(fault) => return Err(DemoFault::Setup(fault)),
+    };
+    match run_stream(alloc, reader, writer, &mut desk, TURNS) {
+        Ok(worst) => Ok(worst),
+        Err(fault) => Err(DemoFault::Stream(fault)),
+    }
+}

@@ -1,0 +1,32 @@
+//! The office of a container terminal. `office demo` takes interchanges from standard input to a terminal in memory, and
+//! prints the answer to each.
+#![tactic(auto)]
+
+mod account;
+mod command;
+mod demo;
+mod demo_fault;
+mod setup;
+mod setup_fault;
+#[cfg(test)]
+mod tests;
+
+use office_stream::Port;
+use std::process::ExitCode;
+use std::{env, io};
+
+fn main(rt: HostRuntime) -> io::Result<ExitCode> {
+    let alloc = rt.alloc();
+    let words: Vec<String> = env::args(&rt)?.collect(alloc)?;
+    let mut input = Port::new(rt.stdin());
+    let mut output = Port::new(rt.stdout());
+    let mut errors = rt.stderr();
+    let status = command::run(
+        alloc,
+        words.as_slice(),
+        &mut input,
+        &mut output,
+        &mut errors,
+    );
+    Ok(ExitCode::from(status))
+}

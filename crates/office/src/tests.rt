@@ -1,0 +1,55 @@
+//! The demonstration's desk and the program on it, by the bytes that come in and those that are answered.
+
+mod interchanges;
+mod lists;
+mod streams;
+
+use crate::command;
+use crate::setup::Setup;
+use office_stream::{Deliver, Port};
+use std::alloc::Global;
+use std::process::Abort;
+use std::test::Fail;
+
+/// Delivers each text to a desk to which nothing had been delivered, and holds the body of its answer to the one beside.
+fn assert_answers(rt: &impl Abort, alloc: Global, rows: &[(&[u8], &str)]) -> Result<(), Fail> {
+    let setup = Setup::demo(alloc).expect(rt, "a set-up");
+    let mut desk = setup.open(alloc).expect(rt, "a desk");
+    for (delivered, expected) in rows {
+        let response = desk.deliver(alloc, delivered);
+        let mut body = String::from_str(alloc, response.front())?;
+        body.push_str(response.reply())?;
+        body.push_str(response.back())?;
+        assert_eq!(rt; body.as_str(), *expected);
+    }
+    Ok(())
+}
+
+/// Runs the program on a word and an input, and holds what it prints, what it tells and its status to those expected.
+fn assert_prints(
+    rt: &impl Abort,
+    alloc: Global,
+    word: &str,
+    input: &[u8],
+    expected: (&str, &str, u8),
+) -> Result<(), Fail> {
+    let mut words = Vec::new(alloc);
+    words.push(String::from_str(alloc, "office")?)?;
+    words.push(String::from_str(alloc, word)?)?;
+    let mut reader = Port::new(input);
+    let mut writer = Port::new(Vec::new(alloc));
+    let mut errors = Vec::new(alloc);
+    let status = command::run(
+        alloc,
+        words.as_slice(),
+        &mut reader,
+        &mut writer,
+        &mut errors,
+    );
+    let (lines, told, wanted) = expected;
+    let printed = writer.into_inner();
+    assert_eq!(rt; printed.as_slice(), lines.as_bytes());
+    assert_eq!(rt; errors.as_slice(), told.as_bytes());
+    assert_eq!(rt; status, wanted);
+    Ok(())
+}

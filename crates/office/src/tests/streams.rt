@@ -1,0 +1,91 @@
+//! Streams, by what is printed and the exit status.
+
+use super::assert_prints;
+use std::test::Fail;
+
+#[test]
+fn each_interchange_of_a_stream_has_its_line(rt: HostRuntime) -> Result<(), Fail> {
+    assert_prints(
+        &rt,
+        rt.alloc(),
+        "demo",
+        b"UNB+UNOA:3+HAULA+TERM1+240305:0910+000001'UNH+1+CODECO:D:95B:UN:ITG14'BGM+34+G1+9'EQD+CN+ABCU0000017+22G1:102:5+++5'UNT+4+1'UNZ+1+000001'\r\nUNB+UNOA:3+HAULA+TERM1+240305:0910+2'UNH+1+CODECO:D:95B:UN'BGM+34+G1+9'EQD+CN+ABCU0000022+22G1:102:5+++5'UNT+4+1'UNZ+1+2'",
+        (
+            "{\"answer\":\"taken\",\"number\":1,\"partner\":\"HAULA\",\"reply\":{\"contrl\":\"UNB+UNOA:3+TERM1+HAULA+240305:0910+000001'UNH+1+CONTRL:D:3:UN'UCI+000001+HAULA+TERM1+7'UCM+1+CODECO:D:95B:UN:ITG14+7'UNT+4+1'UNZ+1+000001'\",\"messages\":[{\"lines\":[{\"box\":\"ABCU0000017\",\"line\":1,\"outcome\":\"done\",\"slot\":\"A001011\"}],\"reference\":\"1\",\"result\":\"accepted\"}]}}\n{\"answer\":\"taken\",\"number\":2,\"partner\":\"HAULA\",\"reply\":{\"contrl\":\"UNB+UNOA:3+TERM1+HAULA+240305:0910+2'UNH+1+CONTRL:D:3:UN'UCI+2+HAULA+TERM1+7'UCM+1+CODECO:D:95B:UN+7'UNT+4+1'UNZ+1+2'\",\"messages\":[{\"lines\":[{\"box\":\"ABCU0000022\",\"line\":1,\"outcome\":\"done\",\"slot\":\"A001021\"}],\"reference\":\"1\",\"result\":\"accepted\"}]}}\n",
+            "",
+            0,
+        ),
+    )
+}
+
+#[test]
+fn a_stream_that_ends_within_an_interchange_says_so(rt: HostRuntime) -> Result<(), Fail> {
+    assert_prints(
+        &rt,
+        rt.alloc(),
+        "demo",
+        b"UNB+UNOA:3+HAULA+TERM1+240305:0910+000001'UNH+1+CODECO:D:95B:UN:ITG14'BGM+34+G1+9'EQD+CN+ABCU0000017+22G1:102:5+++5'UNT+4+1'UNZ+1+000001'\r\nUNB+UNOA:3+HAULA+TERM1+240305:0910+2'UNH+1+CODECO:D:95B:UN'BGM+34+G1+9'EQD+CN+ABCU0000022+22G1:102:5+++5'UNT+4+1'UNZ+1",
+        (
+            "{\"answer\":\"taken\",\"number\":1,\"partner\":\"HAULA\",\"reply\":{\"contrl\":\"UNB+UNOA:3+TERM1+HAULA+240305:0910+000001'UNH+1+CONTRL:D:3:UN'UCI+000001+HAULA+TERM1+7'UCM+1+CODECO:D:95B:UN:ITG14+7'UNT+4+1'UNZ+1+000001'\",\"messages\":[{\"lines\":[{\"box\":\"ABCU0000017\",\"line\":1,\"outcome\":\"done\",\"slot\":\"A001011\"}],\"reference\":\"1\",\"result\":\"accepted\"}]}}\n{\"answer\":\"cut\",\"fault\":\"End\"}\n",
+            "",
+            1,
+        ),
+    )
+}
+
+#[test]
+fn a_stream_of_nothing_has_no_line(rt: HostRuntime) -> Result<(), Fail> {
+    assert_prints(&rt, rt.alloc(), "demo", b"", ("", "", 0))
+}
+
+#[test]
+fn noise_is_cut(rt: HostRuntime) -> Result<(), Fail> {
+    assert_prints(
+        &rt,
+        rt.alloc(),
+        "demo",
+        b"GET /yard HTTP/1.1\r\n\r\n",
+        ("{\"answer\":\"cut\",\"fault\":\"Segment\"}\n", "", 1),
+    )
+}
+
+#[test]
+fn a_repeat_in_a_stream_is_no_refusal(rt: HostRuntime) -> Result<(), Fail> {
+    assert_prints(
+        &rt,
+        rt.alloc(),
+        "demo",
+        b"UNB+UNOA:3+HAULA+TERM1+240305:0910+000001'UNH+1+CODECO:D:95B:UN:ITG14'BGM+34+G1+9'EQD+CN+ABCU0000017+22G1:102:5+++5'UNT+4+1'UNZ+1+000001'UNB+UNOA:3+HAULA+TERM1+240305:0910+000001'UNH+1+CODECO:D:95B:UN:ITG14'BGM+34+G1+9'EQD+CN+ABCU0000017+22G1:102:5+++5'UNT+4+1'UNZ+1+000001'",
+        (
+            "{\"answer\":\"taken\",\"number\":1,\"partner\":\"HAULA\",\"reply\":{\"contrl\":\"UNB+UNOA:3+TERM1+HAULA+240305:0910+000001'UNH+1+CONTRL:D:3:UN'UCI+000001+HAULA+TERM1+7'UCM+1+CODECO:D:95B:UN:ITG14+7'UNT+4+1'UNZ+1+000001'\",\"messages\":[{\"lines\":[{\"box\":\"ABCU0000017\",\"line\":1,\"outcome\":\"done\",\"slot\":\"A001011\"}],\"reference\":\"1\",\"result\":\"accepted\"}]}}\n{\"answer\":\"repeat\",\"number\":1,\"partner\":\"HAULA\",\"reply\":{\"contrl\":\"UNB+UNOA:3+TERM1+HAULA+240305:0910+000001'UNH+1+CONTRL:D:3:UN'UCI+000001+HAULA+TERM1+7'UCM+1+CODECO:D:95B:UN:ITG14+7'UNT+4+1'UNZ+1+000001'\",\"messages\":[{\"lines\":[{\"box\":\"ABCU0000017\",\"line\":1,\"outcome\":\"done\",\"slot\":\"A001011\"}],\"reference\":\"1\",\"result\":\"accepted\"}]}}\n",
+            "",
+            0,
+        ),
+    )
+}
+
+#[test]
+fn a_clash_in_a_stream_is_a_refusal(rt: HostRuntime) -> Result<(), Fail> {
+    assert_prints(
+        &rt,
+        rt.alloc(),
+        "demo",
+        b"UNB+UNOA:3+HAULA+TERM1+240305:0910+000001'UNH+1+CODECO:D:95B:UN:ITG14'BGM+34+G1+9'EQD+CN+ABCU0000017+22G1:102:5+++5'UNT+4+1'UNZ+1+000001'UNB+UNOA:3+HAULA+TERM1+240305:0910+000001'UNH+1+CODECO:D:95B:UN:ITG14'BGM+34+G2+9'EQD+CN+ABCU0000017+22G1:102:5+++5'UNT+4+1'UNZ+1+000001'UNB+UNOA:3+HAULA+TERM1+240305:0910+2'UNH+1+CODECO:D:95B:UN'BGM+34+G1+9'EQD+CN+ABCU0000022+22G1:102:5+++5'UNT+4+1'UNZ+1+2'",
+        (
+            "{\"answer\":\"taken\",\"number\":1,\"partner\":\"HAULA\",\"reply\":{\"contrl\":\"UNB+UNOA:3+TERM1+HAULA+240305:0910+000001'UNH+1+CONTRL:D:3:UN'UCI+000001+HAULA+TERM1+7'UCM+1+CODECO:D:95B:UN:ITG14+7'UNT+4+1'UNZ+1+000001'\",\"messages\":[{\"lines\":[{\"box\":\"ABCU0000017\",\"line\":1,\"outcome\":\"done\",\"slot\":\"A001011\"}],\"reference\":\"1\",\"result\":\"accepted\"}]}}\n{\"answer\":\"clash\",\"number\":1,\"partner\":\"HAULA\"}\n{\"answer\":\"taken\",\"number\":2,\"partner\":\"HAULA\",\"reply\":{\"contrl\":\"UNB+UNOA:3+TERM1+HAULA+240305:0910+2'UNH+1+CONTRL:D:3:UN'UCI+2+HAULA+TERM1+7'UCM+1+CODECO:D:95B:UN+7'UNT+4+1'UNZ+1+2'\",\"messages\":[{\"lines\":[{\"box\":\"ABCU0000022\",\"line\":1,\"outcome\":\"done\",\"slot\":\"A001021\"}],\"reference\":\"1\",\"result\":\"accepted\"}]}}\n",
+            "",
+            1,
+        ),
+    )
+}
+
+#[test]
+fn another_command_line_is_told_the_right_one(rt: HostRuntime) -> Result<(), Fail> {
+    assert_prints(
+        &rt,
+        rt.alloc(),
+        "serve",
+        b"",
+        ("", "usage: office demo\n", 2),
+    )
+}
