@@ -1,3 +1,9 @@
+ghost use Rattle.std.specs.Prelude.{[], IfOk};
+ghost use Rattle.office_machine.specs.Taking.{MachineState, interchange_taken};
+ghost use Rattle.office_desk.specs.declared.desk.Desk.{Desk};
+ghost use Rattle.office_desk.specs.Desks.{DeskStands, DeskAnswers};
+ghost use Rattle.office_stream.specs.Streams.{Streamed};
+
 use crate::demo_fault::DemoFault;
 use crate::setup::Setup;
 use office_replies::Worst;
@@ -13,7 +19,9 @@ pub fn run_demo<R: Read, W: Write>(
     alloc: Global,
     reader: &mut Port<R>,
     writer: &mut Port<W>,
-) -> Result<Worst, DemoFault> {
+) -> Result<Worst, DemoFault>
+    ensures ok { IfOk result (λ worst. (opening : Desk MachineState) × (desk : Desk MachineState) × Streamed (DeskStands interchange_taken opening) (DeskAnswers interchange_taken opening) [] (R.remaining reader.old.inner) (R.remaining reader.new.inner) (W.contents writer.old.inner) (W.contents writer.new.inner) desk worst) }
+{
     let setup = match Setup::demo(alloc) {
         Ok(setup) => setup,
         Err(fault) => return Err(DemoFault::Setup(fault)),

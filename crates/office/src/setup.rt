@@ -1,3 +1,9 @@
+ghost use Rattle.std.specs.Prelude.{◌≡◌, [], IfOk};
+ghost use Rattle.std.specs.FinMap as finite_map;
+ghost use Rattle.terminal_core.specs.State.{empty_state};
+ghost use Rattle.office_machine.specs.Taking.{interchange_taken};
+ghost use Rattle.office_desk.specs.Desks.{DeskStands};
+
 use crate::account::Account;
 use crate::setup_fault::SetupFault;
 use edi_messages::{CodeTable, PartnerKind};
@@ -37,7 +43,11 @@ impl Setup {
     }
 
     /// A desk to which nothing has been delivered, with an empty terminal behind it.
-    pub fn open(self, alloc: Global) -> Result<Desk<TerminalMachine>, SetupFault> {
+    pub fn open(self, alloc: Global) -> Result<Desk<TerminalMachine>, SetupFault>
+        ensures stands { IfOk result (λ desk. DeskStands interchange_taken desk [] desk) }
+        ensures empty { IfOk result (λ desk. desk.runs.machine.terminal ≡ empty_state (record { plan = self.blocks.items; boxes = finite_map.empty }) self.visit_limit) }
+        ensures codes { IfOk result (λ desk. desk.runs.machine.codes ≡ self.codes) }
+    {
         let plan = match Plan::new(self.blocks.as_slice()) {
             Ok(plan) => plan,
             Err(fault) => return Err(SetupFault::Blocks(fault)),
