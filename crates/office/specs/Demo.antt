@@ -1,5 +1,5 @@
 -- The set-up of the demonstration.
-use Rattle.std.specs.Prelude.{◌≡◌, ℕ, List, [], ◌∷◌, Option, codes, string_bytes}
+use Rattle.std.specs.Prelude.{◌≡◌, ℕ, List, [], ◌∷◌, Option, codes}
 use Rattle.edi_messages.specs.Codes.{table_texts}
 use Rattle.edi_messages.specs.declared.code_table.CodeTable.{CodeTable}
 use Rattle.edi_messages.specs.declared.partner_kind.PartnerKind.{PartnerKind}

@@ -1,5 +1,4 @@
-use Rattle.std.proofs.Common.{codes, [], refl, sym, ap, ◌∙◌}
-use Rattle.office_desk.specs.Admission.{Parties}
+use Rattle.std.proofs.Common.{codes, [], ap, ◌∙◌}
 use Rattle.office.specs.Opening.{partner_codes}
 use Rattle.office.proofs.demo.run_demo.Goals as goal
 
