@@ -1,3 +1,8 @@
+ghost use Rattle.std.specs.Prelude.{◌≡◌, ◌⊎◌, true, false, map, string_bytes};
+ghost use Rattle.office_replies.specs.declared.worst.Worst.{Worst};
+ghost use Rattle.office.specs.Command.{is_demo, status_of};
+ghost use Rattle.office.specs.Demo.{DemoRuns};
+
 use crate::demo::run_demo;
 use office_replies::Worst;
 use office_stream::Port;
@@ -13,7 +18,10 @@ pub fn run<R: Read, W: Write, E: Write>(
     reader: &mut Port<R>,
     writer: &mut Port<W>,
     errors: &mut E,
-) -> u8 {
+) -> u8
+    ensures usage { is_demo (map string_bytes words.now) ≡ false → result ≡ 2 }
+    ensures ran { is_demo (map string_bytes words.now) ≡ true → (result ≡ 3) ⊎ ((worst : Worst) × (result ≡ status_of worst) × DemoRuns (R.remaining reader.old.inner) (R.remaining reader.new.inner) (W.contents writer.old.inner) (W.contents writer.new.inner) worst) }
+{
     if !is_demo(words) {
         let _ = errors.write_all(b"usage: office demo\n");
         return 2;
@@ -28,12 +36,19 @@ pub fn run<R: Read, W: Write, E: Write>(
 }
 
 /// Whether the words, the program's own name first, are those of the demonstration.
-fn is_demo(words: &[String]) -> bool {
-    words.len() == 2 && words[1].as_str() == "demo"
+fn is_demo(words: &[String]) -> bool
+    ensures { result ≡ is_demo (map string_bytes words.now) }
+{
+    match words {
+        [_, word] => word.as_str() == "demo",
+        _ => false,
+    }
 }
 
 /// The exit status of a stream that was run to its end.
-fn status_of(worst: Worst) -> u8 {
+fn status_of(worst: Worst) -> u8
+    ensures { result ≡ status_of worst }
+{
     match worst {
         Worst::Fine => 0,
         Worst::Refused => 1,

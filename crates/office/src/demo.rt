@@ -1,8 +1,5 @@
-ghost use Rattle.std.specs.Prelude.{[], IfOk};
-ghost use Rattle.office_machine.specs.Taking.{MachineState, interchange_taken};
-ghost use Rattle.office_desk.specs.declared.desk.Desk.{Desk};
-ghost use Rattle.office_desk.specs.Desks.{DeskStands, DeskAnswers};
-ghost use Rattle.office_stream.specs.Streams.{Streamed};
+ghost use Rattle.std.specs.Prelude.{IfOk};
+ghost use Rattle.office.specs.Demo.{DemoRuns};
 
 use crate::demo_fault::DemoFault;
 use crate::setup::Setup;
@@ -20,7 +17,7 @@ pub fn run_demo<R: Read, W: Write>(
     reader: &mut Port<R>,
     writer: &mut Port<W>,
 ) -> Result<Worst, DemoFault>
-    ensures ok { IfOk result (λ worst. (opening : Desk MachineState) × (desk : Desk MachineState) × Streamed (DeskStands interchange_taken opening) (DeskAnswers interchange_taken opening) [] (R.remaining reader.old.inner) (R.remaining reader.new.inner) (W.contents writer.old.inner) (W.contents writer.new.inner) desk worst) }
+    ensures ok { IfOk result (DemoRuns (R.remaining reader.old.inner) (R.remaining reader.new.inner) (W.contents writer.old.inner) (W.contents writer.new.inner)) }
 {
     let setup = match Setup::demo(alloc) {
         Ok(setup) => setup,

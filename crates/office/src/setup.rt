@@ -1,8 +1,9 @@
-ghost use Rattle.std.specs.Prelude.{◌≡◌, [], IfOk};
-ghost use Rattle.std.specs.FinMap as finite_map;
-ghost use Rattle.terminal_core.specs.State.{empty_state};
+ghost use Rattle.std.specs.Prelude.{◌≡◌, [], IfOk, map, codes, string_bytes};
+ghost use Rattle.edi_messages.specs.Codes.{table_texts};
 ghost use Rattle.office_machine.specs.Taking.{interchange_taken};
-ghost use Rattle.office_desk.specs.Desks.{DeskStands};
+ghost use Rattle.office_desk.specs.Desks.{DeskStands, parties};
+ghost use Rattle.office.specs.Opening.{partner_codes, partner_kinds, opening_machine};
+ghost use Rattle.office.specs.Demo.{demo_codes, demo_partners, demo_kinds, demo_blocks};
 
 use crate::account::Account;
 use crate::setup_fault::SetupFault;
@@ -31,12 +32,19 @@ pub struct Setup {
 impl Setup {
     /// The set-up of the demonstration: two hauliers, a line, a quay crew and the yard's own, and one block of four odd
     /// bays.
-    pub fn demo(alloc: Global) -> Result<Setup, SetupFault> {
-        let codes = match CodeTable::new([b"34", b"36", b"YMV", b"43", b"45", b"44", b"46"]) {
-            Ok(codes) => codes,
+    pub fn demo(alloc: Global) -> Result<Setup, SetupFault>
+        ensures terminal { IfOk result (λ setup. string_bytes setup.terminal ≡ codes "TERM1") }
+        ensures table { IfOk result (λ setup. table_texts setup.codes ≡ demo_codes) }
+        ensures partners { IfOk result (λ setup. partner_codes setup.accounts.items ≡ demo_partners) }
+        ensures kinds { IfOk result (λ setup. partner_kinds setup.accounts.items ≡ demo_kinds) }
+        ensures blocks { IfOk result (λ setup. setup.blocks.items ≡ demo_blocks) }
+        ensures limit { IfOk result (λ setup. setup.visit_limit ≡ 999999999) }
+    {
+        let table = match CodeTable::new([b"34", b"36", b"YMV", b"43", b"45", b"44", b"46"]) {
+            Ok(table) => table,
             Err(fault) => return Err(SetupFault::Codes(fault)),
         };
-        match demo_setup(alloc, codes) {
+        match demo_setup(alloc, table) {
             Ok(setup) => Ok(setup),
             Err(_) => Err(SetupFault::Memory),
         }
@@ -45,53 +53,64 @@ impl Setup {
     /// A desk to which nothing has been delivered, with an empty terminal behind it.
     pub fn open(self, alloc: Global) -> Result<Desk<TerminalMachine>, SetupFault>
         ensures stands { IfOk result (λ desk. DeskStands interchange_taken desk [] desk) }
-        ensures empty { IfOk result (λ desk. desk.runs.machine.terminal ≡ empty_state (record { plan = self.blocks.items; boxes = finite_map.empty }) self.visit_limit) }
-        ensures codes { IfOk result (λ desk. desk.runs.machine.codes ≡ self.codes) }
+        ensures parties { IfOk result (λ desk. parties desk ≡ record { terminal = string_bytes self.terminal; partners = partner_codes self.accounts.items }) }
+        ensures machine { IfOk result (λ desk. desk.runs.machine ≡ opening_machine self.codes self.accounts.items self.blocks.items self.visit_limit) }
     {
         let plan = match Plan::new(self.blocks.as_slice()) {
             Ok(plan) => plan,
             Err(fault) => return Err(SetupFault::Blocks(fault)),
         };
-        let Setup {
-            terminal,
-            codes,
-            accounts,
-            blocks: _,
-            visit_limit,
-        } = self;
-        let Ok((partners, kinds)) = parted(alloc, accounts) else {
+        let Ok(partners) = codes_of(alloc, self.accounts.as_slice()) else {
+            return Err(SetupFault::Memory);
+        };
+        let Ok(kinds) = kinds_of(alloc, self.accounts.as_slice()) else {
             return Err(SetupFault::Memory);
         };
         if partners.len() > 999 {
             return Err(SetupFault::Partners);
         }
-        let Ok(empty) = Terminal::new(alloc, plan, visit_limit) else {
+        let Ok(empty) = Terminal::new(alloc, plan, self.visit_limit) else {
             return Err(SetupFault::Memory);
         };
-        let machine = TerminalMachine::new(codes, kinds, empty);
-        match Desk::new(alloc, terminal, partners, machine) {
+        let machine = TerminalMachine::new(self.codes, kinds, empty);
+        match Desk::new(alloc, self.terminal, partners, machine) {
             Ok(desk) => Ok(desk),
             Err(_) => Err(SetupFault::Memory),
         }
     }
 }
 
-/// The codes of the accounts, and beside them what each is.
-fn parted(
-    alloc: Global,
-    accounts: Vec<Account>,
-) -> Result<(Vec<String>, Vec<PartnerKind>), AllocError> {
+/// The codes of the accounts.
+fn codes_of(alloc: Global, accounts: &[Account]) -> Result<Vec<String>, AllocError>
+    ensures { IfOk result (λ partners. map string_bytes partners.items ≡ partner_codes accounts.now) }
+{
     let mut partners = Vec::new(alloc);
-    let mut kinds = Vec::new(alloc);
     for account in accounts {
-        let Account { code, kind } = account;
+        let code = String::from_str(alloc, account.code.as_str())?;
         partners.push(code)?;
-        kinds.push(kind)?;
     }
-    Ok((partners, kinds))
+    Ok(partners)
 }
 
-fn demo_setup(alloc: Global, codes: CodeTable) -> Result<Setup, AllocError> {
+/// What each account is.
+fn kinds_of(alloc: Global, accounts: &[Account]) -> Result<Vec<PartnerKind>, AllocError>
+    ensures { IfOk result (λ kinds. kinds.items ≡ partner_kinds accounts.now) }
+{
+    let mut kinds = Vec::new(alloc);
+    for account in accounts {
+        kinds.push(account.kind)?;
+    }
+    Ok(kinds)
+}
+
+fn demo_setup(alloc: Global, table: CodeTable) -> Result<Setup, AllocError>
+    ensures terminal { IfOk result (λ setup. string_bytes setup.terminal ≡ codes "TERM1") }
+    ensures table { IfOk result (λ setup. setup.codes ≡ table) }
+    ensures partners { IfOk result (λ setup. partner_codes setup.accounts.items ≡ demo_partners) }
+    ensures kinds { IfOk result (λ setup. partner_kinds setup.accounts.items ≡ demo_kinds) }
+    ensures blocks { IfOk result (λ setup. setup.blocks.items ≡ demo_blocks) }
+    ensures limit { IfOk result (λ setup. setup.visit_limit ≡ 999999999) }
+{
     let block = Block {
         letter: b'A',
         bays: 4,
@@ -100,24 +119,30 @@ fn demo_setup(alloc: Global, codes: CodeTable) -> Result<Setup, AllocError> {
     };
     Ok(Setup {
         terminal: String::from_str(alloc, "TERM1")?,
-        codes,
+        codes: table,
         accounts: demo_accounts(alloc)?,
         blocks: [block].as_slice().to_vec(alloc)?,
         visit_limit: 999_999_999,
     })
 }
 
-fn demo_accounts(alloc: Global) -> Result<Vec<Account>, AllocError> {
+fn demo_accounts(alloc: Global) -> Result<Vec<Account>, AllocError>
+    ensures codes { IfOk result (λ accounts. partner_codes accounts.items ≡ demo_partners) }
+    ensures kinds { IfOk result (λ accounts. partner_kinds accounts.items ≡ demo_kinds) }
+{
     let mut accounts = Vec::new(alloc);
-    for (code, kind) in [
-        ("HAULA", PartnerKind::Gate),
-        ("HAULB", PartnerKind::Gate),
-        ("LINEA", PartnerKind::Line),
-        ("QUAY1", PartnerKind::Quay),
-        ("YARD1", PartnerKind::Yard),
-    ] {
-        let code = String::from_str(alloc, code)?;
-        accounts.push(Account { code, kind })?;
-    }
+    accounts.push(account(alloc, "HAULA", PartnerKind::Gate)?)?;
+    accounts.push(account(alloc, "HAULB", PartnerKind::Gate)?)?;
+    accounts.push(account(alloc, "LINEA", PartnerKind::Line)?)?;
+    accounts.push(account(alloc, "QUAY1", PartnerKind::Quay)?)?;
+    accounts.push(account(alloc, "YARD1", PartnerKind::Yard)?)?;
     Ok(accounts)
+}
+
+fn account(alloc: Global, code: &str, kind: PartnerKind) -> Result<Account, AllocError>
+    ensures code { IfOk result (λ account. string_bytes account.code ≡ code.now) }
+    ensures kind { IfOk result (λ account. account.kind ≡ kind) }
+{
+    let code = String::from_str(alloc, code)?;
+    Ok(Account { code, kind })
 }

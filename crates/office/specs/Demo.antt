@@ -1,0 +1,56 @@
+-- The set-up of the demonstration.
+use Rattle.std.specs.Prelude.{◌≡◌, ℕ, List, [], ◌∷◌, Option, codes}
+use Rattle.edi_messages.specs.Codes.{table_texts}
+use Rattle.edi_messages.specs.declared.code_table.CodeTable.{CodeTable}
+use Rattle.edi_messages.specs.declared.partner_kind.PartnerKind.{PartnerKind}
+use Rattle.edi_messages.specs.declared.partner_kind.PartnerKind.TheVariants.{Gate, Line, Quay, Yard}
+use Rattle.yard_core.specs.declared.block.Block.{Block}
+use Rattle.std.specs.FinMap as finite_map
+use Rattle.terminal_core.specs.State.{empty_state}
+use Rattle.office_machine.specs.Taking.{MachineState, interchange_taken}
+use Rattle.office_desk.specs.declared.desk.Desk.{Desk}
+use Rattle.office_desk.specs.Admission.{Parties}
+use Rattle.office_desk.specs.Desks.{DeskStands, DeskAnswers, parties}
+use Rattle.office_replies.specs.declared.worst.Worst.{Worst}
+use Rattle.office_stream.specs.Streams.{Streamed}
+
+-- gate-in, gate-out, yard-move, discharge-list, load-list, discharge-report and load-report
+abbrev pub demo_codes : List (List ℕ)
+demo_codes = codes "34" ∷ codes "36" ∷ codes "YMV" ∷ codes "43" ∷ codes "45" ∷ codes "44" ∷ codes "46" ∷ []
+
+-- two hauliers, a line, a quay crew and the yard's own
+abbrev pub demo_partners : List (List ℕ)
+demo_partners = codes "HAULA" ∷ codes "HAULB" ∷ codes "LINEA" ∷ codes "QUAY1" ∷ codes "YARD1" ∷ []
+
+abbrev pub demo_kinds : List PartnerKind
+demo_kinds = Gate ∷ Gate ∷ Line ∷ Quay ∷ Yard ∷ []
+
+-- block A: four odd bays, two rows, three tiers
+abbrev pub demo_blocks : List Block
+demo_blocks = record { letter = 65; bays = 4; rows = 2; tiers = 3 } ∷ []
+
+abbrev pub demo_parties : Parties
+demo_parties = record { terminal = codes "TERM1"; partners = demo_partners }
+
+-- an empty terminal, for partners of those kinds and with those codes
+abbrev pub demo_machine : CodeTable → MachineState
+demo_machine table = record {
+  codes = table;
+  kinds = demo_kinds;
+  terminal = empty_state (record { plan = demo_blocks; boxes = finite_map.empty }) 999999999;
+}
+
+-- a desk of the demonstration, to which nothing has been delivered
+pub record OpensDemo (desk : Desk MachineState) : Type 0 where
+  pub table : CodeTable
+  pub codes_are : table_texts table ≡ demo_codes
+  pub parties_are : parties desk ≡ demo_parties
+  pub machine_is : desk.runs.machine ≡ demo_machine table
+  pub stands : DeskStands interchange_taken desk [] desk
+
+-- What was read is cut into interchanges, each answered by a line at its place, from such a desk on.
+pub record DemoRuns (left left' written written' : Option (List ℕ)) (worst : Worst) : Type 0 where
+  pub opening : Desk MachineState
+  pub desk : Desk MachineState
+  pub opens : OpensDemo opening
+  pub streamed : Streamed (DeskStands interchange_taken opening) (DeskAnswers interchange_taken opening) [] left left' written written' desk worst
