@@ -1,7 +1,6 @@
 ghost use Rattle.std.specs.Prelude.{◌≡◌, ◌+◌, ◌≤◌, [], ◌∷◌, ◌++◌, map, Some, IfOk, OnErr, vec_len, vec_capacity};
 ghost use Rattle.std.specs.FinMap as finite_map;
 ghost use Rattle.std.specs.Option.{option_map};
-ghost use Rattle.yard_core.specs.Plan.{IsPlan};
 ghost use Rattle.edi_messages.specs.Owned.{call_content, entry_content, order_content};
 ghost use Rattle.terminal_core.specs.Rows.{visit_content, change_content, line_done};
 ghost use Rattle.terminal_core.specs.State.{LineContent, empty_state, is_in, line_of, IsWhole};
@@ -56,7 +55,6 @@ impl Model for Terminal {
 impl Terminal {
     /// A terminal with no containers, visits or lists.
     pub fn new(alloc: Global, plan: Plan, visit_limit: u32) -> Result<Terminal, AllocError>
-        requires { IsPlan plan }
         ensures empty { IfOk result (λ t. t ≡ empty_state (record { plan = plan; boxes = finite_map.empty }) visit_limit) }
         ensures whole { IfOk result IsWhole }
     {
