@@ -1,12 +1,12 @@
 -- Places that are taken one after another, in the order of their tiers.
-use Rattle.std.proofs.Common.{◌≡◌, ◌≢◌, ℕ, ◌+◌, ◌-◌, ◌<◌, ◌≤◌, List, [], ◌∷◌, ◌++◌, length, take, Bool, true, false, cond, Option, None, Some, is_some, refl, sym, ap, ◌∙◌, arith, subst, get_or, All, inl, inr, ◌⊎◌}
-use Rattle.std.specs.Prelude.{slice_get, Contains, count_by}
+use Rattle.std.proofs.Common.{◌≡◌, ◌≢◌, ℕ, ◌+◌, ◌-◌, ◌<◌, ◌≤◌, List, [], ◌∷◌, ◌++◌, length, take, true, false, cond, Option, None, Some, is_some, refl, sym, ap, ◌∙◌, arith, subst, get_or, All, inl, inr}
+use Rattle.std.specs.Prelude.{Contains, count_by}
 use Rattle.std.specs.List.Sorted.{IsPermutation, IsNonDecreasingBy}
 use Rattle.std.specs.FinMap as finite_map
 use Rattle.std.specs.Str.{bytes_eq}
 use Rattle.std.proofs.lemmas.Bool.{cases_lt}
 use Rattle.std.proofs.lemmas.Option.{none-some, same_Some}
-use Rattle.std.proofs.lemmas.List.{take_more, take_all, get_or-take, get_or_default, length-take-le}
+use Rattle.std.proofs.lemmas.List.{take_more, get_or-take, get_or_default, length-take-le}
 use Rattle.std.proofs.lemmas.List.Elements.{Contains-append_left, Contains-push, Contains-push_cases}
 use Rattle.std.proofs.lemmas.List.Sorted.{IsPermutation-sym, Contains-permutation, sum_by-IsPermutation}
 use Rattle.box6346.specs.SizeCode.{length_of}
@@ -21,8 +21,8 @@ use Rattle.yard_core.specs.declared.yard_fault.YardFault.TheVariants as yard
 use Rattle.yard_core.specs.Plan.{IsSized, IsPlan}
 use Rattle.yard_core.specs.YardMap.{Box, Boxes, YardMap, placement, placement_of, in_bay, below}
 use Rattle.yard_core.specs.SoundYard.{Has, IsCarried, IsSound}
-use Rattle.yard_core.specs.FitsAndFree.{IsOpen, Misfits}
-use Rattle.yard_core.specs.Calls.{Places, RefusesPlace}
+use Rattle.yard_core.specs.FitsAndFree.{IsOpen}
+use Rattle.yard_core.specs.Calls.{RefusesPlace}
 use Rattle.yard_core.proofs.Boxes.{Adds, Adds-insert, box_cases}
 use Rattle.yard_core.proofs.Cells.{block_at}
 use Rattle.yard_core.proofs.Refusals.{misfits_not_open}

@@ -1,35 +1,28 @@
 -- The whole state of rows.
-use Rattle.std.proofs.Common.{◌≡◌, ℕ, ◌+◌, ◌<◌, ◌≤◌, List, [], ◌∷◌, length, map, Bool, true, false, Option, None, Some, is_some, is_none, refl, sym, ap, ◌∙◌, arith, subst}
+use Rattle.std.proofs.Common.{◌≡◌, ℕ, ◌+◌, ◌≤◌, List, length, true, Option, Some, is_some, is_none, sym, ap, ◌∙◌, arith, subst}
 use Rattle.std.specs.Prelude.{slice_get, Contains, find, filter, count_by, ◌&&◌}
 use Rattle.std.specs.List.Sorted.{IsPermutation}
 use Rattle.std.specs.FinMap as finite_map
 use Rattle.std.specs.Str.{bytes_eq}
 use Rattle.std.proofs.lemmas.Bool.{and_parts}
 use Rattle.std.proofs.lemmas.Option.{same_Some}
-use Rattle.std.proofs.lemmas.List.{length-map}
 use Rattle.std.proofs.lemmas.List.Sums.{length-filter}
 use Rattle.std.proofs.lemmas.List.Sorted.{IsPermutation-sym}
-use Rattle.box6346.specs.SizeCode.{length_of}
 use Rattle.box6346.specs.declared.box_number.BoxNumber.{BoxNumber}
 use Rattle.yard_core.specs.declared.block.Block.{Block}
-use Rattle.yard_core.specs.declared.placement.Placement.{Placement}
 use Rattle.yard_core.specs.Plan.{IsPlan}
-use Rattle.yard_core.specs.YardMap.{Boxes, YardMap, placement}
+use Rattle.yard_core.specs.YardMap.{Boxes, YardMap}
 use Rattle.yard_core.specs.SoundYard.{IsSound}
 use Rattle.terminal_core.specs.declared.restore_fault.RestoreFault.{RestoreFault}
 use Rattle.terminal_core.specs.declared.restore_fault.RestoreFault.TheVariants.{Unsound, Memory}
-use Rattle.terminal_core.specs.declared.listing.Listing.{Listing}
 use Rattle.terminal_core.specs.declared.stay.Stay.{Stay}
-use Rattle.terminal_core.specs.declared.visit.Visit.{Visit}
-use Rattle.terminal_core.specs.Rows.{VisitContent, visit_content}
-use Rattle.terminal_core.specs.State.{TerminalState, Lines, is_open_visit, open_visit, is_in, AreNumbered, IsWhole}
-use Rattle.terminal_core.specs.Listings.{lines_of}
-use Rattle.terminal_core.specs.Restoring.{Names, Stands, ArePlacesOf, AreNamed, AreOnce, AreRowsOf, RefusesRows, IsYardOf, RefusesYard, RefusesPlaces, without_lines}
+use Rattle.terminal_core.specs.Rows.{VisitContent}
+use Rattle.terminal_core.specs.State.{is_open_visit, AreNumbered, IsWhole}
+use Rattle.terminal_core.specs.Restoring.{ArePlacesOf, AreNamed, IsYardOf, RefusesYard, RefusesPlaces, without_lines}
 use Rattle.terminal_core.proofs.Boxes.{same_bytes, same_self}
-use Rattle.terminal_core.proofs.Numbered.{contained, found_at, number_at, named_within}
-use Rattle.terminal_core.proofs.Counted.{same_tests, some_of, one_place, one_passes, at_most_one, is_found, found_is}
+use Rattle.terminal_core.proofs.Numbered.{contained, found_at, number_at}
+use Rattle.terminal_core.proofs.Counted.{same_tests, some_of, one_passes, at_most_one, is_found, found_is}
 use Rattle.terminal_core.proofs.Placing.{places_moved}
-use Rattle.terminal_core.proofs.Whole.{whole_listed}
 
 is_some_of : {A : Type 0} (o : Option A) (x : A) → o ≡ Some x → is_some o ≡ true
 is_some_of o x e = ap is_some e

@@ -10,7 +10,6 @@ use Rattle.yard_core.specs.declared.placement.Placement.{Placement}
 use Rattle.yard_core.specs.declared.yard_fault.YardFault.{YardFault}
 use Rattle.yard_core.specs.declared.yard_fault.YardFault.TheVariants as yard
 use Rattle.yard_core.specs.Calls.{Places, RefusesPlace}
-use Rattle.yard_core.specs.Plan.{IsPlan}
 use Rattle.yard_core.specs.SoundYard.{IsSound}
 use Rattle.yard_core.specs.YardMap.{Boxes, YardMap, placement}
 use Rattle.terminal_core.specs.declared.listing.Listing.{Listing}

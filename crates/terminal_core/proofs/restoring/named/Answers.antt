@@ -1,4 +1,4 @@
-use Rattle.std.proofs.Common.{◌≡◌, sym, ap, ◌∙◌, arith, set, true, length, length-set}
+use Rattle.std.proofs.Common.{sym, ◌∙◌, arith, true, length-set}
 use Rattle.terminal_core.proofs.Marked.{marked_more}
 use Rattle.terminal_core.proofs.restoring.named.Goals as goal
 

@@ -1,6 +1,5 @@
-use Rattle.std.proofs.Common.{◌≡◌, sym, ap, ◌∙◌, subst}
+use Rattle.std.proofs.Common.{sym, subst}
 use Rattle.std.specs.Prelude.{map}
-use Rattle.box6346.specs.SizeCode.{length_of}
 use Rattle.box6346.specs.declared.length.Length.{Length}
 use Rattle.yard_core.specs.Calls.{RefusesPlace}
 use Rattle.yard_core.specs.YardMap.{placement}

@@ -1,11 +1,10 @@
-use Rattle.std.proofs.Common.{◌≡◌, List, refl, sym, ap, ◌∙◌, arith, length, subst}
+use Rattle.std.proofs.Common.{◌≡◌, List, sym, arith, length, subst}
 use Rattle.std.specs.Prelude.{map, Contains}
 use Rattle.std.proofs.lemmas.List.{length-map}
 use Rattle.std.proofs.lemmas.Result.{err_from_is_err_and}
 use Rattle.terminal_core.specs.declared.stay.Stay.{Stay}
-use Rattle.terminal_core.specs.declared.restore_fault.RestoreFault.{RestoreFault}
 use Rattle.terminal_core.specs.Rows.{visit_content}
-use Rattle.terminal_core.specs.Restoring.{ArePlacesOf, AreNamed, RefusesPlaces, RefusesYard}
+use Rattle.terminal_core.specs.Restoring.{ArePlacesOf, AreNamed, RefusesPlaces}
 use Rattle.terminal_core.proofs.Numbered.{named_within}
 use Rattle.terminal_core.proofs.Restored.{whole_of, unsound_yard, not_all_named}
 use Rattle.terminal_core.proofs.restoring.restored_yard.Goals as goal

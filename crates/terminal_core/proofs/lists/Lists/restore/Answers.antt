@@ -1,4 +1,4 @@
-use Rattle.std.proofs.Common.{◌≡◌, List, refl, sym, ap, ◌∙◌, true, false, subst}
+use Rattle.std.proofs.Common.{List, refl, sym, subst}
 use Rattle.terminal_core.specs.declared.listing.Listing.{Listing}
 use Rattle.terminal_core.specs.Restoring.{AreOnce}
 use Rattle.terminal_core.proofs.lists.Lists.restore.Goals as goal
