@@ -113,45 +113,76 @@ fn fault(rt: &impl Abort, alloc: Global, places: &[Stay]) -> Result<Option<Resto
     Ok(restored(rt, alloc, 3, visits, places, lines).err())
 }
 
-#[test]
-fn a_state_comes_back_from_its_rows(rt: HostRuntime) -> Result<(), Fail> {
-    let alloc = rt.alloc();
-    let visits = three_visits(&rt, alloc)?;
+/// The terminal of the three visits and the two lines.
+fn whole_terminal(rt: &impl Abort, alloc: Global) -> Result<Terminal, Fail> {
+    let visits = three_visits(rt, alloc)?;
     let places = vec![in alloc;
-        stay(&rt, SECOND, 3, "A001012"),
-        stay(&rt, FIRST, 1, "A001011"),
+        stay(rt, SECOND, 3, "A001012"),
+        stay(rt, FIRST, 1, "A001011"),
     ]?;
-    let lines = two_lines(&rt, alloc)?;
-    let mut terminal = restored(&rt, alloc, 3, visits, places, lines).expect(&rt, "a state");
-    let call = call(alloc)?;
-    let first = number(&rt, FIRST);
-    let second = number(&rt, SECOND);
-    assert_eq!(rt; terminal.slot_of(first), Some(slot(&rt, "A001011")));
-    assert_eq!(rt; terminal.slot_of(second), Some(slot(&rt, "A001012")));
-    assert_eq!(rt; terminal.visits().len(), 3);
+    let lines = two_lines(rt, alloc)?;
+    Ok(restored(rt, alloc, 3, visits, places, lines).expect(rt, "a state"))
+}
+
+fn goes(
+    rt: &impl Abort,
+    alloc: Global,
+    terminal: &mut Terminal,
+    text: &str,
+) -> Result<(Outcome, usize), AllocError> {
+    let order = Order::GateOut {
+        number: number(rt, text),
+        moment: moment(rt),
+    };
+    told(alloc, terminal, HAULIER, order)
+}
+
+#[test]
+fn containers_stand_where_their_rows_say(rt: HostRuntime) -> Result<(), Fail> {
+    let alloc = rt.alloc();
+    let terminal = whole_terminal(&rt, alloc)?;
     assert_eq!(rt;
-        terminal.line_state(&call, Side::Load, first),
+        terminal.slot_of(number(&rt, FIRST)),
+        Some(slot(&rt, "A001011"))
+    );
+    assert_eq!(rt;
+        terminal.slot_of(number(&rt, SECOND)),
+        Some(slot(&rt, "A001012"))
+    );
+    assert_eq!(rt; terminal.visits().len(), 3);
+    Ok(())
+}
+
+#[test]
+fn lines_are_as_far_as_their_rows_say(rt: HostRuntime) -> Result<(), Fail> {
+    let alloc = rt.alloc();
+    let terminal = whole_terminal(&rt, alloc)?;
+    let call = call(alloc)?;
+    assert_eq!(rt;
+        terminal.line_state(&call, Side::Load, number(&rt, FIRST)),
         Some(LineState::Pending)
     );
     assert_eq!(rt;
-        terminal.line_state(&call, Side::Discharge, second),
+        terminal.line_state(&call, Side::Discharge, number(&rt, SECOND)),
         Some(LineState::Done)
     );
-    assert_eq!(rt; terminal.line_state(&call, Side::Load, second), None);
-    let buried = Order::GateOut {
-        number: first,
-        moment: moment(&rt),
-    };
     assert_eq!(rt;
-        told(alloc, &mut terminal, HAULIER, buried)?,
-        (Outcome::Refused(Reason::Buried(second)), 0)
+        terminal.line_state(&call, Side::Load, number(&rt, SECOND)),
+        None
     );
-    let free = Order::GateOut {
-        number: second,
-        moment: moment(&rt),
-    };
+    Ok(())
+}
+
+#[test]
+fn a_step_follows_what_was_restored(rt: HostRuntime) -> Result<(), Fail> {
+    let alloc = rt.alloc();
+    let mut terminal = whole_terminal(&rt, alloc)?;
     assert_eq!(rt;
-        told(alloc, &mut terminal, HAULIER, free)?,
+        goes(&rt, alloc, &mut terminal, FIRST)?,
+        (Outcome::Refused(Reason::Buried(number(&rt, SECOND))), 0)
+    );
+    assert_eq!(rt;
+        goes(&rt, alloc, &mut terminal, SECOND)?,
         (Outcome::Gone, 2)
     );
     Ok(())
@@ -175,83 +206,77 @@ fn no_rows_are_an_empty_state(rt: HostRuntime) -> Result<(), Fail> {
 }
 
 #[test]
-fn places_are_those_of_the_open_visits(rt: HostRuntime) -> Result<(), Fail> {
+fn each_open_visit_has_its_place(rt: HostRuntime) -> Result<(), Fail> {
     let alloc = rt.alloc();
     let ground = stay(&rt, FIRST, 1, "A001011");
     let above = stay(&rt, SECOND, 3, "A001012");
-    assert_eq!(rt; fault(&rt, alloc, &[ground, above])?, None);
-    // An open visit has no place.
-    assert_eq!(rt; fault(&rt, alloc, &[ground])?, Some(RestoreFault::Unsound));
-    // A place is a closed visit's, or no visit's.
-    let of_closed = stay(&rt, SECOND, 2, "A001012");
-    let of_none = stay(&rt, SECOND, 4, "A001012");
-    let of_zero = stay(&rt, SECOND, 0, "A001012");
-    let of_other = stay(&rt, SECOND, 1, "A001012");
-    assert_eq!(rt;
-        fault(&rt, alloc, &[ground, of_closed])?,
-        Some(RestoreFault::Unsound)
-    );
-    assert_eq!(rt;
-        fault(&rt, alloc, &[ground, of_none])?,
-        Some(RestoreFault::Unsound)
-    );
-    assert_eq!(rt;
-        fault(&rt, alloc, &[ground, of_zero])?,
-        Some(RestoreFault::Unsound)
-    );
-    assert_eq!(rt;
-        fault(&rt, alloc, &[ground, of_other])?,
-        Some(RestoreFault::Unsound)
-    );
-    // A container stands twice.
     let again = stay(&rt, SECOND, 3, "A003011");
+    assert_eq!(rt; fault(&rt, alloc, &[ground, above])?, None);
+    assert_eq!(rt; fault(&rt, alloc, &[ground])?, Some(RestoreFault::Unsound));
     assert_eq!(rt;
         fault(&rt, alloc, &[ground, above, again])?,
-        Some(RestoreFault::Unsound)
-    );
-    // One stands on air, one in a slot that the plan has not, and two in one slot.
-    let on_air = stay(&rt, SECOND, 3, "A003012");
-    let outside = stay(&rt, SECOND, 3, "B001011");
-    let taken = stay(&rt, SECOND, 3, "A001011");
-    assert_eq!(rt;
-        fault(&rt, alloc, &[ground, on_air])?,
-        Some(RestoreFault::Unsound)
-    );
-    assert_eq!(rt;
-        fault(&rt, alloc, &[ground, outside])?,
-        Some(RestoreFault::Unsound)
-    );
-    assert_eq!(rt;
-        fault(&rt, alloc, &[ground, taken])?,
         Some(RestoreFault::Unsound)
     );
     Ok(())
 }
 
 #[test]
+fn no_other_place_is_taken_for_an_open_visit(rt: HostRuntime) -> Result<(), Fail> {
+    let alloc = rt.alloc();
+    // A closed visit's, no visit's, another container's; on air, outside the plan, in the slot of the first.
+    for (visit, name) in [
+        (2, "A001012"),
+        (4, "A001012"),
+        (0, "A001012"),
+        (1, "A001012"),
+        (3, "A003012"),
+        (3, "B001011"),
+        (3, "A001011"),
+    ] {
+        let ground = stay(&rt, FIRST, 1, "A001011");
+        let other = stay(&rt, SECOND, visit, name);
+        assert_eq!(rt;
+            fault(&rt, alloc, &[ground, other])?,
+            Some(RestoreFault::Unsound)
+        );
+    }
+    Ok(())
+}
+
+/// The answer on visits where one container stands.
+fn visits_fault(
+    rt: &impl Abort,
+    alloc: Global,
+    limit: u32,
+    visits: Vec<Visit>,
+) -> Result<Option<RestoreFault>, Fail> {
+    let places = vec![in alloc; stay(rt, FIRST, 1, "A001011")]?;
+    Ok(restored(rt, alloc, limit, visits, places, Vec::new(alloc)).err())
+}
+
+#[test]
 fn visits_are_numbered_within_the_limit(rt: HostRuntime) -> Result<(), Fail> {
     let alloc = rt.alloc();
-    let visits = vec![in alloc;
-        closed(&rt, alloc, 1, FIRST)?,
-        closed(&rt, alloc, 3, SECOND)?,
-    ]?;
-    assert_eq!(rt;
-        restored(&rt, alloc, 3, visits, Vec::new(alloc), Vec::new(alloc)).err(),
-        Some(RestoreFault::Unsound)
-    );
-    let visits = vec![in alloc;
-        closed(&rt, alloc, 1, FIRST)?,
-        closed(&rt, alloc, 2, SECOND)?,
-    ]?;
-    assert_eq!(rt;
-        restored(&rt, alloc, 1, visits, Vec::new(alloc), Vec::new(alloc)).err(),
-        Some(RestoreFault::Unsound)
-    );
-    // A container has two open visits.
+    for (limit, second, fault) in [
+        (2, 2, None),
+        (3, 3, Some(RestoreFault::Unsound)),
+        (1, 2, Some(RestoreFault::Unsound)),
+    ] {
+        let visits = vec![in alloc;
+            open(&rt, alloc, 1, FIRST)?,
+            closed(&rt, alloc, second, SECOND)?,
+        ]?;
+        assert_eq!(rt; visits_fault(&rt, alloc, limit, visits)?, fault);
+    }
+    Ok(())
+}
+
+#[test]
+fn no_container_has_two_open_visits(rt: HostRuntime) -> Result<(), Fail> {
+    let alloc = rt.alloc();
     let visits = vec![in alloc; open(&rt, alloc, 1, FIRST)?, open(&rt, alloc, 2, FIRST)?]?;
-    let places = vec![in alloc; stay(&rt, FIRST, 2, "A001011")]?;
     assert_eq!(rt;
-        restored(&rt, alloc, 3, visits, places, Vec::new(alloc)).err(),
+        visits_fault(&rt, alloc, 2, visits)?,
         Some(RestoreFault::Unsound)
     );
     Ok(())
