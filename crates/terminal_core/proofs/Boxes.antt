@@ -19,6 +19,9 @@ tied b q = sym (texts_ties b q ∙ (eq_by_cmp_equiv nat_list_cmp_total).symm b q
 pub same_bytes : (b q : Box) → bytes_eq b q ≡ true → q ≡ b
 same_bytes b q e = same_box q b (tied b q ∙ e)
 
+pub same_self : (b : Box) → bytes_eq b b ≡ true
+same_self b = texts_ties b b ∙ (eq_by_cmp_equiv nat_list_cmp_total).refl b
+
 pub bytes_turned : (a b : Box) → bytes_eq a b ≡ true → bytes_eq b a ≡ true
 bytes_turned a b e = sym (tied b a) ∙ sym (texts_ties a b) ∙ e
 

@@ -6,3 +6,9 @@ pub mod Appended
 pub mod Closing
 pub mod Steps
 pub mod Lined
+pub mod Numbered
+pub mod Counted
+pub mod Marked
+pub mod Placing
+pub mod Once
+pub mod Restored

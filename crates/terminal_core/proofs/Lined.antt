@@ -22,10 +22,10 @@ use Rattle.terminal_core.specs.declared.side.Side.TheVariants.{Load, Discharge}
 use Rattle.terminal_core.specs.State.{LineContent, LineKey, Lines, line_key, side_code}
 use Rattle.terminal_core.specs.Listings.{key_of, line_content, line_entry, lines_of, is_line, is_side, NoneBefore, IsFirstAt}
 
-abbrev order : LineKey → LineKey → Ordering
+abbrev pub order : LineKey → LineKey → Ordering
 order = slice_cmp (slice_cmp nat_cmp)
 
-keys_total : IsTotalOrder order
+pub keys_total : IsTotalOrder order
 keys_total = lists_total nat_list_cmp_total
 
 keys_apart : finite_map.IsAntisymmetric order

@@ -4,3 +4,4 @@ pub mod Listings
 pub mod Step
 pub mod Codes
 pub mod Calls
+pub mod Restoring

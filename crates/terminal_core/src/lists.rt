@@ -1,9 +1,10 @@
-ghost use Rattle.std.specs.Prelude.{◌≡◌, length, IfOk, OnOk, OnErr, MatchOption, None, Some};
+ghost use Rattle.std.specs.Prelude.{◌≡◌, ◌↔◌, length, IsTrue, IfOk, OnOk, OnErr, MatchOption, None, Some};
 ghost use Rattle.std.specs.Option.{option_map};
 ghost use Rattle.std.specs.FinMap as finite_map;
 ghost use Rattle.edi_messages.specs.Owned.{call_content};
 ghost use Rattle.terminal_core.specs.State.{LineContent, line_key};
-ghost use Rattle.terminal_core.specs.Listings.{key_of, line_content, is_line, is_side, NoneBefore, IsFirstAt};
+ghost use Rattle.terminal_core.specs.Listings.{key_of, line_content, lines_of, is_line, is_side, NoneBefore, IsFirstAt};
+ghost use Rattle.terminal_core.specs.Restoring.{AreOnce};
 
 use crate::line_state::LineState;
 use crate::lines::copied_lines;
@@ -42,6 +43,16 @@ impl Lists {
         }
     }
 
+    /// The lists of rows, if no line stands twice.
+    pub(crate) fn restore(rows: Vec<Listing>) -> Option<Lists>
+        ensures { MatchOption result (¬ AreOnce rows.items) (λ l. AreOnce rows.items × (l ≡ lines_of rows.items)) }
+    {
+        if !are_once(&rows) {
+            return None;
+        }
+        Some(Lists { rows })
+    }
+
     pub(crate) fn copy(&self, alloc: Global) -> Result<Lists, AllocError>
         ensures { IfOk result (λ l. l ≡ self.now) }
     {
@@ -78,6 +89,18 @@ impl Lists {
             row.state = LineState::Done;
         }
     }
+}
+
+// Whether no line stands twice.
+fn are_once(rows: &[Listing]) -> bool
+    ensures { IsTrue result ↔ AreOnce rows.now }
+{
+    for (place, row) in rows.iter().enumerate() {
+        if place_of(&rows[..place], &row.call, row.side, row.container).is_some() {
+            return false;
+        }
+    }
+    true
 }
 
 // Where the line stands.

@@ -1,23 +1,27 @@
-ghost use Rattle.std.specs.Prelude.{◌≡◌, ◌+◌, ◌≤◌, [], ◌∷◌, ◌++◌, map, Some, IfOk, OnErr, vec_len, vec_capacity};
+ghost use Rattle.std.specs.Prelude.{◌≡◌, ◌+◌, ◌≤◌, [], ◌∷◌, ◌++◌, map, Some, IfOk, IfErr, OnErr, vec_len, vec_capacity};
 ghost use Rattle.std.specs.FinMap as finite_map;
 ghost use Rattle.std.specs.Option.{option_map};
-ghost use Rattle.yard_core.specs.Plan.{IsPlan};
 ghost use Rattle.edi_messages.specs.Owned.{call_content, entry_content, order_content};
 ghost use Rattle.terminal_core.specs.Rows.{visit_content, change_content, line_done};
 ghost use Rattle.terminal_core.specs.State.{LineContent, empty_state, is_in, line_of, IsWhole};
 ghost use Rattle.terminal_core.specs.Step.{entered, departed, moved, listed, step, step_gate_in, step_discharge, step_load, with_line};
 ghost use Rattle.terminal_core.specs.Calls.{Follows, IsPlanned, is_refused};
+ghost use Rattle.terminal_core.specs.Restoring.{AreRowsOf, RefusesRows};
 
 use crate::change::Change;
 use crate::line_state::LineState;
 use crate::lines::{line_done, line_listed, pending_line};
+use crate::listing::Listing;
 use crate::lists::Lists;
 use crate::outcome::Outcome;
 use crate::reason::Reason;
+use crate::restore_fault::RestoreFault;
+use crate::restoring::restored_yard;
 use crate::rows::append;
 use crate::settling::{reason_of, settle};
 use crate::side::Side;
 use crate::source::Source;
+use crate::stay::Stay;
 use crate::visit::Visit;
 use crate::visits::{close, copied_visits, opened_visit, visit_closed};
 use crate::way::Way;
@@ -56,7 +60,6 @@ impl Model for Terminal {
 impl Terminal {
     /// A terminal with no containers, visits or lists.
     pub fn new(alloc: Global, plan: Plan, visit_limit: u32) -> Result<Terminal, AllocError>
-        requires { IsPlan plan }
         ensures empty { IfOk result (λ t. t ≡ empty_state (record { plan = plan; boxes = finite_map.empty }) visit_limit) }
         ensures whole { IfOk result IsWhole }
     {
@@ -66,6 +69,32 @@ impl Terminal {
             limit: visit_limit,
             visits: Vec::new(alloc),
             lists: Lists::new(alloc),
+        })
+    }
+
+    /// The terminal whose visits, places and lines these rows are, in any order of the places and of the lines. Unsound
+    /// where they are the rows of no whole state, and Memory. What was handed in is given up.
+    pub fn restore(
+        alloc: Global,
+        plan: Plan,
+        visit_limit: u32,
+        visits: Vec<Visit>,
+        places: Vec<Stay>,
+        lines: Vec<Listing>,
+    ) -> Result<Terminal, RestoreFault>
+        ensures ok { IfOk result (AreRowsOf plan visit_limit visits.items places.items lines.items) }
+        ensures whole { IfOk result IsWhole }
+        ensures unsound { IfErr result (RefusesRows plan visit_limit visits.items places.items lines.items) }
+    {
+        let yard = restored_yard(alloc, plan, visit_limit, &visits, places)?;
+        let Some(lists) = Lists::restore(lines) else {
+            return Err(RestoreFault::Unsound);
+        };
+        Ok(Terminal {
+            yard,
+            limit: visit_limit,
+            visits,
+            lists,
         })
     }
 

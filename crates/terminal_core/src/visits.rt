@@ -94,7 +94,7 @@ fn open_place(visits: &[Visit], container: BoxNumber) -> Option<usize>
     None
 }
 
-fn is_open(visit: &Visit, container: BoxNumber) -> bool
+pub(crate) fn is_open(visit: &Visit, container: BoxNumber) -> bool
     ensures { result ≡ is_open_visit container (visit_content visit.now) }
 {
     visit.container == container && visit.departure.is_none()

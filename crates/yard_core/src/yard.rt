@@ -42,7 +42,7 @@ impl Yard {
     ghost use Rattle.std.specs.Prelude.{◌↔◌, IsTrue, IsOk, IfOk, IfErr, IfSome, OnErr, OnOk, MatchOption, MatchResult};
     ghost use Rattle.std.specs.Option.{option_map};
     ghost use Rattle.std.specs.FinMap as finite_map;
-    ghost use Rattle.yard_core.specs.Plan.{block_of, IsSized};
+    ghost use Rattle.yard_core.specs.Plan.{block_of, IsPlan, IsSized};
     ghost use Rattle.yard_core.specs.YardMap.{placement};
     ghost use Rattle.yard_core.specs.SoundYard.{IsSound};
     ghost use Rattle.yard_core.specs.FitsAndFree.{IsFree, IsOpen, Misfits};
@@ -52,6 +52,7 @@ impl Yard {
     pub fn new(alloc: Global, plan: Plan) -> Result<Yard, AllocError>
         ensures empty { IfOk result (λ y. (y.plan ≡ plan) × (y.boxes ≡ finite_map.empty)) }
         ensures sound { IfOk result (λ y. IsSound y.plan (finite_map.get y.boxes)) }
+        ensures plan { IfOk result (λ y. IsPlan y.plan) }
     {
         let columns = Columns::new(alloc, plan.columns())?;
         Ok(Yard {

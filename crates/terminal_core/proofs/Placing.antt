@@ -1,0 +1,240 @@
+-- Places that are taken one after another, in the order of their tiers.
+use Rattle.std.proofs.Common.{◌≡◌, ◌≢◌, ℕ, ◌+◌, ◌-◌, ◌<◌, ◌≤◌, List, [], ◌∷◌, ◌++◌, length, take, true, false, cond, Option, None, Some, is_some, refl, sym, ap, ◌∙◌, arith, subst, get_or, All, inl, inr}
+use Rattle.std.specs.Prelude.{Contains, count_by}
+use Rattle.std.specs.List.Sorted.{IsPermutation, IsNonDecreasingBy}
+use Rattle.std.specs.FinMap as finite_map
+use Rattle.std.specs.Str.{bytes_eq}
+use Rattle.std.proofs.lemmas.Bool.{cases_lt}
+use Rattle.std.proofs.lemmas.Option.{none-some, same_Some}
+use Rattle.std.proofs.lemmas.List.{take_more, get_or-take, get_or_default, length-take-le}
+use Rattle.std.proofs.lemmas.List.Elements.{Contains-append_left, Contains-push, Contains-push_cases}
+use Rattle.std.proofs.lemmas.List.Sorted.{IsPermutation-sym, Contains-permutation, sum_by-IsPermutation}
+use Rattle.box6346.specs.SizeCode.{length_of}
+use Rattle.box6346.specs.declared.length.Length.{Length}
+use Rattle.box6346.specs.declared.length.Length.TheVariants.{Twenty, Forty}
+use Rattle.box6346.specs.declared.slot.Slot.{Slot}
+use Rattle.box6346.specs.declared.box_number.BoxNumber.{BoxNumber}
+use Rattle.yard_core.specs.declared.block.Block.{Block}
+use Rattle.yard_core.specs.declared.placement.Placement.{Placement}
+use Rattle.yard_core.specs.declared.yard_fault.YardFault.{YardFault}
+use Rattle.yard_core.specs.declared.yard_fault.YardFault.TheVariants as yard
+use Rattle.yard_core.specs.Plan.{IsSized, IsPlan}
+use Rattle.yard_core.specs.YardMap.{Box, Boxes, YardMap, placement, placement_of, in_bay, below}
+use Rattle.yard_core.specs.SoundYard.{Has, IsCarried, IsSound}
+use Rattle.yard_core.specs.FitsAndFree.{IsOpen}
+use Rattle.yard_core.specs.Calls.{RefusesPlace}
+use Rattle.yard_core.proofs.Boxes.{Adds, Adds-insert, box_cases}
+use Rattle.yard_core.proofs.Cells.{block_at}
+use Rattle.yard_core.proofs.Refusals.{misfits_not_open}
+use Rattle.yard_core.proofs.Sounds.{still}
+use Rattle.terminal_core.specs.declared.restore_fault.RestoreFault.{RestoreFault}
+use Rattle.terminal_core.specs.declared.restore_fault.RestoreFault.TheVariants.{Unsound, Memory}
+use Rattle.terminal_core.specs.declared.stay.Stay.{Stay}
+use Rattle.terminal_core.specs.Rows.{VisitContent}
+use Rattle.terminal_core.specs.State.{AreNumbered}
+use Rattle.terminal_core.specs.Restoring.{Names, Stands, ArePlacesOf, IsPut, RefusesPut, RefusesPlaces, cause_of}
+use Rattle.terminal_core.proofs.Boxes.{same_bytes, same_self}
+use Rattle.terminal_core.proofs.Numbered.{contained, one_named}
+use Rattle.terminal_core.proofs.Counted.{counted_more, some_counted, none_before_one, none_counted, counts, one_if, none_if, some_or_none}
+
+-- ---- a yard that lacks only boxes as high as this one, or higher
+
+module _ (plan : List Block) (all now : Box → Option Placement) (s : Placement) (kept : (q : Box) (t : Placement) → now q ≡ Some t → all q ≡ Some t)
+    (lower : (q : Box) (t : Placement) → all q ≡ Some t → t.slot.tier < s.slot.tier → now q ≡ Some t) where
+  Has-lower : (long : Length) (slot : Slot) → slot.tier < s.slot.tier → Has all long slot → Has now long slot
+  Has-lower long slot low h = (h.0, lower h.0 (placement long slot) h.1 low)
+
+  IsCarried-lower : (long : Length) (slot : Slot) → slot.tier ≤ s.slot.tier → 1 ≤ slot.tier → IsCarried all long slot → IsCarried now long slot
+  IsCarried-lower long slot low high (inl ground) = inl ground
+  IsCarried-lower Twenty slot low high (inr h) = inr (Has-lower Twenty (below slot) (omega arith) h)
+  IsCarried-lower Forty slot low high (inr (inl h)) = inr (inl (Has-lower Forty (below slot) (omega arith) h))
+  IsCarried-lower Forty slot low high (inr (inr h)) =
+      inr (inr (Has-lower Twenty (in_bay (slot.bay - 1) (below slot)) (omega arith) h.0, Has-lower Twenty (in_bay (slot.bay + 1) (below slot)) (omega arith) h.1))
+
+  pub still_open : (b : Box) → All IsSized plan → IsSound plan all → all b ≡ Some s → now b ≡ None → IsOpen plan now s
+  still_open b sized sound there absent = record {
+    in_plan = sound.in_plan b s there;
+    of_kind = sound.of_kind b s there;
+    not_taken = λ (q, t, cell, at, tc, sc). (let same : q ≡ b = sound.apart q b t s cell (kept q t at) there tc sc in
+        none-some t (sym absent ∙ ap now (sym same) ∙ at));
+    carried = IsCarried-lower s.length s.slot (omega arith) (block_at plan s.slot sized (sound.in_plan b s there)).1.inside.4 (sound.carried b s there);
+  }
+
+-- an open slot is not refused
+pub not_refused : (y : YardMap) (b : Box) (s : Placement) (f : YardFault) → f ≢ yard.Memory → finite_map.get y.boxes b ≡ None → IsOpen y.plan (finite_map.get y.boxes) s → RefusesPlace y b s f → ⊥
+not_refused y b s yard.Present other absent open_ h = let bad : false ≡ true = sym (ap is_some absent) ∙ h in cc
+not_refused y b s yard.Memory other absent open_ h = other refl
+not_refused y b s yard.Absent other absent open_ h = misfits_not_open y.plan (finite_map.get y.boxes) s yard.Absent h.1 open_
+not_refused y b s (yard.Buried q) other absent open_ h = misfits_not_open y.plan (finite_map.get y.boxes) s (yard.Buried q) h.1 open_
+not_refused y b s yard.NoSlot other absent open_ h = misfits_not_open y.plan (finite_map.get y.boxes) s yard.NoSlot h.1 open_
+not_refused y b s yard.SlotKind other absent open_ h = misfits_not_open y.plan (finite_map.get y.boxes) s yard.SlotKind h.1 open_
+not_refused y b s yard.Taken other absent open_ h = misfits_not_open y.plan (finite_map.get y.boxes) s yard.Taken h.1 open_
+not_refused y b s yard.OnAir other absent open_ h = misfits_not_open y.plan (finite_map.get y.boxes) s yard.OnAir h.1 open_
+not_refused y b s yard.NoRoom other absent open_ h = misfits_not_open y.plan (finite_map.get y.boxes) s yard.NoRoom h.1 open_
+
+module _ (visits : List VisitContent) (are : AreNumbered 1 visits) (y : YardMap) (place : Stay) (visit : VisitContent) (names : Names visits place visit) where
+  refused_for : (f : YardFault) → f ≢ yard.Memory → RefusesPlace y place.container (placement (length_of visit.size_type) place.slot) f → RefusesPut visits y place Unsound
+  refused_for f other h = λ also named. (
+    f,
+    other,
+    (let P : VisitContent → Type 0 = λ v. RefusesPlace y place.container (placement (length_of v.size_type) place.slot) f in subst P (one_named visits are place visit also names named) h),
+  )
+
+  pub refused_put : (f : YardFault) → RefusesPlace y place.container (placement (length_of visit.size_type) place.slot) f → RefusesPut visits y place (cause_of f)
+  refused_put yard.Memory h = tt
+  refused_put yard.Present h = refused_for yard.Present (λ e. cc) h
+  refused_put yard.Absent h = refused_for yard.Absent (λ e. cc) h
+  refused_put (yard.Buried q) h = refused_for (yard.Buried q) (λ e. cc) h
+  refused_put yard.NoSlot h = refused_for yard.NoSlot (λ e. cc) h
+  refused_put yard.SlotKind h = refused_for yard.SlotKind (λ e. cc) h
+  refused_put yard.Taken h = refused_for yard.Taken (λ e. cc) h
+  refused_put yard.OnAir h = refused_for yard.OnAir (λ e. cc) h
+  refused_put yard.NoRoom h = refused_for yard.NoRoom (λ e. cc) h
+
+-- ---- the places one after another
+
+module _ (visits : List VisitContent) (are : AreNumbered 1 visits) where
+  pub same_stand : (one two : Boxes) (place : Stay) → Stands visits one place → Stands visits two place → finite_map.get one place.container ≡ finite_map.get two place.container
+  same_stand one two place is also =
+      is.stands ∙ ap (λ (v : VisitContent). Some (placement (length_of v.size_type) place.slot)) (one_named visits are place is.visit also.visit is.names also.names) ∙ sym also.stands
+
+-- a place more
+module _ (visits : List VisitContent) (old new : YardMap) (places : List Stay) (place : Stay) (before : ArePlacesOf visits old.boxes places) (put : IsPut visits old new place) where
+  stood : Placement
+  stood = placement (length_of put.visit.size_type) place.slot
+
+  adds : Adds (placement_of old.boxes) (placement_of new.boxes) place.container stood
+  unfolding stood
+  adds = let P : Boxes → Type 0 = λ m. Adds (placement_of old.boxes) (placement_of m) place.container (placement (length_of put.visit.size_type) place.slot) in subst P (sym put.places.boxes) (Adds-insert old.boxes place.container _)
+
+  stays : (q : Box) (t : Placement) → finite_map.get old.boxes q ≡ Some t → finite_map.get new.boxes q ≡ Some t
+  stays q t e = still old.plan (placement_of old.boxes) (placement_of new.boxes) place.container stood adds put.places.absent q t e
+
+  not_there : (other : Stay) → Contains places other → bytes_eq other.container place.container ≡ true → ⊥
+  not_there other inside same =
+      let stand = before.each other inside in
+      none-some (placement (length_of stand.visit.size_type) other.slot) (sym put.places.absent ∙ ap (finite_map.get old.boxes) (same_bytes other.container place.container same) ∙ stand.stands)
+
+  stands_now : (other : Stay) → Contains places other → Stands visits new.boxes other
+  stands_now other inside = let stand = before.each other inside in record { visit = stand.visit; names = stand.names; stands = stays other.container _ stand.stands }
+
+  stands_here : Stands visits new.boxes place
+  unfolding stood
+  stands_here = record { visit = put.visit; names = put.names; stands = adds.here }
+
+  none_of_it : (container : BoxNumber) → bytes_eq place.container container ≡ true → count_by (λ other. bytes_eq other.container container) places ≡ 0
+  none_of_it container is =
+      let same : container ≡ place.container = same_bytes place.container container is in
+      none_counted (λ other. bytes_eq other.container container) places (λ k other at.
+      elim (bytes_eq other.container container) as (λ v. bytes_eq other.container container ≡ v → v ≡ false) [
+        | true ↦ λ e. absurd (not_there other (contained places k other at) (ap (bytes_eq other.container) (sym same) ∙ e))
+        | false ↦ λ e. refl
+      ] refl)
+
+  pub one_place_more : ArePlacesOf visits new.boxes (places ++ place ∷ [])
+  one_place_more = record {
+    each = λ other inside. elim (Contains-push_cases places place other inside) [
+      | inl old_one ↦ stands_now other old_one
+      | inr same ↦ (let P : Stay → Type 0 = Stands visits new.boxes in subst P same stands_here)
+    ];
+    every = λ container s e. elim (box_cases container place.container) [
+      | inl same ↦ (place, Contains-push places place, sym same)
+      | inr apart ↦ (let there = before.every container s (sym (adds.others container apart) ∙ e) in (there.0, Contains-append_left places (place ∷ []) there.0 there.1, there.2))
+    ];
+    once = λ container. (let more : count_by (λ other. bytes_eq other.container container) (places ++ place ∷ []) ≡ count_by (λ other. bytes_eq other.container container) places + counts (bytes_eq place.container container) =
+        counted_more (λ other. bytes_eq other.container container) places place in
+        let few : count_by (λ other. bytes_eq other.container container) places ≤ 1 = before.once container in
+        elim (bytes_eq place.container container) as (λ v. bytes_eq place.container container ≡ v → count_by (λ other. bytes_eq other.container container) (places ++ place ∷ []) ≤ 1) [
+          | true ↦ λ e. (let none : count_by (λ other. bytes_eq other.container container) places ≡ 0 = none_of_it container e in
+              let one : counts (bytes_eq place.container container) ≡ 1 = one_if (bytes_eq place.container container) e in
+              omega arith)
+          | false ↦ λ e. (let none : counts (bytes_eq place.container container) ≡ 0 = none_if (bytes_eq place.container container) e in omega arith)
+        ] refl);
+  }
+
+pub one_more_taken : (visits : List VisitContent) (old new : YardMap) (places : List Stay) (i : ℕ) (place : Stay) → i < length places → place ≡ get_or places i place → ArePlacesOf visits old.boxes (take i places) → IsPut visits old new place
+    → ArePlacesOf visits new.boxes (take (i + 1) places)
+one_more_taken visits old new places i place low at before put =
+    let more : take (i + 1) places ≡ take i places ++ place ∷ [] = take_more places i place low ∙ ap (λ (p : Stay). take i places ++ p ∷ []) (sym at) in
+    let P : List Stay → Type 0 = ArePlacesOf visits new.boxes in
+    subst P (sym more) (one_place_more visits old new (take i places) place before put)
+
+-- no place yet
+pub none_taken : (visits : List VisitContent) (boxes : Boxes) → boxes ≡ finite_map.empty → ArePlacesOf visits boxes []
+none_taken visits boxes e = record {
+  each = λ other inside. (let bad : inside.0 < 0 = inside.1 in absurd (omega arith));
+  every = λ container s there. absurd (none-some s (sym (ap (λ (m : Boxes). finite_map.get m container) e ∙ finite_map.get-empty _ container) ∙ there));
+  once = λ container. omega arith;
+}
+
+-- in another order
+pub places_moved : (visits : List VisitContent) (boxes : Boxes) (places moved : List Stay) → IsPermutation places moved → ArePlacesOf visits boxes places → ArePlacesOf visits boxes moved
+places_moved visits boxes places moved perm all = record {
+  each = λ other inside. all.each other (Contains-permutation moved places other (IsPermutation-sym places moved perm) inside);
+  every = λ container s there. (let stand = all.every container s there in (stand.0, Contains-permutation places moved stand.0 perm stand.1, stand.2));
+  once = λ container. (let same : count_by (λ other. bytes_eq other.container container) moved ≡ count_by (λ other. bytes_eq other.container container) places =
+      sum_by-IsPermutation (λ other. cond (bytes_eq other.container container) 1 0) places moved perm in
+      let few : count_by (λ other. bytes_eq other.container container) places ≤ 1 = all.once container in
+      omega arith);
+}
+
+-- ---- where a sound yard has these places, the next is never refused
+
+module _ (plan : List Block) (valid : IsPlan plan) (visits : List VisitContent) (are : AreNumbered 1 visits) (places : List Stay) (rising : IsNonDecreasingBy (λ (p : Stay). p.slot.tier) places)
+    (boxes : Boxes) (sound : IsSound plan (finite_map.get boxes)) (all : ArePlacesOf visits boxes places)
+    (y : YardMap) (same_plan : y.plan ≡ plan) (i : ℕ) (place : Stay) (low : i < length places) (at : place ≡ get_or places i place) (so_far : ArePlacesOf visits y.boxes (take i places)) where
+  inside_all : (other : Stay) → Contains (take i places) other → Contains places other
+  inside_all other (k, short, is) =
+      let long : length (take i places) ≡ i = length-take-le i places (omega arith) in
+      (k, omega arith, sym (get_or-take i places k other (omega arith)) ∙ is)
+
+  kept : (q : Box) (t : Placement) → finite_map.get y.boxes q ≡ Some t → finite_map.get boxes q ≡ Some t
+  kept q t e =
+      let there = so_far.every q t e in
+      ap (finite_map.get boxes) (sym there.2) ∙ sym (same_stand visits are y.boxes boxes there.0 (so_far.each there.0 there.1) (all.each there.0 (inside_all there.0 there.1)))
+      ∙ ap (finite_map.get y.boxes) there.2 ∙ e
+
+  place_inside : Contains places place
+  place_inside = (i, low, sym at)
+
+  taken_first : (other : Stay) → Contains places other → other.slot.tier < place.slot.tier → Contains (take i places) other
+  taken_first other (k, short, is) under = elim (cases_lt k i) [
+    | inl first ↦ (let long : length (take i places) ≡ i = length-take-le i places (omega arith) in (k, omega arith, get_or-take i places k other first ∙ is))
+    | inr later ↦ (let up : (get_or places i place).slot.tier ≤ (get_or places k place).slot.tier = rising i k place later short in
+        let here : (get_or places i place).slot.tier ≡ place.slot.tier = ap (λ (p : Stay). p.slot.tier) (sym at) in
+        let there : (get_or places k place).slot.tier ≡ other.slot.tier = ap (λ (p : Stay). p.slot.tier) (get_or_default places k place other short ∙ is) in
+        absurd (omega arith))
+  ]
+
+  lower : (q : Box) (t : Placement) → finite_map.get boxes q ≡ Some t → t.slot.tier < place.slot.tier → finite_map.get y.boxes q ≡ Some t
+  lower q t e under =
+      let there = all.every q t e in
+      let stand = all.each there.0 there.1 in
+      let is : t ≡ placement (length_of stand.visit.size_type) there.0.slot = same_Some t _ (sym e ∙ ap (finite_map.get boxes) (sym there.2) ∙ stand.stands) in
+      let tier : t.slot.tier ≡ there.0.slot.tier = ap (λ (s : Placement). s.slot.tier) is in
+      let first : Contains (take i places) there.0 = taken_first there.0 there.1 (omega arith) in
+      ap (finite_map.get y.boxes) (sym there.2) ∙ same_stand visits are y.boxes boxes there.0 (so_far.each there.0 first) stand ∙ ap (finite_map.get boxes) there.2 ∙ e
+
+  absent : finite_map.get y.boxes place.container ≡ None
+  absent = some_or_none (finite_map.get y.boxes place.container) (λ t e.
+      let there = so_far.every place.container t e in
+      let self : bytes_eq place.container place.container ≡ true = same_self place.container in
+      let none : count_by (λ other. bytes_eq other.container place.container) (take i places) ≡ 0 =
+      none_before_one (λ other. bytes_eq other.container place.container) places i place (all.once place.container) low at self in
+      let some : 1 ≤ count_by (λ other. bytes_eq other.container place.container) (take i places) =
+      some_counted (λ other. bytes_eq other.container place.container) (take i places) there.0 there.1 (ap (λ b. bytes_eq b place.container) there.2 ∙ self) in
+      omega arith)
+
+  pub not_unsound : RefusesPut visits y place Unsound → ⊥
+  not_unsound refuses =
+      let stand = all.each place place_inside in
+      let why = refuses stand.visit stand.names in
+      let P : List Block → Type 0 = λ p. IsOpen p (finite_map.get y.boxes) (placement (length_of stand.visit.size_type) place.slot) in
+      let open_ : P plan = still_open plan (finite_map.get boxes) (finite_map.get y.boxes) (placement (length_of stand.visit.size_type) place.slot) kept lower place.container valid.sized sound stand.stands absent in
+      not_refused y place.container (placement (length_of stand.visit.size_type) place.slot) why.0 why.1 absent (subst P (sym same_plan) open_) why.2
+
+pub refuses_places : (plan : List Block) (visits : List VisitContent) (places : List Stay) (y : YardMap) (i : ℕ) (place : Stay) (f : RestoreFault) → IsPlan plan → AreNumbered 1 visits → IsNonDecreasingBy (λ (p : Stay). p.slot.tier) places → y.plan ≡ plan
+    → i < length places → place ≡ get_or places i place → ArePlacesOf visits y.boxes (take i places) → RefusesPut visits y place f → RefusesPlaces plan visits places f
+refuses_places plan visits places y i place Memory valid are rising same low at so_far refuses = tt
+refuses_places plan visits places y i place Unsound valid are rising same low at so_far refuses = λ boxes sound all.
+    not_unsound plan valid visits are places rising boxes sound all y same i place low at so_far refuses

@@ -1,0 +1,117 @@
+-- The whole state of rows.
+use Rattle.std.proofs.Common.{◌≡◌, ℕ, ◌+◌, ◌≤◌, List, length, true, Option, Some, is_some, is_none, sym, ap, ◌∙◌, arith, subst}
+use Rattle.std.specs.Prelude.{slice_get, Contains, find, filter, count_by, ◌&&◌}
+use Rattle.std.specs.List.Sorted.{IsPermutation}
+use Rattle.std.specs.FinMap as finite_map
+use Rattle.std.specs.Str.{bytes_eq}
+use Rattle.std.proofs.lemmas.Bool.{and_parts}
+use Rattle.std.proofs.lemmas.Option.{same_Some}
+use Rattle.std.proofs.lemmas.List.Sums.{length-filter}
+use Rattle.std.proofs.lemmas.List.Sorted.{IsPermutation-sym}
+use Rattle.box6346.specs.declared.box_number.BoxNumber.{BoxNumber}
+use Rattle.yard_core.specs.declared.block.Block.{Block}
+use Rattle.yard_core.specs.Plan.{IsPlan}
+use Rattle.yard_core.specs.YardMap.{Boxes, YardMap}
+use Rattle.yard_core.specs.SoundYard.{IsSound}
+use Rattle.terminal_core.specs.declared.restore_fault.RestoreFault.{RestoreFault}
+use Rattle.terminal_core.specs.declared.restore_fault.RestoreFault.TheVariants.{Unsound, Memory}
+use Rattle.terminal_core.specs.declared.stay.Stay.{Stay}
+use Rattle.terminal_core.specs.Rows.{VisitContent}
+use Rattle.terminal_core.specs.State.{is_open_visit, AreNumbered, IsWhole}
+use Rattle.terminal_core.specs.Restoring.{ArePlacesOf, AreNamed, IsYardOf, RefusesYard, RefusesPlaces, without_lines}
+use Rattle.terminal_core.proofs.Boxes.{same_bytes, same_self}
+use Rattle.terminal_core.proofs.Numbered.{contained, found_at, number_at}
+use Rattle.terminal_core.proofs.Counted.{same_tests, some_of, one_passes, at_most_one, is_found, found_is}
+use Rattle.terminal_core.proofs.Placing.{places_moved}
+
+is_some_of : {A : Type 0} (o : Option A) (x : A) → o ≡ Some x → is_some o ≡ true
+is_some_of o x e = ap is_some e
+
+-- ---- the rows are those of a whole state
+
+module _ (visits : List VisitContent) (are : AreNumbered 1 visits) (boxes : Boxes) (places : List Stay) (all : ArePlacesOf visits boxes places) (named : AreNamed visits places) where
+  -- the place of an open visit has its container
+  place_of_open : (container : BoxNumber) (k : ℕ) (visit : VisitContent) → slice_get visits k ≡ Some visit → is_open_visit container visit ≡ true → (place : Stay) × Contains places place × (place.visit ≡ k + 1) × (place.container ≡ container)
+  place_of_open container k visit at is =
+      let parts = and_parts (bytes_eq visit.container container) (is_none visit.departure) is in
+      let place = named visit (contained visits k visit at) parts.1 in
+      let stand = all.each place.0 place.1 in
+      let there : slice_get visits stand.names.listed.0 ≡ Some stand.visit = found_at visits stand.visit stand.names.listed in
+      let mine : visit.number ≡ k + 1 = number_at 1 visits k visit are at in
+      let its : stand.visit.number ≡ stand.names.listed.0 + 1 = number_at 1 visits stand.names.listed.0 stand.visit are there in
+      let said : stand.visit.number ≡ place.0.visit = stand.names.number in
+      let tells : place.0.visit ≡ visit.number = place.2 in
+      let same_index : stand.names.listed.0 ≡ k = omega arith in
+      let same : stand.visit ≡ visit = same_Some stand.visit visit (sym there ∙ ap (slice_get visits) same_index ∙ at) in
+      let open_ : bytes_eq stand.visit.container place.0.container ≡ true = (and_parts (bytes_eq stand.visit.container place.0.container) (is_none stand.visit.departure) stand.names.is_open).0 in (
+        place.0,
+        place.1,
+        tells ∙ mine,
+        same_bytes stand.visit.container place.0.container open_ ∙ ap (λ (v : VisitContent). v.container) same ∙ sym (same_bytes visit.container container parts.0),
+      )
+
+  one_open : (container : BoxNumber) → count_by (is_open_visit container) visits ≤ 1
+  one_open container = at_most_one (is_open_visit container) visits (λ j k v w at also is too.
+      let p = place_of_open container j v at is in
+      let q = place_of_open container k w also too in
+      let same : p.0 ≡ q.0 = one_passes (λ place. bytes_eq place.container container) places p.0 q.0 (all.once container) p.1 q.1
+      (ap (λ b. bytes_eq b container) p.3 ∙ same_self container) (ap (λ b. bytes_eq b container) q.3 ∙ same_self container) in
+      let said : p.0.visit ≡ q.0.visit = ap (λ (s : Stay). s.visit) same in
+      let first : p.0.visit ≡ j + 1 = p.2 in
+      let second : q.0.visit ≡ k + 1 = q.2 in
+      omega arith)
+
+  here_and_open : (container : BoxNumber) → is_some (finite_map.get boxes container) ≡ is_some (find (is_open_visit container) visits)
+  here_and_open container = same_tests (is_some (finite_map.get boxes container)) (is_some (find (is_open_visit container) visits))
+      (λ e. let s = some_of (finite_map.get boxes container) e in
+      let place = all.every container s.0 s.1 in
+      let stand = all.each place.0 place.1 in
+      is_found (is_open_visit container) visits stand.names.listed.0 stand.visit (found_at visits stand.visit stand.names.listed) (ap (λ b. is_open_visit b stand.visit) (sym place.2) ∙ stand.names.is_open))
+      (λ e. let v = some_of (find (is_open_visit container) visits) e in
+      let found = found_is (is_open_visit container) visits v.0 v.1 in
+      let place = place_of_open container found.0 v.0 found.1 found.2 in
+      let stand = all.each place.0 place.1 in
+      ap (λ b. is_some (finite_map.get boxes b)) (sym place.3) ∙ ap is_some stand.stands)
+
+pub whole_of : (plan : List Block) (limit : ℕ) (visits : List VisitContent) (places moved : List Stay) (yard : YardMap) → IsPlan plan → yard.plan ≡ plan → IsSound yard.plan (finite_map.get yard.boxes) → AreNumbered 1 visits → length visits ≤ limit
+    → IsPermutation places moved → ArePlacesOf visits yard.boxes moved → AreNamed visits moved → IsYardOf plan limit visits places yard
+whole_of plan limit visits places moved yard valid same sound are few perm all named = record {
+  whole = record {
+    plan = let P : List Block → Type 0 = IsPlan in subst P (sym same) valid;
+    sound = sound;
+    numbered = are;
+    within = few;
+    one_visit = λ container. (let e : length (filter (is_open_visit container) visits) ≡ count_by (is_open_visit container) visits = length-filter (is_open_visit container) visits in
+        let f : count_by (is_open_visit container) visits ≤ 1 = one_open visits are yard.boxes moved all named container in
+        omega arith);
+    here = here_and_open visits are yard.boxes moved all named;
+  };
+  plan_is = same;
+  places_are = places_moved visits yard.boxes moved places (IsPermutation-sym places moved perm) all;
+}
+
+-- ---- whole states have such rows
+
+pub named_of_whole : (limit : ℕ) (visits : List VisitContent) (places : List Stay) (yard : YardMap) → IsWhole (without_lines yard limit visits) → ArePlacesOf visits yard.boxes places → AreNamed visits places
+named_of_whole limit visits places yard whole all visit inside open_ =
+    let container : BoxNumber = visit.container in
+    let is : is_open_visit container visit ≡ true = ap (λ v. v && is_none visit.departure) (same_self container) ∙ open_ in
+    let here : is_some (finite_map.get yard.boxes container) ≡ true = whole.here container ∙ is_found (is_open_visit container) visits inside.0 visit (found_at visits visit inside) is in
+    let s = some_of (finite_map.get yard.boxes container) here in
+    let place = all.every container s.0 s.1 in
+    let stand = all.each place.0 place.1 in
+    let also : is_open_visit container stand.visit ≡ true = ap (λ b. is_open_visit b stand.visit) (sym place.2) ∙ stand.names.is_open in
+    let e : length (filter (is_open_visit container) visits) ≡ count_by (is_open_visit container) visits = length-filter (is_open_visit container) visits in
+    let f : length (filter (is_open_visit container) visits) ≤ 1 = whole.one_visit container in
+    let few : count_by (is_open_visit container) visits ≤ 1 = omega arith in
+    let same : stand.visit ≡ visit = one_passes (is_open_visit container) visits stand.visit visit few stand.names.listed inside also is in
+    (place.0, place.1, sym stand.names.number ∙ ap (λ (v : VisitContent). v.number) same)
+
+pub unsound_yard : (plan : List Block) (limit : ℕ) (visits : List VisitContent) (places moved : List Stay) (f : RestoreFault) → IsPermutation places moved → RefusesPlaces plan visits moved f → RefusesYard plan limit visits places f
+unsound_yard plan limit visits places moved Memory perm refuses = tt
+unsound_yard plan limit visits places moved Unsound perm refuses = λ yard is.
+    let P : List Block → Type 0 = λ p. IsSound p (finite_map.get yard.boxes) in
+    refuses yard.boxes (subst P is.plan_is is.whole.sound) (places_moved visits yard.boxes places moved perm is.places_are)
+
+pub not_all_named : (plan : List Block) (limit : ℕ) (visits : List VisitContent) (places moved : List Stay) → IsPermutation places moved → ¬ AreNamed visits moved → RefusesYard plan limit visits places Unsound
+not_all_named plan limit visits places moved perm unnamed = λ yard is. unnamed (named_of_whole limit visits moved yard is.whole (places_moved visits yard.boxes places moved perm is.places_are))

@@ -1,0 +1,7 @@
+use Rattle.std.proofs.Common.{◌≡◌, ℕ, ◌+◌, ◌<◌, Some}
+use Rattle.std.specs.Prelude.{slice_get}
+use Rattle.terminal_core.specs.declared.visit.Visit.{Visit}
+use Rattle.terminal_core.proofs.restoring.are_numbered.Given as goal
+
+abbrev pub invariant-loop-index : goal.invariant-loop-index
+invariant-loop-index l = (k : ℕ) (visit : Visit) → k < l.index → slice_get l.visits k ≡ Some visit → visit.number ≡ k + 1

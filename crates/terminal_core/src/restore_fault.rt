@@ -1,0 +1,21 @@
+ghost use Rattle.std.specs.Prelude.{◌≡◌};
+ghost use Rattle.terminal_core.specs.declared.restore_fault.RestoreFault.TheVariants.{Memory};
+
+use std::alloc::AllocError;
+
+/// Why rows were not restored.
+#[derive(Clone, Copy, PartialEq, Eq, Debug)]
+pub enum RestoreFault {
+    /// They are the rows of no whole state.
+    Unsound,
+    /// Memory was refused.
+    Memory,
+}
+
+impl From<AllocError> for RestoreFault {
+    ghost from_gives = { λ _ e. e ≡ Memory };
+
+    fn from(_e: AllocError) -> RestoreFault {
+        RestoreFault::Memory
+    }
+}

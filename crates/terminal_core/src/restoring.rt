@@ -1,0 +1,163 @@
+ghost use Rattle.std.specs.Prelude.{◌≡◌, ◌≢◌, ◌≤◌, ◌<◌, ◌+◌, ◌==◌, ℕ, [], ◌↔◌, IsTrue, IfOk, IfErr, OnOk, MatchOption, MatchResult, Contains, map, length, is_none, slice_get, slice_index_or, true, false, Some};
+ghost use Rattle.std.specs.List.{list_any};
+ghost use Rattle.std.specs.List.Sorted.{IsPermutation, IsNonDecreasingBy};
+ghost use Rattle.std.specs.FinMap as finite_map;
+ghost use Rattle.box6346.specs.SizeCode.{length_of};
+ghost use Rattle.yard_core.specs.Plan.{IsPlan};
+ghost use Rattle.yard_core.specs.SoundYard.{IsSound};
+ghost use Rattle.yard_core.specs.YardMap.{Boxes};
+ghost use Rattle.terminal_core.specs.Rows.{VisitContent, visit_content};
+ghost use Rattle.terminal_core.specs.State.{AreNumbered};
+ghost use Rattle.terminal_core.specs.Restoring.{cause_of, Names, AreNamed, IsPut, RefusesPut, IsYardOf, RefusesYard, RefusesPlaces, ArePlacesOf};
+
+use crate::restore_fault::RestoreFault;
+use crate::stay::Stay;
+use crate::visit::Visit;
+use crate::visits::is_open;
+use box6346::Length;
+use std::alloc::{AllocError, Global};
+use yard_core::{Plan, Yard, YardFault};
+
+/// The yard of a plan, visits and places: Unsound where the visits are not numbered within the limit, or the places are
+/// not those of the open visits in a sound yard.
+pub(crate) fn restored_yard(
+    alloc: Global,
+    plan: Plan,
+    visit_limit: u32,
+    visits: &[Visit],
+    mut places: Vec<Stay>,
+) -> Result<Yard, RestoreFault>
+    ensures ok { IfOk result (IsYardOf plan visit_limit (map visit_content visits.now) places.items) }
+    ensures unsound { IfErr result (RefusesYard plan visit_limit (map visit_content visits.now) places.items) }
+{
+    if visits.len() > visit_limit as usize || !are_numbered(visits) {
+        return Err(RestoreFault::Unsound);
+    }
+    sort_by_tier(&mut places)?;
+    let yard = settled_yard(alloc, plan, visits, &places)?;
+    if !are_all_named(alloc, visits, &places)? {
+        return Err(RestoreFault::Unsound);
+    }
+    Ok(yard)
+}
+
+// Whether visits are numbered 1, 2, .. as they stand.
+fn are_numbered(visits: &[Visit]) -> bool
+    ensures { IsTrue result ↔ AreNumbered 1 (map visit_content visits.now) }
+{
+    for (index, visit) in visits.iter().enumerate() {
+        if visit.number as usize != index + 1 {
+            return false;
+        }
+    }
+    true
+}
+
+// So each container comes after those that carry it.
+fn sort_by_tier(places: &mut Vec<Stay>) -> Result<(), AllocError>
+    ensures moved { IsPermutation places.old.items places.new.items }
+    ensures sorted { OnOk result (IsNonDecreasingBy (λ place. place.slot.tier) places.new.items) }
+{
+    places.sort_by_key(|place| place.slot.tier)
+}
+
+// The yard with the containers of the places.
+fn settled_yard(
+    alloc: Global,
+    plan: Plan,
+    visits: &[Visit],
+    places: &[Stay],
+) -> Result<Yard, RestoreFault>
+    requires numbered { AreNumbered 1 (map visit_content visits.now) }
+    requires sorted { IsNonDecreasingBy (λ place. place.slot.tier) places.now }
+    ensures plan { IfOk result (λ y. IsPlan plan × (y.plan ≡ plan)) }
+    ensures sound { IfOk result (λ y. IsSound y.plan (finite_map.get y.boxes)) }
+    ensures placed { IfOk result (λ y. ArePlacesOf (map visit_content visits.now) y.boxes places.now) }
+    ensures unsound { IfErr result (RefusesPlaces plan (map visit_content visits.now) places.now) }
+{
+    let mut yard = Yard::new(alloc, plan)?;
+    for place in places {
+        put(&mut yard, visits, place)?;
+    }
+    Ok(yard)
+}
+
+// One container more, by the visit that its place names.
+fn put(yard: &mut Yard, visits: &[Visit], place: &Stay) -> Result<(), RestoreFault>
+    requires numbered { AreNumbered 1 (map visit_content visits.now) }
+    requires sound { IsSound yard.old.plan (finite_map.get yard.old.boxes) }
+    ensures answer { MatchResult result (λ _. IsPut (map visit_content visits.now) yard.old yard.new place.now) (RefusesPut (map visit_content visits.now) yard.old place.now) }
+    ensures sound { IsSound yard.new.plan (finite_map.get yard.new.boxes) }
+{
+    let Some(length) = named_length(visits, place) else {
+        return Err(RestoreFault::Unsound);
+    };
+    match yard.place(place.container, length, place.slot) {
+        Ok(()) => Ok(()),
+        Err(fault) => Err(cause(fault)),
+    }
+}
+
+// No container of a sound yard is refused its slot, except by memory.
+fn cause(fault: YardFault) -> RestoreFault
+    ensures { result ≡ cause_of fault }
+{
+    match fault {
+        YardFault::Memory => RestoreFault::Memory,
+        _ => RestoreFault::Unsound,
+    }
+}
+
+// The length of the container, by the open visit that its place names.
+fn named_length(visits: &[Visit], place: &Stay) -> Option<Length>
+    requires { AreNumbered 1 (map visit_content visits.now) }
+    ensures { MatchOption result ((visit : VisitContent) → ¬ Names (map visit_content visits.now) place.now visit) (λ length. (visit : VisitContent) × Names (map visit_content visits.now) place.now visit × (length ≡ length_of visit.size_type)) }
+{
+    if place.visit == 0 {
+        return None;
+    }
+    let Some(visit) = visits.get(place.visit as usize - 1) else {
+        return None;
+    };
+    if is_open(visit, place.container) {
+        Some(visit.size_type.length())
+    } else {
+        None
+    }
+}
+
+// Whether each open visit is named by a place.
+fn are_all_named(alloc: Global, visits: &[Visit], places: &[Stay]) -> Result<bool, AllocError>
+    requires numbered { AreNumbered 1 (map visit_content visits.now) }
+    requires named { (place : Stay) → Contains places.now place → (1 ≤ place.visit) × (place.visit ≤ length visits.now) }
+    ensures { IfOk result (λ b. IsTrue b ↔ AreNamed (map visit_content visits.now) places.now) }
+{
+    let marks = named(alloc, visits.len(), places)?;
+    Ok(are_marked(visits, &marks))
+}
+
+// Which visits are named by a place, in their order.
+fn named(alloc: Global, count: usize, places: &[Stay]) -> Result<Vec<bool>, AllocError>
+    requires { (place : Stay) → Contains places.now place → (1 ≤ place.visit) × (place.visit ≤ count) }
+    ensures len { IfOk result (λ marks. length marks.items ≡ count) }
+    ensures marks { IfOk result (λ marks. (k : ℕ) → k < count → slice_index_or marks.items k false ≡ list_any (λ place. place.visit == k + 1) places.now) }
+{
+    let mut marks = vec![in alloc; false; count]?;
+    for place in places {
+        marks[place.visit as usize - 1] = true;
+    }
+    Ok(marks)
+}
+
+// Whether each open visit is marked.
+fn are_marked(visits: &[Visit], marks: &[bool]) -> bool
+    requires { length marks.now ≡ length visits.now }
+    ensures { IsTrue result ↔ ((k : ℕ) (visit : Visit) → slice_get visits.now k ≡ Some visit → is_none visit.departure ≡ true → slice_index_or marks.now k false ≡ true) }
+{
+    for (index, visit) in visits.iter().enumerate() {
+        if visit.departure.is_none() && !marks[index] {
+            return false;
+        }
+    }
+    true
+}
