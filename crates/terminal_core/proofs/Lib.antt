@@ -6,3 +6,5 @@ pub mod Appended
 pub mod Closing
 pub mod Steps
 pub mod Lined
+pub mod Counting
+pub mod Changing

@@ -4,3 +4,5 @@ pub mod Listings
 pub mod Step
 pub mod Codes
 pub mod Calls
+pub mod Counts
+pub mod Changes
