@@ -54,11 +54,11 @@ first_slotted false (Some first) y new b length slot e =
     (refl, sym (ap (λ (q : YardMap × Slot). q.0) p) ∙ ap (λ (s : Slot). yard_map y.plan (finite_map.insert y.boxes b (placement length s))) (ap (λ (q : YardMap × Slot). q.1) p))
 
 -- one container more
-record Comes (old new : YardMap) (b : BoxNumber) (s : Placement) : Type 0 where
-  absent : is_some (finite_map.get old.boxes b) ≡ false
-  boxes : new.boxes ≡ finite_map.insert old.boxes b s
+pub record Comes (old new : YardMap) (b : BoxNumber) (s : Placement) : Type 0 where
+  pub absent : is_some (finite_map.get old.boxes b) ≡ false
+  pub boxes : new.boxes ≡ finite_map.insert old.boxes b s
 
-comes : (y new : YardMap) (entry : EntryContent) (o : Option Slot) (slot : Slot) → settled_in y entry o ≡ Ok (new, slot) → Comes y new entry.number (placement (length_of entry.size_type) slot)
+pub comes : (y new : YardMap) (entry : EntryContent) (o : Option Slot) (slot : Slot) → settled_in y entry o ≡ Ok (new, slot) → Comes y new entry.number (placement (length_of entry.size_type) slot)
 comes y new entry (Some named) slot e =
     let is = slotted (is_some (finite_map.get y.boxes entry.number)) (misfit_of y.plan y.boxes (placement (length_of entry.size_type) named)) (yard_map y.plan (finite_map.insert y.boxes entry.number (placement (length_of entry.size_type) named))) new slot named e in
     record { absent = is.0; boxes = ap (λ (v : YardMap). v.boxes) is.1 ∙ ap (λ s. finite_map.insert y.boxes entry.number (placement (length_of entry.size_type) s)) is.2 }
@@ -67,15 +67,15 @@ comes y new entry None slot e =
     record { absent = is.0; boxes = ap (λ (v : YardMap). v.boxes) is.1 }
 
 -- one container less
-record Goes (old new : YardMap) (b : BoxNumber) (s : Placement) : Type 0 where
-  stood : finite_map.get old.boxes b ≡ Some s
-  boxes : new.boxes ≡ finite_map.remove old.boxes b
+pub record Goes (old new : YardMap) (b : BoxNumber) (s : Placement) : Type 0 where
+  pub stood : finite_map.get old.boxes b ≡ Some s
+  pub boxes : new.boxes ≡ finite_map.remove old.boxes b
 
 goes_free : (o : Option BoxNumber) (y new : YardMap) (t s : Placement) → unless_buried {A = YardMap × Placement} o (Ok (y, t)) ≡ Ok (new, s) → (t ≡ s) × (new ≡ y)
 goes_free (Some b) y new t s e = cc
 goes_free None y new t s e = let p : (y, t) ≡ (new, s) = cc in (ap (λ (q : YardMap × Placement). q.1) p, sym (ap (λ (q : YardMap × Placement). q.0) p))
 
-goes : (o : Option Placement) (y new : YardMap) (b : BoxNumber) (s : Placement) → removed_at o y b ≡ Ok (new, s) → (o ≡ Some s) × (new.boxes ≡ finite_map.remove y.boxes b)
+pub goes : (o : Option Placement) (y new : YardMap) (b : BoxNumber) (s : Placement) → removed_at o y b ≡ Ok (new, s) → (o ≡ Some s) × (new.boxes ≡ finite_map.remove y.boxes b)
 goes None y new b s e = cc
 goes (Some t) y new b s e =
     let is = goes_free (blocker_of y.boxes t) (yard_map y.plan (finite_map.remove y.boxes b)) new t s e in
@@ -87,7 +87,7 @@ shifts_free (Some b) m y new e = cc
 shifts_free None (Some f) y new e = cc
 shifts_free None None y new e = cc
 
-shifts : (o : Option Placement) (y new : YardMap) (b : BoxNumber) (slot : Slot) → shifted_at o y b slot ≡ Ok new
+pub shifts : (o : Option Placement) (y new : YardMap) (b : BoxNumber) (slot : Slot) → shifted_at o y b slot ≡ Ok new
     → (s : Placement) × (o ≡ Some s) × (new.boxes ≡ finite_map.insert y.boxes b (placement s.length slot))
 shifts None y new b slot e = cc
 shifts (Some s) y new b slot e = (
@@ -105,7 +105,7 @@ in_placed_map m n b q s e = ap (λ (boxes : Boxes). finite_map.get boxes q) e �
 in_removed_map : (m n : Boxes) (b q : BoxNumber) → n ≡ finite_map.remove m b → finite_map.get n q ≡ cond (bytes_eq b q) None (finite_map.get m q)
 in_removed_map m n b q e = ap (λ (boxes : Boxes). finite_map.get boxes q) e ∙ finite_map.get-remove nat_list_cmp_total m b q ∙ ap (λ v. cond v None (finite_map.get m q)) (tied b q)
 
-abbrev placed_by : Option VisitContent → Option Placement → Option Place
+abbrev pub placed_by : Option VisitContent → Option Placement → Option Place
 placed_by visit o = option_map (λ s. place_in (number_of_visit visit) s.slot) o
 
 -- ---- visits, one more
@@ -134,7 +134,7 @@ came_place state y v s q false whole came still e =
 
 -- ---- visits, one closed
 
-numbered_from : (p : VisitContent → Bool) (first : ℕ) (visits : List VisitContent) (w : VisitContent) → AreNumbered first visits → find p visits ≡ Some w → first ≤ w.number
+pub numbered_from : (p : VisitContent → Bool) (first : ℕ) (visits : List VisitContent) (w : VisitContent) → AreNumbered first visits → find p visits ≡ Some w → first ≤ w.number
 numbered_from p first [] w are e = cc
 numbered_from p first (v ∷ visits) w are e =
     elim (p v) as (λ t. p v ≡ t → first ≤ w.number) [
@@ -218,10 +218,10 @@ moved_place_is state b q slot s false stood e = refl
 -- ---- steps
 
 -- the changes turn the rows
-abbrev Turns : TerminalState → Stepped → Type 0
+abbrev pub Turns : TerminalState → Stepped → Type 0
 Turns state after = all_changed (rows_of state) after.changes ≡ rows_of after.state
 
-either : {A : Type 0} (P : A → Type 0) (v : Bool) (a b : A) → P a → P b → P (cond v a b)
+pub either : {A : Type 0} (P : A → Type 0) (v : Bool) (a b : A) → P a → P b → P (cond v a b)
 either P true a b one other = one
 either P false a b one other = other
 
@@ -235,11 +235,11 @@ turned_entered_at state way source entry (Ok (y, slot)) whole e =
     λ q. came_place state y v s q (bytes_eq entry.number q) whole came refl refl ∙ ap (placed_by (find (is_open_visit q) (state.visits ++ v ∷ []))) (sym (in_placed_map state.yard.boxes y.boxes entry.number q s came.boxes)) in
     λ i. record { visits = state.visits ++ v ∷ []; places = λ q. places q i; lines = state.lines }
 
-turned_entered : (state : TerminalState) (way : Way) (source : Source) (entry : EntryContent) → IsWhole state → Turns state (entered state way source entry)
+pub turned_entered : (state : TerminalState) (way : Way) (source : Source) (entry : EntryContent) → IsWhole state → Turns state (entered state way source entry)
 turned_entered state way source entry whole =
     either (Turns state) (is_full state) (refused state VisitLimit) (entered_at state way source entry (settled state.yard entry)) refl (turned_entered_at state way source entry (settled state.yard entry) whole refl)
 
-found : {A : Type 0} (o : Option A) → is_some o ≡ true → (x : A) × (o ≡ Some x)
+pub found : {A : Type 0} (o : Option A) → is_some o ≡ true → (x : A) × (o ≡ Some x)
 found None e = cc
 found (Some x) e = (x, refl)
 
@@ -254,7 +254,7 @@ turned_departed_at state b departure (Ok (y, s)) whole e =
     λ q. went_place state departure b q (bytes_eq b q) refl ∙ ap (placed_by (find (is_open_visit q) (close_visit state b departure))) (sym (in_removed_map state.yard.boxes y.boxes b q went.1)) in
     λ i. record { visits = visits i; places = λ q. places q i; lines = state.lines }
 
-turned_departed : (state : TerminalState) (way : Way) (source : Source) (b : BoxNumber) (moment : CivilMoment) → IsWhole state → Turns state (departed state way source b moment)
+pub turned_departed : (state : TerminalState) (way : Way) (source : Source) (b : BoxNumber) (moment : CivilMoment) → IsWhole state → Turns state (departed state way source b moment)
 turned_departed state way source b moment whole = turned_departed_at state b (departure_by way source moment) (removed state.yard b) whole refl
 
 turned_moved_at : (state : TerminalState) (b : BoxNumber) (slot : Slot) (r : Result YardMap YardFault) → shifted state.yard b slot ≡ r → Turns state (moved_at state b slot r)
@@ -276,14 +276,14 @@ one_after rows [] change = refl
 one_after rows (c ∷ changes) change = one_after (changed rows c) changes change
 
 -- the lines stay
-abbrev KeepsLines : TerminalState → Stepped → Type 0
+abbrev pub KeepsLines : TerminalState → Stepped → Type 0
 KeepsLines state after = after.state.lines ≡ state.lines
 
-entered_keeps : (state : TerminalState) (way : Way) (source : Source) (entry : EntryContent) (r : Result (YardMap × Slot) YardFault) → KeepsLines state (entered_at state way source entry r)
+pub entered_keeps : (state : TerminalState) (way : Way) (source : Source) (entry : EntryContent) (r : Result (YardMap × Slot) YardFault) → KeepsLines state (entered_at state way source entry r)
 entered_keeps state way source entry (Err f) = refl
 entered_keeps state way source entry (Ok (y, slot)) = refl
 
-departed_keeps : (state : TerminalState) (b : BoxNumber) (departure : Departure) (r : Result (YardMap × Placement) YardFault) → KeepsLines state (departed_at state b departure r)
+pub departed_keeps : (state : TerminalState) (b : BoxNumber) (departure : Departure) (r : Result (YardMap × Placement) YardFault) → KeepsLines state (departed_at state b departure r)
 departed_keeps state b departure (Err f) = refl
 departed_keeps state b departure (Ok (y, s)) = refl
 

@@ -8,3 +8,4 @@ pub mod Steps
 pub mod Lined
 pub mod Counting
 pub mod Changing
+pub mod Applying

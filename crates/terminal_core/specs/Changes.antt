@@ -1,5 +1,5 @@
 -- The rows of a terminal's three lists, and what a change does to them.
-use Rattle.std.specs.Prelude.{◌≡◌, ℕ, cond, ◌==◌, List, [], ◌∷◌, ◌++◌, map, Option, None, Some}
+use Rattle.std.specs.Prelude.{◌≡◌, ℕ, ◌+◌, Bool, true, cond, ◌==◌, List, [], ◌∷◌, ◌++◌, length, map, filter, Option, None, Some, is_some}
 use Rattle.std.specs.Option.{option_map}
 use Rattle.std.specs.Str.{bytes_eq}
 use Rattle.std.specs.Map.{update}
@@ -64,10 +64,53 @@ abbrev pub all_changed : TerminalRows → List ChangeContent → TerminalRows
 all_changed rows [] = rows
 all_changed rows (change ∷ changes) = all_changed (changed rows change) changes
 
--- ---- the law
+-- ---- what a change finds
+
+abbrev pub is_numbered : ℕ → VisitContent → Bool
+is_numbered number visit = visit.number == number
+
+-- the visit is open, its number is the next, and none has it yet
+pub record IsNextVisit (visit : VisitContent) (visits : List VisitContent) : Type 0 where
+  pub next : visit.number ≡ length visits + 1
+  pub absent : filter (is_numbered visit.number) visits ≡ []
+  pub stays : visit.departure ≡ None
+
+-- one visit has the number, and it is open
+pub record IsOneOpenVisit (number : ℕ) (visits : List VisitContent) : Type 0 where
+  pub visit : VisitContent
+  pub only : filter (is_numbered number) visits ≡ visit ∷ []
+  pub stays : visit.departure ≡ None
+
+-- the line is there, and not done
+pub record IsPendingLine (key : LineKey) (lines : Lines) : Type 0 where
+  pub line : LineContent
+  pub there : finite_map.get lines key ≡ Some line
+  pub pending : line.state ≡ Pending
+
+-- the row that a change adds is absent, and the one that it alters or removes is there
+abbrev pub IsApplicable : TerminalRows → ChangeContent → Type 0
+IsApplicable rows (visit_opened visit) = IsNextVisit visit rows.visits
+IsApplicable rows (visit_closed number departure) = IsOneOpenVisit number rows.visits
+IsApplicable rows (placed_at container visit slot) = rows.places container ≡ None
+IsApplicable rows (moved_to container slot) = is_some (rows.places container) ≡ true
+IsApplicable rows (removed_from container) = is_some (rows.places container) ≡ true
+IsApplicable rows (listed_on call side container port) = finite_map.get rows.lines (line_key call side container) ≡ None
+IsApplicable rows (line_done call side container) = IsPendingLine (line_key call side container) rows.lines
+
+-- each is applicable at its turn
+abbrev pub AreApplicable : TerminalRows → List ChangeContent → Type 0
+AreApplicable rows [] = Unit {0}
+AreApplicable rows (change ∷ changes) = IsApplicable rows change × AreApplicable (changed rows change) changes
+
+-- ---- the laws
 
 -- the changes of a step turn the rows of the old state into those of the new
 abbrev pub ChangesTurnRows : Type 0
 ChangesTurnRows =
     (state : TerminalState) (source : Source) (order : OrderContent) → IsWhole state
     → all_changed (rows_of state) (step state source order).changes ≡ rows_of (step state source order).state
+
+-- each change of a step adds, alters or removes one row
+abbrev pub ChangesAreApplicable : Type 0
+ChangesAreApplicable =
+    (state : TerminalState) (source : Source) (order : OrderContent) → IsWhole state → AreApplicable (rows_of state) (step state source order).changes
