@@ -12,3 +12,6 @@ pub mod Marked
 pub mod Placing
 pub mod Once
 pub mod Restored
+pub mod Counting
+pub mod Changing
+pub mod Applying

@@ -5,3 +5,5 @@ pub mod Step
 pub mod Codes
 pub mod Calls
 pub mod Restoring
+pub mod Counts
+pub mod Changes

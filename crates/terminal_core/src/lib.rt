@@ -4,6 +4,7 @@
 pub mod arrival;
 pub mod change;
 pub mod departure;
+pub mod laws;
 pub mod line_state;
 mod lines;
 pub mod listing;

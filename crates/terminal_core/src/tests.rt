@@ -1,5 +1,6 @@
 //! Orders at a terminal, by the worked rows of its rules.
 
+mod memory;
 mod restoring;
 mod rows;
 

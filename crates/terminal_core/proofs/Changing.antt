@@ -1,0 +1,329 @@
+-- What the changes of a step make of the rows.
+use Rattle.std.proofs.Common.{◌≡◌, ℕ, ◌+◌, ◌≤◌, ◌<◌, List, [], ◌∷◌, ◌++◌, length, map, Bool, true, false, cond, Option, None, Some, Result, Ok, Err, is_some, is_none, refl, sym, ap, ◌∙◌, arith}
+use Rattle.std.specs.Prelude.{find, filter, ◌&&◌, not, ◌==◌}
+use Rattle.std.proofs.lemmas.Bool.{eq-eqb, ne_eqb}
+use Rattle.std.specs.Option.{option_map}
+use Rattle.std.specs.Str.{bytes_eq}
+use Rattle.std.specs.Map.{update}
+use Rattle.std.specs.FinMap as finite_map
+use Rattle.std.specs.Cmp.Lexicographic.{nat_list_cmp_total}
+use Rattle.box6346.specs.SizeCode.{length_of}
+use Rattle.box6346.specs.declared.box_number.BoxNumber.{BoxNumber}
+use Rattle.box6346.specs.declared.length.Length.{Length}
+use Rattle.box6346.specs.declared.slot.Slot.{Slot}
+use Rattle.edi_moments.specs.Moments.{CivilMoment}
+use Rattle.edi_messages.specs.Purposes.{CallContent}
+use Rattle.edi_messages.specs.Orders.{EntryContent, OrderContent, gate_in, gate_out, move, list_discharge, list_load, discharge, load}
+use Rattle.yard_core.specs.YardMap.{Boxes, YardMap, yard_map, placement}
+use Rattle.yard_core.specs.Decisions.{removed, removed_at, shifted, shifted_at, unless_buried, with_misfit, with_slot as with_first_slot, misfit_of, first_fit, blocker_of}
+use Rattle.yard_core.specs.declared.placement.Placement.{Placement}
+use Rattle.yard_core.specs.declared.yard_fault.YardFault.{YardFault}
+use Rattle.yard_core.specs.declared.yard_fault.YardFault.TheVariants.{Present}
+use Rattle.terminal_core.specs.declared.departure.Departure.{Departure}
+use Rattle.terminal_core.specs.declared.line_state.LineState.{LineState}
+use Rattle.terminal_core.specs.declared.line_state.LineState.TheVariants.{Pending, Done as LineIsDone}
+use Rattle.terminal_core.specs.declared.outcome.Outcome.{Outcome}
+use Rattle.terminal_core.specs.declared.outcome.Outcome.TheVariants.{Done, Gone, Listed, Refused}
+use Rattle.terminal_core.specs.declared.reason.Reason.TheVariants.{AlreadyIn, NotIn, VisitLimit}
+use Rattle.terminal_core.specs.declared.side.Side.{Side}
+use Rattle.terminal_core.specs.declared.side.Side.TheVariants.{Load, Discharge}
+use Rattle.terminal_core.specs.declared.source.Source.{Source}
+use Rattle.terminal_core.specs.declared.way.Way.{Way}
+use Rattle.terminal_core.specs.declared.way.Way.TheVariants.{Gate, Ship}
+use Rattle.terminal_core.specs.Rows.{VisitContent, ChangeContent, line_done}
+use Rattle.terminal_core.specs.State.{TerminalState, LineContent, Lines, line_key, line_of, is_in, is_open_visit, open_visit, AreNumbered, IsWhole}
+use Rattle.terminal_core.specs.Step.{Stepped, refused, step, settled, settled_in, with_slot, is_full, visit_of, entered, entered_at, closed, close_visit, number_of_visit, departed, departed_at, departure_by, moved_at, listed_at, then_line_done_at, by_line, by_state}
+use Rattle.terminal_core.specs.Changes.{Place, TerminalRows, place_in, place_of, rows_of, closed_as, moved_place, with_line_done, changed, all_changed}
+use Rattle.terminal_core.proofs.Boxes.{tied, same_bytes}
+use Rattle.terminal_core.proofs.Open.{and_true, closed_open}
+use Rattle.terminal_core.proofs.Counting.{count_keeps, count_skips, find_skips, find_meets}
+
+-- ---- what the yard decides
+
+slotted : (there : Bool) (o : Option YardFault) (y new : YardMap) (slot named : Slot) → with_slot named (cond there (Err Present) (with_misfit o y)) ≡ Ok (new, slot) → (there ≡ false) × (new ≡ y) × (named ≡ slot)
+slotted true o y new slot named e = cc
+slotted false (Some f) y new slot named e = cc
+slotted false None y new slot named e = let p : (y, named) ≡ (new, slot) = cc in (refl, sym (ap (λ (q : YardMap × Slot). q.0) p), ap (λ (q : YardMap × Slot). q.1) p)
+
+first_slotted : (there : Bool) (o : Option Slot) (y new : YardMap) (b : BoxNumber) (length : Length) (slot : Slot) → cond there (Err Present) (with_first_slot o y b length) ≡ Ok (new, slot)
+    → (there ≡ false) × (new ≡ yard_map y.plan (finite_map.insert y.boxes b (placement length slot)))
+first_slotted true o y new b length slot e = cc
+first_slotted false None y new b length slot e = cc
+first_slotted false (Some first) y new b length slot e =
+    let p : (yard_map y.plan (finite_map.insert y.boxes b (placement length first)), first) ≡ (new, slot) = cc in
+    (refl, sym (ap (λ (q : YardMap × Slot). q.0) p) ∙ ap (λ (s : Slot). yard_map y.plan (finite_map.insert y.boxes b (placement length s))) (ap (λ (q : YardMap × Slot). q.1) p))
+
+-- one container more
+pub record Comes (old new : YardMap) (b : BoxNumber) (s : Placement) : Type 0 where
+  pub absent : is_some (finite_map.get old.boxes b) ≡ false
+  pub boxes : new.boxes ≡ finite_map.insert old.boxes b s
+
+pub comes : (y new : YardMap) (entry : EntryContent) (o : Option Slot) (slot : Slot) → settled_in y entry o ≡ Ok (new, slot) → Comes y new entry.number (placement (length_of entry.size_type) slot)
+comes y new entry (Some named) slot e =
+    let is = slotted (is_some (finite_map.get y.boxes entry.number)) (misfit_of y.plan y.boxes (placement (length_of entry.size_type) named)) (yard_map y.plan (finite_map.insert y.boxes entry.number (placement (length_of entry.size_type) named))) new slot named e in
+    record { absent = is.0; boxes = ap (λ (v : YardMap). v.boxes) is.1 ∙ ap (λ s. finite_map.insert y.boxes entry.number (placement (length_of entry.size_type) s)) is.2 }
+comes y new entry None slot e =
+    let is = first_slotted (is_some (finite_map.get y.boxes entry.number)) (first_fit y.plan y.boxes (length_of entry.size_type)) y new entry.number (length_of entry.size_type) slot e in
+    record { absent = is.0; boxes = ap (λ (v : YardMap). v.boxes) is.1 }
+
+-- one container less
+pub record Goes (old new : YardMap) (b : BoxNumber) (s : Placement) : Type 0 where
+  pub stood : finite_map.get old.boxes b ≡ Some s
+  pub boxes : new.boxes ≡ finite_map.remove old.boxes b
+
+goes_free : (o : Option BoxNumber) (y new : YardMap) (t s : Placement) → unless_buried {A = YardMap × Placement} o (Ok (y, t)) ≡ Ok (new, s) → (t ≡ s) × (new ≡ y)
+goes_free (Some b) y new t s e = cc
+goes_free None y new t s e = let p : (y, t) ≡ (new, s) = cc in (ap (λ (q : YardMap × Placement). q.1) p, sym (ap (λ (q : YardMap × Placement). q.0) p))
+
+pub goes : (o : Option Placement) (y new : YardMap) (b : BoxNumber) (s : Placement) → removed_at o y b ≡ Ok (new, s) → (o ≡ Some s) × (new.boxes ≡ finite_map.remove y.boxes b)
+goes None y new b s e = cc
+goes (Some t) y new b s e =
+    let is = goes_free (blocker_of y.boxes t) (yard_map y.plan (finite_map.remove y.boxes b)) new t s e in
+    (ap Some is.0, ap (λ (v : YardMap). v.boxes) is.1)
+
+-- a container elsewhere
+shifts_free : (o : Option BoxNumber) (m : Option YardFault) (y new : YardMap) → unless_buried o (with_misfit m y) ≡ Ok new → new ≡ y
+shifts_free (Some b) m y new e = cc
+shifts_free None (Some f) y new e = cc
+shifts_free None None y new e = cc
+
+pub shifts : (o : Option Placement) (y new : YardMap) (b : BoxNumber) (slot : Slot) → shifted_at o y b slot ≡ Ok new
+    → (s : Placement) × (o ≡ Some s) × (new.boxes ≡ finite_map.insert y.boxes b (placement s.length slot))
+shifts None y new b slot e = cc
+shifts (Some s) y new b slot e = (
+  s,
+  refl,
+  ap (λ (v : YardMap). v.boxes)
+      (shifts_free (blocker_of y.boxes s) (misfit_of y.plan (finite_map.remove y.boxes b) (placement s.length slot)) (yard_map y.plan (finite_map.insert y.boxes b (placement s.length slot))) new e),
+)
+
+-- ---- places
+
+in_placed_map : (m n : Boxes) (b q : BoxNumber) (s : Placement) → n ≡ finite_map.insert m b s → finite_map.get n q ≡ cond (bytes_eq b q) (Some s) (finite_map.get m q)
+in_placed_map m n b q s e = ap (λ (boxes : Boxes). finite_map.get boxes q) e ∙ finite_map.get-insert nat_list_cmp_total m b s q ∙ ap (λ v. cond v (Some s) (finite_map.get m q)) (tied b q)
+
+in_removed_map : (m n : Boxes) (b q : BoxNumber) → n ≡ finite_map.remove m b → finite_map.get n q ≡ cond (bytes_eq b q) None (finite_map.get m q)
+in_removed_map m n b q e = ap (λ (boxes : Boxes). finite_map.get boxes q) e ∙ finite_map.get-remove nat_list_cmp_total m b q ∙ ap (λ v. cond v None (finite_map.get m q)) (tied b q)
+
+abbrev pub placed_by : Option VisitContent → Option Placement → Option Place
+placed_by visit o = option_map (λ s. place_in (number_of_visit visit) s.slot) o
+
+-- ---- visits, one more
+
+find_last : {A : Type 0} (p : A → Bool) (xs : List A) (x : A) → p x ≡ false → find p (xs ++ x ∷ []) ≡ find p xs
+find_last p [] x e = ap (λ v. cond v (Some x) None) e
+find_last p (y ∷ xs) x e = ap (cond (p y) (Some y)) (find_last p xs x e)
+
+past : {A : Type 0} (v : Bool) (y x : A) (o after : Option A) → is_some (cond v (Some y) o) ≡ false → (is_some o ≡ false → after ≡ Some x) → cond v (Some y) after ≡ Some x
+past true y x o after e h = cc
+past false y x o after e h = h e
+
+find_new : {A : Type 0} (p : A → Bool) (xs : List A) (x : A) → p x ≡ true → is_some (find p xs) ≡ false → find p (xs ++ x ∷ []) ≡ Some x
+find_new p [] x e none = ap (λ v. cond v (Some x) None) e
+find_new p (y ∷ xs) x e none = past (p y) y x (find p xs) (find p (xs ++ x ∷ [])) none (find_new p xs x e)
+
+came_place : (state : TerminalState) (y : YardMap) (v : VisitContent) (s : Placement) (q : BoxNumber) (is : Bool) → IsWhole state → Comes state.yard y v.container s → v.departure ≡ None → bytes_eq v.container q ≡ is
+    → cond is (Some (place_in v.number s.slot)) (place_of state q) ≡ placed_by (find (is_open_visit q) (state.visits ++ v ∷ [])) (cond is (Some s) (finite_map.get state.yard.boxes q))
+came_place state y v s q true whole came still e =
+    let open_ : is_open_visit q v ≡ true = ap (λ d. bytes_eq v.container q && is_none d) still ∙ and_true _ ∙ e in
+    let none : is_some (open_visit state q) ≡ false = sym (whole.here q) ∙ ap (is_in state) (same_bytes v.container q e) ∙ came.absent in
+    sym (ap (λ o. placed_by o (Some s)) (find_new (is_open_visit q) state.visits v open_ none))
+came_place state y v s q false whole came still e =
+    let shut : is_open_visit q v ≡ false = ap (λ d. bytes_eq v.container q && is_none d) still ∙ and_true _ ∙ e in
+    sym (ap (λ o. placed_by o (finite_map.get state.yard.boxes q)) (find_last (is_open_visit q) state.visits v shut))
+
+-- ---- visits, one closed
+
+pub numbered_from : (p : VisitContent → Bool) (first : ℕ) (visits : List VisitContent) (w : VisitContent) → AreNumbered first visits → find p visits ≡ Some w → first ≤ w.number
+numbered_from p first [] w are e = cc
+numbered_from p first (v ∷ visits) w are e =
+    elim (p v) as (λ t. p v ≡ t → first ≤ w.number) [
+      | true ↦ λ is. let met : Some v ≡ Some w = sym (find_meets p v visits is) ∙ e in let same : v ≡ w = cc in let n : w.number ≡ first = ap (λ (u : VisitContent). u.number) (sym same) ∙ are.0 in omega arith
+      | false ↦ λ isnt. let far : first + 1 ≤ w.number = numbered_from p (first + 1) visits w are.1 (sym (find_skips p v visits isnt) ∙ e) in omega arith
+    ] refl
+
+-- none is the container's and open, and none has the number
+neither : (departure : Departure) (b : BoxNumber) (number first : ℕ) (visits : List VisitContent) → AreNumbered first visits → number < first → length (filter (is_open_visit b) visits) ≡ 0
+    → map (closed_as number departure) visits ≡ map (closed departure b) visits
+neither departure b number first [] are low none = refl
+neither departure b number first (v ∷ visits) are low none =
+    elim (is_open_visit b v) as (λ t. is_open_visit b v ≡ t → map (closed_as number departure) (v ∷ visits) ≡ map (closed departure b) (v ∷ visits)) [
+      | true ↦ λ is. let more : length (filter (is_open_visit b) (v ∷ visits)) ≡ length (filter (is_open_visit b) visits) + 1 = count_keeps (is_open_visit b) v visits is in absurd (omega arith)
+      | false ↦ λ isnt.
+          let less : length (filter (is_open_visit b) (v ∷ visits)) ≡ length (filter (is_open_visit b) visits) = count_skips (is_open_visit b) v visits isnt in
+          let other : (v.number == number) ≡ false = ne_eqb v.number number (λ e. let n : v.number ≡ first = are.0 in absurd (omega arith)) in
+          let head_ : closed_as number departure v ≡ closed departure b v =
+          ap (λ t. cond t (record v { departure = Some departure }) v) other ∙ sym (ap (λ t. cond t (record v { departure = Some departure }) v) isnt) in
+          λ i. head_ i ∷ neither departure b number (first + 1) visits are.1 (omega arith) (omega arith) i
+    ] refl
+
+-- the container's open visit is the one of its number
+closed_by_number : (departure : Departure) (b : BoxNumber) (first : ℕ) (visits : List VisitContent) (w : VisitContent) → AreNumbered first visits → length (filter (is_open_visit b) visits) ≤ 1
+    → find (is_open_visit b) visits ≡ Some w → map (closed_as w.number departure) visits ≡ map (closed departure b) visits
+closed_by_number departure b first [] w are one e = refl
+closed_by_number departure b first (v ∷ visits) w are one e =
+    elim (is_open_visit b v) as (λ t. is_open_visit b v ≡ t → map (closed_as w.number departure) (v ∷ visits) ≡ map (closed departure b) (v ∷ visits)) [
+      | true ↦ λ is.
+          let met : Some v ≡ Some w = sym (find_meets (is_open_visit b) v visits is) ∙ e in
+          let it : v ≡ w = cc in
+          let number : v.number ≡ w.number = ap (λ (u : VisitContent). u.number) it in
+          let at : v.number ≡ first = are.0 in
+          let more : length (filter (is_open_visit b) (v ∷ visits)) ≡ length (filter (is_open_visit b) visits) + 1 = count_keeps (is_open_visit b) v visits is in
+          let head_ : closed_as w.number departure v ≡ closed departure b v =
+          ap (λ n. cond (v.number == n) (record v { departure = Some departure }) v) (sym number) ∙ ap (λ t. cond t (record v { departure = Some departure }) v) (eq-eqb v.number v.number refl)
+          ∙ sym (ap (λ t. cond t (record v { departure = Some departure }) v) is) in
+          λ i. head_ i ∷ neither departure b w.number (first + 1) visits are.1 (omega arith) (omega arith) i
+      | false ↦ λ isnt.
+          let less : length (filter (is_open_visit b) (v ∷ visits)) ≡ length (filter (is_open_visit b) visits) = count_skips (is_open_visit b) v visits isnt in
+          let rest : find (is_open_visit b) visits ≡ Some w = sym (find_skips (is_open_visit b) v visits isnt) ∙ e in
+          let far : first + 1 ≤ w.number = numbered_from (is_open_visit b) (first + 1) visits w are.1 rest in
+          let other : (v.number == w.number) ≡ false = ne_eqb v.number w.number (λ same_. let n : v.number ≡ first = are.0 in absurd (omega arith)) in
+          let head_ : closed_as w.number departure v ≡ closed departure b v =
+          ap (λ t. cond t (record v { departure = Some departure }) v) other ∙ sym (ap (λ t. cond t (record v { departure = Some departure }) v) isnt) in
+          λ i. head_ i ∷ closed_by_number departure b (first + 1) visits w are.1 (omega arith) rest i
+    ] refl
+
+kept_number : (departure : Departure) (visit : VisitContent) (is : Bool) → (cond is (record visit { departure = Some departure }) visit).number ≡ visit.number
+kept_number departure visit true = refl
+kept_number departure visit false = refl
+
+either_number : (p k : Bool) (u v : VisitContent) (o a : Option VisitContent) → p ≡ k → u.number ≡ v.number → number_of_visit o ≡ number_of_visit a → number_of_visit (cond p (Some u) o) ≡ number_of_visit (cond k (Some v) a)
+either_number true true u v o a e same_ rest = same_
+either_number true false u v o a e same_ rest = cc
+either_number false true u v o a e same_ rest = cc
+either_number false false u v o a e same_ rest = rest
+
+-- another container's open visit stays
+other_number : (departure : Departure) (b q : BoxNumber) (visits : List VisitContent) → bytes_eq b q ≡ false
+    → number_of_visit (find (is_open_visit q) (map (closed departure b) visits)) ≡ number_of_visit (find (is_open_visit q) visits)
+other_number departure b q [] e = refl
+other_number departure b q (v ∷ visits) e =
+    either_number (is_open_visit q (closed departure b v)) (is_open_visit q v) (closed departure b v) v (find (is_open_visit q) (map (closed departure b) visits)) (find (is_open_visit q) visits)
+    (closed_open departure b q v ∙ ap (λ t. is_open_visit q v && not t) e ∙ and_true _) (kept_number departure v (is_open_visit b v)) (other_number departure b q visits e)
+
+went_place : (state : TerminalState) (departure : Departure) (b q : BoxNumber) (is : Bool) → bytes_eq b q ≡ is
+    → cond is None (place_of state q) ≡ placed_by (find (is_open_visit q) (map (closed departure b) state.visits)) (cond is None (finite_map.get state.yard.boxes q))
+went_place state departure b q true e = refl
+went_place state departure b q false e =
+    sym (ap (λ n. option_map (λ s. place_in n s.slot) (finite_map.get state.yard.boxes q)) (other_number departure b q state.visits e))
+
+-- ---- moving
+
+moved_place_is : (state : TerminalState) (b q : BoxNumber) (slot : Slot) (s : Placement) (is : Bool) → finite_map.get state.yard.boxes b ≡ Some s → bytes_eq b q ≡ is
+    → cond is (option_map (moved_place slot) (place_of state b)) (place_of state q) ≡ placed_by (open_visit state q) (cond is (Some (placement s.length slot)) (finite_map.get state.yard.boxes q))
+moved_place_is state b q slot s true stood e =
+    ap (λ o. option_map (moved_place slot) (placed_by (open_visit state b) o)) stood ∙ ap (λ c. Some (place_in (number_of_visit (open_visit state c)) slot)) (sym (same_bytes b q e))
+moved_place_is state b q slot s false stood e = refl
+
+-- ---- steps
+
+-- the changes turn the rows
+abbrev pub Turns : TerminalState → Stepped → Type 0
+Turns state after = all_changed (rows_of state) after.changes ≡ rows_of after.state
+
+pub either : {A : Type 0} (P : A → Type 0) (v : Bool) (a b : A) → P a → P b → P (cond v a b)
+either P true a b one other = one
+either P false a b one other = other
+
+turned_entered_at : (state : TerminalState) (way : Way) (source : Source) (entry : EntryContent) (r : Result (YardMap × Slot) YardFault) → IsWhole state → settled state.yard entry ≡ r → Turns state (entered_at state way source entry r)
+turned_entered_at state way source entry (Err f) whole e = refl
+turned_entered_at state way source entry (Ok (y, slot)) whole e =
+    let v : VisitContent = visit_of state way source entry slot in
+    let s : Placement = placement (length_of entry.size_type) slot in
+    let came : Comes state.yard y entry.number s = comes state.yard y entry entry.slot slot e in
+    let places : (q : BoxNumber) → update bytes_eq (place_of state) entry.number (Some (place_in (length state.visits + 1) slot)) q ≡ place_of (record state { yard = y; visits = state.visits ++ v ∷ [] }) q =
+    λ q. came_place state y v s q (bytes_eq entry.number q) whole came refl refl ∙ ap (placed_by (find (is_open_visit q) (state.visits ++ v ∷ []))) (sym (in_placed_map state.yard.boxes y.boxes entry.number q s came.boxes)) in
+    λ i. record { visits = state.visits ++ v ∷ []; places = λ q. places q i; lines = state.lines }
+
+pub turned_entered : (state : TerminalState) (way : Way) (source : Source) (entry : EntryContent) → IsWhole state → Turns state (entered state way source entry)
+turned_entered state way source entry whole =
+    either (Turns state) (is_full state) (refused state VisitLimit) (entered_at state way source entry (settled state.yard entry)) refl (turned_entered_at state way source entry (settled state.yard entry) whole refl)
+
+pub found : {A : Type 0} (o : Option A) → is_some o ≡ true → (x : A) × (o ≡ Some x)
+found None e = cc
+found (Some x) e = (x, refl)
+
+turned_departed_at : (state : TerminalState) (b : BoxNumber) (departure : Departure) (r : Result (YardMap × Placement) YardFault) → IsWhole state → removed state.yard b ≡ r → Turns state (departed_at state b departure r)
+turned_departed_at state b departure (Err f) whole e = refl
+turned_departed_at state b departure (Ok (y, s)) whole e =
+    let went = goes (finite_map.get state.yard.boxes b) state.yard y b s e in
+    let visit = found (open_visit state b) (sym (whole.here b) ∙ ap is_some went.0) in
+    let visits : map (closed_as (number_of_visit (open_visit state b)) departure) state.visits ≡ close_visit state b departure =
+    ap (λ o. map (closed_as (number_of_visit o) departure) state.visits) visit.1 ∙ closed_by_number departure b 1 state.visits visit.0 whole.numbered (whole.one_visit b) visit.1 in
+    let places : (q : BoxNumber) → update bytes_eq (place_of state) b None q ≡ place_of (record state { yard = y; visits = close_visit state b departure }) q =
+    λ q. went_place state departure b q (bytes_eq b q) refl ∙ ap (placed_by (find (is_open_visit q) (close_visit state b departure))) (sym (in_removed_map state.yard.boxes y.boxes b q went.1)) in
+    λ i. record { visits = visits i; places = λ q. places q i; lines = state.lines }
+
+pub turned_departed : (state : TerminalState) (way : Way) (source : Source) (b : BoxNumber) (moment : CivilMoment) → IsWhole state → Turns state (departed state way source b moment)
+turned_departed state way source b moment whole = turned_departed_at state b (departure_by way source moment) (removed state.yard b) whole refl
+
+turned_moved_at : (state : TerminalState) (b : BoxNumber) (slot : Slot) (r : Result YardMap YardFault) → shifted state.yard b slot ≡ r → Turns state (moved_at state b slot r)
+turned_moved_at state b slot (Err f) e = refl
+turned_moved_at state b slot (Ok y) e =
+    let is = shifts (finite_map.get state.yard.boxes b) state.yard y b slot e in
+    let places : (q : BoxNumber) → update bytes_eq (place_of state) b (option_map (moved_place slot) (place_of state b)) q ≡ place_of (record state { yard = y }) q =
+    λ q. moved_place_is state b q slot is.0 (bytes_eq b q) is.1 refl ∙ ap (placed_by (open_visit state q)) (sym (in_placed_map state.yard.boxes y.boxes b q (placement is.0.length slot) is.2)) in
+    λ i. record { visits = state.visits; places = λ q. places q i; lines = state.lines }
+
+turned_listed : (state : TerminalState) (call : CallContent) (side : Side) (b : BoxNumber) (port : List ℕ) (o : Option LineContent) → Turns state (listed_at state call side b port o)
+turned_listed state call side b port (Some line) = refl
+turned_listed state call side b port None = refl
+
+-- ---- steps with a line
+
+one_after : (rows : TerminalRows) (changes : List ChangeContent) (change : ChangeContent) → all_changed rows (changes ++ change ∷ []) ≡ changed (all_changed rows changes) change
+one_after rows [] change = refl
+one_after rows (c ∷ changes) change = one_after (changed rows c) changes change
+
+-- the lines stay
+abbrev pub KeepsLines : TerminalState → Stepped → Type 0
+KeepsLines state after = after.state.lines ≡ state.lines
+
+pub entered_keeps : (state : TerminalState) (way : Way) (source : Source) (entry : EntryContent) (r : Result (YardMap × Slot) YardFault) → KeepsLines state (entered_at state way source entry r)
+entered_keeps state way source entry (Err f) = refl
+entered_keeps state way source entry (Ok (y, slot)) = refl
+
+pub departed_keeps : (state : TerminalState) (b : BoxNumber) (departure : Departure) (r : Result (YardMap × Placement) YardFault) → KeepsLines state (departed_at state b departure r)
+departed_keeps state b departure (Err f) = refl
+departed_keeps state b departure (Ok (y, s)) = refl
+
+turned_done : (state : TerminalState) (call : CallContent) (side : Side) (b : BoxNumber) (line : LineContent) (after : Stepped) → Turns state after → KeepsLines state after → line_of state call side b ≡ Some line
+    → all_changed (rows_of state) (after.changes ++ line_done call side b ∷ []) ≡ rows_of (record (after.state) { lines = finite_map.insert after.state.lines (line_key call side b) (record line { state = LineIsDone }) })
+turned_done state call side b line after turned keeps there =
+    let still : line_of after.state call side b ≡ Some line = ap (λ (l : Lines). finite_map.get l (line_key call side b)) keeps ∙ there in
+    one_after (rows_of state) after.changes (line_done call side b) ∙ ap (λ rows. changed rows (line_done call side b)) turned
+    ∙ ap (λ o. record (rows_of after.state) { lines = with_line_done after.state.lines (line_key call side b) o }) still
+
+turned_then : (state : TerminalState) (call : CallContent) (side : Side) (b : BoxNumber) (line : LineContent) (after : Stepped) (o : Outcome) → Turns state after → KeepsLines state after → line_of state call side b ≡ Some line
+    → Turns state (then_line_done_at call side b line after o)
+turned_then state call side b line after (Refused reason) turned keeps there = turned
+turned_then state call side b line after (Done slot) turned keeps there = turned_done state call side b line after turned keeps there
+turned_then state call side b line after Gone turned keeps there = turned_done state call side b line after turned keeps there
+turned_then state call side b line after Listed turned keeps there = turned_done state call side b line after turned keeps there
+
+turned_by_state : (state : TerminalState) (call : CallContent) (side : Side) (b : BoxNumber) (line : LineContent) (after : Stepped) (s : LineState) → Turns state after → KeepsLines state after → line_of state call side b ≡ Some line
+    → Turns state (by_state state call side b line after s)
+turned_by_state state call side b line after LineIsDone turned keeps there = refl
+turned_by_state state call side b line after Pending turned keeps there = turned_then state call side b line after after.outcome turned keeps there
+
+turned_by_line : (state : TerminalState) (call : CallContent) (side : Side) (b : BoxNumber) (o : Option LineContent) (after : Stepped) → Turns state after → KeepsLines state after → line_of state call side b ≡ o
+    → Turns state (by_line state call side b o after)
+turned_by_line state call side b None after turned keeps there = refl
+turned_by_line state call side b (Some line) after turned keeps there = turned_by_state state call side b line after line.state turned keeps there
+
+-- ---- orders
+
+pub turned_step : (state : TerminalState) (source : Source) (order : OrderContent) → IsWhole state → Turns state (step state source order)
+turned_step state source (gate_in entry) whole = either (Turns state) (is_in state entry.number) (refused state AlreadyIn) (entered state Gate source entry) refl (turned_entered state Gate source entry whole)
+turned_step state source (gate_out b moment) whole = turned_departed state Gate source b moment whole
+turned_step state source (move b slot) whole = turned_moved_at state b slot (shifted state.yard b slot) refl
+turned_step state source (list_discharge call b) whole = turned_listed state call Discharge b [] (line_of state call Discharge b)
+turned_step state source (list_load call b port) whole = turned_listed state call Load b port (line_of state call Load b)
+turned_step state source (discharge call entry) whole =
+    either (Turns state) (is_in state entry.number) (refused state AlreadyIn) (by_line state call Discharge entry.number (line_of state call Discharge entry.number) (entered state Ship source entry)) refl
+    (turned_by_line state call Discharge entry.number (line_of state call Discharge entry.number) (entered state Ship source entry) (turned_entered state Ship source entry whole)
+    (either (KeepsLines state) (is_full state) (refused state VisitLimit) (entered_at state Ship source entry (settled state.yard entry)) refl (entered_keeps state Ship source entry (settled state.yard entry))) refl)
+turned_step state source (load call b moment) whole =
+    either (Turns state) (is_in state b) (by_line state call Load b (line_of state call Load b) (departed state Ship source b moment)) (refused state NotIn)
+    (turned_by_line state call Load b (line_of state call Load b) (departed state Ship source b moment) (turned_departed state Ship source b moment whole)
+    (departed_keeps state b (departure_by Ship source moment) (removed state.yard b)) refl) refl

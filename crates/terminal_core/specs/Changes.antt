@@ -1,0 +1,116 @@
+-- The rows of a terminal's three lists, and what a change does to them.
+use Rattle.std.specs.Prelude.{◌≡◌, ℕ, ◌+◌, Bool, true, cond, ◌==◌, List, [], ◌∷◌, ◌++◌, length, map, filter, Option, None, Some, is_some}
+use Rattle.std.specs.Option.{option_map}
+use Rattle.std.specs.Str.{bytes_eq}
+use Rattle.std.specs.Map.{update}
+use Rattle.std.specs.FinMap as finite_map
+use Rattle.box6346.specs.declared.box_number.BoxNumber.{BoxNumber}
+use Rattle.box6346.specs.declared.slot.Slot.{Slot}
+use Rattle.edi_messages.specs.Orders.{OrderContent}
+use Rattle.terminal_core.specs.declared.departure.Departure.{Departure}
+use Rattle.terminal_core.specs.declared.line_state.LineState.TheVariants.{Pending, Done as LineIsDone}
+use Rattle.terminal_core.specs.declared.source.Source.{Source}
+use Rattle.terminal_core.specs.Rows.{VisitContent, ChangeContent, visit_opened, visit_closed, placed_at, moved_to, removed_from, listed_on, line_done}
+use Rattle.terminal_core.specs.State.{TerminalState, LineContent, LineKey, Lines, line_key, open_visit, IsWhole}
+use Rattle.terminal_core.specs.Step.{number_of_visit, step}
+
+-- ---- rows
+
+-- where a container stands, and the number of its visit
+pub record Place : Type 0 where
+  pub visit : ℕ
+  pub slot : Slot
+
+abbrev pub place_in : ℕ → Slot → Place
+place_in visit slot = record { visit = visit; slot = slot }
+
+-- a row for each visit, for each container in the yard, and for each line of a vessel's list
+pub record TerminalRows : Type 0 where
+  pub visits : List VisitContent
+  pub places : BoxNumber → Option Place
+  pub lines : Lines
+
+abbrev pub place_of : TerminalState → BoxNumber → Option Place
+place_of state container = option_map (λ s. place_in (number_of_visit (open_visit state container)) s.slot) (finite_map.get state.yard.boxes container)
+
+abbrev pub rows_of : TerminalState → TerminalRows
+rows_of state = record { visits = state.visits; places = place_of state; lines = state.lines }
+
+-- ---- changes
+
+-- the visit of that number gets the departure, and no other
+abbrev pub closed_as : ℕ → Departure → VisitContent → VisitContent
+closed_as number departure visit = cond (visit.number == number) (record visit { departure = Some departure }) visit
+
+abbrev pub moved_place : Slot → Place → Place
+moved_place slot place = record place { slot = slot }
+
+abbrev pub with_line_done : Lines → LineKey → Option LineContent → Lines
+with_line_done lines key None = lines
+with_line_done lines key (Some line) = finite_map.insert lines key (record line { state = LineIsDone })
+
+-- the rows after a change
+abbrev pub changed : TerminalRows → ChangeContent → TerminalRows
+changed rows (visit_opened visit) = record rows { visits = rows.visits ++ visit ∷ [] }
+changed rows (visit_closed number departure) = record rows { visits = map (closed_as number departure) rows.visits }
+changed rows (placed_at container visit slot) = record rows { places = update bytes_eq rows.places container (Some (place_in visit slot)) }
+changed rows (moved_to container slot) = record rows { places = update bytes_eq rows.places container (option_map (moved_place slot) (rows.places container)) }
+changed rows (removed_from container) = record rows { places = update bytes_eq rows.places container None }
+changed rows (listed_on call side container port) = record rows { lines = finite_map.insert rows.lines (line_key call side container) (record { port = port; state = Pending }) }
+changed rows (line_done call side container) = record rows { lines = with_line_done rows.lines (line_key call side container) (finite_map.get rows.lines (line_key call side container)) }
+
+-- the rows after changes, one after another
+abbrev pub all_changed : TerminalRows → List ChangeContent → TerminalRows
+all_changed rows [] = rows
+all_changed rows (change ∷ changes) = all_changed (changed rows change) changes
+
+-- ---- what a change finds
+
+abbrev pub is_numbered : ℕ → VisitContent → Bool
+is_numbered number visit = visit.number == number
+
+-- the visit is open, its number is the next, and none has it yet
+pub record IsNextVisit (visit : VisitContent) (visits : List VisitContent) : Type 0 where
+  pub next : visit.number ≡ length visits + 1
+  pub absent : filter (is_numbered visit.number) visits ≡ []
+  pub stays : visit.departure ≡ None
+
+-- one visit has the number, and it is open
+pub record IsOneOpenVisit (number : ℕ) (visits : List VisitContent) : Type 0 where
+  pub visit : VisitContent
+  pub only : filter (is_numbered number) visits ≡ visit ∷ []
+  pub stays : visit.departure ≡ None
+
+-- the line is there, and not done
+pub record IsPendingLine (key : LineKey) (lines : Lines) : Type 0 where
+  pub line : LineContent
+  pub there : finite_map.get lines key ≡ Some line
+  pub pending : line.state ≡ Pending
+
+-- the row that a change adds is absent, and the one that it alters or removes is there
+abbrev pub IsApplicable : TerminalRows → ChangeContent → Type 0
+IsApplicable rows (visit_opened visit) = IsNextVisit visit rows.visits
+IsApplicable rows (visit_closed number departure) = IsOneOpenVisit number rows.visits
+IsApplicable rows (placed_at container visit slot) = rows.places container ≡ None
+IsApplicable rows (moved_to container slot) = is_some (rows.places container) ≡ true
+IsApplicable rows (removed_from container) = is_some (rows.places container) ≡ true
+IsApplicable rows (listed_on call side container port) = finite_map.get rows.lines (line_key call side container) ≡ None
+IsApplicable rows (line_done call side container) = IsPendingLine (line_key call side container) rows.lines
+
+-- each is applicable at its turn
+abbrev pub AreApplicable : TerminalRows → List ChangeContent → Type 0
+AreApplicable rows [] = Unit {0}
+AreApplicable rows (change ∷ changes) = IsApplicable rows change × AreApplicable (changed rows change) changes
+
+-- ---- the laws
+
+-- the changes of a step turn the rows of the old state into those of the new
+abbrev pub ChangesTurnRows : Type 0
+ChangesTurnRows =
+    (state : TerminalState) (source : Source) (order : OrderContent) → IsWhole state
+    → all_changed (rows_of state) (step state source order).changes ≡ rows_of (step state source order).state
+
+-- each change of a step adds, alters or removes one row
+abbrev pub ChangesAreApplicable : Type 0
+ChangesAreApplicable =
+    (state : TerminalState) (source : Source) (order : OrderContent) → IsWhole state → AreApplicable (rows_of state) (step state source order).changes
