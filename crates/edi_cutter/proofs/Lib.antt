@@ -3,4 +3,7 @@ pub mod CutLemmas
 pub mod HoldLemmas
 pub mod FeedLemmas
 pub mod FirstLemmas
+pub mod ReadLemmas
+pub mod BehindLemmas
+pub mod ShiftLemmas
 pub mod StreamLemmas

@@ -36,7 +36,7 @@ without_more (b ∷ front) behind some =
     ]
 
 -- line breaks at the front may be taken off before or after
-without_first : (front behind : List ℕ) → without_breaks (front ++ behind) ≡ without_breaks (without_breaks front ++ behind)
+pub without_first : (front behind : List ℕ) → without_breaks (front ++ behind) ≡ without_breaks (without_breaks front ++ behind)
 without_first [] behind = refl
 without_first (b ∷ front) behind =
     elim (cases_Bool (is_break b)) [

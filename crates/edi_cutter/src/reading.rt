@@ -10,12 +10,12 @@ use edi_segments::service::begins_with_advice;
 /// What is kept of the bytes of an interchange.
 #[derive(Clone, Copy)]
 pub struct Reading {
-    service: Service,
-    place: Place,
+    pub(crate) service: Service,
+    pub(crate) place: Place,
 }
 
 /// How many bytes an interchange may have.
-const LIMIT: usize = 1_048_576;
+pub(crate) const LIMIT: usize = 1_048_576;
 
 impl Reading {
     pub(crate) const START: Reading = Reading {

@@ -2,7 +2,8 @@
 use Rattle.std.proofs.Common.{◌≡◌, Bool, true, refl, sym, ap, ◌∙◌}
 use Rattle.std.proofs.lemmas.Bool.{true≢false, false≢true}
 use Rattle.edi_segments.specs.Advice.{service_at}
-use Rattle.edi_cutter.specs.Cuts.{is_refused, is_closed, past_advice, place_of, CutsGoByTheGrammar}
+use Rattle.edi_cutter.specs.Places.{is_refused}
+use Rattle.edi_cutter.specs.Cuts.{is_closed, past_advice, place_of, CutsGoByTheGrammar}
 use Rattle.edi_cutter.specs.declared.place.Place.{Place}
 use Rattle.edi_cutter.specs.declared.place.Place.TheVariants.{Between, First, Second, Tagged, Inside, Refused}
 use Rattle.edi_cutter.proofs.PlaceLemmas.{refused_where_nothing_goes_on, closed_where_a_trailer_ends}

@@ -1,0 +1,327 @@
+-- Bytes that come behind nine of an interchange: no advice can begin any more.
+use Rattle.std.proofs.Common.{◌≡◌, ℕ, zero, suc, ◌+◌, ◌-◌, ◌<◌, ◌≤◌, Bool, true, false, cond, ◌&&◌, nat_lt, min, List, [], ◌∷◌, ◌++◌, length, take, Option, Some, None, IfSome, refl, sym, ap, subst, ◌∙◌, inl, inr, append_assoc, arith}
+use Rattle.std.proofs.lemmas.Bool.{cases_Bool, true≢false, false≢true, ltb-true, ltb-false, lt-leb, lt-ltb, le-ltb}
+use Rattle.std.proofs.lemmas.List.{append-nil, take-append-le, take_all, take-take, length-append, length-take, length-take-le}
+use Rattle.std.proofs.Math.Seq.{take-append-add}
+use Rattle.edi_segments.specs.Characters.{is_break, begins_with_advice}
+use Rattle.edi_segments.specs.Reading.{breaks_len}
+use Rattle.edi_segments.specs.Advice.{service_at, without_breaks}
+use Rattle.edi_segments.specs.declared.service.Service.{Service}
+use Rattle.edi_cutter.specs.Places as places
+use Rattle.edi_cutter.specs.Places.{place_after, is_refused, stops, Reads, ReadsTo}
+use Rattle.edi_cutter.specs.Cuts.{Cutting, is_in_advice, breaks_advice, place_of, is_closed, fault_of, is_whole, IsOpen, IsOpenBefore, IsPending, IsInterchange, Faults, Answers, Fails}
+use Rattle.edi_cutter.specs.Steps.{Holds}
+use Rattle.edi_cutter.specs.declared.place.Place.{Place}
+use Rattle.edi_cutter.specs.declared.place.Place.TheVariants.{Between, First, Second, Tagged, Inside, Refused}
+use Rattle.edi_cutter.specs.declared.reading.Reading.{Reading}
+use Rattle.edi_cutter.specs.declared.cut_fault.CutFault.{CutFault}
+use Rattle.edi_cutter.specs.declared.cut_fault.CutFault.TheVariants.{TooLong, Service as ServiceFault, Segment}
+use Rattle.edi_cutter.proofs.CutLemmas.{no_fault, grows}
+
+-- ---- more bytes
+
+pub record Grown (text bytes : List ℕ) : Type 0 where
+  pub service : service_at (text ++ bytes) ≡ service_at text
+  pub place : place_of (text ++ bytes) ≡ place_after (service_at text) (place_of text) bytes
+  pub breaks : breaks_advice (text ++ bytes) ≡ breaks_advice text
+
+never_both : (b : Bool) → b && false ≡ false
+never_both true = refl
+never_both false = refl
+
+outside_advice : (text : List ℕ) → 9 < length text → is_in_advice text ≡ false
+outside_advice text past = ap (λ (b : Bool). begins_with_advice text && b) (lt-leb (length text) 9 past) ∙ never_both (begins_with_advice text)
+
+pub grown : (text bytes : List ℕ) → 9 ≤ length text → Grown text bytes
+unfolding places.place_after
+grown text [] past = record {
+  service = ap service_at (append-nil text);
+  place = ap place_of (append-nil text);
+  breaks = ap breaks_advice (append-nil text);
+}
+grown text (b ∷ bytes) past =
+    let one = grows text b (outside_advice (text ++ b ∷ []) (omega (arith, past, length-append text (b ∷ [])))) in
+    let rest = grown (text ++ b ∷ []) bytes (omega (arith, past, length-append text (b ∷ []))) in
+    let same = append_assoc text (b ∷ []) bytes in
+    record {
+      service = ap service_at (sym same) ∙ rest.service ∙ one.service;
+      place = ap place_of (sym same) ∙ rest.place ∙ ap (λ (s : Service). place_after s (place_of (text ++ b ∷ [])) bytes) one.service
+          ∙ ap (λ (p : Place). place_after (service_at text) p bytes) one.place;
+      breaks = ap breaks_advice (sym same) ∙ rest.breaks ∙ one.breaks;
+    }
+
+pub not_refused : (p : Place) → stops p ≡ false → is_refused p ≡ false
+not_refused (Between closed) h = refl
+not_refused (First closes) h = refl
+not_refused (Second closes) h = refl
+not_refused (Tagged closes) h = refl
+not_refused (Inside released closes) h = refl
+not_refused Refused h = absurd (true≢false h)
+
+not_closed : (p : Place) → stops p ≡ false → is_closed p ≡ false
+not_closed (Between closed) h = h
+not_closed (First closes) h = refl
+not_closed (Second closes) h = refl
+not_closed (Tagged closes) h = refl
+not_closed (Inside released closes) h = refl
+not_closed Refused h = refl
+
+is_end : (p : Place) → stops p ≡ true → is_refused p ≡ false → is_closed p ≡ true
+is_end (Between closed) h none = h
+is_end (First closes) h none = h
+is_end (Second closes) h none = h
+is_end (Tagged closes) h none = h
+is_end (Inside released closes) h none = h
+is_end Refused h none = absurd (true≢false none)
+
+pub going : (p : Place) → is_refused p ≡ false → is_closed p ≡ false → stops p ≡ false
+going (Between closed) none open_ = open_
+going (First closes) none open_ = refl
+going (Second closes) none open_ = refl
+going (Tagged closes) none open_ = refl
+going (Inside released closes) none open_ = refl
+going Refused none open_ = none
+
+-- ---- what is held, and what was read of a piece behind it
+
+pub record Scanned (text : List ℕ) (reading : Reading) (piece : List ℕ) (room used : ℕ) (place : Place) : Type 0 where
+  pub holds : Holds text reading
+  pub pends : IsPending text
+  pub past : 9 ≤ length text
+  pub left : room ≡ 1048576 - length text
+  pub short : length text ≤ 1048576
+  pub reads : ReadsTo reading.service reading.place (take (min (length piece) room) piece) used place
+
+place_at : (text : List ℕ) (reading : Reading) (bytes : List ℕ) → Holds text reading → 9 ≤ length text → place_of (text ++ bytes) ≡ place_after reading.service reading.place bytes
+place_at text reading bytes h past =
+    (grown text bytes past).place
+    ∙ ap (λ (s : Service). place_after s (place_of text) bytes) (sym h.reads.0)
+    ∙ ap (λ (p : Place). place_after reading.service p bytes) (sym h.reads.1)
+
+breaks_at : (text : List ℕ) (reading : Reading) (bytes : List ℕ) → Holds text reading → 9 ≤ length text → breaks_advice (text ++ bytes) ≡ false
+breaks_at text reading bytes h past = (grown text bytes past).breaks ∙ h.reads.2
+
+none_at : (text : List ℕ) (reading : Reading) (bytes : List ℕ) → Holds text reading → 9 ≤ length text → length text + length bytes ≤ 1048576 → is_refused (place_after reading.service reading.place bytes) ≡ false → fault_of (text ++ bytes) ≡ None
+none_at text reading bytes h past short none =
+    no_fault (text ++ bytes) (omega (arith, short, length-append text bytes)) (breaks_at text reading bytes h past)
+    (ap is_refused (place_at text reading bytes h past) ∙ none)
+
+open_at : (text : List ℕ) (reading : Reading) (bytes : List ℕ) → Holds text reading → 9 ≤ length text → length text + length bytes ≤ 1048576 → stops (place_after reading.service reading.place bytes) ≡ false → IsOpen (text ++ bytes)
+open_at text reading bytes h past short goes = (
+  none_at text reading bytes h past short (not_refused (place_after reading.service reading.place bytes) goes),
+  ap is_closed (place_at text reading bytes h past) ∙ not_closed (place_after reading.service reading.place bytes) goes,
+)
+
+open_before : (text : List ℕ) (reading : Reading) (piece : List ℕ) (n : ℕ) → Holds text reading → IsPending text → 9 ≤ length text → n ≤ length piece
+    → ((m : ℕ) → m < n → (length text + m ≤ 1048576) × (stops (place_after reading.service reading.place (take m piece)) ≡ false))
+    → IsOpenBefore (text ++ take n piece)
+open_before text reading piece n h pends past within goes m less =
+    elim (cases_Bool (nat_lt m (length text))) [
+      | inl front ↦
+          let inside = ltb-true m (length text) front in
+          subst IsOpen (sym (take-append-le m text (take n piece) (omega (arith, inside)))) (pends.1 m inside)
+      | inr behind ↦
+          let (k, is) = difference (length text) m (ltb-false m (length text) behind) in
+          let k_less : k < n = omega (arith, is, less, length-append text (take n piece), length-take-le n piece within) in
+          let same : take m (text ++ take n piece) ≡ text ++ take k piece =
+          ap (λ (i : ℕ). take i (text ++ take n piece)) is ∙ take-append-add text (take n piece) k ∙ ap (λ (t : List ℕ). text ++ t) (take-take k n piece (omega (arith, k_less))) in
+          let (short, goes_on) = goes k k_less in
+          subst IsOpen (sym same) (open_at text reading (take k piece) h past (omega (arith, short, length-take-le k piece (omega (arith, k_less, within)))) goes_on)
+    ]
+  where
+    difference : (k m : ℕ) → k ≤ m → (j : ℕ) × (m ≡ k + j)
+    difference zero m h = (m, omega arith)
+    difference (suc k) zero h = absurd (omega (arith, h))
+    difference (suc k) (suc m) h = let (j, is) = difference k m (omega (arith, h)) in (j, omega (arith, is))
+
+-- no line break stands at the front
+pub unstripped : (text bytes : List ℕ) → breaks_len text ≡ 0 → 9 ≤ length text → without_breaks (text ++ bytes) ≡ text ++ bytes
+unstripped [] bytes h past = absurd (omega (arith, past))
+unstripped (a ∷ text) bytes h past = rw (no_break (is_break a) (breaks_len text) h) refl
+  where
+    no_break : (b : Bool) (n : ℕ) → cond b (suc n) 0 ≡ 0 → b ≡ false
+    no_break true n h = absurd (omega (arith, h))
+    no_break false n h = refl
+
+-- ---- the ends of a piece
+
+used_within : (text : List ℕ) (reading : Reading) (piece : List ℕ) (room used : ℕ) (place : Place) → Scanned text reading piece room used place → (used ≤ length piece) × (used ≤ room)
+used_within text reading piece room used place s =
+    let w = s.reads.reads.within in (omega (arith, w, length-take (min (length piece) room) piece), omega (arith, w, length-take (min (length piece) room) piece))
+
+taken : (text : List ℕ) (reading : Reading) (piece : List ℕ) (room used : ℕ) (place : Place) → Scanned text reading piece room used place → (m : ℕ) → m ≤ used → take m (take (min (length piece) room) piece) ≡ take m piece
+taken text reading piece room used place s m h =
+    let (a, b) = used_within text reading piece room used place s in take-take m (min (length piece) room) piece (omega (arith, h, a, b))
+
+-- as far as was read, no place stops, and the text is no longer than it may be
+goes : (text : List ℕ) (reading : Reading) (piece : List ℕ) (room used : ℕ) (place : Place) → Scanned text reading piece room used place → (m : ℕ) → m < used → (length text + m ≤ 1048576) × (stops (place_after reading.service reading.place (take m piece)) ≡ false)
+goes text reading piece room used place s m h =
+    let (a, b) = used_within text reading piece room used place s in (
+      omega (arith, h, b, s.left, s.short),
+      ap (λ (t : List ℕ). stops (place_after reading.service reading.place t)) (sym (taken text reading piece room used place s m (omega (arith, h)))) ∙ s.reads.reads.before m h,
+    )
+
+leads : (text : List ℕ) (reading : Reading) (piece : List ℕ) (room used : ℕ) (place : Place) → Scanned text reading piece room used place → place ≡ place_after reading.service reading.place (take used piece)
+leads text reading piece room used place s =
+    s.reads.reads.leads ∙ ap (place_after reading.service reading.place) (taken text reading piece room used place s used (omega arith))
+
+short_enough : (text : List ℕ) (reading : Reading) (piece : List ℕ) (room used : ℕ) (place : Place) → Scanned text reading piece room used place → length text + length (take used piece) ≤ 1048576
+short_enough text reading piece room used place s =
+    let (a, b) = used_within text reading piece room used place s in omega (arith, b, s.left, s.short, length-take-le used piece a)
+
+before_used : (text : List ℕ) (reading : Reading) (piece : List ℕ) (room used : ℕ) (place : Place) → Scanned text reading piece room used place → IsOpenBefore (text ++ take used piece)
+before_used text reading piece room used place s =
+    let (a, b) = used_within text reading piece room used place s in
+    open_before text reading piece used s.holds s.pends s.past a (goes text reading piece room used place s)
+
+-- what is held with what was read
+pub holds_used : (text : List ℕ) (reading : Reading) (piece : List ℕ) (room used : ℕ) (place : Place) → Scanned text reading piece room used place → is_refused place ≡ false → Holds (text ++ take used piece) record { service = reading.service; place = place }
+holds_used text reading piece room used place s none =
+    let is = leads text reading piece room used place s in
+    record {
+      reads = (
+        s.holds.reads.0 ∙ sym (grown text (take used piece) s.past).service,
+        is ∙ sym (place_at text reading (take used piece) s.holds s.past),
+        breaks_at text reading (take used piece) s.holds s.past,
+      );
+      front = front text (take used piece) s.holds.front s.past;
+      before = before_used text reading piece room used place s;
+      none = none_at text reading (take used piece) s.holds s.past (short_enough text reading piece room used place s) (ap is_refused (sym is) ∙ none);
+    }
+  where
+    no_break : (b : Bool) (n : ℕ) → cond b (suc n) 0 ≡ 0 → b ≡ false
+    no_break true n h = absurd (omega (arith, h))
+    no_break false n h = refl
+
+    front : (text bytes : List ℕ) → breaks_len text ≡ 0 → 9 ≤ length text → breaks_len (text ++ bytes) ≡ 0
+    front [] bytes h past = absurd (omega (arith, past))
+    front (a ∷ text) bytes h past = rw (no_break (is_break a) (breaks_len text) h) refl
+
+-- the piece completes an interchange
+pub completes_behind : (text : List ℕ) (reading : Reading) (piece : List ℕ) (room used : ℕ) (place : Place) (new : Cutting) → Scanned text reading piece room used place → stops reading.place ≡ false → stops place ≡ true → is_refused place ≡ false
+    → new ≡ record { text = text ++ take used piece; fault = None } → Answers text piece new (Some used)
+unfolding places.place_after
+completes_behind text reading piece room zero place new s goes_on stopped none is =
+    absurd (false≢true (sym goes_on ∙ ap stops (sym s.reads.reads.leads) ∙ stopped))
+completes_behind text reading piece room (suc used) place new s goes_on stopped none is =
+    let n = suc used in
+    let (a, b) = used_within text reading piece room n place s in
+    let kept = unstripped text (take n piece) s.holds.front s.past in
+    let lead = leads text reading piece room n place s in
+    let whole : IsInterchange (text ++ take n piece) = (
+      none_at text reading (take n piece) s.holds s.past (short_enough text reading piece room n place s) (ap is_refused (sym lead) ∙ none),
+      ap is_closed (place_at text reading (take n piece) s.holds s.past ∙ sym lead) ∙ is_end place stopped none,
+      before_used text reading piece room n place s,
+    ) in
+    (omega arith, a, subst IsInterchange (sym kept) whole, is ∙ ap (λ (t : List ℕ). record { text = t; fault = None }) (sym kept))
+
+-- the piece is used up
+pub goes_on_behind : (text : List ℕ) (reading : Reading) (piece : List ℕ) (room used : ℕ) (place : Place) (new : Cutting) → Scanned text reading piece room used place → stops place ≡ false → length piece ≤ room
+    → new ≡ record { text = text ++ take used piece; fault = None } → Answers text piece new None
+goes_on_behind text reading piece room used place new s goes_on all is =
+    let used_all : used ≡ length piece = s.reads.all goes_on ∙ length-take (min (length piece) room) piece ∙ omega (arith, all) in
+    let taken_all : take used piece ≡ piece = take_all used piece (omega (arith, used_all)) in
+    let lead = leads text reading piece room used place s in
+    let pends : IsPending (text ++ take used piece) = (
+      open_at text reading (take used piece) s.holds s.past (short_enough text reading piece room used place s) (ap stops (sym lead) ∙ goes_on),
+      before_used text reading piece room used place s,
+    ) in
+    let kept : without_breaks (text ++ piece) ≡ text ++ take used piece = unstripped text piece s.holds.front s.past ∙ ap (λ (t : List ℕ). text ++ t) (sym taken_all) in
+    (subst IsPending (sym kept) pends, is ∙ ap (λ (t : List ℕ). record { text = t; fault = None }) (sym kept))
+
+-- no segments go on so
+pub refuses_behind : (text : List ℕ) (reading : Reading) (piece : List ℕ) (room used : ℕ) (place : Place) (old new : Cutting) → Scanned text reading piece room used place → is_refused place ≡ true
+    → new ≡ record { text = []; fault = Some Segment } → Fails old text piece new Segment
+refuses_behind text reading piece room used place old new s refused is =
+    let (a, b) = used_within text reading piece room used place s in
+    let lead = leads text reading piece room used place s in
+    let bytes = take used piece in
+    let faulty : fault_of (text ++ bytes) ≡ Some Segment =
+    refused_fault (text ++ bytes) (omega (arith, short_enough text reading piece room used place s, length-append text bytes)) (breaks_at text reading bytes s.holds s.past)
+    (ap is_refused (place_at text reading bytes s.holds s.past ∙ sym lead) ∙ refused) in
+    let kept = unstripped text bytes s.holds.front s.past in
+    (used, a, subst (λ (t : List ℕ). Faults t Segment) (sym kept) (faulty, before_used text reading piece room used place s), is)
+  where
+    refused_fault : (t : List ℕ) → length t ≤ 1048576 → breaks_advice t ≡ false → is_refused (place_of t) ≡ true → fault_of t ≡ Some Segment
+    refused_fault t short unbroken refused = rw (le-ltb 1048576 (length t) short, unbroken, refused) refl
+
+-- one byte too many
+pub too_long_behind : (text : List ℕ) (reading : Reading) (piece : List ℕ) (room used : ℕ) (place : Place) (old new : Cutting) → Scanned text reading piece room used place → stops place ≡ false → room < length piece
+    → new ≡ record { text = []; fault = Some TooLong } → Fails old text piece new TooLong
+too_long_behind text reading piece room used place old new s goes_on more is =
+    let used_all : used ≡ room = s.reads.all goes_on ∙ length-take (min (length piece) room) piece ∙ omega (arith, more) in
+    let n = used + 1 in
+    let within : n ≤ length piece = omega (arith, used_all, more) in
+    let lead = leads text reading piece room used place s in
+    let bytes = take n piece in
+    let long : 1048576 < length (text ++ bytes) = omega (arith, used_all, s.left, s.short, length-append text bytes, length-take-le n piece within) in
+    let faulty : fault_of (text ++ bytes) ≡ Some TooLong = rw (lt-ltb 1048576 (length (text ++ bytes)) long) refl in
+    let kept = unstripped text bytes s.holds.front s.past in
+    let before : IsOpenBefore (text ++ bytes) = open_before text reading piece n s.holds s.pends s.past within
+    (λ m h. elim (cases_Bool (nat_lt m used)) [
+      | inl less ↦ goes text reading piece room used place s m (ltb-true m used less)
+      | inr last ↦
+          let same : m ≡ used = omega (arith, h, ltb-false m used last) in (
+            omega (arith, same, used_all, s.left, s.short),
+            ap (λ (i : ℕ). stops (place_after reading.service reading.place (take i piece))) same ∙ ap stops (sym lead) ∙ goes_on,
+          )
+    ]) in
+    (n, within, subst (λ (t : List ℕ). Faults t TooLong) (sym kept) (faulty, before), is)
+
+-- ---- what is known without a fault
+
+pub sound_so_far : (text : List ℕ) → fault_of text ≡ None → (length text ≤ 1048576) × (is_refused (place_of text) ≡ false)
+sound_so_far text h = parts (nat_lt 1048576 (length text)) (breaks_advice text) (is_refused (place_of text)) h (λ is. ltb-false 1048576 (length text) is)
+  where
+    parts : (a b c : Bool) → cond a (Some TooLong) (cond b (Some ServiceFault) (cond c (Some Segment) None)) ≡ None → (a ≡ false → length text ≤ 1048576) → (length text ≤ 1048576) × (c ≡ false)
+    parts true b c e f = absurd cc
+    parts false true c e f = absurd cc
+    parts false false true e f = absurd cc
+    parts false false false e f = (f refl, refl)
+
+pub scanned_of : (text : List ℕ) (reading : Reading) (old : Cutting) (slice piece : List ℕ) (count used : ℕ) (place : Place) → Holds text reading → text ≡ old.text → IsPending old.text → 9 ≤ length old.text
+    → slice ≡ text → count ≡ min (length piece) (1048576 - length slice) → ReadsTo reading.service reading.place (take count piece) used place
+    → Scanned text reading piece (1048576 - length text) used place
+scanned_of text reading old slice piece count used place holds seen pends past is count_is reads = record {
+  holds = holds;
+  pends = subst IsPending (sym seen) pends;
+  past = omega (arith, past, ap length seen);
+  left = refl;
+  short = (sound_so_far text holds.none).0;
+  reads = subst (λ (n : ℕ). ReadsTo reading.service reading.place (take n piece) used place) (count_is ∙ ap (λ (t : List ℕ). min (length piece) (1048576 - length t)) is) reads;
+}
+
+-- what is shown of a text holds of what is held
+pub held_text : (text : List ℕ) (fault : Option CutFault) (old : Cutting) (kept : List ℕ) → fault ≡ old.fault → old.fault ≡ None → text ≡ kept → (let c : Cutting = record { text = text; fault = fault } in c) ≡ record { text = kept; fault = None }
+held_text text fault old kept same none is = rw (is, same, none) refl
+
+-- the bytes that were read of the piece
+pub kept_bytes : (text : List ℕ) (reading : Reading) (piece : List ℕ) (room used count : ℕ) (place : Place) → Scanned text reading piece room used place → count ≡ min (length piece) room → take used (take count piece) ≡ take used piece
+kept_bytes text reading piece room used count place s is = ap (λ (n : ℕ). take used (take n piece)) is ∙ taken text reading piece room used place s used (omega arith)
+
+pub room_lacks : (text : List ℕ) (reading : Reading) (piece : List ℕ) (room used count : ℕ) (place : Place) → Scanned text reading piece room used place → count ≡ min (length piece) room → length (take count piece) < length piece → room < length piece
+room_lacks text reading piece room used count place s is less = omega (arith, less, is, length-take count piece)
+
+pub room_is_there : (text : List ℕ) (reading : Reading) (piece : List ℕ) (room used count : ℕ) (place : Place) → Scanned text reading piece room used place → count ≡ min (length piece) room → length piece ≤ length (take count piece) → length piece ≤ room
+room_is_there text reading piece room used count place s is more = omega (arith, more, is, length-take count piece)
+
+pub reading_goes : (text : List ℕ) (reading : Reading) (old : Cutting) → Holds text reading → text ≡ old.text → IsPending old.text → stops reading.place ≡ false
+reading_goes text reading old holds seen pends =
+    going reading.place
+    (ap is_refused holds.reads.1 ∙ (sound_so_far text holds.none).1)
+    (ap is_closed holds.reads.1 ∙ ap is_whole seen ∙ pends.0.1)
+
+pub answers_either : (text : List ℕ) (reading : Reading) (piece : List ℕ) (room used : ℕ) (place : Place) (closed : Bool) (answer : Option ℕ) (new : Cutting) → Scanned text reading piece room used place → stops reading.place ≡ false
+    → closed ≡ stops place → is_refused place ≡ false → (stops place ≡ false → length piece ≤ room) → answer ≡ cond closed (Some used) None
+    → new ≡ record { text = text ++ take used piece; fault = None } → Answers text piece new answer
+answers_either text reading piece room used place closed answer new s goes_on closed_is none all answer_is is =
+    subst (Answers text piece new) (sym (answer_is ∙ ap (λ (b : Bool). cond b (Some used) None) closed_is))
+    (either (stops place) refl)
+  where
+    either : (b : Bool) → stops place ≡ b → Answers text piece new (cond b (Some used) None)
+    either true h = completes_behind text reading piece room used place new s goes_on h none is
+    either false h = goes_on_behind text reading piece room used place new s h (all h) is
+
+pub used_of : (q piece : List ℕ) (new : Cutting) (answer : Option ℕ) → Answers q piece new answer → IfSome answer (λ n. (0 < n) × (n ≤ length piece))
+used_of q piece new None h = tt
+used_of q piece new (Some n) (some, within, done, is) = (some, within)

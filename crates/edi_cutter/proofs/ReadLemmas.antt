@@ -1,0 +1,119 @@
+-- Bytes are read one after the other, as far as a place that stops.
+use Rattle.std.proofs.Common.{◌≡◌, ℕ, zero, suc, ◌+◌, ◌-◌, ◌<◌, ◌≤◌, Bool, true, false, cond, ◌==◌, nat_lt, List, [], ◌∷◌, ◌++◌, length, take, drop, get_or, refl, sym, ap, subst, ◌∙◌, inl, inr, arith}
+use Rattle.std.proofs.lemmas.Bool.{cases_Bool, true≢false, false≢true, ltb-true, ltb-false}
+use Rattle.std.proofs.lemmas.List.{take-append-le, take_all, take_more, take-take, length-append, length-take-le, length-drop}
+use Rattle.std.proofs.Math.Seq.{take-add}
+use Rattle.edi_segments.specs.Characters.{is_data_byte, is_release}
+use Rattle.edi_segments.specs.Tokens as tokens
+use Rattle.edi_segments.specs.Tokens.{token_of, releases}
+use Rattle.edi_segments.specs.declared.service.Service.{Service}
+use Rattle.edi_segments.specs.declared.token.Token.TheVariants.{Data, Release, Component, Element, Terminator, Invalid}
+use Rattle.edi_cutter.specs.Places as places
+use Rattle.edi_cutter.specs.Places.{place_by, inside_by, place_after, stops, Reads, ReadsTo, Keeps, StayInside}
+use Rattle.edi_cutter.specs.declared.place.Place.{Place}
+use Rattle.edi_cutter.specs.declared.place.Place.TheVariants.{Inside}
+use Rattle.edi_cutter.proofs.PlaceLemmas.{after_append}
+
+-- ---- among the elements
+
+quiet : (release component element terminator plain closes : Bool) → plain ≡ true → terminator ≡ false
+    → (let t = cond release Release (cond component Component (cond element Element (cond terminator Terminator (cond plain Data Invalid)))) in releases t ≡ false → inside_by t closes ≡ Inside false closes)
+quiet true component element terminator plain closes is none r = absurd (true≢false r)
+quiet false true element terminator plain closes is none r = refl
+quiet false false true terminator plain closes is none r = refl
+quiet false false false true plain closes is none r = absurd (true≢false none)
+quiet false false false false true closes is none r = refl
+quiet false false false false false closes is none r = absurd (false≢true is)
+
+one_inside : (s : Service) (b : ℕ) → is_data_byte b ≡ true → b == s.terminator ≡ false → releases (token_of s false b) ≡ false → (closes : Bool) → place_by s (Inside false closes) b ≡ Inside false closes
+unfolding tokens.token_of
+one_inside s b plain terminator r closes =
+    quiet (is_release s.release b) (b == s.component) (b == s.element) (b == s.terminator) (is_data_byte b) closes plain terminator r
+
+pub stays_one : (s : Service) (b : ℕ) → is_data_byte b ≡ true → b == s.terminator ≡ false → releases (token_of s false b) ≡ false → StayInside s (b ∷ [])
+unfolding places.place_after
+stays_one s b plain terminator r closes zero h = refl
+stays_one s b plain terminator r closes (suc zero) h = one_inside s b plain terminator r closes
+stays_one s b plain terminator r closes (suc (suc m)) h = absurd (omega (arith, h))
+
+pub stays_more : (s : Service) (bytes : List ℕ) (b : ℕ) → StayInside s bytes → StayInside s (b ∷ []) → StayInside s (bytes ++ b ∷ [])
+stays_more s bytes b all one closes m h =
+    elim (cases_Bool (nat_lt (length bytes) m)) [
+      | inl more ↦
+          let past = ltb-true (length bytes) m more in
+          let whole : take m (bytes ++ b ∷ []) ≡ bytes ++ b ∷ [] = take_all m (bytes ++ b ∷ []) (omega (arith, past, length-append bytes (b ∷ []))) in
+          ap (place_after s (Inside false closes)) whole
+          ∙ after_append s (Inside false closes) bytes (b ∷ [])
+          ∙ ap (λ (p : Place). place_after s p (b ∷ [])) (ap (place_after s (Inside false closes)) (sym (take_all (length bytes) bytes (omega arith))) ∙ all closes (length bytes) (omega arith))
+          ∙ one closes 1 (omega arith)
+      | inr less ↦
+          let within = ltb-false (length bytes) m less in
+          ap (place_after s (Inside false closes)) (take-append-le m bytes (b ∷ []) within) ∙ all closes m within
+    ]
+
+pub stays_next : (s : Service) (bytes : List ℕ) (i : ℕ) → i < length bytes → StayInside s (take i bytes) → StayInside s (get_or bytes i 0 ∷ []) → StayInside s (take (i + 1) bytes)
+stays_next s bytes i within all one = subst (StayInside s) (sym (take_more bytes i 0 within)) (stays_more s (take i bytes) (get_or bytes i 0) all one)
+
+pub stays_nothing : (s : Service) → StayInside s []
+unfolding places.place_after
+stays_nothing s closes zero h = refl
+stays_nothing s closes (suc m) h = refl
+
+pub keeps_inside : (s : Service) (closes : Bool) (bytes : List ℕ) (q : ℕ) → q ≤ length bytes → StayInside s (take q bytes) → Keeps s (Inside false closes) bytes q
+keeps_inside s closes bytes q within all m h =
+    ap (place_after s (Inside false closes)) (sym (take-take m q bytes h)) ∙ all closes m (omega (arith, h, length-take-le q bytes within))
+
+pub keeps_none : (s : Service) (place : Place) (bytes : List ℕ) → Keeps s place bytes 0
+unfolding places.place_after
+keeps_none s place bytes zero h = refl
+keeps_none s place bytes (suc m) h = absurd (omega (arith, h))
+
+-- ---- some bytes, and all
+
+pub reads_one : (s : Service) (place : Place) (bytes : List ℕ) (q : ℕ) → stops place ≡ false → q < length bytes → Keeps s place bytes q → Reads s place bytes (q + 1) (place_by s place (get_or bytes q 0))
+unfolding places.place_after
+reads_one s place bytes q going within keeps = record {
+  within = omega (arith, within);
+  leads = sym (ap (place_after s place) (take_more bytes q 0 within) ∙ after_append s place (take q bytes) (get_or bytes q 0 ∷ []) ∙ ap (λ (p : Place). place_by s p (get_or bytes q 0)) (keeps q (omega arith)));
+  before = λ m h. ap stops (keeps m (omega (arith, h))) ∙ going;
+}
+
+pub reads_quiet : (s : Service) (place : Place) (bytes : List ℕ) (q : ℕ) → stops place ≡ false → q ≤ length bytes → Keeps s place bytes q → Reads s place bytes q place
+reads_quiet s place bytes q going within keeps = record {
+  within = within;
+  leads = sym (keeps q (omega arith));
+  before = λ m h. ap stops (keeps m (omega (arith, h))) ∙ going;
+}
+
+pub reads_nothing : (s : Service) (place : Place) (bytes : List ℕ) → Reads s place bytes 0 place
+unfolding places.place_after
+reads_nothing s place bytes = record { within = omega arith; leads = refl; before = λ m h. absurd (omega (arith, h)) }
+
+pub reads_more : (s : Service) (place between place' : Place) (bytes : List ℕ) (k n : ℕ) → Reads s place bytes k between → Reads s between (drop k bytes) n place' → Reads s place bytes (k + n) place'
+reads_more s place between place' bytes k n first second = record {
+  within = omega (arith, first.within, second.within, length-drop k bytes);
+  leads = second.leads ∙ sym (joined n);
+  before = λ m h. elim (cases_Bool (nat_lt m k)) [
+    | inl less ↦ first.before m (ltb-true m k less)
+    | inr more ↦
+        let past = ltb-false m k more in
+        let (j, is) = difference k m past in
+        ap (λ (i : ℕ). stops (place_after s place (take i bytes))) is ∙ ap stops (joined j) ∙ second.before j (omega (arith, h, is))
+  ];
+}
+  where
+    joined : (j : ℕ) → place_after s place (take (k + j) bytes) ≡ place_after s between (take j (drop k bytes))
+    joined j =
+        ap (place_after s place) (take-add k j bytes) ∙ after_append s place (take k bytes) (take j (drop k bytes))
+        ∙ ap (λ (p : Place). place_after s p (take j (drop k bytes))) (sym first.leads)
+
+    difference : (k m : ℕ) → k ≤ m → (j : ℕ) × (m ≡ k + j)
+    difference zero m h = (m, omega arith)
+    difference (suc k) zero h = absurd (omega (arith, h))
+    difference (suc k) (suc m) h = let (j, is) = difference k m (omega (arith, h)) in (j, omega (arith, is))
+
+-- what is read of a part of the bytes
+pub reads_rest : (s : Service) (place between place' : Place) (bytes : List ℕ) (k n : ℕ) → Reads s place bytes k between → Reads s between (take (length bytes - k) (drop k bytes)) n place' → Reads s place bytes (k + n) place'
+reads_rest s place between place' bytes k n first second =
+    reads_more s place between place' bytes k n first
+    (subst (λ (t : List ℕ). Reads s between t n place') (take_all (length bytes - k) (drop k bytes) (omega (arith, length-drop k bytes))) second)
