@@ -105,7 +105,15 @@ fn another_syntax_moment_or_group_is_refused(rt: HostRuntime) -> Result<(), Fail
 
 #[test]
 fn a_text_of_more_than_a_mebibyte_is_too_long(rt: HostRuntime) -> Result<(), Fail> {
-    let text = [b'A'].as_slice().repeat(rt.alloc(), 1_048_577)?;
+    let thousand = [b'A'; 1024];
+    let mut text = Vec::new(rt.alloc());
+    let mut stream = Vec::new(rt.alloc());
+    stream.extend_from_slice(b"FTX+")?;
+    for _ in 0..1024 {
+        text.extend_from_slice(&thousand)?;
+        stream.extend_from_slice(&thousand)?;
+    }
+    text.push(b'A')?;
     assert_answers(
         &rt,
         rt.alloc(),
@@ -114,9 +122,6 @@ fn a_text_of_more_than_a_mebibyte_is_too_long(rt: HostRuntime) -> Result<(), Fai
             "{\"answer\":\"refused\",\"fault\":\"TooLong\"}",
         )],
     )?;
-    let mut stream = Vec::new(rt.alloc());
-    stream.extend_from_slice(b"FTX+")?;
-    stream.extend_from_slice(&text[4..])?;
     assert_prints(
         &rt,
         rt.alloc(),
