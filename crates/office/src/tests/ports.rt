@@ -77,6 +77,28 @@ fn a_stream_may_be_cut_at_every_place(rt: HostRuntime) -> Result<(), Fail> {
     Ok(())
 }
 
+/// An interchange whose message reference holds a released terminator.
+const RELEASED: &[u8] =
+    b"UNB+UNOA:3+HAULA+TERM1+240305:0910+1'UNH+M?'1+CODECO:D:95B:UN'BGM+34+G1+9'EQD+CN+ABCU0000017+22G1+++4'RFF+BN:A?+B'UNT+5+M?'1'UNZ+1+1'";
+
+#[test]
+fn a_released_terminator_may_be_cut_from_its_release(rt: HostRuntime) -> Result<(), Fail> {
+    let answer =
+        "{\"answer\":\"taken\",\"number\":1,\"partner\":\"HAULA\",\"reply\":{\"contrl\":\"UNB+UNOA:3+TERM1+HAULA+240305:0910+1'UNH+1+CONTRL:D:3:UN'UCI+1+HAULA+TERM1+7'UCM+M?'1+CODECO:D:95B:UN+7'UNT+4+1'UNZ+1+1'\",\"messages\":[{\"lines\":[{\"box\":\"ABCU0000017\",\"line\":1,\"outcome\":\"done\",\"slot\":\"A001011\"}],\"reference\":\"M'1\",\"result\":\"accepted\"}]}}";
+    let whole = lines(rt.alloc(), &[answer], &[])?;
+    for place in 1..RELEASED.len() {
+        let pieces = Pieces {
+            text: RELEASED,
+            next: place,
+            size: RELEASED.len(),
+        };
+        let (printed, _, status) = demo(rt.alloc(), pieces)?;
+        assert_eq!(&rt; printed.as_slice(), whole.as_slice());
+        assert_eq!(&rt; status, 0);
+    }
+    Ok(())
+}
+
 #[test]
 fn a_stream_may_come_byte_by_byte(rt: HostRuntime) -> Result<(), Fail> {
     let pieces = Pieces {

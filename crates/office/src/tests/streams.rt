@@ -104,3 +104,24 @@ fn early_ones_wait_and_a_gap_that_closes_takes_them(rt: HostRuntime) -> Result<(
         ),
     )
 }
+
+#[test]
+fn what_is_no_stream_of_interchanges_is_cut_by_name(rt: HostRuntime) -> Result<(), Fail> {
+    let end = "{\"answer\":\"cut\",\"fault\":\"End\"}\n";
+    assert_prints(&rt, rt.alloc(), "demo", b"UNB", (end, "", 1))?;
+    assert_prints(&rt, rt.alloc(), "demo", b"UNA:+", (end, "", 1))?;
+    assert_prints(
+        &rt,
+        rt.alloc(),
+        "demo",
+        b"AAAA",
+        ("{\"answer\":\"cut\",\"fault\":\"Segment\"}\n", "", 1),
+    )?;
+    assert_prints(
+        &rt,
+        rt.alloc(),
+        "demo",
+        b"UNA++.? 'UNB+UNOA:3",
+        ("{\"answer\":\"cut\",\"fault\":\"Service\"}\n", "", 1),
+    )
+}
