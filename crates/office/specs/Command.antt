@@ -1,8 +1,13 @@
 -- The command line and the exit status.
-use Rattle.std.specs.Prelude.{ℕ, List, [], ◌∷◌, Bool, false, codes}
+use Rattle.std.specs.Prelude.{◌≡◌, ◌⊎◌, ℕ, List, [], ◌∷◌, Bool, false, Option, codes}
 use Rattle.std.specs.Str.{bytes_eq}
 use Rattle.office_replies.specs.declared.worst.Worst.{Worst}
 use Rattle.office_replies.specs.declared.worst.Worst.TheVariants.{Fine, Refused, NotNow}
+use Rattle.office_stream.specs.declared.stream_fault.StreamFault.TheVariants.{Read, Write, Turns}
+use Rattle.office.specs.declared.demo_fault.DemoFault.{DemoFault}
+use Rattle.office.specs.declared.demo_fault.DemoFault.TheVariants.{Setup, Stream}
+use Rattle.office.specs.declared.setup_fault.SetupFault.TheVariants.{Codes, Partners, Blocks, Memory}
+use Rattle.office.specs.Demo.{DemoRuns, DemoLeft, IsOfPorts}
 
 -- the program's own name, and `demo`
 abbrev pub is_demo : List (List ℕ) → Bool
@@ -16,3 +21,19 @@ abbrev pub status_of : Worst → ℕ
 status_of Fine = 0
 status_of Refused = 1
 status_of NotNow = 3
+
+-- what is told of a fault. A failed write is told by the status alone.
+abbrev pub fault_text : DemoFault → List ℕ
+fault_text (Setup (Codes fault)) = codes "setup: Codes\n"
+fault_text (Setup Partners) = codes "setup: Partners\n"
+fault_text (Setup (Blocks fault)) = codes "setup: Blocks\n"
+fault_text (Setup Memory) = codes "no memory\n"
+fault_text (Stream Read) = codes "cannot read\n"
+fault_text (Stream Turns) = codes "turns\n"
+fault_text (Stream Write) = []
+
+-- The demonstration ends with the status of its stream, or with 3 where it was left before the end.
+abbrev pub DemoEnds : (left left' written written' : Option (List ℕ)) (read_failed write_failed : Bool) → ℕ → Type 0
+DemoEnds left left' written written' read_failed write_failed status =
+    ((worst : Worst) × (status ≡ status_of worst) × DemoRuns left left' written written' worst)
+    ⊎ ((fault : DemoFault) × (status ≡ 3) × DemoLeft left left' written written' fault × IsOfPorts read_failed write_failed fault)

@@ -1,5 +1,5 @@
 -- The set-up of the demonstration.
-use Rattle.std.specs.Prelude.{◌≡◌, ℕ, List, [], ◌∷◌, Option, codes}
+use Rattle.std.specs.Prelude.{◌≡◌, ℕ, Bool, true, List, [], ◌∷◌, Option, codes}
 use Rattle.edi_messages.specs.Codes.{table_texts}
 use Rattle.edi_messages.specs.declared.code_table.CodeTable.{CodeTable}
 use Rattle.edi_messages.specs.declared.partner_kind.PartnerKind.{PartnerKind}
@@ -12,7 +12,11 @@ use Rattle.office_desk.specs.declared.desk.Desk.{Desk}
 use Rattle.office_desk.specs.Admission.{Parties}
 use Rattle.office_desk.specs.Desks.{DeskStands, DeskAnswers, parties}
 use Rattle.office_replies.specs.declared.worst.Worst.{Worst}
-use Rattle.office_stream.specs.Streams.{Streamed}
+use Rattle.office_stream.specs.Streams.{Streamed, Began, Delivered}
+use Rattle.office_stream.specs.declared.stream_fault.StreamFault.{StreamFault}
+use Rattle.office_stream.specs.declared.stream_fault.StreamFault.TheVariants.{Read, Write, Turns}
+use Rattle.office.specs.declared.demo_fault.DemoFault.{DemoFault}
+use Rattle.office.specs.declared.demo_fault.DemoFault.TheVariants.{Setup, Stream}
 
 -- gate-in, gate-out, yard-move, discharge-list, load-list, discharge-report and load-report
 abbrev pub demo_codes : List (List ℕ)
@@ -54,3 +58,32 @@ pub record DemoRuns (left left' written written' : Option (List ℕ)) (worst : W
   pub desk : Desk MachineState
   pub opens : OpensDemo opening
   pub streamed : Streamed (DeskStands interchange_taken opening) (DeskAnswers interchange_taken opening) [] left left' written written' desk worst
+
+-- The interchanges at the front of what was read were delivered to such a desk and answered by their lines.
+pub record DemoBegan (left left' written written' : Option (List ℕ)) : Type 0 where
+  pub opening : Desk MachineState
+  pub desk : Desk MachineState
+  pub opens : OpensDemo opening
+  pub began : Began (DeskStands interchange_taken opening) (DeskAnswers interchange_taken opening) [] left left' written written' desk
+
+-- They were delivered to such a desk. Of what was written nothing is said.
+pub record DemoDelivered (left left' : Option (List ℕ)) : Type 0 where
+  pub opening : Desk MachineState
+  pub desk : Desk MachineState
+  pub opens : OpensDemo opening
+  pub delivered : Delivered (DeskStands interchange_taken opening) (DeskAnswers interchange_taken opening) [] left left' desk
+
+-- What was done before a fault: without a set-up nothing was read or written; a read that failed, or one too many, leaves
+-- what was answered before; so does a write that failed, but that lines may be missing.
+abbrev pub DemoLeft : (left left' written written' : Option (List ℕ)) → DemoFault → Type 0
+DemoLeft left left' written written' (Setup fault) = (left' ≡ left) × (written' ≡ written)
+DemoLeft left left' written written' (Stream Read) = DemoBegan left left' written written'
+DemoLeft left left' written written' (Stream Turns) = DemoBegan left left' written written'
+DemoLeft left left' written written' (Stream Write) = DemoDelivered left left'
+
+-- a fault of the reader or the writer comes only where it has failed
+abbrev pub IsOfPorts : (read_failed write_failed : Bool) → DemoFault → Type 0
+IsOfPorts read_failed write_failed (Setup fault) = Unit {0}
+IsOfPorts read_failed write_failed (Stream Read) = read_failed ≡ true
+IsOfPorts read_failed write_failed (Stream Turns) = Unit {0}
+IsOfPorts read_failed write_failed (Stream Write) = write_failed ≡ true

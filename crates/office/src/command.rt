@@ -1,7 +1,5 @@
-ghost use Rattle.std.specs.Prelude.{◌≡◌, ◌⊎◌, true, false, map, string_bytes};
-ghost use Rattle.office_replies.specs.declared.worst.Worst.{Worst};
-ghost use Rattle.office.specs.Command.{is_demo, status_of};
-ghost use Rattle.office.specs.Demo.{DemoRuns};
+ghost use Rattle.std.specs.Prelude.{◌≡◌, true, false, map, string_bytes};
+ghost use Rattle.office.specs.Command.{is_demo, status_of, DemoEnds};
 
 use crate::demo::run_demo;
 use office_replies::Worst;
@@ -20,7 +18,7 @@ pub fn run<R: Read, W: Write, E: Write>(
     errors: &mut E,
 ) -> u8
     ensures usage { is_demo (map string_bytes words.now) ≡ false → result ≡ 2 }
-    ensures ran { is_demo (map string_bytes words.now) ≡ true → (result ≡ 3) ⊎ ((worst : Worst) × (result ≡ status_of worst) × DemoRuns (R.remaining reader.old.inner) (R.remaining reader.new.inner) (W.contents writer.old.inner) (W.contents writer.new.inner) worst) }
+    ensures ran { is_demo (map string_bytes words.now) ≡ true → DemoEnds (R.remaining reader.old.inner) (R.remaining reader.new.inner) (W.contents writer.old.inner) (W.contents writer.new.inner) reader.new.failed writer.new.failed result }
 {
     if !is_demo(words) {
         let _ = errors.write_all(b"usage: office demo\n");

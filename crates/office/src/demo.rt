@@ -1,5 +1,5 @@
-ghost use Rattle.std.specs.Prelude.{IfOk};
-ghost use Rattle.office.specs.Demo.{DemoRuns};
+ghost use Rattle.std.specs.Prelude.{IfOk, IfErr};
+ghost use Rattle.office.specs.Demo.{DemoRuns, DemoLeft, IsOfPorts};
 
 use crate::demo_fault::DemoFault;
 use crate::setup::Setup;
@@ -18,6 +18,10 @@ pub fn run_demo<R: Read, W: Write>(
     writer: &mut Port<W>,
 ) -> Result<Worst, DemoFault>
     ensures ok { IfOk result (DemoRuns (R.remaining reader.old.inner) (R.remaining reader.new.inner) (W.contents writer.old.inner) (W.contents writer.new.inner)) }
+
+    // What was done before a fault stands.
+    ensures err { IfErr result (DemoLeft (R.remaining reader.old.inner) (R.remaining reader.new.inner) (W.contents writer.old.inner) (W.contents writer.new.inner)) }
+    ensures failed { IfErr result (IsOfPorts reader.new.failed writer.new.failed) }
 {
     let setup = match Setup::demo(alloc) {
         Ok(setup) => setup,

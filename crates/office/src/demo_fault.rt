@@ -1,3 +1,5 @@
+ghost use Rattle.std.specs.Prelude.{◌≡◌};
+
 use crate::setup_fault::SetupFault;
 use office_stream::StreamFault;
 
@@ -11,8 +13,12 @@ pub enum DemoFault {
 }
 
 impl DemoFault {
+    ghost use Rattle.office.specs.Command.{fault_text};
+
     /// What is told of it. A failed write is told by its status alone.
-    pub fn text(self) -> &'static str {
+    pub fn text(self) -> &'static str
+        ensures { result.now ≡ fault_text self }
+    {
         match self {
             DemoFault::Setup(SetupFault::Codes(_)) => "setup: Codes\n",
             DemoFault::Setup(SetupFault::Partners) => "setup: Partners\n",

@@ -15,18 +15,25 @@ use office_stream::Port;
 use std::process::ExitCode;
 use std::{env, io};
 
-fn main(rt: HostRuntime) -> io::Result<ExitCode> {
+fn main(rt: HostRuntime) -> ExitCode {
+    match run(&rt) {
+        Ok(status) => ExitCode::from(status),
+        Err(_) => ExitCode::from(3),
+    }
+}
+
+/// Runs the program on its words and the standard streams. An error is that the words could not be had.
+fn run(rt: &HostRuntime) -> io::Result<u8> {
     let alloc = rt.alloc();
-    let words: Vec<String> = env::args(&rt)?.collect(alloc)?;
+    let words: Vec<String> = env::args(rt)?.collect(alloc)?;
     let mut input = Port::new(rt.stdin());
     let mut output = Port::new(rt.stdout());
     let mut errors = rt.stderr();
-    let status = command::run(
+    Ok(command::run(
         alloc,
         words.as_slice(),
         &mut input,
         &mut output,
         &mut errors,
-    );
-    Ok(ExitCode::from(status))
+    ))
 }

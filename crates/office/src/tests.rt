@@ -1,7 +1,15 @@
 //! The demonstration's desk and the program on it, by the bytes that come in and those that are answered.
 
+mod advice;
+mod failing_reader;
+mod failing_writer;
 mod interchanges;
 mod lists;
+mod messages;
+mod pieces;
+mod ports;
+mod refusals;
+mod settings;
 mod streams;
 
 use crate::command;
@@ -10,10 +18,34 @@ use office_stream::{Deliver, Port};
 use std::alloc::Global;
 use std::process::Abort;
 use std::test::Fail;
+use yard_core::Block;
+
+/// The set-up of the demonstration, but with a yard of that block alone and with so many visits.
+fn demo_with(
+    rt: &impl Abort,
+    alloc: Global,
+    block: Block,
+    visit_limit: u32,
+) -> Result<Setup, Fail> {
+    let mut setup = Setup::demo(alloc).expect(rt, "a set-up");
+    setup.blocks = [block].as_slice().to_vec(alloc)?;
+    setup.visit_limit = visit_limit;
+    Ok(setup)
+}
 
 /// Delivers each text to a desk to which nothing had been delivered, and holds the body of its answer to the one beside.
 fn assert_answers(rt: &impl Abort, alloc: Global, rows: &[(&[u8], &str)]) -> Result<(), Fail> {
     let setup = Setup::demo(alloc).expect(rt, "a set-up");
+    assert_answers_of(rt, alloc, setup, rows)
+}
+
+/// The same with a desk of that set-up.
+fn assert_answers_of(
+    rt: &impl Abort,
+    alloc: Global,
+    setup: Setup,
+    rows: &[(&[u8], &str)],
+) -> Result<(), Fail> {
     let mut desk = setup.open(alloc).expect(rt, "a desk");
     for (delivered, expected) in rows {
         let response = desk.deliver(alloc, delivered);

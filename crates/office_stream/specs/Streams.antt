@@ -87,7 +87,7 @@ pub record Began {D : Type 0} (stands : List (List ℕ) → D → Type 0) (answe
   pub answered : Answered stands answers ds texts responses desk
   pub writes : Appends written written' (response_lines responses)
 
--- The interchanges at the front of what was read were answered, and their lines but for the last one's written.
+-- The interchanges at the front of what was read were delivered and answered. Of the lines nothing is said.
 pub record Delivered {D : Type 0} (stands : List (List ℕ) → D → Type 0) (answers : List (List ℕ) → List ℕ → Response → Type 0)
     (ds : List (List ℕ)) (left left' : Option (List ℕ)) (desk : D) : Type 0 where
   pub bytes : List ℕ

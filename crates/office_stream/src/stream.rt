@@ -29,7 +29,8 @@ pub fn run_stream<R: Read, W: Write, D: Deliver>(
 ) -> Result<Worst, StreamFault>
     ensures ok { IfOk result (λ worst. (opening : D) (ds : List (List ℕ)) → D.stands opening ds desk.old → Streamed (D.stands opening) (D.answers opening) ds (R.remaining reader.old.inner) (R.remaining reader.new.inner) (W.contents writer.old.inner) (W.contents writer.new.inner) desk.new worst) }
 
-    // What was delivered before a fault stands. Only after a write's fault may a line be missing, the last one's.
+    // What was delivered before a fault stands. After a read's fault, or too many reads, each line of it was written. After a
+    // write's fault nothing is said of the lines, since a writer that fails tells nothing of what it took.
     ensures err { IfErr result (λ fault. (opening : D) (ds : List (List ℕ)) → D.stands opening ds desk.old → MatchFault fault
         (Began (D.stands opening) (D.answers opening) ds (R.remaining reader.old.inner) (R.remaining reader.new.inner) (W.contents writer.old.inner) (W.contents writer.new.inner) desk.new)
         (Delivered (D.stands opening) (D.answers opening) ds (R.remaining reader.old.inner) (R.remaining reader.new.inner) desk.new)) }

@@ -89,3 +89,39 @@ fn another_command_line_is_told_the_right_one(rt: HostRuntime) -> Result<(), Fai
         ("", "usage: office demo\n", 2),
     )
 }
+
+#[test]
+fn early_ones_wait_and_a_gap_that_closes_takes_them(rt: HostRuntime) -> Result<(), Fail> {
+    assert_prints(
+        &rt,
+        rt.alloc(),
+        "demo",
+        b"UNB+UNOA:3+HAULA+TERM1+240305:0910+3'UNH+1+CODECO:D:95B:UN'BGM+34+G1+9'EQD+CN+ABCU0000038+22G1:102:5+++5'UNT+4+1'UNZ+1+3'\r\nUNB+UNOA:3+HAULA+TERM1+240305:0910+2'UNH+1+CODECO:D:95B:UN'BGM+34+G1+9'EQD+CN+ABCU0000022+22G1:102:5+++5'UNT+4+1'UNZ+1+2'\r\nUNB+UNOA:3+HAULA+TERM1+240305:0910+3'UNH+1+CODECO:D:95B:UN'BGM+34+G1+9'EQD+CN+ABCU0000038+22G1:102:5+++5'UNT+4+1'UNZ+1+3'\r\nUNB+UNOA:3+HAULA+TERM1+240305:0910+1'UNH+1+CODECO:D:95B:UN'BGM+34+G1+9'EQD+CN+ABCU0000017+22G1:102:5+++5'UNT+4+1'UNZ+1+1'\r\nUNB+UNOA:3+HAULA+TERM1+240305:0910+3'UNH+1+CODECO:D:95B:UN'BGM+34+G1+9'EQD+CN+ABCU0000038+22G1:102:5+++5'UNT+4+1'UNZ+1+3'\r\n",
+        (
+            "{\"answer\":\"waiting\",\"next\":1,\"number\":3,\"partner\":\"HAULA\"}\n{\"answer\":\"waiting\",\"next\":1,\"number\":2,\"partner\":\"HAULA\"}\n{\"answer\":\"waiting\",\"next\":1,\"number\":3,\"partner\":\"HAULA\"}\n{\"answer\":\"taken\",\"number\":1,\"partner\":\"HAULA\",\"reply\":{\"contrl\":\"UNB+UNOA:3+TERM1+HAULA+240305:0910+1'UNH+1+CONTRL:D:3:UN'UCI+1+HAULA+TERM1+7'UCM+1+CODECO:D:95B:UN+7'UNT+4+1'UNZ+1+1'\",\"messages\":[{\"lines\":[{\"box\":\"ABCU0000017\",\"line\":1,\"outcome\":\"done\",\"slot\":\"A001011\"}],\"reference\":\"1\",\"result\":\"accepted\"}]}}\n{\"answer\":\"repeat\",\"number\":3,\"partner\":\"HAULA\",\"reply\":{\"contrl\":\"UNB+UNOA:3+TERM1+HAULA+240305:0910+3'UNH+1+CONTRL:D:3:UN'UCI+3+HAULA+TERM1+7'UCM+1+CODECO:D:95B:UN+7'UNT+4+1'UNZ+1+3'\",\"messages\":[{\"lines\":[{\"box\":\"ABCU0000038\",\"line\":1,\"outcome\":\"done\",\"slot\":\"A003011\"}],\"reference\":\"1\",\"result\":\"accepted\"}]}}\n",
+            "",
+            0,
+        ),
+    )
+}
+
+#[test]
+fn what_is_no_stream_of_interchanges_is_cut_by_name(rt: HostRuntime) -> Result<(), Fail> {
+    let end = "{\"answer\":\"cut\",\"fault\":\"End\"}\n";
+    assert_prints(&rt, rt.alloc(), "demo", b"UNB", (end, "", 1))?;
+    assert_prints(&rt, rt.alloc(), "demo", b"UNA:+", (end, "", 1))?;
+    assert_prints(
+        &rt,
+        rt.alloc(),
+        "demo",
+        b"AAAA",
+        ("{\"answer\":\"cut\",\"fault\":\"Segment\"}\n", "", 1),
+    )?;
+    assert_prints(
+        &rt,
+        rt.alloc(),
+        "demo",
+        b"UNA++.? 'UNB+UNOA:3",
+        ("{\"answer\":\"cut\",\"fault\":\"Service\"}\n", "", 1),
+    )
+}

@@ -1,22 +1,23 @@
-use Rattle.std.proofs.Common.{codes, [], ap, ◌∙◌}
-use Rattle.office.specs.Opening.{partner_codes}
+use Rattle.std.proofs.Common.{[]}
+use Rattle.office.proofs.Leaving.{opens_demo, left_by}
 use Rattle.office.proofs.demo.run_demo.Goals as goal
 
 -- The opening is the desk as it was opened, to which nothing has been delivered.
-pub returns-in-Ok-run_stream : goal.returns-in-Ok-run_stream
-returns-in-Ok-run_stream g c =
-    let told = c.in-Ok.ensures in
+pub returns-in-Ok-run_stream-clause-ok : goal.returns-in-Ok-run_stream-clause-ok
+returns-in-Ok-run_stream-clause-ok g c =
+    let setup = c.in-Ok.ensures in
+    let opened = c.in-Ok-open.ensures in
     record {
-      ok = record {
-        opening = c.in-Ok-open.desk;
-        desk = c.run_stream.new.desk;
-        opens = record {
-          table = c.in-Ok.setup.codes;
-          codes_are = told.table;
-          parties_are = c.in-Ok-open.ensures.parties ∙ ap (λ terminal. record { terminal = terminal; partners = partner_codes c.in-Ok.setup.accounts.items }) told.terminal ∙ ap (λ partners. record { terminal = codes "TERM1"; partners = partners }) told.partners;
-          machine_is = rw (told.kinds, told.blocks, told.limit) at c.in-Ok-open.ensures.machine;
-          stands = c.in-Ok-open.ensures.stands;
-        };
-        streamed = c.in-Ok-run_stream.ensures.ok c.in-Ok-open.desk [] c.in-Ok-open.ensures.stands;
-      };
+      opening = c.in-Ok-open.desk;
+      desk = c.run_stream.new.desk;
+      opens = opens_demo c.in-Ok.setup c.in-Ok-open.desk setup.terminal setup.table setup.partners setup.kinds setup.blocks setup.limit opened.parties opened.machine opened.stands;
+      streamed = c.in-Ok-run_stream.ensures.ok c.in-Ok-open.desk [] opened.stands;
     }
+
+pub returns-clause-err : goal.returns-clause-err
+returns-clause-err g c =
+    let setup = c.in-Ok.ensures in
+    let opened = c.in-Ok-open.ensures in
+    left_by _ _ _ _ c.in-Ok-open.desk c.run_stream.new.desk c.in-Err-run_stream.fault
+    (opens_demo c.in-Ok.setup c.in-Ok-open.desk setup.terminal setup.table setup.partners setup.kinds setup.blocks setup.limit opened.parties opened.machine opened.stands)
+    (c.in-Err-run_stream.ensures.err c.in-Ok-open.desk [] opened.stands)

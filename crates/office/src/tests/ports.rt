@@ -1,0 +1,205 @@
+//! A stream in any pieces, and one whose reader or writer fails: what was answered before stands.
+
+use super::failing_reader::FailingReader;
+use super::failing_writer::FailingWriter;
+use super::pieces::Pieces;
+use crate::command;
+use crate::setup::Setup;
+use office_desk::Desk;
+use office_machine::TerminalMachine;
+use office_stream::{Port, StreamFault, run_stream};
+use std::alloc::Global;
+use std::io::Read;
+use std::process::Abort;
+use std::test::Fail;
+
+/// Three interchanges, with line breaks between them.
+const STREAM: &[u8] =
+    b"UNB+UNOA:3+HAULA+TERM1+240305:0910+000001'UNH+1+CODECO:D:95B:UN:ITG14'BGM+34+G1+9'EQD+CN+ABCU0000017+22G1:102:5+++5'UNT+4+1'UNZ+1+000001'\r\nUNB+UNOA:3+HAULA+TERM1+240305:0910+2'UNH+1+CODECO:D:95B:UN'BGM+34+G1+9'EQD+CN+ABCU0000022+22G1:102:5+++5'UNT+4+1'UNZ+1+2'\nUNB+UNOA:3+HAULA+TERM1+240305:0910+3'UNH+1+CODECO:D:95B:UN'BGM+34+G1+9'EQD+CN+ABCU0000038+22G1:102:5+++5'UNT+4+1'UNZ+1+3'";
+
+/// Where each of them ends.
+const ENDS: [usize; 3] = [137, 260, 382];
+
+/// Their answers.
+const TAKEN: [&str; 3] = [
+    "{\"answer\":\"taken\",\"number\":1,\"partner\":\"HAULA\",\"reply\":{\"contrl\":\"UNB+UNOA:3+TERM1+HAULA+240305:0910+000001'UNH+1+CONTRL:D:3:UN'UCI+000001+HAULA+TERM1+7'UCM+1+CODECO:D:95B:UN:ITG14+7'UNT+4+1'UNZ+1+000001'\",\"messages\":[{\"lines\":[{\"box\":\"ABCU0000017\",\"line\":1,\"outcome\":\"done\",\"slot\":\"A001011\"}],\"reference\":\"1\",\"result\":\"accepted\"}]}}",
+    "{\"answer\":\"taken\",\"number\":2,\"partner\":\"HAULA\",\"reply\":{\"contrl\":\"UNB+UNOA:3+TERM1+HAULA+240305:0910+2'UNH+1+CONTRL:D:3:UN'UCI+2+HAULA+TERM1+7'UCM+1+CODECO:D:95B:UN+7'UNT+4+1'UNZ+1+2'\",\"messages\":[{\"lines\":[{\"box\":\"ABCU0000022\",\"line\":1,\"outcome\":\"done\",\"slot\":\"A001021\"}],\"reference\":\"1\",\"result\":\"accepted\"}]}}",
+    "{\"answer\":\"taken\",\"number\":3,\"partner\":\"HAULA\",\"reply\":{\"contrl\":\"UNB+UNOA:3+TERM1+HAULA+240305:0910+3'UNH+1+CONTRL:D:3:UN'UCI+3+HAULA+TERM1+7'UCM+1+CODECO:D:95B:UN+7'UNT+4+1'UNZ+1+3'\",\"messages\":[{\"lines\":[{\"box\":\"ABCU0000038\",\"line\":1,\"outcome\":\"done\",\"slot\":\"A003011\"}],\"reference\":\"1\",\"result\":\"accepted\"}]}}",
+];
+
+/// Their answers when they come again.
+const REPEATED: [&str; 3] = [
+    "{\"answer\":\"repeat\",\"number\":1,\"partner\":\"HAULA\",\"reply\":{\"contrl\":\"UNB+UNOA:3+TERM1+HAULA+240305:0910+000001'UNH+1+CONTRL:D:3:UN'UCI+000001+HAULA+TERM1+7'UCM+1+CODECO:D:95B:UN:ITG14+7'UNT+4+1'UNZ+1+000001'\",\"messages\":[{\"lines\":[{\"box\":\"ABCU0000017\",\"line\":1,\"outcome\":\"done\",\"slot\":\"A001011\"}],\"reference\":\"1\",\"result\":\"accepted\"}]}}",
+    "{\"answer\":\"repeat\",\"number\":2,\"partner\":\"HAULA\",\"reply\":{\"contrl\":\"UNB+UNOA:3+TERM1+HAULA+240305:0910+2'UNH+1+CONTRL:D:3:UN'UCI+2+HAULA+TERM1+7'UCM+1+CODECO:D:95B:UN+7'UNT+4+1'UNZ+1+2'\",\"messages\":[{\"lines\":[{\"box\":\"ABCU0000022\",\"line\":1,\"outcome\":\"done\",\"slot\":\"A001021\"}],\"reference\":\"1\",\"result\":\"accepted\"}]}}",
+    "{\"answer\":\"repeat\",\"number\":3,\"partner\":\"HAULA\",\"reply\":{\"contrl\":\"UNB+UNOA:3+TERM1+HAULA+240305:0910+3'UNH+1+CONTRL:D:3:UN'UCI+3+HAULA+TERM1+7'UCM+1+CODECO:D:95B:UN+7'UNT+4+1'UNZ+1+3'\",\"messages\":[{\"lines\":[{\"box\":\"ABCU0000038\",\"line\":1,\"outcome\":\"done\",\"slot\":\"A003011\"}],\"reference\":\"1\",\"result\":\"accepted\"}]}}",
+];
+
+/// The lines of the first answers, and of the others behind them, up to the last.
+fn lines(alloc: Global, first: &[&str], others: &[&str]) -> Result<Vec<u8>, Fail> {
+    let mut text = Vec::new(alloc);
+    for answer in first {
+        text.extend_from_slice(answer.as_bytes())?;
+        text.push(b'\n')?;
+    }
+    for answer in others {
+        text.extend_from_slice(answer.as_bytes())?;
+        text.push(b'\n')?;
+    }
+    Ok(text)
+}
+
+/// What `office demo` prints, what it tells, and its status.
+fn demo<R: Read + Drop>(alloc: Global, reader: R) -> Result<(Vec<u8>, Vec<u8>, u8), Fail> {
+    let mut words = Vec::new(alloc);
+    words.push(String::from_str(alloc, "office")?)?;
+    words.push(String::from_str(alloc, "demo")?)?;
+    let mut input = Port::new(reader);
+    let mut output = Port::new(Vec::new(alloc));
+    let mut errors = Vec::new(alloc);
+    let status = command::run(alloc, &words, &mut input, &mut output, &mut errors);
+    Ok((output.into_inner(), errors, status))
+}
+
+#[test]
+fn a_stream_may_be_cut_at_every_place(rt: HostRuntime) -> Result<(), Fail> {
+    let whole = lines(rt.alloc(), &TAKEN, &[])?;
+    for place in 1..STREAM.len() {
+        let pieces = Pieces {
+            text: STREAM,
+            next: place,
+            size: STREAM.len(),
+        };
+        let (printed, told, status) = demo(rt.alloc(), pieces)?;
+        assert_eq!(&rt; printed.as_slice(), whole.as_slice());
+        assert_eq!(&rt; told.len(), 0);
+        assert_eq!(&rt; status, 0);
+    }
+    Ok(())
+}
+
+/// An interchange whose message reference holds a released terminator.
+const RELEASED: &[u8] =
+    b"UNB+UNOA:3+HAULA+TERM1+240305:0910+1'UNH+M?'1+CODECO:D:95B:UN'BGM+34+G1+9'EQD+CN+ABCU0000017+22G1+++4'RFF+BN:A?+B'UNT+5+M?'1'UNZ+1+1'";
+
+#[test]
+fn a_released_terminator_may_be_cut_from_its_release(rt: HostRuntime) -> Result<(), Fail> {
+    let answer =
+        "{\"answer\":\"taken\",\"number\":1,\"partner\":\"HAULA\",\"reply\":{\"contrl\":\"UNB+UNOA:3+TERM1+HAULA+240305:0910+1'UNH+1+CONTRL:D:3:UN'UCI+1+HAULA+TERM1+7'UCM+M?'1+CODECO:D:95B:UN+7'UNT+4+1'UNZ+1+1'\",\"messages\":[{\"lines\":[{\"box\":\"ABCU0000017\",\"line\":1,\"outcome\":\"done\",\"slot\":\"A001011\"}],\"reference\":\"M'1\",\"result\":\"accepted\"}]}}";
+    let whole = lines(rt.alloc(), &[answer], &[])?;
+    for place in 1..RELEASED.len() {
+        let pieces = Pieces {
+            text: RELEASED,
+            next: place,
+            size: RELEASED.len(),
+        };
+        let (printed, _, status) = demo(rt.alloc(), pieces)?;
+        assert_eq!(&rt; printed.as_slice(), whole.as_slice());
+        assert_eq!(&rt; status, 0);
+    }
+    Ok(())
+}
+
+#[test]
+fn a_stream_may_come_byte_by_byte(rt: HostRuntime) -> Result<(), Fail> {
+    let pieces = Pieces {
+        text: STREAM,
+        next: 1,
+        size: 1,
+    };
+    let (printed, _, status) = demo(rt.alloc(), pieces)?;
+    assert_eq!(&rt;
+        printed.as_slice(),
+        lines(rt.alloc(), &TAKEN, &[])?.as_slice()
+    );
+    assert_eq!(&rt; status, 0);
+    Ok(())
+}
+
+/// How many of the interchanges end within so many bytes.
+fn ended_within(count: usize) -> usize {
+    ENDS.iter().filter(|end| **end <= count).count()
+}
+
+#[test]
+fn a_failed_read_leaves_what_was_answered(rt: HostRuntime) -> Result<(), Fail> {
+    for reads in 0..STREAM.len() / 10 {
+        let pieces = Pieces {
+            text: STREAM,
+            next: 10,
+            size: 10,
+        };
+        let (printed, told, status) = demo(rt.alloc(), FailingReader { pieces, reads })?;
+        let answered = ended_within(10 * reads).min(TAKEN.len());
+        let expected = lines(rt.alloc(), &TAKEN[..answered], &[])?;
+        assert_eq!(&rt; printed.as_slice(), expected.as_slice());
+        assert_eq!(&rt; told.as_slice(), b"cannot read\n".as_slice());
+        assert_eq!(&rt; status, 3);
+    }
+    Ok(())
+}
+
+fn opened_desk(rt: &impl Abort, alloc: Global) -> Desk<TerminalMachine> {
+    let setup = Setup::demo(alloc).expect(rt, "a set-up");
+    setup.open(alloc).expect(rt, "a desk")
+}
+
+/// A line is four writes: what stands before the reply, the reply, what stands behind it, and LF.
+#[test]
+fn a_failed_write_leaves_what_was_delivered(rt: HostRuntime) -> Result<(), Fail> {
+    let whole = lines(rt.alloc(), &TAKEN, &[])?;
+    for writes in 0..12 {
+        let mut desk = opened_desk(&rt, rt.alloc());
+        let writer = FailingWriter {
+            written: Vec::new(rt.alloc()),
+            writes,
+        };
+        let mut output = Port::new(writer);
+        let left = run_stream(
+            rt.alloc(),
+            &mut Port::new(STREAM),
+            &mut output,
+            &mut desk,
+            100,
+        );
+        assert_eq!(&rt; left, Err(StreamFault::Write));
+        assert!(&rt; output.failed());
+        assert!(&rt;
+            whole
+                .as_slice()
+                .starts_with(output.into_inner().written.as_slice())
+        );
+
+        // The interchange whose line was cut short was delivered: it comes again as a repeat.
+        let delivered = writes / 4 + 1;
+        let mut again = Port::new(Vec::new(rt.alloc()));
+        let run = run_stream(
+            rt.alloc(),
+            &mut Port::new(STREAM),
+            &mut again,
+            &mut desk,
+            100,
+        );
+        assert!(&rt; run.is_ok());
+        let expected = lines(rt.alloc(), &REPEATED[..delivered], &TAKEN[delivered..])?;
+        assert_eq!(&rt; again.into_inner().as_slice(), expected.as_slice());
+    }
+    Ok(())
+}
+
+#[test]
+fn a_program_whose_output_fails_ends_with_three(rt: HostRuntime) -> Result<(), Fail> {
+    let mut words = Vec::new(rt.alloc());
+    words.push(String::from_str(rt.alloc(), "office")?)?;
+    words.push(String::from_str(rt.alloc(), "demo")?)?;
+    let writer = FailingWriter {
+        written: Vec::new(rt.alloc()),
+        writes: 0,
+    };
+    let mut input = Port::new(STREAM);
+    let mut output = Port::new(writer);
+    let mut errors = Vec::new(rt.alloc());
+    let status = command::run(rt.alloc(), &words, &mut input, &mut output, &mut errors);
+    assert_eq!(&rt; errors.len(), 0);
+    assert_eq!(&rt; status, 3);
+    Ok(())
+}
