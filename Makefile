@@ -1,4 +1,4 @@
-.PHONY: demo test build strength bench
+.PHONY: demo test build strength refusals bench
 
 # The main job on a real interchange, by a build that proves nothing (`make build` leaves the proved program).
 demo:
@@ -16,6 +16,10 @@ build:
 # The planted edits, which the gate does not try: `make strength` or `make strength NAME=yard_core`.
 strength:
 	scripts/strength $(NAME)
+
+# The orders of a terminal with each allocation refused in turn: some twenty minutes.
+refusals:
+	scripts/refusals terminal_core
 
 # The times of syntax, yard and stream.
 bench: build
