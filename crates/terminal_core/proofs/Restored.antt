@@ -1,31 +1,34 @@
 -- The whole state of rows.
-use Rattle.std.proofs.Common.{◌≡◌, ℕ, ◌+◌, ◌≤◌, List, length, true, Option, Some, is_some, is_none, sym, ap, ◌∙◌, arith, subst}
+use Rattle.std.proofs.Common.{◌≡◌, ℕ, ◌+◌, ◌≤◌, List, length, map, true, Option, None, Some, is_some, refl, is_none, sym, ap, ◌∙◌, arith, subst}
 use Rattle.std.specs.Prelude.{slice_get, Contains, find, filter, count_by, ◌&&◌}
 use Rattle.std.specs.List.Sorted.{IsPermutation}
 use Rattle.std.specs.FinMap as finite_map
 use Rattle.std.specs.Str.{bytes_eq}
+use Rattle.std.specs.Cmp.Lexicographic.{nat_list_cmp_total}
 use Rattle.std.proofs.lemmas.Bool.{and_parts}
 use Rattle.std.proofs.lemmas.Option.{same_Some}
 use Rattle.std.proofs.lemmas.List.Sums.{length-filter}
 use Rattle.std.proofs.lemmas.List.Sorted.{IsPermutation-sym}
 use Rattle.box6346.specs.declared.box_number.BoxNumber.{BoxNumber}
 use Rattle.yard_core.specs.declared.block.Block.{Block}
+use Rattle.yard_core.specs.declared.placement.Placement.{Placement}
 use Rattle.yard_core.specs.Plan.{IsPlan}
 use Rattle.yard_core.specs.YardMap.{Boxes, YardMap}
 use Rattle.yard_core.specs.SoundYard.{IsSound}
 use Rattle.terminal_core.specs.declared.restore_fault.RestoreFault.{RestoreFault}
 use Rattle.terminal_core.specs.declared.restore_fault.RestoreFault.TheVariants.{Unsound, Memory}
+use Rattle.terminal_core.specs.declared.listing.Listing.{Listing}
 use Rattle.terminal_core.specs.declared.stay.Stay.{Stay}
-use Rattle.terminal_core.specs.Rows.{VisitContent}
-use Rattle.terminal_core.specs.State.{is_open_visit, AreNumbered, IsWhole}
-use Rattle.terminal_core.specs.Restoring.{ArePlacesOf, AreNamed, IsYardOf, RefusesYard, RefusesPlaces, without_lines}
+use Rattle.terminal_core.specs.declared.visit.Visit.{Visit}
+use Rattle.terminal_core.specs.Rows.{VisitContent, visit_content}
+use Rattle.terminal_core.specs.State.{TerminalState, Lines, is_open_visit, AreNumbered, IsWhole}
+use Rattle.terminal_core.specs.Listings.{lines_of}
+use Rattle.terminal_core.specs.Restoring.{ArePlacesOf, AreNamed, AreOnce, AreRowsOf, IsYardOf, RefusesYard, RefusesPlaces, without_lines}
 use Rattle.terminal_core.proofs.Boxes.{same_bytes, same_self}
 use Rattle.terminal_core.proofs.Numbered.{contained, found_at, number_at}
 use Rattle.terminal_core.proofs.Counted.{same_tests, some_of, one_passes, at_most_one, is_found, found_is}
-use Rattle.terminal_core.proofs.Placing.{places_moved}
-
-is_some_of : {A : Type 0} (o : Option A) (x : A) → o ≡ Some x → is_some o ≡ true
-is_some_of o x e = ap is_some e
+use Rattle.terminal_core.proofs.Placing.{places_moved, same_stand}
+use Rattle.terminal_core.proofs.Whole.{whole_listed}
 
 -- ---- the rows are those of a whole state
 
@@ -115,3 +118,45 @@ unsound_yard plan limit visits places moved Unsound perm refuses = λ yard is.
 
 pub not_all_named : (plan : List Block) (limit : ℕ) (visits : List VisitContent) (places moved : List Stay) → IsPermutation places moved → ¬ AreNamed visits moved → RefusesYard plan limit visits places Unsound
 not_all_named plan limit visits places moved perm unnamed = λ yard is. unnamed (named_of_whole limit visits moved yard is.whole (places_moved visits yard.boxes places moved perm is.places_are))
+
+-- ---- rows have one state
+
+module _ (visits : List VisitContent) (are : AreNumbered 1 visits) (places : List Stay) where
+  stands_alike : (one two : Boxes) → ArePlacesOf visits one places → ArePlacesOf visits two places → (container : BoxNumber) (s : Placement) → finite_map.get one container ≡ Some s → finite_map.get two container ≡ Some s
+  stands_alike one two is also container s e =
+      let place = is.every container s e in
+      ap (finite_map.get two) (sym place.2) ∙ same_stand visits are two one place.0 (also.each place.0 place.1) (is.each place.0 place.1) ∙ ap (finite_map.get one) place.2 ∙ e
+
+  alike : (a b : Option Placement) → ((s : Placement) → a ≡ Some s → b ≡ Some s) → ((s : Placement) → b ≡ Some s → a ≡ Some s) → a ≡ b
+  alike (Some s) b h g = sym (h s refl)
+  alike None None h g = refl
+  alike None (Some s) h g = g s refl
+
+  pub one_yard : (one two : Boxes) → ArePlacesOf visits one places → ArePlacesOf visits two places → one ≡ two
+  one_yard one two is also = finite_map.same_map nat_list_cmp_total (finite_map.slice_cmp-IsAntisymmetric finite_map.nat_cmp-IsAntisymmetric) one two
+      (λ container. alike (finite_map.get one container) (finite_map.get two container) (stands_alike one two is also container) (stands_alike two one also is container))
+
+pub one_state : (plan : List Block) (limit : ℕ) (visits : List Visit) (places : List Stay) (lines : List Listing) (s t : TerminalState) → AreRowsOf plan limit visits places lines s → AreRowsOf plan limit visits places lines t → s ≡ t
+one_state plan limit visits places lines s t is also =
+    let P : List VisitContent → Type 0 = λ vs. ArePlacesOf vs s.yard.boxes places in
+    let Q : List VisitContent → Type 0 = λ vs. ArePlacesOf vs t.yard.boxes places in
+    let N : List VisitContent → Type 0 = AreNumbered 1 in
+    let boxes : s.yard.boxes ≡ t.yard.boxes =
+    one_yard (map visit_content visits) (subst N is.visits_are is.whole.numbered) places s.yard.boxes t.yard.boxes (subst P is.visits_are is.places_are) (subst Q also.visits_are also.places_are) in
+    let same_plan : s.yard.plan ≡ t.yard.plan = is.plan_is ∙ sym also.plan_is in
+    let same_limit : s.limit ≡ t.limit = is.limit_is ∙ sym also.limit_is in
+    let same_visits : s.visits ≡ t.visits = is.visits_are ∙ sym also.visits_are in
+    let same_lines : s.lines ≡ t.lines = is.lines_are ∙ sym also.lines_are in
+    λ i. record { yard = record { plan = same_plan i; boxes = boxes i }; limit = same_limit i; visits = same_visits i; lines = same_lines i }
+
+pub rows_of : (plan : List Block) (limit : ℕ) (visits : List Visit) (places : List Stay) (lines : List Listing) (yard : YardMap) (listed : Lines) → listed ≡ lines_of lines → AreOnce lines
+    → IsYardOf plan limit (map visit_content visits) places yard → AreRowsOf plan limit visits places lines (record { yard = yard; limit = limit; visits = map visit_content visits; lines = listed })
+rows_of plan limit visits places lines yard listed same once is = record {
+  whole = whole_listed (without_lines yard limit (map visit_content visits)) listed is.whole;
+  plan_is = is.plan_is;
+  limit_is = refl;
+  visits_are = refl;
+  places_are = is.places_are;
+  lines_are = same;
+  lines_once = once;
+}

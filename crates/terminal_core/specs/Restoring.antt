@@ -28,7 +28,7 @@ pub record Names (visits : List VisitContent) (place : Stay) (visit : VisitConte
   pub number : visit.number ≡ place.visit
   pub is_open : is_open_visit place.container visit ≡ true
 
--- the container stands in the place's slot, as long as the visit says that the place names
+-- the container stands in the place's slot, with the length of the visit that the place names
 pub record Stands (visits : List VisitContent) (boxes : Boxes) (place : Stay) : Type 0 where
   pub visit : VisitContent
   pub names : Names visits place visit
@@ -80,7 +80,7 @@ abbrev pub RefusesPlaces : List Block → List VisitContent → List Stay → Re
 RefusesPlaces plan visits places Unsound = (boxes : Boxes) → IsSound plan (finite_map.get boxes) → ¬ ArePlacesOf visits boxes places
 RefusesPlaces plan visits places Memory = Unit {0}
 
--- the container of a place was placed, as long as the visit says that the place names
+-- the container of a place was placed in its slot, with the length of the visit that the place names
 pub record IsPut (visits : List VisitContent) (old new : YardMap) (place : Stay) : Type 0 where
   pub visit : VisitContent
   pub names : Names visits place visit

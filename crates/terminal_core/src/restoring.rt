@@ -82,7 +82,7 @@ fn settled_yard(
     Ok(yard)
 }
 
-// One container more, by the visit that its place names.
+// One container more, with the length of the visit that its place names.
 fn put(yard: &mut Yard, visits: &[Visit], place: &Stay) -> Result<(), RestoreFault>
     requires numbered { AreNumbered 1 (map visit_content visits.now) }
     requires sound { IsSound yard.old.plan (finite_map.get yard.old.boxes) }
@@ -98,7 +98,7 @@ fn put(yard: &mut Yard, visits: &[Visit], place: &Stay) -> Result<(), RestoreFau
     }
 }
 
-// No container of a sound yard is refused its slot, except by memory.
+// Refused memory says nothing of the rows. Any other fault says that no sound yard has the places.
 fn cause(fault: YardFault) -> RestoreFault
     ensures { result ≡ cause_of fault }
 {

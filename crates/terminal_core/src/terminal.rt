@@ -3,7 +3,7 @@ ghost use Rattle.std.specs.FinMap as finite_map;
 ghost use Rattle.std.specs.Option.{option_map};
 ghost use Rattle.edi_messages.specs.Owned.{call_content, entry_content, order_content};
 ghost use Rattle.terminal_core.specs.Rows.{visit_content, change_content, line_done};
-ghost use Rattle.terminal_core.specs.State.{LineContent, empty_state, is_in, line_of, IsWhole};
+ghost use Rattle.terminal_core.specs.State.{LineContent, TerminalState, empty_state, is_in, line_of, IsWhole};
 ghost use Rattle.terminal_core.specs.Step.{entered, departed, moved, listed, step, step_gate_in, step_discharge, step_load, with_line};
 ghost use Rattle.terminal_core.specs.Calls.{Follows, IsPlanned, is_refused};
 ghost use Rattle.terminal_core.specs.Restoring.{AreRowsOf, RefusesRows};
@@ -83,6 +83,9 @@ impl Terminal {
         lines: Vec<Listing>,
     ) -> Result<Terminal, RestoreFault>
         ensures ok { IfOk result (AreRowsOf plan visit_limit visits.items places.items lines.items) }
+
+        // These are the rows of no other state.
+        ensures only { IfOk result (λ t. (state : TerminalState) → AreRowsOf plan visit_limit visits.items places.items lines.items state → t ≡ state) }
         ensures whole { IfOk result IsWhole }
         ensures unsound { IfErr result (RefusesRows plan visit_limit visits.items places.items lines.items) }
     {

@@ -1,0 +1,13 @@
+use Rattle.std.proofs.Common.{List, subst}
+use Rattle.std.specs.Prelude.{map}
+use Rattle.terminal_core.specs.declared.visit.Visit.{Visit}
+use Rattle.terminal_core.specs.Rows.{visit_content}
+use Rattle.terminal_core.specs.Restoring.{IsYardOf}
+use Rattle.terminal_core.proofs.Restored.{one_state, rows_of}
+use Rattle.terminal_core.proofs.terminal.Terminal.restore.Goals as goal
+
+pub returns-clause-only : goal.returns-clause-only
+returns-clause-only c state are =
+    let P : List Visit → Type 0 = λ visits. IsYardOf c.args.plan c.args.visit_limit (map visit_content visits) c.args.places.items c.in_ok-yard.yard in
+    one_state c.args.plan c.args.visit_limit c.args.visits.items c.args.places.items c.args.lines.items _ state
+    (rows_of c.args.plan c.args.visit_limit c.args.visits.items c.args.places.items c.args.lines.items c.in_ok-yard.yard c.in-Some.lists c.in-Some.ensures.1 c.in-Some.ensures.0 (subst P c.deref.ensures.value c.in_ok-yard.ensures.ok)) are
