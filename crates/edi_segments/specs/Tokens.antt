@@ -33,3 +33,12 @@ releases Component = false
 releases Element = false
 releases Terminator = false
 releases Invalid = false
+
+-- the byte stays inside the segment and releases nothing
+abbrev pub stays_unreleased : Token → Bool
+stays_unreleased Data = true
+stays_unreleased Component = true
+stays_unreleased Element = true
+stays_unreleased Release = false
+stays_unreleased Terminator = false
+stays_unreleased Invalid = false

@@ -19,6 +19,7 @@ pub mod syntax_fault;
 #[cfg(test)]
 mod tests;
 pub mod token;
+mod token_table;
 
 pub use bytes::Bytes;
 pub use component::Component;

@@ -11,6 +11,7 @@ use super::part::split_once;
 use super::segment::Segment;
 use super::service::Service;
 use super::token::Token;
+use super::token_table::TokenTable;
 
 /// What stands behind a service string advice of that length and the line breaks after it: the whole text, where there is
 /// none.
@@ -31,9 +32,10 @@ pub(crate) fn behind_advice<'a>(text: &'a [u8], start: usize) -> &'a [u8]
 pub(crate) fn are_segments(service: Service, bytes: &[u8]) -> bool
     ensures { result ≡ are_segments service bytes.now }
 {
+    let table = TokenTable::new(service);
     let mut rest = bytes;
     while !rest.is_empty() {
-        match next_segment(service, rest) {
+        match next_segment(&table, rest) {
             Some((_, behind)) => rest = behind,
             None => return false,
         }
@@ -42,14 +44,14 @@ pub(crate) fn are_segments(service: Service, bytes: &[u8]) -> bool
 }
 
 /// The segment at the front, and what stands behind its terminator and the line breaks after it.
-fn next_segment<'a>(service: Service, bytes: &'a [u8]) -> Option<(Segment<'a>, &'a [u8])>
+fn next_segment<'a>(table: &TokenTable, bytes: &'a [u8]) -> Option<(Segment<'a>, &'a [u8])>
     ensures exact { option_map
-        (λ found. (content found.0, found.1.now)) result ≡ next_at service bytes.now }
+        (λ found. (content found.0, found.1.now)) result ≡ next_at table.now.service bytes.now }
     ensures shorter { IfSome result (λ found. length found.1.now < length bytes.now) }
 {
-    let n = len_of_body(service, bytes)?;
+    let n = len_of_body(table, bytes)?;
     let behind = &bytes[n + 1..];
-    let segment = Segment::new(service, &bytes[..n]);
+    let segment = Segment::new(table.service(), &bytes[..n]);
     Some((segment, &behind[len_of_breaks(behind)..]))
 }
 
@@ -85,18 +87,18 @@ pub(crate) fn len_of_breaks(bytes: &[u8]) -> usize
 }
 
 /// How many bytes the segment at the front has before its terminator.
-fn len_of_body(service: Service, bytes: &[u8]) -> Option<usize>
-    ensures found { result ≡ body_len service bytes.now }
+fn len_of_body(table: &TokenTable, bytes: &[u8]) -> Option<usize>
+    ensures found { result ≡ body_len table.now.service bytes.now }
     ensures within { IfSome result (λ n. n < length bytes.now) }
 {
     if bytes.len() < 3 {
         return None;
     }
     let (tag, rest) = bytes.split_at(3);
-    if !is_tag(tag) || !begins(service, rest) {
+    if !is_tag(tag) || !begins(table.service(), rest) {
         return None;
     }
-    Some(3 + end(service, rest)?)
+    Some(3 + end(table, rest)?)
 }
 
 /// All bytes may stand in a tag.
@@ -118,19 +120,30 @@ fn begins(service: Service, bytes: &[u8]) -> bool
 
 /// How many bytes stand before the first terminator that is not released. `None` where there is no terminator, or an
 /// invalid byte stands before it.
-fn end(service: Service, bytes: &[u8]) -> Option<usize>
-    ensures found { result ≡ end_of service false bytes.now }
+fn end(table: &TokenTable, bytes: &[u8]) -> Option<usize>
+    ensures found { result ≡ end_of table.now.service false bytes.now }
     ensures within { IfSome result (λ n. n < length bytes.now) }
 {
-    let mut released = false;
-    for (i, byte) in bytes.iter().enumerate() {
-        let token = service.token(released, *byte);
-        match token {
-            Token::Terminator => return Some(i),
-            Token::Invalid => return None,
-            _ => {}
+    let mut at = 0;
+    while at < bytes.len() {
+        at += table.len_of_inside(&bytes[at..]);
+        if at == bytes.len() {
+            return None;
         }
-        released = token.releases();
+        match table.token(bytes[at]) {
+            Token::Terminator => return Some(at),
+            Token::Invalid => return None,
+            Token::Release => {
+                if at + 1 == bytes.len() {
+                    return None;
+                }
+                match table.released_token(bytes[at + 1]) {
+                    Token::Invalid => return None,
+                    _ => at += 2,
+                }
+            }
+            _ => at += 1,
+        }
     }
     None
 }

@@ -5,12 +5,12 @@ ghost use Rattle.std.specs.Prelude.{◌≡◌};
 pub enum Token {
     /// It stands for itself.
     Data,
-    /// It releases the next byte.
-    Release,
     /// It parts two components.
     Component,
     /// It begins an element.
     Element,
+    /// It releases the next byte.
+    Release,
     /// It ends a segment.
     Terminator,
     /// It may not stand there.
@@ -18,7 +18,7 @@ pub enum Token {
 }
 
 impl Token {
-    ghost use Rattle.edi_segments.specs.Tokens.{releases};
+    ghost use Rattle.edi_segments.specs.Tokens.{releases, stays_unreleased};
 
     /// The byte behind this one is released.
     pub fn releases(self) -> bool
@@ -26,6 +26,17 @@ impl Token {
     {
         match self {
             Token::Release => true,
+            _ => false,
+        }
+    }
+
+    /// The byte stays inside the segment and releases nothing.
+    #[inline(always)]
+    pub(crate) fn stays_unreleased(self) -> bool
+        ensures { result ≡ stays_unreleased self }
+    {
+        match self {
+            Token::Data | Token::Component | Token::Element => true,
             _ => false,
         }
     }

@@ -1,0 +1,65 @@
+ghost use Rattle.std.specs.Prelude.{◌≡◌, ◌+◌, ◌≤◌, length, map, drop, false, true};
+ghost use Rattle.std.specs.List.{range_with_len};
+ghost use Rattle.std.specs.Option.{option_map};
+ghost use Rattle.edi_segments.specs.Tokens.{token_of};
+ghost use Rattle.edi_segments.specs.Reading.{end_of};
+
+use super::service::Service;
+use super::token::Token;
+
+/// What each byte is where it is not released, looked up and not worked out anew at each place of a text.
+#[derive(Clone, Copy)]
+pub(crate) struct TokenTable {
+    service: Service,
+    tokens: [Token; 256],
+    ghost exact: { tokens ≡ map (token_of service false) (range_with_len 0 256) },
+}
+
+impl TokenTable {
+    pub(crate) fn new(service: Service) -> TokenTable
+        ensures { result.service ≡ service }
+    {
+        let mut tokens = [Token::Data; 256];
+        for byte in 0..256 {
+            tokens[byte] = service.token(false, byte as u8);
+        }
+        TokenTable { service, tokens }
+    }
+
+    pub(crate) fn service(&self) -> Service
+        ensures { result ≡ self.now.service }
+    {
+        self.service
+    }
+
+    /// What the byte is, where it is not released.
+    #[inline(always)]
+    pub(crate) fn token(&self, byte: u8) -> Token
+        ensures { result ≡ token_of self.now.service false byte }
+    {
+        self.tokens[byte as usize]
+    }
+
+    /// What the byte is behind the release character.
+    pub(crate) fn released_token(&self, byte: u8) -> Token
+        ensures { result ≡ token_of self.now.service true byte }
+    {
+        self.service.token(true, byte)
+    }
+
+    /// How many bytes at the front may be passed over where the end of the segment is sought: none of them ends it, releases
+    /// another or is invalid.
+    #[inline(always)]
+    pub(crate) fn len_of_inside(&self, bytes: &[u8]) -> usize
+        ensures within { result ≤ length bytes.now }
+        ensures passes { end_of self.now.service false bytes.now ≡ option_map (λ n. result + n)
+            (end_of self.now.service false (drop result bytes.now)) }
+    {
+        for (i, byte) in bytes.iter().enumerate() {
+            if !self.token(*byte).stays_unreleased() {
+                return i;
+            }
+        }
+        bytes.len()
+    }
+}
