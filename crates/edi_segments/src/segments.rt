@@ -44,6 +44,18 @@ impl<'a> Segments<'a> {
             Err(SyntaxFault::Segment)
         }
     }
+
+    pub(crate) fn service(&self) -> Service
+        ensures { result ≡ self.now.service }
+    {
+        self.service
+    }
+
+    pub(crate) fn rest(&self) -> &'a [u8]
+        ensures { result.now ≡ self.now.rest.now }
+    {
+        self.rest
+    }
 }
 
 impl<'a> Iterator for Segments<'a> {

@@ -1,11 +1,13 @@
-ghost use Rattle.std.specs.Prelude.{◌≡◌, ◌+◌, ◌≤◌, length, map, drop, false, true};
+ghost use Rattle.std.specs.Prelude.{◌≡◌, ◌+◌, ◌≤◌, length, map, take, drop, false, true, MatchOption};
 ghost use Rattle.std.specs.List.{range_with_len};
 ghost use Rattle.std.specs.Option.{option_map};
 ghost use Rattle.edi_segments.specs.Tokens.{token_of};
-ghost use Rattle.edi_segments.specs.Reading.{end_of};
+ghost use Rattle.edi_segments.specs.Reading.{end_of, is_value};
+ghost use Rattle.edi_segments.specs.Parts.{value_of};
 
 use super::service::Service;
 use super::token::Token;
+use super::value_end::ValueEnd;
 
 /// What each byte is where it is not released, looked up and not worked out anew at each place of a text.
 #[derive(Clone, Copy)]
@@ -16,6 +18,8 @@ pub(crate) struct TokenTable {
 }
 
 impl TokenTable {
+    ghost use Rattle.edi_segments.specs.ValueEnds.{IsValueEnd};
+
     pub(crate) fn new(service: Service) -> TokenTable
         ensures { result.service ≡ service }
     {
@@ -61,5 +65,61 @@ impl TokenTable {
             }
         }
         bytes.len()
+    }
+
+    /// How many bytes of data stand at the front.
+    #[inline(always)]
+    fn len_of_data(&self, bytes: &[u8]) -> usize
+        ensures within { result ≤ length bytes.now }
+        ensures value { is_value self.now.service false (take result bytes.now) ≡ true }
+        ensures itself { value_of self.now.service false (take result bytes.now)
+            ≡ take result bytes.now }
+    {
+        for (i, byte) in bytes.iter().enumerate() {
+            match self.token(*byte) {
+                Token::Data => {}
+                _ => return i,
+            }
+        }
+        bytes.len()
+    }
+
+    /// Where the value at the front ends. `None` where nothing ends it before an invalid byte.
+    #[inline(always)]
+    pub(crate) fn value_end(&self, bytes: &[u8]) -> Option<ValueEnd>
+        ensures { MatchOption result (end_of self.now.service false bytes.now
+            ≡ None) (IsValueEnd self.now.service bytes.now) }
+    {
+        let mut at = 0;
+        let mut len = 0;
+        while at < bytes.len() {
+            let data = self.len_of_data(&bytes[at..]);
+            at += data;
+            len += data;
+            if at == bytes.len() {
+                return None;
+            }
+            match self.token(bytes[at]) {
+                Token::Data => {
+                    at += 1;
+                    len += 1;
+                }
+                Token::Release => {
+                    if at + 1 == bytes.len() {
+                        return None;
+                    }
+                    match self.released_token(bytes[at + 1]) {
+                        Token::Data => {
+                            at += 2;
+                            len += 1;
+                        }
+                        _ => return None,
+                    }
+                }
+                Token::Invalid => return None,
+                token => return Some(ValueEnd { at, token, len }),
+            }
+        }
+        None
     }
 }
