@@ -19,8 +19,8 @@ mod tests;
 pub use edi_cutter::{CutFault, Cutter};
 pub use edi_moments::Moment;
 pub use edi_segments::{
-    Bytes, Component, Components, Elements, Segment, SegmentWriter, Segments, Service, SyntaxFault,
-    interchange_text, write_component,
+    Bytes, Component, Components, Elements, PlacedValue, Segment, SegmentReader, SegmentWriter,
+    Segments, Service, SyntaxFault, Values, interchange_text, write_component,
 };
 pub use envelope::Envelope;
 pub use frame::Frame;
