@@ -11,3 +11,4 @@ pub mod Written
 pub mod Placed
 pub mod Values
 pub mod ValueEnds
+pub mod Checks

@@ -3,6 +3,7 @@
 
 pub mod bytes;
 pub mod characters;
+pub mod checked_segments;
 pub mod component;
 pub mod components;
 pub mod elements;
@@ -12,6 +13,7 @@ mod part;
 pub mod placed_value;
 mod reader;
 pub mod segment;
+pub mod segment_check;
 pub mod segment_reader;
 pub mod segment_writer;
 pub mod segments;
@@ -26,12 +28,14 @@ mod value_end;
 pub mod values;
 
 pub use bytes::Bytes;
+pub use checked_segments::CheckedSegments;
 pub use component::Component;
 pub use components::Components;
 pub use elements::Elements;
 pub use interchange::interchange_text;
 pub use placed_value::PlacedValue;
 pub use segment::Segment;
+pub use segment_check::SegmentCheck;
 pub use segment_reader::SegmentReader;
 pub use segment_writer::SegmentWriter;
 pub use segments::Segments;

@@ -44,7 +44,10 @@ pub(crate) fn are_segments(service: Service, bytes: &[u8]) -> bool
 }
 
 /// The segment at the front, and what stands behind its terminator and the line breaks after it.
-fn next_segment<'a>(table: &TokenTable, bytes: &'a [u8]) -> Option<(Segment<'a>, &'a [u8])>
+pub(crate) fn next_segment<'a>(
+    table: &TokenTable,
+    bytes: &'a [u8],
+) -> Option<(Segment<'a>, &'a [u8])>
     ensures exact { option_map
         (λ found. (content found.0, found.1.now)) result ≡ next_at table.now.service bytes.now }
     ensures shorter { IfSome result (λ found. length found.1.now < length bytes.now) }
