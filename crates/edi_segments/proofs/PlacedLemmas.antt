@@ -6,13 +6,12 @@ use Rattle.std.proofs.Math.Seq.{take-add, take-append-add, drop-append-add}
 use Rattle.std.proofs.lemmas.Bool.{and_parts, and_from, or_parts, or_cases, not-true, not_from_false, le-leb, leb-true, ne_eqb, eqb-true, false≢true}
 use Rattle.std.proofs.lemmas.List.{append-nil, length-append, length-take, take_more, at_drop_more, take-append-drop, take-take, drop-take, drop-drop}
 use Rattle.edi_segments.specs.Characters.{is_capital, is_digit, is_small_letter, is_break, is_tag_byte, is_data_byte, may_serve, is_release, are_separators, are_service_characters}
-use Rattle.edi_segments.specs.Tokens.{token_of, releases}
+use Rattle.edi_segments.specs.Tokens.{token_of, releases, ends_value}
 use Rattle.edi_segments.specs.Text.{Content}
 use Rattle.edi_segments.specs.Parts.{value_of}
 use Rattle.edi_segments.specs.Reading.{push_byte, push_value, with_token, elements_of, stays_in_value, is_value, with_end, end_of, begins_elements, body_len, content_of, segments_from, segments_of, are_segments}
 use Rattle.edi_segments.specs.Advice.{without_breaks}
 use Rattle.edi_segments.specs.Placed.{Placed, elements_from, segment_values, values_in, place, text_values, goes_on}
-use Rattle.edi_segments.specs.ValueEnds.{ends_value}
 use Rattle.edi_segments.specs.declared.service.Service.{Service}
 use Rattle.edi_segments.specs.declared.token.Token.{Token}
 use Rattle.edi_segments.specs.declared.token.Token.TheVariants.{Data, Release, Component, Element, Terminator, Invalid}

@@ -42,3 +42,12 @@ stays_unreleased Element = true
 stays_unreleased Release = false
 stays_unreleased Terminator = false
 stays_unreleased Invalid = false
+
+-- the byte ends a value
+abbrev pub ends_value : Token → Bool
+ends_value Data = false
+ends_value Release = false
+ends_value Component = true
+ends_value Element = true
+ends_value Terminator = true
+ends_value Invalid = false

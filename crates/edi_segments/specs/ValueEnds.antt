@@ -1,21 +1,10 @@
 -- Where the value at the front of bytes ends.
-use Rattle.std.specs.Prelude.{◌≡◌, ◌<◌, ℕ, Bool, true, false, List, length, take, get_or}
-use Rattle.edi_segments.specs.Tokens.{token_of}
+use Rattle.std.specs.Prelude.{◌≡◌, ◌<◌, ℕ, true, false, List, length, take, get_or}
+use Rattle.edi_segments.specs.Tokens.{token_of, ends_value}
 use Rattle.edi_segments.specs.Reading.{is_value}
 use Rattle.edi_segments.specs.Parts.{value_of}
 use Rattle.edi_segments.specs.declared.service.Service.{Service}
-use Rattle.edi_segments.specs.declared.token.Token.{Token}
-use Rattle.edi_segments.specs.declared.token.Token.TheVariants.{Data, Release, Component, Element, Terminator, Invalid}
 use Rattle.edi_segments.specs.declared.value_end.ValueEnd.{ValueEnd}
-
--- the byte ends a value
-abbrev pub ends_value : Token → Bool
-ends_value Data = false
-ends_value Release = false
-ends_value Component = true
-ends_value Element = true
-ends_value Terminator = true
-ends_value Invalid = false
 
 -- The value at the front of the bytes ends there.
 pub record IsValueEnd (s : Service) (bytes : List ℕ) (end : ValueEnd) : Type 0 where

@@ -1,4 +1,4 @@
-ghost use Rattle.std.specs.Prelude.{◌≡◌, ℕ, IfSome, ◌+◌, ◌<◌, ◌≤◌, length, false, true};
+ghost use Rattle.std.specs.Prelude.{◌≡◌, ℕ, IfSome, ◌+◌, ◌<◌, ◌≤◌, length, drop, false, true};
 ghost use Rattle.std.specs.Option.{option_map};
 ghost use Rattle.std.specs.List.{list_all};
 ghost use Rattle.edi_segments.specs.Characters.{is_tag_byte};
@@ -44,6 +44,7 @@ pub(crate) fn are_segments(service: Service, bytes: &[u8]) -> bool
 }
 
 /// The segment at the front, and what stands behind its terminator and the line breaks after it.
+#[inline(always)]
 pub(crate) fn next_segment<'a>(
     table: &TokenTable,
     bytes: &'a [u8],
@@ -90,6 +91,7 @@ pub(crate) fn len_of_breaks(bytes: &[u8]) -> usize
 }
 
 /// How many bytes the segment at the front has before its terminator.
+#[inline(always)]
 fn len_of_body(table: &TokenTable, bytes: &[u8]) -> Option<usize>
     ensures found { result ≡ body_len table.now.service bytes.now }
     ensures within { IfSome result (λ n. n < length bytes.now) }
@@ -123,11 +125,30 @@ fn begins(service: Service, bytes: &[u8]) -> bool
 
 /// How many bytes stand before the first terminator that is not released. `None` where there is no terminator, or an
 /// invalid byte stands before it.
+#[inline(always)]
 fn end(table: &TokenTable, bytes: &[u8]) -> Option<usize>
     ensures found { result ≡ end_of table.now.service false bytes.now }
     ensures within { IfSome result (λ n. n < length bytes.now) }
 {
-    let mut at = 0;
+    let at = table.len_of_inside(bytes);
+    if at < bytes.len() {
+        if let Token::Terminator = table.token(bytes[at]) {
+            return Some(at);
+        }
+    }
+    end_behind(table, bytes, at)
+}
+
+/// The same, where the bytes before that place are known to be passed over.
+#[inline(never)]
+fn end_behind(table: &TokenTable, bytes: &[u8], start: usize) -> Option<usize>
+    requires within { start ≤ length bytes.now }
+    requires passed { end_of table.now.service false bytes.now ≡ option_map (λ n. start + n)
+        (end_of table.now.service false (drop start bytes.now)) }
+    ensures found { result ≡ end_of table.now.service false bytes.now }
+    ensures within { IfSome result (λ n. n < length bytes.now) }
+{
+    let mut at = start;
     while at < bytes.len() {
         at += table.len_of_inside(&bytes[at..]);
         if at == bytes.len() {

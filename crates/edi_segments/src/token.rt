@@ -9,16 +9,16 @@ pub enum Token {
     Component,
     /// It begins an element.
     Element,
-    /// It releases the next byte.
-    Release,
     /// It ends a segment.
     Terminator,
+    /// It releases the next byte.
+    Release,
     /// It may not stand there.
     Invalid,
 }
 
 impl Token {
-    ghost use Rattle.edi_segments.specs.Tokens.{releases, stays_unreleased};
+    ghost use Rattle.edi_segments.specs.Tokens.{releases, stays_unreleased, ends_value};
 
     /// The byte behind this one is released.
     pub fn releases(self) -> bool
@@ -37,6 +37,17 @@ impl Token {
     {
         match self {
             Token::Data | Token::Component | Token::Element => true,
+            _ => false,
+        }
+    }
+
+    /// The byte ends a value: a separator or the terminator.
+    #[inline(always)]
+    pub(crate) fn ends_value(self) -> bool
+        ensures { result ≡ ends_value self }
+    {
+        match self {
+            Token::Component | Token::Element | Token::Terminator => true,
             _ => false,
         }
     }

@@ -90,6 +90,22 @@ impl TokenTable {
         ensures { MatchOption result (end_of self.now.service false bytes.now
             ≡ None) (IsValueEnd self.now.service bytes.now) }
     {
+        let at = self.len_of_data(bytes);
+        if at < bytes.len() {
+            let token = self.token(bytes[at]);
+            if token.ends_value() {
+                return Some(ValueEnd { at, token, len: at });
+            }
+        }
+        self.released_value_end(bytes)
+    }
+
+    /// The same, also where a release character stands in the value.
+    #[inline(never)]
+    fn released_value_end(&self, bytes: &[u8]) -> Option<ValueEnd>
+        ensures { MatchOption result (end_of self.now.service false bytes.now
+            ≡ None) (IsValueEnd self.now.service bytes.now) }
+    {
         let mut at = 0;
         let mut len = 0;
         while at < bytes.len() {

@@ -2,7 +2,7 @@
 use Rattle.std.proofs.Common.{◌≡◌, ◌-◌, ◌≤◌, length, take, true, false}
 use Rattle.edi_segments.specs.Reading.{is_value}
 use Rattle.edi_segments.specs.Parts.{value_of}
-use Rattle.edi_segments.proofs.token_table.TokenTable.value_end.Given as goal
+use Rattle.edi_segments.proofs.token_table.TokenTable.released_value_end.Given as goal
 
 abbrev pub invariant-loop-at : goal.invariant-loop-at
 invariant-loop-at l = record {
