@@ -387,10 +387,6 @@ longer s bytes more at next len added h whole value counted =
       counted = omega (arith, h.counted, counted, ap length behind.1, length-append (value_of s false (take at bytes)) (value_of s false more), ap (λ (t : List ℕ). length (value_of s false t)) whole);
     }
 
-pub spelled_nothing : (s : Service) (bytes : List ℕ) → Spelled s bytes 0 0
-unfolding is_value value_of
-spelled_nothing s bytes = record { value = refl; counted = refl }
-
 pub spelled_run : (s : Service) (bytes rest : List ℕ) (at len run : ℕ) → Spelled s bytes at len → rest ≡ drop at bytes → run ≤ length rest → is_value s false (take run rest) ≡ true → value_of s false (take run rest) ≡ take run rest → Spelled s bytes (at + run) (len + run)
 spelled_run s bytes rest at len run h is within value itself =
     longer s bytes (take run rest) at (at + run) len run h (take-add at run bytes ∙ ap (λ (t : List ℕ). take at bytes ++ take run t) (sym is)) value (ap length itself ∙ length-take run rest ∙ omega arith)

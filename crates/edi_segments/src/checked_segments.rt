@@ -22,6 +22,7 @@ impl<'t, 'a> CheckedSegments<'t, 'a> {
     }
 
     /// The next segment. `None` where nothing is left, or what is left does not begin with a segment.
+    #[inline(always)]
     pub fn next_segment(&mut self) -> Option<Segment<'a>>
         ensures left { MatchOption result (checked_left self.old ≡ []) (λ segment. checked_left self.old
             ≡ content segment ∷ checked_left self.new) }

@@ -97,17 +97,21 @@ impl TokenTable {
                 return Some(ValueEnd { at, token, len: at });
             }
         }
-        self.released_value_end(bytes)
+        self.released_value_end(bytes, at)
     }
 
-    /// The same, also where a release character stands in the value.
+    /// The same, where the bytes before that place are known to be data.
     #[inline(never)]
-    fn released_value_end(&self, bytes: &[u8]) -> Option<ValueEnd>
+    fn released_value_end(&self, bytes: &[u8], start: usize) -> Option<ValueEnd>
+        requires within { start ≤ length bytes.now }
+        requires value { is_value self.now.service false (take start bytes.now) ≡ true }
+        requires itself { value_of self.now.service false (take start bytes.now)
+            ≡ take start bytes.now }
         ensures { MatchOption result (end_of self.now.service false bytes.now
             ≡ None) (IsValueEnd self.now.service bytes.now) }
     {
-        let mut at = 0;
-        let mut len = 0;
+        let mut at = start;
+        let mut len = start;
         while at < bytes.len() {
             let data = self.len_of_data(&bytes[at..]);
             at += data;

@@ -1,16 +1,19 @@
 -- The bytes so far are of one value, and one more is data, is released, or ends it.
 use Rattle.std.proofs.Common.{suc, ◌+◌, ◌<◌, false, true, length, sym, ap, ◌∙◌, arith}
 use Rattle.std.specs.Option.{option_map}
-use Rattle.std.proofs.lemmas.List.{take_rest}
+use Rattle.std.proofs.lemmas.List.{take_rest, length-take}
 use Rattle.edi_segments.specs.declared.token.Token.TheVariants.{Release, Invalid}
 use Rattle.edi_segments.proofs.LoopLemmas.{end_more, end_past}
-use Rattle.edi_segments.proofs.PlacedLemmas.{spelled_nothing, spelled_run, spelled_data, spelled_release, no_end_behind, no_end_released, ends_from}
+use Rattle.edi_segments.proofs.PlacedLemmas.{spelled_run, spelled_data, spelled_release, no_end_behind, no_end_released, ends_from}
 use Rattle.edi_segments.proofs.token_table.TokenTable.released_value_end.Goals as goal
 
 pub loop-at-init : goal.loop-at-init
-loop-at-init c =
-    let h = spelled_nothing c.args.self.now.service c.args.bytes.now in
-    record { within = omega arith; few = omega arith; value = h.value; counted = h.counted }
+loop-at-init c = record {
+  within = c.requires.within;
+  few = omega arith;
+  value = c.requires.value;
+  counted = sym (ap length c.requires.itself ∙ length-take c.args.start c.args.bytes.now ∙ omega (arith, c.requires.within));
+}
 
 pub returns-then-at-bytes : goal.returns-then-at-bytes
 returns-then-at-bytes c =
