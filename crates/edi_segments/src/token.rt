@@ -1,4 +1,4 @@
-ghost use Rattle.std.specs.Prelude.{◌≡◌};
+ghost use Rattle.std.specs.Prelude.{◌≡◌, IsTrue};
 
 /// What a byte is, at its place.
 #[derive(Clone, Copy, PartialEq, Eq, Debug)]
@@ -48,6 +48,17 @@ impl Token {
     {
         match self {
             Token::Component | Token::Element | Token::Terminator => true,
+            _ => false,
+        }
+    }
+
+    /// The byte stands for itself.
+    #[inline(always)]
+    pub(crate) fn is_data(self) -> bool
+        ensures { IsTrue result → self ≡ Token.Data }
+    {
+        match self {
+            Token::Data => true,
             _ => false,
         }
     }

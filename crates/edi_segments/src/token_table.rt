@@ -59,15 +59,20 @@ impl TokenTable {
         ensures passes { end_of self.now.service false bytes.now ≡ option_map (λ n. result + n)
             (end_of self.now.service false (drop result bytes.now)) }
     {
-        for (i, byte) in bytes.iter().enumerate() {
-            if !self.token(*byte).stays_unreleased() {
-                return i;
+        let mut at = 0;
+        while at + 1 < bytes.len() {
+            if !self.token(bytes[at]).stays_unreleased() {
+                return at;
             }
+            if !self.token(bytes[at + 1]).stays_unreleased() {
+                return at + 1;
+            }
+            at += 2;
         }
-        bytes.len()
+        at
     }
 
-    /// How many bytes of data stand at the front.
+    /// How many bytes at the front are known to be data.
     #[inline(always)]
     fn len_of_data(&self, bytes: &[u8]) -> usize
         ensures within { result ≤ length bytes.now }
@@ -75,13 +80,17 @@ impl TokenTable {
         ensures itself { value_of self.now.service false (take result bytes.now)
             ≡ take result bytes.now }
     {
-        for (i, byte) in bytes.iter().enumerate() {
-            match self.token(*byte) {
-                Token::Data => {}
-                _ => return i,
+        let mut at = 0;
+        while at + 1 < bytes.len() {
+            if !self.token(bytes[at]).is_data() {
+                return at;
             }
+            if !self.token(bytes[at + 1]).is_data() {
+                return at + 1;
+            }
+            at += 2;
         }
-        bytes.len()
+        at
     }
 
     /// Where the value at the front ends. `None` where nothing ends it before an invalid byte.
