@@ -9,3 +9,4 @@ pub mod TestLemmas
 pub mod BreakLemmas
 pub mod WriterLemmas
 pub mod ReaderLemmas
+pub mod PlacedLemmas

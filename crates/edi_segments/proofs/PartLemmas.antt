@@ -1,7 +1,7 @@
 -- The parts of a segment's text stand for its elements and values.
 use Rattle.std.proofs.Common.{◌≡◌, ℕ, zero, suc, ◌+◌, ◌<◌, ◌≤◌, Bool, true, false, cond, nat_eq, List, [], ◌∷◌, length, take, drop, get_or, map, Option, Some, None, refl, sym, ap, ◌∙◌, inl, inr, add-one, arith}
 use Rattle.std.specs.Option.{option_map, option_map_or}
-use Rattle.std.proofs.lemmas.List.{at_drop_more, at_drop_all}
+use Rattle.std.proofs.lemmas.List.{at_drop_more, at_drop_all, drop-drop}
 use Rattle.std.proofs.lemmas.Bool.{eqb-true, eq-eqb, cases_Bool}
 use Rattle.edi_segments.specs.Tokens.{token_of, releases}
 use Rattle.edi_segments.specs.Reading.{push_byte, push_value, push_element, with_token, elements_of}
@@ -190,6 +190,40 @@ separator_further s separator released bytes i within other =
 pub separator_nowhere : (s : Service) (separator : ℕ) (released : Bool) (bytes : List ℕ) (i : ℕ) → length bytes ≤ i → separator_of s separator released (drop i bytes) ≡ None
 unfolding separator_of
 separator_nowhere s separator released bytes i past = at_drop_all (separator_of s separator released) bytes i past
+
+-- a byte that neither separates nor releases
+pub separator_passed : (s : Service) (separator : ℕ) (bytes : List ℕ) (i : ℕ) → i < length bytes → nat_eq (get_or bytes i 0) separator ≡ false → releases (token_of s false (get_or bytes i 0)) ≡ false → option_map (λ n. i + n) (separator_of s separator false (drop i bytes)) ≡ option_map (λ n. i + 1 + n) (separator_of s separator false (drop (i + 1) bytes))
+separator_passed s separator bytes i within other plain =
+    separator_further s separator false bytes i within other
+    ∙ ap (λ (released : Bool). option_map (λ n. i + 1 + n) (separator_of s separator released (drop (i + 1) bytes))) plain
+
+-- a release character, and what it releases
+pub separator_released : (s : Service) (separator : ℕ) (bytes : List ℕ) (i : ℕ) → i + 1 < length bytes → nat_eq (get_or bytes i 0) separator ≡ false → releases (token_of s false (get_or bytes i 0)) ≡ true → option_map (λ n. i + n) (separator_of s separator false (drop i bytes)) ≡ option_map (λ n. i + 2 + n) (separator_of s separator false (drop (i + 2) bytes))
+separator_released s separator bytes i within other hides =
+    let b = get_or bytes (i + 1) 0 in
+    let plain : releases (token_of s true b) ≡ false = elim (released_means s b) [ inl (is_data, _) ↦ rw is_data refl | inr invalid ↦ rw invalid refl ] in
+    separator_further s separator false bytes i (omega arith) other
+    ∙ ap (λ (released : Bool). option_map (λ n. i + 1 + n) (separator_of s separator released (drop (i + 1) bytes))) hides
+    ∙ separator_further s separator true bytes (i + 1) within refl
+    ∙ ap (λ (released : Bool). option_map (λ n. i + 1 + 1 + n) (separator_of s separator released (drop (i + 1 + 1) bytes))) plain
+    ∙ ap (λ (k : ℕ). option_map (λ n. k + n) (separator_of s separator false (drop k bytes))) (omega arith)
+
+-- a release character at the end
+pub separator_cut : (s : Service) (separator : ℕ) (bytes : List ℕ) (i : ℕ) → i < length bytes → length bytes ≤ i + 1 → nat_eq (get_or bytes i 0) separator ≡ false → option_map (λ n. i + n) (separator_of s separator false (drop i bytes)) ≡ None
+separator_cut s separator bytes i within last other =
+    let released = releases (token_of s false (get_or bytes i 0)) in
+    separator_further s separator false bytes i within other ∙ ap (option_map (λ n. i + 1 + n)) (separator_nowhere s separator released bytes (i + 1) last)
+
+-- bytes behind those that were passed over before
+pub separator_joined : (s : Service) (separator : ℕ) (bytes rest : List ℕ) (at more : ℕ) → rest ≡ drop at bytes → separator_of s separator false bytes ≡ option_map (λ n. at + n) (separator_of s separator false (drop at bytes)) → separator_of s separator false rest ≡ option_map (λ n. more + n) (separator_of s separator false (drop more rest)) → separator_of s separator false bytes ≡ option_map (λ n. at + more + n) (separator_of s separator false (drop (at + more) bytes))
+separator_joined s separator bytes rest at more is before behind =
+    before
+    ∙ ap (option_map (λ n. at + n)) (ap (separator_of s separator false) (sym is) ∙ behind ∙ ap (λ (t : List ℕ). option_map (λ n. more + n) (separator_of s separator false (drop more t))) is ∙ ap (λ (t : List ℕ). option_map (λ n. more + n) (separator_of s separator false t)) (drop-drop more at bytes))
+    ∙ twice (separator_of s separator false (drop (at + more) bytes))
+  where
+    twice : (o : Option ℕ) → option_map (λ n. at + n) (option_map (λ n. more + n) o) ≡ option_map (λ n. at + more + n) o
+    twice None = refl
+    twice (Some n) = ap Some (omega arith)
 
 -- ---- the bytes of a value
 

@@ -1,8 +1,8 @@
 -- The segments that are read are those of the text.
-use Rattle.std.proofs.Common.{◌≡◌, ◌⊎◌, ℕ, zero, suc, ◌+◌, ◌≤◌, true, false, nat_eq, List, [], ◌∷◌, ◌++◌, length, take, drop, Option, Some, None, refl, sym, ap, ◌∙◌, inl, inr, append_assoc, add-one, arith}
+use Rattle.std.proofs.Common.{◌≡◌, ◌⊎◌, ℕ, zero, suc, ◌+◌, ◌≤◌, Bool, true, false, ◌&&◌, nat_eq, List, [], ◌∷◌, ◌++◌, length, take, drop, Option, Some, None, refl, sym, ap, ◌∙◌, inl, inr, append_assoc, add-one, arith}
 use Rattle.std.specs.Option.{option_map_or}
 use Rattle.std.specs.List.{list_all}
-use Rattle.std.proofs.lemmas.Bool.{and_parts, and_from, or_cases, eqb-true, false≢true, cases_Bool}
+use Rattle.std.proofs.lemmas.Bool.{and_parts, and_from, and_right, or_cases, ne_eqb, eqb-true, false≢true, cases_Bool}
 use Rattle.std.proofs.lemmas.List.{drop_at, take-append-drop, drop-drop}
 use Rattle.std.proofs.lemmas.Option.{none-some}
 use Rattle.edi_segments.specs.Characters.{is_tag_byte, is_break}
@@ -163,3 +163,21 @@ length-segments s (b ∷ bytes) zero = one (λ skip. length-segments s bytes ski
     one : ((skip : ℕ) → length (segments_from s skip bytes) ≤ length bytes) → (o : Option ℕ) → length (option_map_or (λ n. content_of s (take n (b ∷ bytes)) ∷ segments_from s (n + breaks_len (drop n bytes)) bytes) o []) ≤ suc (length bytes)
     one shorter None = omega arith
     one shorter (Some n) = omega (arith, shorter (n + breaks_len (drop n bytes)))
+
+-- nothing is left where no segment is, and nothing else
+pub at_end_is : (s : Service) (bytes : List ℕ) → nat_eq (length bytes) 0 ≡ (nat_eq (length (segments_of s bytes)) 0 && are_segments s bytes)
+unfolding segments_from are_segments_from
+at_end_is s [] = refl
+at_end_is s (b ∷ bytes) =
+    let some : length (b ∷ bytes) ≡ 0 → ⊥ = λ none. omega (arith, none) in
+    elim (option_cases (next_at s (b ∷ bytes))) [
+      | inl (first, found) ↦
+          let left : segments_of s (b ∷ bytes) ≡ first.0 ∷ segments_of s first.1 =
+          next_of_segments s (b ∷ bytes) ∙ ap (λ (o : Option (Content × List ℕ)). option_map_or (λ (x : Content × List ℕ). x.0 ∷ segments_of s x.1) o []) found in
+          let more : nat_eq (length (segments_of s (b ∷ bytes))) 0 ≡ false = ne_eqb (length (segments_of s (b ∷ bytes))) 0 (λ none. omega (arith, none, ap length left)) in
+          ne_eqb (length (b ∷ bytes)) 0 some ∙ sym (ap (λ (v : Bool). v && are_segments s (b ∷ bytes)) more)
+      | inr none ↦
+          let bad : are_segments s (b ∷ bytes) ≡ false =
+          next_of_are_segments s (b ∷ bytes) some ∙ ap (λ (o : Option (Content × List ℕ)). option_map_or (λ (x : Content × List ℕ). are_segments s x.1) o false) none in
+          ne_eqb (length (b ∷ bytes)) 0 some ∙ sym (ap (λ (v : Bool). nat_eq (length (segments_of s (b ∷ bytes))) 0 && v) bad ∙ and_right _ _ refl)
+    ]

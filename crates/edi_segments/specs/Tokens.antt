@@ -33,3 +33,21 @@ releases Component = false
 releases Element = false
 releases Terminator = false
 releases Invalid = false
+
+-- the byte stays inside the segment and releases nothing
+abbrev pub stays_unreleased : Token → Bool
+stays_unreleased Data = true
+stays_unreleased Component = true
+stays_unreleased Element = true
+stays_unreleased Release = false
+stays_unreleased Terminator = false
+stays_unreleased Invalid = false
+
+-- the byte ends a value
+abbrev pub ends_value : Token → Bool
+ends_value Data = false
+ends_value Release = false
+ends_value Component = true
+ends_value Element = true
+ends_value Terminator = true
+ends_value Invalid = false

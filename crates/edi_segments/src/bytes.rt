@@ -1,4 +1,4 @@
-ghost use Rattle.std.specs.Prelude.{◌≡◌};
+ghost use Rattle.std.specs.Prelude.{◌≡◌, ◌↔◌, IsTrue};
 ghost use Rattle.std.specs.Iterator.{YieldsFirst, item_count};
 ghost use Rattle.edi_segments.specs.Parts.{value_of};
 ghost use Rattle.edi_segments.specs.Segment.{bytes_left};
@@ -39,4 +39,32 @@ impl<'a> Iterator for Bytes<'a> {
             Some(*first)
         }
     }
+}
+
+/// The bytes are these.
+pub(crate) fn are_bytes(bytes: Bytes<'_>, other: &[u8]) -> bool
+    ensures { IsTrue result ↔ (bytes_left bytes.entry ≡ other.now) }
+{
+    let mut rest = other;
+    for byte in bytes {
+        match rest.split_first() {
+            Some((first, behind)) if *first == byte => rest = behind,
+            _ => return false,
+        }
+    }
+    rest.is_empty()
+}
+
+/// The bytes are the same.
+pub(crate) fn are_same(bytes: Bytes<'_>, others: Bytes<'_>) -> bool
+    ensures { IsTrue result ↔ (bytes_left bytes.entry ≡ bytes_left others.entry) }
+{
+    let mut rest = others;
+    for byte in bytes {
+        match rest.next() {
+            Some(other) if other == byte => {}
+            _ => return false,
+        }
+    }
+    rest.next().is_none()
 }

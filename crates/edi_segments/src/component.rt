@@ -1,12 +1,12 @@
-ghost use Rattle.std.specs.Prelude.{◌≡◌, ◌↔◌, ◌++◌, ℕ, length, IsTrue, OnOk, OnErr, false};
+ghost use Rattle.std.specs.Prelude.{◌≡◌, ◌↔◌, ◌++◌, ℕ, length, IsTrue, IfSome, OnOk, OnErr, false};
 ghost use Rattle.edi_segments.specs.Parts.{value_of};
-ghost use Rattle.edi_segments.specs.Segment.{value, bytes_left, fixed};
 ghost use Rattle.edi_segments.specs.Characters.{is_printable};
 ghost use Rattle.edi_segments.specs.Spelling.{spelling};
 ghost use Rattle.std.specs.List.{list_all};
 ghost use Rattle.std.specs.Str.{bytes_eq};
+ghost use Rattle.std.proofs.Props.{props};
 
-use super::bytes::Bytes;
+use super::bytes::{Bytes, are_bytes, are_same};
 use super::service::Service;
 use super::spelling::write_byte;
 use std::alloc::AllocError;
@@ -16,13 +16,34 @@ use std::alloc::AllocError;
 pub struct Component<'a> {
     service: Service,
     text: &'a [u8],
+    known_len: Option<usize>,
+    ghost counted: { IfSome known_len (λ n. n ≡ length (value_of service false text.now)) } by { Prim.hlevel props },
 }
 
 impl<'a> Component<'a> {
+    ghost use Rattle.edi_segments.specs.Segment.{value, bytes_left, fixed};
+
     pub(crate) fn new(service: Service, text: &'a [u8]) -> Component<'a>
         ensures { value result ≡ value_of service false text.now }
     {
-        Component { service, text }
+        Component {
+            service,
+            text,
+            known_len: None,
+        }
+    }
+
+    /// The same, where it is known how many bytes the value has.
+    #[inline(always)]
+    pub(crate) fn of_len(service: Service, text: &'a [u8], len: usize) -> Component<'a>
+        requires { len ≡ length (value_of service false text.now) }
+        ensures { value result ≡ value_of service false text.now }
+    {
+        Component {
+            service,
+            text,
+            known_len: Some(len),
+        }
     }
 
     /// The bytes of the value.
@@ -43,6 +64,9 @@ impl<'a> Component<'a> {
     pub fn len(&self) -> usize
         ensures { result ≡ length (value self.now) }
     {
+        if let Some(len) = self.known_len {
+            return len;
+        }
         let mut len = 0;
         let mut released = false;
         for byte in self.text {
@@ -128,31 +152,4 @@ impl<'a> Component<'a> {
         }
         Ok(())
     }
-}
-
-/// The bytes are these.
-fn are_bytes(bytes: Bytes<'_>, other: &[u8]) -> bool
-    ensures { IsTrue result ↔ (bytes_left bytes.entry ≡ other.now) }
-{
-    let mut rest = other;
-    for byte in bytes {
-        match rest.split_first() {
-            Some((first, behind)) if *first == byte => rest = behind,
-            _ => return false,
-        }
-    }
-    rest.is_empty()
-}
-
-fn are_same(bytes: Bytes<'_>, others: Bytes<'_>) -> bool
-    ensures { IsTrue result ↔ (bytes_left bytes.entry ≡ bytes_left others.entry) }
-{
-    let mut rest = others;
-    for byte in bytes {
-        match rest.next() {
-            Some(other) if other == byte => {}
-            _ => return false,
-        }
-    }
-    rest.next().is_none()
 }

@@ -3,14 +3,18 @@
 
 pub mod bytes;
 pub mod characters;
+pub mod checked_segments;
 pub mod component;
 pub mod components;
 pub mod elements;
 pub mod interchange;
 pub mod laws;
 mod part;
+pub mod placed_value;
 mod reader;
 pub mod segment;
+pub mod segment_check;
+pub mod segment_reader;
 pub mod segment_writer;
 pub mod segments;
 pub mod service;
@@ -19,15 +23,23 @@ pub mod syntax_fault;
 #[cfg(test)]
 mod tests;
 pub mod token;
+mod token_table;
+mod value_end;
+pub mod values;
 
 pub use bytes::Bytes;
+pub use checked_segments::CheckedSegments;
 pub use component::Component;
 pub use components::Components;
 pub use elements::Elements;
 pub use interchange::interchange_text;
+pub use placed_value::PlacedValue;
 pub use segment::Segment;
+pub use segment_check::SegmentCheck;
+pub use segment_reader::SegmentReader;
 pub use segment_writer::SegmentWriter;
 pub use segments::Segments;
 pub use service::Service;
 pub use spelling::write_component;
 pub use syntax_fault::SyntaxFault;
+pub use values::Values;

@@ -1,6 +1,6 @@
-ghost use Rattle.std.specs.Prelude.{◌≡◌, ℕ, get_or, []};
+ghost use Rattle.std.specs.Prelude.{◌≡◌, ℕ, ◌+◌, ◌<◌, ◌≤◌, get_or, length, drop, IfSome, []};
 ghost use Rattle.std.specs.Option.{option_map};
-ghost use Rattle.edi_segments.specs.Parts.{parts_of, split_of};
+ghost use Rattle.edi_segments.specs.Parts.{parts_of, separator_of, split_of};
 ghost use Rattle.std.specs.Prelude.{false};
 
 use super::service::Service;
@@ -31,12 +31,49 @@ pub(crate) fn split_once<'a>(
     ensures { option_map
         (λ found. (found.0.now, found.1.now)) result ≡ split_of service separator bytes.now }
 {
-    let mut released = false;
-    for (i, byte) in bytes.iter().enumerate() {
-        if !released && *byte == separator {
-            return Some((&bytes[..i], &bytes[i + 1..]));
+    let at = separator_at(service, separator, bytes)?;
+    Some((&bytes[..at], &bytes[at + 1..]))
+}
+
+/// Where the first separator stands that is not released.
+fn separator_at(service: Service, separator: u8, bytes: &[u8]) -> Option<usize>
+    ensures found { result ≡ separator_of service separator false bytes.now }
+    ensures within { IfSome result (λ n. n < length bytes.now) }
+{
+    let mut at = 0;
+    while at < bytes.len() {
+        at += len_of_others(service, separator, &bytes[at..]);
+        if at == bytes.len() {
+            return None;
         }
-        released = service.releases(released, *byte);
+        if bytes[at] == separator {
+            return Some(at);
+        }
+        if !service.releases(false, bytes[at]) {
+            at += 1;
+        } else if at + 1 < bytes.len() {
+            at += 2;
+        } else {
+            return None;
+        }
     }
     None
+}
+
+/// How many bytes at the front are neither the separator nor the release character.
+#[inline(always)]
+fn len_of_others(service: Service, separator: u8, bytes: &[u8]) -> usize
+    ensures within { result ≤ length bytes.now }
+    ensures passes { separator_of service separator false bytes.now ≡ option_map (λ n. result + n)
+        (separator_of service separator false (drop result bytes.now)) }
+{
+    for (i, byte) in bytes.iter().enumerate() {
+        if *byte == separator {
+            return i;
+        }
+        if service.releases(false, *byte) {
+            return i;
+        }
+    }
+    bytes.len()
 }

@@ -1,4 +1,4 @@
-ghost use Rattle.std.specs.Prelude.{◌≡◌, ℕ, IfSome, ◌+◌, ◌<◌, ◌≤◌, length, false, true};
+ghost use Rattle.std.specs.Prelude.{◌≡◌, ℕ, IfSome, ◌+◌, ◌<◌, ◌≤◌, length, drop, false, true};
 ghost use Rattle.std.specs.Option.{option_map};
 ghost use Rattle.std.specs.List.{list_all};
 ghost use Rattle.edi_segments.specs.Characters.{is_tag_byte};
@@ -11,6 +11,7 @@ use super::part::split_once;
 use super::segment::Segment;
 use super::service::Service;
 use super::token::Token;
+use super::token_table::TokenTable;
 
 /// What stands behind a service string advice of that length and the line breaks after it: the whole text, where there is
 /// none.
@@ -31,9 +32,10 @@ pub(crate) fn behind_advice<'a>(text: &'a [u8], start: usize) -> &'a [u8]
 pub(crate) fn are_segments(service: Service, bytes: &[u8]) -> bool
     ensures { result ≡ are_segments service bytes.now }
 {
+    let table = TokenTable::new(service);
     let mut rest = bytes;
     while !rest.is_empty() {
-        match next_segment(service, rest) {
+        match next_segment(&table, rest) {
             Some((_, behind)) => rest = behind,
             None => return false,
         }
@@ -42,14 +44,18 @@ pub(crate) fn are_segments(service: Service, bytes: &[u8]) -> bool
 }
 
 /// The segment at the front, and what stands behind its terminator and the line breaks after it.
-fn next_segment<'a>(service: Service, bytes: &'a [u8]) -> Option<(Segment<'a>, &'a [u8])>
+#[inline(always)]
+pub(crate) fn next_segment<'a>(
+    table: &TokenTable,
+    bytes: &'a [u8],
+) -> Option<(Segment<'a>, &'a [u8])>
     ensures exact { option_map
-        (λ found. (content found.0, found.1.now)) result ≡ next_at service bytes.now }
+        (λ found. (content found.0, found.1.now)) result ≡ next_at table.now.service bytes.now }
     ensures shorter { IfSome result (λ found. length found.1.now < length bytes.now) }
 {
-    let n = len_of_body(service, bytes)?;
+    let n = len_of_body(table, bytes)?;
     let behind = &bytes[n + 1..];
-    let segment = Segment::new(service, &bytes[..n]);
+    let segment = Segment::new(table.service(), &bytes[..n]);
     Some((segment, &behind[len_of_breaks(behind)..]))
 }
 
@@ -85,18 +91,19 @@ pub(crate) fn len_of_breaks(bytes: &[u8]) -> usize
 }
 
 /// How many bytes the segment at the front has before its terminator.
-fn len_of_body(service: Service, bytes: &[u8]) -> Option<usize>
-    ensures found { result ≡ body_len service bytes.now }
+#[inline(always)]
+fn len_of_body(table: &TokenTable, bytes: &[u8]) -> Option<usize>
+    ensures found { result ≡ body_len table.now.service bytes.now }
     ensures within { IfSome result (λ n. n < length bytes.now) }
 {
     if bytes.len() < 3 {
         return None;
     }
     let (tag, rest) = bytes.split_at(3);
-    if !is_tag(tag) || !begins(service, rest) {
+    if !is_tag(tag) || !begins(table.service(), rest) {
         return None;
     }
-    Some(3 + end(service, rest)?)
+    Some(3 + end(table, rest)?)
 }
 
 /// All bytes may stand in a tag.
@@ -118,19 +125,49 @@ fn begins(service: Service, bytes: &[u8]) -> bool
 
 /// How many bytes stand before the first terminator that is not released. `None` where there is no terminator, or an
 /// invalid byte stands before it.
-fn end(service: Service, bytes: &[u8]) -> Option<usize>
-    ensures found { result ≡ end_of service false bytes.now }
+#[inline(always)]
+fn end(table: &TokenTable, bytes: &[u8]) -> Option<usize>
+    ensures found { result ≡ end_of table.now.service false bytes.now }
     ensures within { IfSome result (λ n. n < length bytes.now) }
 {
-    let mut released = false;
-    for (i, byte) in bytes.iter().enumerate() {
-        let token = service.token(released, *byte);
-        match token {
-            Token::Terminator => return Some(i),
-            Token::Invalid => return None,
-            _ => {}
+    let at = table.len_of_inside(bytes);
+    if at < bytes.len() {
+        if let Token::Terminator = table.token(bytes[at]) {
+            return Some(at);
         }
-        released = token.releases();
+    }
+    end_behind(table, bytes, at)
+}
+
+/// The same, where the bytes before that place are known to be passed over.
+#[inline(never)]
+fn end_behind(table: &TokenTable, bytes: &[u8], start: usize) -> Option<usize>
+    requires within { start ≤ length bytes.now }
+    requires passed { end_of table.now.service false bytes.now ≡ option_map (λ n. start + n)
+        (end_of table.now.service false (drop start bytes.now)) }
+    ensures found { result ≡ end_of table.now.service false bytes.now }
+    ensures within { IfSome result (λ n. n < length bytes.now) }
+{
+    let mut at = start;
+    while at < bytes.len() {
+        at += table.len_of_inside(&bytes[at..]);
+        if at == bytes.len() {
+            return None;
+        }
+        match table.token(bytes[at]) {
+            Token::Terminator => return Some(at),
+            Token::Invalid => return None,
+            Token::Release => {
+                if at + 1 == bytes.len() {
+                    return None;
+                }
+                match table.released_token(bytes[at + 1]) {
+                    Token::Invalid => return None,
+                    _ => at += 2,
+                }
+            }
+            _ => at += 1,
+        }
     }
     None
 }

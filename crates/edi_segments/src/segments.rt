@@ -1,7 +1,7 @@
 ghost use Rattle.std.specs.Prelude.{◌≡◌, IfOk, IfErr, IsOkAnd, ◌≤◌, length, List, None, Some, true};
 ghost use Rattle.std.specs.Iterator.{YieldsFirstBy, item_count};
 ghost use Rattle.edi_segments.specs.Text.{Content};
-ghost use Rattle.edi_segments.specs.Reading.{are_segments};
+ghost use Rattle.edi_segments.specs.Reading.{are_segments, segments_of};
 ghost use Rattle.edi_segments.specs.Interchange.{InterchangeText, segments_in, read_fault};
 
 use super::reader::{are_segments, behind_advice, next_of_segments};
@@ -43,6 +43,25 @@ impl<'a> Segments<'a> {
         } else {
             Err(SyntaxFault::Segment)
         }
+    }
+
+    pub(crate) fn new(service: Service, rest: &'a [u8]) -> Segments<'a>
+        requires { are_segments service rest.now ≡ true }
+        ensures { segments_left result ≡ segments_of service rest.now }
+    {
+        Segments { service, rest }
+    }
+
+    pub(crate) fn service(&self) -> Service
+        ensures { result ≡ self.now.service }
+    {
+        self.service
+    }
+
+    pub(crate) fn rest(&self) -> &'a [u8]
+        ensures { result.now ≡ self.now.rest.now }
+    {
+        self.rest
     }
 }
 

@@ -1,4 +1,7 @@
-use super::{Segment, SegmentWriter, Segments, SyntaxFault, interchange_text, write_component};
+use super::{
+    Segment, SegmentCheck, SegmentReader, SegmentWriter, Segments, SyntaxFault, interchange_text,
+    write_component,
+};
 use std::test::Fail;
 
 /// The first segment that is read of the text.
@@ -115,4 +118,61 @@ fn writes_segments(rt: HostRuntime) -> Result<(), Fail> {
 fn takes_breaks_off_both_ends(rt: HostRuntime) {
     assert_eq!(rt; interchange_text(b"\r\n\nUNB\n'\r\n"), b"UNB\n'".as_slice());
     assert!(rt; interchange_text(b"\r\n").is_empty());
+}
+
+#[test]
+fn reads_values_in_their_places(rt: HostRuntime) -> Result<(), Fail> {
+    let text = b"BGM+34+G1:A?+B:'UNS'\r\nEQD++X?'?'";
+    assert!(rt; Segments::read(text).is_err());
+    let segments = Segments::read(b"BGM+34+G1:A?+B:'UNS'\r\nEQD++X?''")
+        .ok()
+        .ok_or("no segments")?;
+    let rows: &[(usize, usize, &[u8])] = &[
+        (0, 1, b"BGM"),
+        (1, 1, b"34"),
+        (2, 1, b"G1"),
+        (2, 2, b"A+B"),
+        (2, 3, b""),
+        (0, 1, b"UNS"),
+        (0, 1, b"EQD"),
+        (1, 1, b""),
+        (2, 1, b"X'"),
+    ];
+    let reader = SegmentReader::new(segments);
+    let mut values = reader.values();
+    for (element, component, value) in rows {
+        let placed = values.next().ok_or("no value")?;
+        assert_eq!(rt; placed.element, *element);
+        assert_eq!(rt; placed.component, *component);
+        assert!(rt; placed.value.equals(value));
+        assert_eq!(rt; placed.value.len(), value.len());
+    }
+    assert!(rt; values.next().is_none());
+    Ok(())
+}
+
+#[test]
+fn checks_segments_one_by_one(rt: HostRuntime) -> Result<(), Fail> {
+    let check = SegmentCheck::of(b"UNA*|,! ~\r\nBGM|3!~4~\nUNS~uns~")
+        .ok()
+        .ok_or("no advice")?;
+    let mut segments = check.segments();
+    assert!(rt; !segments.are_all());
+    let segment = segments.next_segment().ok_or("no BGM")?;
+    assert!(rt; segment.component(1, 1).equals(b"3~4"));
+    assert!(rt; segments.next_segment().ok_or("no UNS")?.has_tag(b"UNS"));
+    assert!(rt; segments.next_segment().is_none());
+    assert!(rt; !segments.is_at_end());
+    let whole = SegmentCheck::of(b"BGM+34'").ok().ok_or("no advice")?;
+    assert!(rt; whole.segments().are_all());
+    assert!(rt; !whole.segments().is_at_end());
+    assert!(rt; SegmentCheck::of(b"UNA:+.+ '").err() == Some(SyntaxFault::Service));
+    assert!(rt;
+        SegmentCheck::of(b"")
+            .ok()
+            .ok_or("no advice")?
+            .segments()
+            .is_at_end()
+    );
+    Ok(())
 }

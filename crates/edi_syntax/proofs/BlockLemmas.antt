@@ -10,7 +10,7 @@ use Rattle.edi_syntax.specs.Messages.{Message, begins_message, ends_message, is_
 use Rattle.edi_syntax.specs.Laws.{IsMessage, message_segments, AreMessages, MessagesStand}
 
 -- a segment has one tag
-other_tag : (segment : Content) (tag tag' : List ℕ) → bytes_eq tag tag' ≡ false → has_tag tag segment ≡ true → has_tag tag' segment ≡ false
+pub other_tag : (segment : Content) (tag tag' : List ℕ) → bytes_eq tag tag' ≡ false → has_tag tag segment ≡ true → has_tag tag' segment ≡ false
 other_tag segment tag tag' other is = decided (has_tag tag' segment) refl
   where
     decided : (b : Bool) → has_tag tag' segment ≡ b → has_tag tag' segment ≡ false
@@ -19,7 +19,7 @@ other_tag segment tag tag' other is = decided (has_tag tag' segment) refl
         absurd (false≢true (sym other ∙ (bytes_eq-Decides tag tag').1 same))
     decided false not_also = not_also
 
-inner_tags : (segment : Content) → is_inner segment ≡ true → (begins_message segment ≡ false) × (ends_message segment ≡ false)
+pub inner_tags : (segment : Content) → is_inner segment ≡ true → (begins_message segment ≡ false) × (ends_message segment ≡ false)
 inner_tags segment h =
     let one = and_parts (not (begins_message segment) && not (ends_message segment) && not (has_tag (codes "UNB") segment)) (not (has_tag (codes "UNZ") segment)) h in
     let two = and_parts (not (begins_message segment) && not (ends_message segment)) (not (has_tag (codes "UNB") segment)) one.0 in

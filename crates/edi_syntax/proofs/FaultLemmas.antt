@@ -16,7 +16,7 @@ use Rattle.edi_syntax.specs.Numbers.{number_of, as_control_number}
 use Rattle.edi_syntax.specs.Header.{control_number, control_reference, preparation, test_indicator, is_known_syntax}
 use Rattle.edi_syntax.specs.Envelope.{header_of, behind_header, has_envelope, messages_of, counts_messages, repeats_reference}
 use Rattle.edi_syntax.specs.Messages.{messages_in, begins_message, are_messages, is_counted, is_referenced}
-use Rattle.edi_syntax.specs.Faults.{applies, applies_to, text_faults, header_faults, body_faults, fault_of, head_fault_of, header_fault_of, body_fault_of}
+use Rattle.edi_syntax.specs.Faults.{applies, applies_to, text_faults, header_faults, body_faults, fault_of, head_fault_of, header_fault_of, body_fault_of, segments_fault}
 
 -- ---- faults of the bytes
 
@@ -44,6 +44,18 @@ of_bytes text others fault short is = rw (le-ltb 1048576 (length text) short) (c
     chosen true b e = e
     chosen false true e = absurd cc
     chosen false false e = e
+
+-- the first fault of the bytes, the segments and their header, where the advice is good
+pub head_fault_is : (text : List ℕ) → length text ≤ 1048576 → has_bad_advice text ≡ false → head_fault_of text ≡ segments_fault (is_segment_text text) (segments_in text)
+head_fault_is text short good =
+    elim (cases_Bool (is_segment_text text)) [
+      | inl sound ↦
+          let readable : read_fault text ≡ None = rw (good, sound) refl in
+          past_bytes text header_faults short readable ∙ sym (ap (λ (b : Bool). segments_fault b (segments_in text)) sound)
+      | inr other ↦
+          let bad : read_fault text ≡ Some Segment = rw (good, other) refl in
+          of_bytes text header_faults Segment short bad ∙ sym (ap (λ (b : Bool). segments_fault b (segments_in text)) other)
+    ]
 
 -- ---- what a header without fault has
 

@@ -2,3 +2,4 @@ pub mod NumberLemmas
 pub mod FaultLemmas
 pub mod MessageLemmas
 pub mod BlockLemmas
+pub mod TallyLemmas

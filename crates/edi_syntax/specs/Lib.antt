@@ -4,7 +4,9 @@ pub mod Header
 pub mod Envelope
 pub mod Faults
 pub mod Laws
+pub mod TallyValues
 pub mod Tallies
+pub mod Surveys
 pub mod Frames
 pub mod Heads
 pub mod Envelopes
@@ -14,6 +16,9 @@ pub use Rattle.edi_segments.specs.Text
 pub use Rattle.edi_segments.specs.Advice
 pub use Rattle.edi_segments.specs.Interchange
 pub use Rattle.edi_segments.specs.Segment
+pub use Rattle.edi_segments.specs.Placed
+pub use Rattle.edi_segments.specs.Values
+pub use Rattle.edi_segments.specs.Checks
 pub use Rattle.edi_segments.specs.Spelling
 pub use Rattle.edi_segments.specs.Written
 pub use Rattle.edi_cutter.specs.Places

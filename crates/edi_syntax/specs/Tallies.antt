@@ -1,20 +1,27 @@
 -- What the messages of an interchange come to, in the order of the segments.
-use Rattle.std.specs.Prelude.{◌≡◌, ◌≤◌, true, false, List, length}
-use Rattle.std.specs.List.{list_all}
+use Rattle.std.specs.Prelude.{◌≡◌, ◌≤◌, ◌||◌, true, false, List, [], ◌∷◌, length}
+use Rattle.std.specs.List.{list_all, list_any}
 use Rattle.edi_segments.specs.Text.{Content}
-use Rattle.edi_segments.specs.Segment.{content, segments_left}
+use Rattle.edi_segments.specs.Segment.{content}
+use Rattle.edi_segments.specs.Checks.{checked_left, are_all}
+use Rattle.edi_segments.specs.declared.checked_segments.CheckedSegments.{CheckedSegments}
+use Rattle.edi_syntax.specs.Envelope.{last_of, is_of_group}
 use Rattle.edi_syntax.specs.Messages.{before_trailer, trailer_in, messages_in, are_messages, is_counted, is_referenced}
 use Rattle.edi_syntax.specs.declared.tally.Tally.{Tally}
+use Rattle.edi_syntax.specs.declared.tallied.Tallied.{Tallied}
 use Rattle.edi_syntax.specs.declared.message_end.MessageEnd.{MessageEnd}
 
 -- the end of the message that these segments are behind the header of
-pub record EndsMessage (behind : List Content) (end : MessageEnd) : Type 0 where
-  pub between : end.between ≡ length (before_trailer behind)
-  pub trailer : content end.trailer ≡ trailer_in behind
-  pub framed : are_messages true behind ≡ are_messages false (segments_left end.rest)
-  pub others : messages_in behind ≡ messages_in (segments_left end.rest)
-  pub few : end.between ≤ length behind
-  pub fewer : length (segments_left end.rest) ≤ length behind
+pub record EndsMessage (behind : CheckedSegments) (end : MessageEnd) : Type 0 where
+  pub between : end.between ≡ length (before_trailer (checked_left behind))
+  pub trailer : content end.trailer ≡ trailer_in (checked_left behind)
+  pub framed : are_messages true (checked_left behind) ≡ are_messages false (checked_left end.rest)
+  pub others : messages_in (checked_left behind) ≡ messages_in (checked_left end.rest)
+  pub few : end.between ≤ length (checked_left behind)
+  pub fewer : length (checked_left end.rest) ≤ length (checked_left behind)
+  pub last : (before : Content) → last_of before (checked_left behind) ≡ last_of (content end.trailer) (checked_left end.rest)
+  pub group : list_any is_of_group (checked_left behind) ≡ (end.has_group || list_any is_of_group (checked_left end.rest))
+  pub all : are_all behind ≡ are_all end.rest
 
 -- what the messages come to, of which nothing but a UNZ stands behind
 pub record IsTally (segments : List Content) (tally : Tally) : Type 0 where
@@ -22,3 +29,11 @@ pub record IsTally (segments : List Content) (tally : Tally) : Type 0 where
   pub counted : tally.are_counted ≡ list_all is_counted (messages_in segments)
   pub referenced : tally.are_referenced ≡ list_all is_referenced (messages_in segments)
   pub messages : tally.messages ≡ length (messages_in segments)
+
+-- what was found up to the trailer of the interchange
+pub record IsTallied (header : Content) (segments : CheckedSegments) (found : Tallied) : Type 0 where
+  pub tally : IsTally (checked_left segments) found.tally
+  pub last : content found.trailer ≡ last_of header (checked_left segments)
+  pub group : found.has_group ≡ list_any is_of_group (header ∷ checked_left segments)
+  pub all : are_all segments ≡ are_all found.rest
+  pub done : checked_left found.rest ≡ []

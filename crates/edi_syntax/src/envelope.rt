@@ -1,10 +1,12 @@
 ghost use Rattle.std.specs.Prelude.{◌≡◌, ◌≤◌, length, None};
-ghost use Rattle.edi_syntax.specs.Envelope.{messages_of};
+ghost use Rattle.edi_segments.specs.Values.{reader_segments};
+ghost use Rattle.edi_syntax.specs.Envelope.{messages_of, behind_header};
 ghost use Rattle.edi_syntax.specs.Heads.{head_segments};
 ghost use Rattle.edi_syntax.specs.Faults.{body_fault_of};
 
 use super::frames::Frames;
 use super::head::Head;
+use edi_segments::SegmentReader;
 
 /// An interchange without fault.
 #[derive(Clone, Copy)]
@@ -37,5 +39,12 @@ impl<'a> Envelope<'a> {
         ensures few { length (messages_of (envelope_segments self.now)) ≤ 1048576 }
     {
         Frames::new(self.head.behind())
+    }
+
+    /// A reader of all segments behind the header, value by value: those of the messages, and the trailer.
+    pub fn reader(&self) -> SegmentReader<'a>
+        ensures { reader_segments result ≡ behind_header (envelope_segments self.now) }
+    {
+        SegmentReader::new(self.head.behind())
     }
 }

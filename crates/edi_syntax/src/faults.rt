@@ -3,11 +3,12 @@ ghost use Rattle.std.specs.List.{list_any, find};
 ghost use Rattle.edi_segments.specs.Segment.{content, segments_left};
 ghost use Rattle.edi_syntax.specs.Messages.{messages_in};
 ghost use Rattle.edi_syntax.specs.Envelope.{last_of, has_envelope, is_of_group};
+ghost use Rattle.edi_syntax.specs.TallyValues.{tally_in};
 ghost use Rattle.edi_syntax.specs.Faults.{applies_to, header_fault_of, body_fault_of};
 
 use super::header::{control_number, is_known_syntax, names_partners, preparation};
 use super::numbers::is_count;
-use super::tally::tally_of;
+use super::tally::Tally;
 use edi_segments::{Segment, Segments, SyntaxFault};
 
 /// The first fault of the envelope and its header, of the segments from the header to the trailer.
@@ -36,42 +37,21 @@ pub(crate) fn header_fault(
     }
 }
 
-/// The last segment, or the header where there is no other, and whether one of them is of a functional group.
-pub(crate) fn survey<'a>(header: Segment<'a>, rest: Segments<'a>) -> (Segment<'a>, bool)
-    ensures last { content result.0 ≡ last_of (content header.entry) (segments_left rest.entry) }
-    ensures group { result.1 ≡ list_any is_of_group (content header.entry
-        ∷ segments_left rest.entry) }
-{
-    let mut last = header;
-    let mut has_group = is_of_group(header);
-    for segment in rest {
-        last = segment;
-        has_group = has_group || is_of_group(segment);
-    }
-    (last, has_group)
-}
-
-/// A segment of a functional group.
-fn is_of_group(segment: Segment<'_>) -> bool
-    ensures { result ≡ is_of_group (content segment.entry) }
-{
-    segment.has_tag(b"UNG") || segment.has_tag(b"UNE")
-}
-
 /// The first fault of what the header announces.
 pub(crate) fn body_fault(
     header: Segment<'_>,
     rest: Segments<'_>,
     trailer: Segment<'_>,
+    tally: Option<Tally>,
 ) -> Option<SyntaxFault>
-    requires few { length (segments_left rest) ≤ 1048576 }
     requires last { content trailer ≡ last_of (content header) (segments_left rest) }
+    requires tallied { tally ≡ tally_in (segments_left rest) }
     ensures { result ≡ body_fault_of (content header.entry ∷ segments_left rest.entry) }
 {
     if header.component(11, 1).equals(b"1") {
         return Some(SyntaxFault::Test);
     }
-    match tally_of(rest) {
+    match tally {
         None => Some(SyntaxFault::MessageFrame),
         Some(tally) => {
             if !tally.are_counted {

@@ -1,16 +1,21 @@
-ghost use Rattle.std.specs.Prelude.{◌≡◌, ◌∷◌, ℕ, ◌<◌, ◌≤◌, length, IfOk, IfErr, Some, None};
+ghost use Rattle.std.specs.Prelude.{◌≡◌, ◌∷◌, ℕ, ◌<◌, ◌≤◌, length, IfOk, IfErr, Some, None, true};
+ghost use Rattle.std.proofs.Props.{props};
+ghost use Rattle.edi_segments.specs.Checks.{checked_left, are_all};
+ghost use Rattle.edi_syntax.specs.TallyValues.{tally_in};
 ghost use Rattle.edi_segments.specs.Interchange.{InterchangeText, segments_in};
 ghost use Rattle.edi_segments.specs.Segment.{content, segments_left, value};
 ghost use Rattle.edi_segments.specs.Text.{component_of};
 ghost use Rattle.edi_syntax.specs.Envelope.{header_of, behind_header, last_of};
 ghost use Rattle.edi_syntax.specs.Header.{sender, recipient, control_reference, control_number, preparation};
-ghost use Rattle.edi_syntax.specs.Faults.{head_fault_of, header_fault_of, body_fault_of};
+ghost use Rattle.edi_syntax.specs.Faults.{head_fault_of, header_fault_of, body_fault_of, segments_fault};
 
 use super::envelope::Envelope;
-use super::faults::{body_fault, header_fault, survey};
+use super::faults::{body_fault, header_fault};
 use super::header::{control_number, preparation};
+use super::survey::look_through;
+use super::tally::Tally;
 use edi_moments::Moment;
-use edi_segments::{Component, Segment, Segments, SyntaxFault};
+use edi_segments::{CheckedSegments, Component, Segment, SegmentCheck, Segments, SyntaxFault};
 
 /// How many bytes a text may have.
 const LIMIT: usize = 1_048_576;
@@ -21,9 +26,11 @@ pub struct Head<'a> {
     header: Segment<'a>,
     rest: Segments<'a>,
     trailer: Segment<'a>,
+    tally: Option<Tally>,
     pub ghost faultless: { header_fault_of (content header ∷ segments_left rest) ≡ None },
     pub ghost closed: { content trailer ≡ last_of (content header) (segments_left rest) },
     pub ghost bounded: { length (segments_left rest) ≤ 1048576 },
+    ghost tallied: { tally ≡ tally_in (segments_left rest) } by { Prim.hlevel props },
 }
 
 impl<'a> Head<'a> {
@@ -41,28 +48,37 @@ impl<'a> Head<'a> {
         if text.len() > LIMIT {
             return Err(SyntaxFault::TooLong);
         }
-        let segments = Segments::read(text)?;
-        Head::of(segments)
+        let check = SegmentCheck::of(text)?;
+        Head::of(check.segments())
     }
 
-    fn of(segments: Segments<'a>) -> Result<Head<'a>, SyntaxFault>
-        requires { length (segments_left segments) ≤ 1048576 }
-        ensures ok { IfOk result (λ head. (header_fault_of (segments_left segments.entry) ≡ None)
-            × (head_segments head ≡ segments_left segments.entry)) }
-        ensures err { IfErr result
-            (λ fault. header_fault_of (segments_left segments.entry) ≡ Some fault) }
+    fn of(segments: CheckedSegments<'_, 'a>) -> Result<Head<'a>, SyntaxFault>
+        requires { length (checked_left segments) ≤ 1048576 }
+        ensures ok { IfOk result (λ head. (are_all segments.entry ≡ true)
+            × (header_fault_of (checked_left segments.entry) ≡ None)
+            × (head_segments head ≡ checked_left segments.entry)) }
+        ensures err { IfErr result (λ fault. segments_fault (are_all segments.entry)
+            (checked_left segments.entry) ≡ Some fault) }
     {
         let mut rest = segments;
-        let Some(header) = rest.next() else {
-            return Err(SyntaxFault::NoEnvelope);
+        let Some(header) = rest.next_segment() else {
+            return if segments.is_at_end() {
+                Err(SyntaxFault::NoEnvelope)
+            } else {
+                Err(SyntaxFault::Segment)
+            };
         };
-        let (trailer, has_group) = survey(header, rest);
-        match header_fault(header, rest, trailer, has_group) {
+        let Some(survey) = look_through(header, rest) else {
+            return Err(SyntaxFault::Segment);
+        };
+        let rest = rest.accepted();
+        match header_fault(header, rest, survey.trailer, survey.has_group) {
             Some(fault) => Err(fault),
             None => Ok(Head {
                 header,
                 rest,
-                trailer,
+                trailer: survey.trailer,
+                tally: survey.tally,
             }),
         }
     }
@@ -75,7 +91,7 @@ impl<'a> Head<'a> {
         ensures err { IfErr result
             (λ fault. body_fault_of (head_segments self.entry) ≡ Some fault) }
     {
-        match body_fault(self.header, self.rest, self.trailer) {
+        match body_fault(self.header, self.rest, self.trailer, self.tally) {
             Some(fault) => Err(fault),
             None => Ok(Envelope::new(self)),
         }

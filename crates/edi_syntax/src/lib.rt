@@ -5,6 +5,7 @@ pub mod envelope;
 mod faults;
 pub mod frame;
 pub mod frames;
+mod group;
 pub mod head;
 mod header;
 pub mod laws;
@@ -12,6 +13,8 @@ mod message_end;
 pub mod message_segments;
 pub mod numbers;
 pub mod opening;
+mod survey;
+mod tallied;
 mod tally;
 #[cfg(test)]
 mod tests;
@@ -19,8 +22,9 @@ mod tests;
 pub use edi_cutter::{CutFault, Cutter};
 pub use edi_moments::Moment;
 pub use edi_segments::{
-    Bytes, Component, Components, Elements, Segment, SegmentWriter, Segments, Service, SyntaxFault,
-    interchange_text, write_component,
+    Bytes, CheckedSegments, Component, Components, Elements, PlacedValue, Segment, SegmentCheck,
+    SegmentReader, SegmentWriter, Segments, Service, SyntaxFault, Values, interchange_text,
+    write_component,
 };
 pub use envelope::Envelope;
 pub use frame::Frame;

@@ -1,41 +1,48 @@
 ghost use Rattle.std.specs.Prelude.{◌≡◌, ◌≤◌, length, MatchOption, true, false};
-ghost use Rattle.edi_segments.specs.Segment.{content, segments_left};
+ghost use Rattle.edi_segments.specs.Segment.{content};
+ghost use Rattle.edi_segments.specs.Checks.{checked_left};
 ghost use Rattle.edi_syntax.specs.Messages.{are_messages, is_inner};
 ghost use Rattle.edi_syntax.specs.Tallies.{EndsMessage};
 
-use edi_segments::{Segment, Segments};
+use super::group::is_of_group;
+use edi_segments::{CheckedSegments, Segment};
 
 /// The end of a message, as its place in the text.
 #[derive(Clone, Copy)]
-pub struct MessageEnd<'a> {
+pub struct MessageEnd<'t, 'a> {
     /// The trailer, UNT.
     pub(crate) trailer: Segment<'a>,
     /// How many segments stand between header and trailer.
     pub(crate) between: u64,
+    /// A segment behind the header, up to the trailer, is of a functional group.
+    pub(crate) has_group: bool,
     /// What stands behind the trailer.
-    pub(crate) rest: Segments<'a>,
+    pub(crate) rest: CheckedSegments<'t, 'a>,
 }
 
 /// The end of the message that the segments are behind the header of. `None` where something stands before it that may not
 /// stand in a message.
-pub(crate) fn message_end<'a>(behind: Segments<'a>) -> Option<MessageEnd<'a>>
-    requires { length (segments_left behind) ≤ 1048576 }
-    ensures { MatchOption result (are_messages true (segments_left behind.entry)
-        ≡ false) (EndsMessage (segments_left behind.entry)) }
+pub(crate) fn message_end<'t, 'a>(behind: CheckedSegments<'t, 'a>) -> Option<MessageEnd<'t, 'a>>
+    requires { length (checked_left behind) ≤ 1048576 }
+    ensures { MatchOption result (are_messages true (checked_left behind.entry)
+        ≡ false) (EndsMessage behind.entry) }
 {
     let mut rest = behind;
     let mut between = 0u64;
-    while let Some(segment) = rest.next() {
+    let mut has_group = false;
+    while let Some(segment) = rest.next_segment() {
         if segment.has_tag(b"UNT") {
             return Some(MessageEnd {
                 trailer: segment,
                 between,
+                has_group,
                 rest,
             });
         }
         if !is_inner(segment) {
             return None;
         }
+        has_group = has_group || is_of_group(segment);
         between += 1;
     }
     None

@@ -1,11 +1,14 @@
 ghost use Rattle.std.specs.Prelude.{◌≡◌, ◌≤◌, ◌==◌, length, MatchOption, true, false};
-ghost use Rattle.edi_segments.specs.Segment.{content, segments_left, value};
+ghost use Rattle.edi_segments.specs.Segment.{content, value};
+ghost use Rattle.edi_segments.specs.Checks.{checked_left};
 ghost use Rattle.edi_syntax.specs.Messages.{are_messages, is_reference, is_printable_identity, is_referenced, message_of_ends};
-ghost use Rattle.edi_syntax.specs.Tallies.{IsTally};
+ghost use Rattle.edi_syntax.specs.Tallies.{IsTallied};
 
+use super::group::is_of_group;
 use super::message_end::message_end;
 use super::numbers::is_count;
-use edi_segments::{Component, Segment, Segments};
+use super::tallied::Tallied;
+use edi_segments::{CheckedSegments, Component, Segment};
 
 /// What the messages of an interchange come to.
 #[derive(Clone, Copy)]
@@ -19,21 +22,30 @@ pub struct Tally {
 }
 
 /// What the messages come to. `None` where there is anything but messages, and a UNZ behind them.
-pub(crate) fn tally_of(segments: Segments<'_>) -> Option<Tally>
-    requires { length (segments_left segments) ≤ 1048576 }
-    ensures { MatchOption result (are_messages false (segments_left segments.entry)
-        ≡ false) (IsTally (segments_left segments.entry)) }
+pub(crate) fn tally_of<'t, 'a>(
+    header: Segment<'a>,
+    segments: CheckedSegments<'t, 'a>,
+) -> Option<Tallied<'t, 'a>>
+    requires { length (checked_left segments) ≤ 1048576 }
+    ensures { MatchOption result (are_messages false (checked_left segments.entry)
+        ≡ false) (IsTallied (content header.entry) segments.entry) }
 {
     let mut rest = segments;
+    let mut has_group = is_of_group(header);
     let mut tally = Tally {
         are_counted: true,
         are_referenced: true,
         messages: 0,
     };
-    while let Some(segment) = rest.next() {
+    while let Some(segment) = rest.next_segment() {
         if !segment.has_tag(b"UNH") {
             return if segment.has_tag(b"UNZ") && is_at_end(rest) {
-                Some(tally)
+                Some(Tallied {
+                    tally,
+                    trailer: segment,
+                    has_group,
+                    rest,
+                })
             } else {
                 None
             };
@@ -45,16 +57,18 @@ pub(crate) fn tally_of(segments: Segments<'_>) -> Option<Tally>
             are_referenced: tally.are_referenced && is_referenced(segment, end.trailer),
             messages: tally.messages + 1,
         };
+        has_group = has_group || end.has_group;
         rest = end.rest;
     }
     None
 }
 
-fn is_at_end(segments: Segments<'_>) -> bool
-    ensures { result ≡ (length (segments_left segments.entry) == 0) }
+/// No segment is left.
+fn is_at_end(segments: CheckedSegments<'_, '_>) -> bool
+    ensures { result ≡ (length (checked_left segments.entry) == 0) }
 {
     let mut rest = segments;
-    rest.next().is_none()
+    rest.next_segment().is_none()
 }
 
 /// The reference of the message is good and the same in the trailer, and its identity can be printed.

@@ -209,3 +209,23 @@ fn reads_service_characters(rt: HostRuntime) -> Result<(), Fail> {
     assert!(rt; head.sender(1).equals(b"?A"));
     Ok(())
 }
+
+#[test]
+fn reads_an_interchange_value_by_value(rt: HostRuntime) -> Result<(), Fail> {
+    let envelope = open_envelope(GATE_IN)?;
+    let reader = envelope.reader();
+    let mut tags = 0u32;
+    let mut count = 0u32;
+    let mut bytes = 0usize;
+    for placed in reader.values() {
+        count = count.wrapping_add(1);
+        bytes = bytes.wrapping_add(placed.value.len());
+        if placed.element == 0 {
+            tags = tags.wrapping_add(1);
+        }
+    }
+    assert_eq!(rt; tags, 5);
+    assert_eq!(rt; count, 26);
+    assert_eq!(rt; bytes, 69);
+    Ok(())
+}

@@ -7,7 +7,7 @@ use Rattle.edi_segments.proofs.reader.len_of_body.Goals as goal
 
 pub returns-then-bytes-lt3-clause-found : goal.returns-then-bytes-lt3-clause-found
 returns-then-bytes-lt3-clause-found c =
-    let none : end_of c.args.service false (drop 3 c.args.bytes.now) ≡ None = no_end c.args.service false (drop 3 c.args.bytes.now) (omega (arith, length-drop 3 c.args.bytes.now)) in
+    let none : end_of c.args.table.now.service false (drop 3 c.args.bytes.now) ≡ None = no_end c.args.table.now.service false (drop 3 c.args.bytes.now) (omega (arith, length-drop 3 c.args.bytes.now)) in
     sym (nothing _ _ none)
   where
     nothing : (b : Bool) (o : Option ℕ) → o ≡ None → cond b (option_map (λ n. 3 + n) o) None ≡ None

@@ -3,7 +3,7 @@ use Rattle.std.proofs.Common.{◌≡◌, ◌∷◌, sym, ◌∙◌}
 use Rattle.std.proofs.lemmas.List.{append_cancel_left}
 use Rattle.std.proofs.lemmas.Bool.{false≢true}
 use Rattle.edi_segments.specs.Segment.{bytes_left}
-use Rattle.edi_segments.proofs.component.are_same.Goals as goal
+use Rattle.edi_segments.proofs.bytes.are_same.Goals as goal
 
 pub returns-in_default : goal.returns-in_default
 returns-in_default c = (

@@ -1,7 +1,7 @@
 -- the values are the same where what is left of them is
 use Rattle.std.proofs.Common.{◌≡◌, ◌++◌}
 use Rattle.edi_segments.specs.Segment.{bytes_left}
-use Rattle.edi_segments.proofs.component.are_bytes.Given as goal
+use Rattle.edi_segments.proofs.bytes.are_bytes.Given as goal
 
 abbrev pub invariant-loop-byte : goal.invariant-loop-byte
 invariant-loop-byte l = record {

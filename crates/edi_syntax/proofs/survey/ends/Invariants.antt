@@ -2,7 +2,7 @@ use Rattle.std.proofs.Common.{◌≡◌, ◌∷◌, ◌||◌}
 use Rattle.std.specs.List.{list_any}
 use Rattle.edi_segments.specs.Segment.{content, segments_left}
 use Rattle.edi_syntax.specs.Envelope.{last_of, is_of_group}
-use Rattle.edi_syntax.proofs.faults.survey.Given as goal
+use Rattle.edi_syntax.proofs.survey.ends.Given as goal
 
 abbrev pub invariant-loop-segment : goal.invariant-loop-segment
 invariant-loop-segment l = record {
