@@ -1,6 +1,8 @@
 #!/bin/sh
-# Times edi_syntax on an interchange of a megabyte, beside a plain C scanner: bench/main.rt.txt, as a program over a copy of
-# this crate and those that it stands on, and bench/scan.c.txt. The times are per megabyte of text.
+# Times edi_syntax on an interchange of a megabyte, beside a plain C scanner in the same run: bench/main.rt.txt, as a program
+# over a copy of this crate and those that it stands on, bench/scan.c.txt, and bench/count.c.txt, which counts allocations.
+# Prints the best time of each per megabyte, and the share of the scanner's speed that it is. Wanted: half of it for opening
+# and walking in one go, a third of it for cutting, and no allocation while opening and walking.
 set -eu
 top=$(cd "$(dirname "$0")/../.." && pwd)
 work=$(mktemp -d)
@@ -9,8 +11,8 @@ mkdir -p "$work/crates/edi_bench/src"
 for name in edi_segments edi_moments edi_cutter edi_syntax; do cp -a "$top/crates/$name" "$work/crates"; done
 cp "$top/HANDLES" "$work"
 cp "$top/crates/edi_syntax/bench/main.rt.txt" "$work/crates/edi_bench/src/main.rt"
-cp "$top/crates/edi_syntax/bench/scan.c.txt" "$work/scan.c"
-printf 'edi_segments:\nedi_moments: jiff jiff_core\nedi_cutter: edi_segments\nedi_syntax: edi_segments edi_moments edi_cutter\nedi_bench: edi_syntax\n' > "$work/crates.txt"
+grep -E '^(edi_segments|edi_moments|edi_cutter|edi_syntax):' "$top/crates.txt" > "$work/crates.txt"
+echo 'edi_bench: edi_syntax' >> "$work/crates.txt"
 awk 'BEGIN {
     printf "UNB+UNOA:3+HAULA+TERM1+240305:0910+000001\x27"
     for (n = 1; n <= 228; n++) {
@@ -20,7 +22,25 @@ awk 'BEGIN {
     }
     printf "UNZ+228+000001\x27"
 }' > "$work/text.edi"
-cc -O2 -o "$work/scan" "$work/scan.c"
+cc -O2 -x c -o "$work/scan" "$top/crates/edi_syntax/bench/scan.c.txt"
+cc -O2 -shared -fPIC -x c -o "$work/count.so" "$top/crates/edi_syntax/bench/count.c.txt"
 cd "$work/crates/edi_bench"
-rt run -- "$work/text.edi"
-"$work/scan" "$work/text.edi"
+rt run -- "$work/text.edi" > "$work/build.log" || { cat "$work/build.log"; exit 1; }
+for run in 1 2 3; do
+    out/edi_bench "$work/text.edi"
+    "$work/scan" "$work/text.edi"
+done > "$work/times"
+awk '
+    $2 == "scanner:" { time = $(NF - 1); what = "scan" }
+    $2 != "scanner:" { time = $2; what = $1 }
+    !(what in best) || time < best[what] { best[what] = time }
+    END {
+        printf "C scanner:       %5d us\n", best["scan"]
+        printf "open:            %5d us, %.2f of its speed\n", best["open"], best["scan"] / best["open"]
+        printf "open and walk:   %5d us, %.2f of its speed (wanted: 0.50)\n", best["walk"], best["scan"] / best["walk"]
+        printf "by messages:     %5d us, %.2f of its speed\n", best["messages"], best["scan"] / best["messages"]
+        printf "cut in pieces:   %5d us, %.2f of its speed (wanted: 0.33)\n", best["cut"], best["scan"] / best["cut"]
+    }' "$work/times"
+none=$(LD_PRELOAD="$work/count.so" out/edi_bench "$work/text.edi" 0 2>&1 > /dev/null)
+some=$(LD_PRELOAD="$work/count.so" out/edi_bench "$work/text.edi" 100 2>&1 > /dev/null)
+echo "allocations in 100 times opening and walking: $((some - none)) (wanted: 0)"
