@@ -33,7 +33,7 @@ fault_text (Stream Turns) = codes "turns\n"
 fault_text (Stream Write) = []
 
 -- The demonstration ends with the status of its stream, or with 3 where it was left before the end.
-abbrev pub DemoEnds : (left left' written written' : Option (List ℕ)) (read_failed write_failed : Bool) → ℕ → Type 0
-DemoEnds left left' written written' read_failed write_failed status =
+abbrev pub DemoEnds : (left left' written written' : Option (List ℕ)) (read_failed read_failed' write_failed write_failed' : Bool) → ℕ → Type 0
+DemoEnds left left' written written' read_failed read_failed' write_failed write_failed' status =
     ((worst : Worst) × (status ≡ status_of worst) × DemoRuns left left' written written' worst)
-    ⊎ ((fault : DemoFault) × (status ≡ 3) × DemoLeft left left' written written' fault × IsOfPorts read_failed write_failed fault)
+    ⊎ ((fault : DemoFault) × (status ≡ 3) × DemoLeft left left' written written' fault × IsOfPorts read_failed read_failed' write_failed write_failed' fault)

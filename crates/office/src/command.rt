@@ -18,7 +18,7 @@ pub fn run<R: Read, W: Write, E: Write>(
     errors: &mut E,
 ) -> u8
     ensures usage { is_demo (map string_bytes words.now) ≡ false → result ≡ 2 }
-    ensures ran { is_demo (map string_bytes words.now) ≡ true → DemoEnds (R.remaining reader.old.inner) (R.remaining reader.new.inner) (W.contents writer.old.inner) (W.contents writer.new.inner) reader.new.failed writer.new.failed result }
+    ensures ran { is_demo (map string_bytes words.now) ≡ true → DemoEnds (R.remaining reader.old.inner) (R.remaining reader.new.inner) (W.contents writer.old.inner) (W.contents writer.new.inner) reader.old.failed reader.new.failed writer.old.failed writer.new.failed result }
 {
     if !is_demo(words) {
         let _ = errors.write_all(b"usage: office demo\n");

@@ -12,6 +12,7 @@ use std::io::{Read, Write};
 const TURNS: u64 = 100_000_000;
 
 /// Delivers the interchanges of a reader to a desk of the demonstration's set-up, and writes the answer to each as a line.
+/// Answers the worst of them. A fault is that memory for the set-up was wanting, or that of the stream.
 pub fn run_demo<R: Read, W: Write>(
     alloc: Global,
     reader: &mut Port<R>,
@@ -21,7 +22,7 @@ pub fn run_demo<R: Read, W: Write>(
 
     // What was done before a fault stands.
     ensures err { IfErr result (DemoLeft (R.remaining reader.old.inner) (R.remaining reader.new.inner) (W.contents writer.old.inner) (W.contents writer.new.inner)) }
-    ensures failed { IfErr result (IsOfPorts reader.new.failed writer.new.failed) }
+    ensures failed { IfErr result (IsOfPorts reader.old.failed reader.new.failed writer.old.failed writer.new.failed) }
 {
     let setup = match Setup::demo(alloc) {
         Ok(setup) => setup,

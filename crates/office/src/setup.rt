@@ -1,8 +1,8 @@
-ghost use Rattle.std.specs.Prelude.{◌≡◌, [], IfOk, map, codes, string_bytes};
+ghost use Rattle.std.specs.Prelude.{◌≡◌, [], IfOk, IfErr, map, codes, string_bytes};
 ghost use Rattle.edi_messages.specs.Codes.{table_texts};
 ghost use Rattle.office_machine.specs.Taking.{interchange_taken};
 ghost use Rattle.office_desk.specs.Desks.{DeskStands, parties};
-ghost use Rattle.office.specs.Opening.{partner_codes, partner_kinds, opening_machine};
+ghost use Rattle.office.specs.Opening.{partner_codes, partner_kinds, opening_machine, IsSound, OpensNot};
 ghost use Rattle.office.specs.Demo.{demo_codes, demo_partners, demo_kinds, demo_blocks};
 
 use crate::account::Account;
@@ -13,6 +13,9 @@ use office_machine::TerminalMachine;
 use std::alloc::{AllocError, Global};
 use terminal_core::Terminal;
 use yard_core::{Block, Plan};
+
+/// The most partners that a terminal has.
+const PARTNERS: usize = 999;
 
 /// What a terminal is set up with.
 #[derive(Drop)]
@@ -39,6 +42,9 @@ impl Setup {
         ensures kinds { IfOk result (λ setup. partner_kinds setup.accounts.items ≡ demo_kinds) }
         ensures blocks { IfOk result (λ setup. setup.blocks.items ≡ demo_blocks) }
         ensures limit { IfOk result (λ setup. setup.visit_limit ≡ 999999999) }
+
+        // The set-up itself has no fault.
+        ensures err { IfErr result (λ fault. fault ≡ SetupFault.Memory) }
     {
         let table = match CodeTable::new([b"34", b"36", b"YMV", b"43", b"45", b"44", b"46"]) {
             Ok(table) => table,
@@ -55,20 +61,24 @@ impl Setup {
         ensures stands { IfOk result (λ desk. DeskStands interchange_taken desk [] desk) }
         ensures parties { IfOk result (λ desk. parties desk ≡ record { terminal = string_bytes self.terminal; partners = partner_codes self.accounts.items }) }
         ensures machine { IfOk result (λ desk. desk.runs.machine ≡ opening_machine self.codes self.accounts.items self.blocks.items self.visit_limit) }
+
+        // Where the set-up has a fault, that one, the blocks' before the number of partners.
+        ensures sound { IfOk result (λ desk. IsSound self) }
+        ensures err { IfErr result (OpensNot self) }
     {
         let plan = match Plan::new(self.blocks.as_slice()) {
             Ok(plan) => plan,
             Err(fault) => return Err(SetupFault::Blocks(fault)),
         };
+        if self.accounts.len() > PARTNERS {
+            return Err(SetupFault::Partners);
+        }
         let Ok(partners) = codes_of(alloc, self.accounts.as_slice()) else {
             return Err(SetupFault::Memory);
         };
         let Ok(kinds) = kinds_of(alloc, self.accounts.as_slice()) else {
             return Err(SetupFault::Memory);
         };
-        if partners.len() > 999 {
-            return Err(SetupFault::Partners);
-        }
         let Ok(empty) = Terminal::new(alloc, plan, self.visit_limit) else {
             return Err(SetupFault::Memory);
         };

@@ -14,7 +14,8 @@ mod streams;
 
 use crate::command;
 use crate::setup::Setup;
-use office_stream::{Deliver, Port};
+use office_replies::Worst;
+use office_stream::{Deliver, Port, run_stream};
 use std::alloc::Global;
 use std::process::Abort;
 use std::test::Fail;
@@ -54,6 +55,22 @@ fn assert_answers_of(
         body.push_str(response.back())?;
         assert_eq!(rt; body.as_str(), *expected);
     }
+    Ok(())
+}
+
+/// Runs a stream over a desk of that set-up, and holds what is written to the lines expected.
+fn assert_streams(
+    rt: &impl Abort,
+    alloc: Global,
+    setup: Setup,
+    input: &[u8],
+    lines: &str,
+) -> Result<(), Fail> {
+    let mut desk = setup.open(alloc).expect(rt, "a desk");
+    let mut output = Port::new(Vec::new(alloc));
+    let worst = run_stream(alloc, &mut Port::new(input), &mut output, &mut desk, 100);
+    assert_eq!(rt; worst, Ok(Worst::Fine));
+    assert_eq!(rt; output.into_inner().as_slice(), lines.as_bytes());
     Ok(())
 }
 

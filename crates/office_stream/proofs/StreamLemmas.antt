@@ -1,9 +1,9 @@
 -- A stream, piece by piece.
-use Rattle.std.proofs.Common.{◌≡◌, ℕ, List, [], ◌∷◌, ◌++◌, Option, None, Some, Result, Ok, Err, IfOk, IfErr, OnOk, Bool, true, false, cond, ◌≢◌, ◌⊎◌, inl, inr, take, arith, length, refl, sym, ap, subst, ◌∙◌}
+use Rattle.std.proofs.Common.{◌≡◌, ℕ, ◌+◌, ◌≤◌, ◌<◌, List, [], ◌∷◌, ◌++◌, Option, None, Some, Result, Ok, Err, IfOk, IfErr, OnOk, Bool, true, false, cond, ◌≢◌, ◌⊎◌, inl, inr, take, arith, length, refl, sym, ap, subst, ◌∙◌}
 use Rattle.std.specs.Io.KnownBytes.{Appends, Consumes, Keeps, IsAtEnd}
 use Rattle.std.proofs.KnownBytes.{Appends-trans, Consumes-trans, Consumes-kept, Consumes-nil, Appends-nil}
 use Rattle.std.proofs.lemmas.Grind.{flat_map-append}
-use Rattle.std.proofs.lemmas.List.{append-nil}
+use Rattle.std.proofs.lemmas.List.{append-nil, length-append, length-take-le}
 use Rattle.std.proofs.lemmas.Bool.{eqb-true}
 use Rattle.edi_cutter.specs.Places.{place_after}
 use Rattle.edi_cutter.specs.Cuts.{Cutting, pending, is_whole, is_nil, IsPending}
@@ -24,6 +24,13 @@ use Rattle.office_stream.specs.declared.stream_end.StreamEnd.TheVariants.{Whole,
 use Rattle.office_stream.proofs.Answering.{answered_both, worst_from-both}
 use Rattle.office_stream.proofs.PieceLemmas.{piece_ends}
 use Rattle.office_stream.proofs.Cutting.{HoldsOfAll, cuts_join, cuts_weaker, anyhow_of_all, piece_end_of_all}
+
+more_bytes : (least : ℕ) (bytes piece : List ℕ) → least ≤ length bytes → 0 < length piece → least + 1 ≤ length (bytes ++ piece)
+more_bytes least bytes piece long some = rw (length-append bytes piece) (omega (arith, long, some))
+
+-- a read that gave bytes
+pub some_taken : (n : ℕ) (buffer : List ℕ) → n ≢ 0 → n ≤ length buffer → 0 < length (take n buffer)
+some_taken n buffer some within = rw (length-take-le n buffer within) (omega (arith, some))
 
 nothing_pending : IsPending []
 unfolding place_after
@@ -57,46 +64,50 @@ module _ {D : Type 0} (stands : List (List ℕ) → D → Type 0) (answers : Lis
     writes = subst (Appends a c) (sym (flat_map-append _ before.responses then.responses)) (Appends-trans a b c (response_lines before.responses) (response_lines then.responses) before.writes then.writes);
   }
 
-  pub sofar_more : (ds : List (List ℕ)) (left mid left' : Option (List ℕ)) (q q' piece : List ℕ) (old new : D) (worst worst' : Worst) (a b c : Option (List ℕ)) →
-      Sofar stands answers ds left mid q old worst a b → Consumes mid left' piece →
+  pub sofar_more : (least : ℕ) (ds : List (List ℕ)) (left mid left' : Option (List ℕ)) (q q' piece : List ℕ) (old new : D) (worst worst' : Worst) (a b c : Option (List ℕ)) →
+      Sofar stands answers least ds left mid q old worst a b → Consumes mid left' piece → 0 < length piece →
       ((others : List (List ℕ)) → stands others old → PieceAnswered stands answers others (EndsPiece None q') q piece new worst worst' b c) →
-      Sofar stands answers ds left left' q' new worst' a c
-  sofar_more ds left mid left' q q' piece old new worst worst' a b c before reads next =
+      Sofar stands answers (least + 1) ds left left' q' new worst' a c
+  sofar_more least ds left mid left' q q' piece old new worst worst' a b c before reads some next =
       let then = next (deliveries ds before.piece.texts before.piece.responses) before.piece.answered.stands_now in
       record {
         bytes = before.bytes ++ piece;
         reads = Consumes-trans left mid left' before.bytes piece before.reads reads;
+        long = more_bytes least before.bytes piece before.long some;
         piece = pieces_join (EndsPiece None q') (piece_end_of_all None q') ds before.bytes q piece old new worst worst' a b c before.piece then;
       }
 
-  began_from : (ds : List (List ℕ)) (left left' : Option (List ℕ)) (P : List ℕ → List ℕ → Type 0) (bytes : List ℕ) (desk : D) (worst : Worst) (a b : Option (List ℕ)) →
-      Consumes left left' bytes → PieceAnswered stands answers ds P [] bytes desk Fine worst a b → Began stands answers ds left left' a b desk
-  began_from ds left left' P bytes desk worst a b reads done = record {
+  began_from : (least : ℕ) (ds : List (List ℕ)) (left left' : Option (List ℕ)) (P : List ℕ → List ℕ → Type 0) (bytes : List ℕ) (desk : D) (worst : Worst) (a b : Option (List ℕ)) →
+      Consumes left left' bytes → least ≤ length bytes → PieceAnswered stands answers ds P [] bytes desk Fine worst a b → Began stands answers least ds left left' a b desk
+  began_from least ds left left' P bytes desk worst a b reads long done = record {
     bytes = bytes;
     texts = done.texts;
     responses = done.responses;
     reads = reads;
+    long = long;
     cuts = cuts_weaker P GoesOnAnyhow (λ pending rest at. tt) [] bytes done.texts done.cuts;
     answered = done.answered;
     writes = done.writes;
   }
 
-  pub began_now : (ds : List (List ℕ)) (left left' : Option (List ℕ)) (q : List ℕ) (desk : D) (worst : Worst) (a b : Option (List ℕ)) →
-      Sofar stands answers ds left left' q desk worst a b → Began stands answers ds left left' a b desk
-  began_now ds left left' q desk worst a b before = began_from ds left left' (LeavesOver q) before.bytes desk worst a b before.reads before.piece
+  -- too many reads
+  pub began_now : (least turns : ℕ) (ds : List (List ℕ)) (left left' : Option (List ℕ)) (q : List ℕ) (desk : D) (worst : Worst) (a b : Option (List ℕ)) → turns ≤ least →
+      Sofar stands answers least ds left left' q desk worst a b → Began stands answers turns ds left left' a b desk
+  began_now least turns ds left left' q desk worst a b all before =
+      began_from turns ds left left' (LeavesOver q) before.bytes desk worst a b before.reads (omega (arith, all, before.long)) before.piece
 
   -- a read that failed
-  pub began : (ds : List (List ℕ)) (left mid left' : Option (List ℕ)) (q : List ℕ) (desk : D) (worst : Worst) (a b : Option (List ℕ)) →
-      Sofar stands answers ds left mid q desk worst a b → Keeps mid left' → Began stands answers ds left left' a b desk
-  began ds left mid left' q desk worst a b before same =
-      began_from ds left left' (LeavesOver q) before.bytes desk worst a b (Consumes-kept left mid left' before.bytes before.reads same) before.piece
+  pub began : (least : ℕ) (ds : List (List ℕ)) (left mid left' : Option (List ℕ)) (q : List ℕ) (desk : D) (worst : Worst) (a b : Option (List ℕ)) →
+      Sofar stands answers least ds left mid q desk worst a b → Keeps mid left' → Began stands answers 0 ds left left' a b desk
+  began least ds left mid left' q desk worst a b before same =
+      began_from 0 ds left left' (LeavesOver q) before.bytes desk worst a b (Consumes-kept left mid left' before.bytes before.reads same) (omega arith) before.piece
 
   -- a write that failed, in the middle of a piece
-  pub delivered : (ds : List (List ℕ)) (left mid left' : Option (List ℕ)) (q piece : List ℕ) (old new : D) (worst : Worst) (a b : Option (List ℕ)) →
-      Sofar stands answers ds left mid q old worst a b → Consumes mid left' piece →
+  pub delivered : (least : ℕ) (ds : List (List ℕ)) (left mid left' : Option (List ℕ)) (q piece : List ℕ) (old new : D) (worst : Worst) (a b : Option (List ℕ)) →
+      Sofar stands answers least ds left mid q old worst a b → Consumes mid left' piece →
       ((others : List (List ℕ)) → stands others old → PieceDelivered stands answers others q piece new) →
       Delivered stands answers ds left left' new
-  delivered ds left mid left' q piece old new worst a b before reads next =
+  delivered least ds left mid left' q piece old new worst a b before reads next =
       let then = next (deliveries ds before.piece.texts before.piece.responses) before.piece.answered.stands_now in
       record {
         bytes = before.bytes ++ piece;
@@ -108,10 +119,11 @@ module _ {D : Type 0} (stands : List (List ℕ) → D → Type 0) (answers : Lis
       }
 
   -- before the first read
-  pub nothing_read : (ds : List (List ℕ)) (left : Option (List ℕ)) (q : List ℕ) (desk : D) (a : Option (List ℕ)) → q ≡ [] → stands ds desk → Sofar stands answers ds left left q desk Fine a a
+  pub nothing_read : (ds : List (List ℕ)) (left : Option (List ℕ)) (q : List ℕ) (desk : D) (a : Option (List ℕ)) → q ≡ [] → stands ds desk → Sofar stands answers 0 ds left left q desk Fine a a
   nothing_read ds left q desk a none at = record {
     bytes = [];
     reads = Consumes-nil left;
+    long = omega arith;
     piece = record {
       texts = [];
       responses = [];
@@ -139,27 +151,27 @@ module _ {D : Type 0} (stands : List (List ℕ) → D → Type 0) (answers : Lis
     is_worst = is ∙ ap (λ w. worse_of w (end_worst end)) done.is_worst;
   }
 
-  pub ends_whole : (ds : List (List ℕ)) (left mid left' : Option (List ℕ)) (q : List ℕ) (desk : D) (worst all : Worst) (a b c : Option (List ℕ)) →
-      Sofar stands answers ds left mid q desk worst a b → Consumes mid left' [] → IsAtEnd left' → q ≡ [] → Appends b c (end_text Whole) →
+  pub ends_whole : (least : ℕ) (ds : List (List ℕ)) (left mid left' : Option (List ℕ)) (q : List ℕ) (desk : D) (worst all : Worst) (a b c : Option (List ℕ)) →
+      Sofar stands answers least ds left mid q desk worst a b → Consumes mid left' [] → IsAtEnd left' → q ≡ [] → Appends b c (end_text Whole) →
       all ≡ worse_of worst (end_worst Whole) → Streamed stands answers ds left left' a c desk all
-  ends_whole ds left mid left' q desk worst all a b c before reads ended none writes is =
+  ends_whole least ds left mid left' q desk worst all a b c before reads ended none writes is =
       ends ds left left' Whole before.bytes desk worst all a b c (same_bytes left mid left' before.bytes before.reads reads)
       (piece_ends stands answers ds (LeavesOver q) (LeavesOver []) [] before.bytes desk Fine worst a b (λ pending bytes at. subst (λ r. LeavesOver r pending bytes) none at) before.piece)
       ended writes is
 
-  pub ends_open : (ds : List (List ℕ)) (left mid left' : Option (List ℕ)) (q : List ℕ) (desk : D) (worst all : Worst) (a b c : Option (List ℕ)) →
-      Sofar stands answers ds left mid q desk worst a b → Consumes mid left' [] → IsAtEnd left' → q ≢ [] → Appends b c (end_text Open) →
+  pub ends_open : (least : ℕ) (ds : List (List ℕ)) (left mid left' : Option (List ℕ)) (q : List ℕ) (desk : D) (worst all : Worst) (a b c : Option (List ℕ)) →
+      Sofar stands answers least ds left mid q desk worst a b → Consumes mid left' [] → IsAtEnd left' → q ≢ [] → Appends b c (end_text Open) →
       all ≡ worse_of worst (end_worst Open) → Streamed stands answers ds left left' a c desk all
-  ends_open ds left mid left' q desk worst all a b c before reads ended some writes is =
+  ends_open least ds left mid left' q desk worst all a b c before reads ended some writes is =
       ends ds left left' Open before.bytes desk worst all a b c (same_bytes left mid left' before.bytes before.reads reads)
       (piece_ends stands answers ds (LeavesOver q) (EndsAs Open) [] before.bytes desk Fine worst a b (λ pending bytes at. (q, some, at)) before.piece)
       ended writes is
 
-  pub ends_cut_off : (ds : List (List ℕ)) (left mid left' : Option (List ℕ)) (q q' piece : List ℕ) (fault : CutFault) (old new : D) (worst worst' all : Worst) (a b c d : Option (List ℕ)) →
-      Sofar stands answers ds left mid q old worst a b → Consumes mid left' piece →
+  pub ends_cut_off : (least : ℕ) (ds : List (List ℕ)) (left mid left' : Option (List ℕ)) (q q' piece : List ℕ) (fault : CutFault) (old new : D) (worst worst' all : Worst) (a b c d : Option (List ℕ)) →
+      Sofar stands answers least ds left mid q old worst a b → Consumes mid left' piece →
       ((others : List (List ℕ)) → stands others old → PieceAnswered stands answers others (EndsPiece (Some fault) q') q piece new worst worst' b c) →
       Appends c d (end_text (Cut fault)) → all ≡ worse_of worst' (end_worst (Cut fault)) → Streamed stands answers ds left left' a d new all
-  ends_cut_off ds left mid left' q q' piece fault old new worst worst' all a b c d before reads next writes is =
+  ends_cut_off least ds left mid left' q q' piece fault old new worst worst' all a b c d before reads next writes is =
       let then = next (deliveries ds before.piece.texts before.piece.responses) before.piece.answered.stands_now in
       ends ds left left' (Cut fault) (before.bytes ++ piece) new worst' all a c d (Consumes-trans left mid left' before.bytes piece before.reads reads)
       (pieces_join (EndsPiece (Some fault) q') (piece_end_of_all (Some fault) q') ds before.bytes q piece old new worst worst' a b c before.piece then)
@@ -171,24 +183,24 @@ module _ {D : Type 0} (stands : List (List ℕ) → D → Type 0) (answers : Lis
       subst (λ c. PieceAnswered stands answers ds (EndsPiece c q') q piece desk before worst a b) is done
 
   -- the end of the input
-  pub ends_input : (ds : List (List ℕ)) (left mid left' : Option (List ℕ)) (q : List ℕ) (end : StreamEnd) (desk : D) (worst all : Worst) (a b c : Option (List ℕ)) →
-      Sofar stands answers ds left mid q desk worst a b → Consumes mid left' [] → IsAtEnd left' →
+  pub ends_input : (least : ℕ) (ds : List (List ℕ)) (left mid left' : Option (List ℕ)) (q : List ℕ) (end : StreamEnd) (desk : D) (worst all : Worst) (a b c : Option (List ℕ)) →
+      Sofar stands answers least ds left mid q desk worst a b → Consumes mid left' [] → IsAtEnd left' →
       ((end ≡ Whole) × (q ≡ [])) ⊎ ((end ≡ Open) × (q ≢ [])) → Appends b c (end_text end) →
       all ≡ worse_of worst (end_worst end) → Streamed stands answers ds left left' a c desk all
-  ends_input ds left mid left' q end desk worst all a b c before reads ended how writes is = elim how [
-    | inl whole ↦ ends_whole ds left mid left' q desk worst all a b c before reads ended whole.1
+  ends_input least ds left mid left' q end desk worst all a b c before reads ended how writes is = elim how [
+    | inl whole ↦ ends_whole least ds left mid left' q desk worst all a b c before reads ended whole.1
         (subst (λ e. Appends b c (end_text e)) whole.0 writes) (subst (λ e. all ≡ worse_of worst (end_worst e)) whole.0 is)
-    | inr less ↦ ends_open ds left mid left' q desk worst all a b c before reads ended less.1
+    | inr less ↦ ends_open least ds left mid left' q desk worst all a b c before reads ended less.1
         (subst (λ e. Appends b c (end_text e)) less.0 writes) (subst (λ e. all ≡ worse_of worst (end_worst e)) less.0 is)
   ]
 
   -- a write that failed behind a piece
-  pub delivered_piece : (ds : List (List ℕ)) (left mid left' : Option (List ℕ)) (q piece : List ℕ) (P : List ℕ → List ℕ → Type 0) (old new : D) (worst worst' : Worst) (a b c : Option (List ℕ)) →
-      Sofar stands answers ds left mid q old worst a b → Consumes mid left' piece →
+  pub delivered_piece : (least : ℕ) (ds : List (List ℕ)) (left mid left' : Option (List ℕ)) (q piece : List ℕ) (P : List ℕ → List ℕ → Type 0) (old new : D) (worst worst' : Worst) (a b c : Option (List ℕ)) →
+      Sofar stands answers least ds left mid q old worst a b → Consumes mid left' piece →
       ((others : List (List ℕ)) → stands others old → PieceAnswered stands answers others P q piece new worst worst' b c) →
       Delivered stands answers ds left left' new
-  delivered_piece ds left mid left' q piece P old new worst worst' a b c before reads next =
-      delivered ds left mid left' q piece old new worst a b before reads
+  delivered_piece least ds left mid left' q piece P old new worst worst' a b c before reads next =
+      delivered least ds left mid left' q piece old new worst a b before reads
       (λ others at. let done = next others at in record {
         texts = done.texts;
         responses = done.responses;
@@ -196,9 +208,9 @@ module _ {D : Type 0} (stands : List (List ℕ) → D → Type 0) (answers : Lis
         answered = done.answered;
       })
 
-  pub delivered_sofar : (ds : List (List ℕ)) (left mid left' : Option (List ℕ)) (q : List ℕ) (desk : D) (worst : Worst) (a b : Option (List ℕ)) →
-      Sofar stands answers ds left mid q desk worst a b → Consumes mid left' [] → Delivered stands answers ds left left' desk
-  delivered_sofar ds left mid left' q desk worst a b before reads = record {
+  pub delivered_sofar : (least : ℕ) (ds : List (List ℕ)) (left mid left' : Option (List ℕ)) (q : List ℕ) (desk : D) (worst : Worst) (a b : Option (List ℕ)) →
+      Sofar stands answers least ds left mid q desk worst a b → Consumes mid left' [] → Delivered stands answers ds left left' desk
+  delivered_sofar least ds left mid left' q desk worst a b before reads = record {
     bytes = before.bytes;
     texts = before.piece.texts;
     responses = before.piece.responses;
@@ -209,8 +221,8 @@ module _ {D : Type 0} (stands : List (List ℕ) → D → Type 0) (answers : Lis
 
 -- ---- faults
 
-pub at_write : (fault : StreamFault) (A B : Type 0) → fault ≡ Write → B → MatchFault fault A B
-at_write fault A B is holds = subst (λ f. MatchFault f A B) (sym is) holds
+pub at_write : (fault : StreamFault) (A B C : Type 0) → fault ≡ Write → C → MatchFault fault A B C
+at_write fault A B C is holds = subst (λ f. MatchFault f A B C) (sym is) holds
 
 pub ok_weaker : {T E : Type 0} (r : Result T E) (P Q : T → Type 0) → ((value : T) → P value → Q value) → IfOk r P → IfOk r Q
 ok_weaker (Ok value) P Q on holds = on value holds

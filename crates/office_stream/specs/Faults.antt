@@ -2,8 +2,8 @@
 use Rattle.office_stream.specs.declared.stream_fault.StreamFault.{StreamFault}
 use Rattle.office_stream.specs.declared.stream_fault.StreamFault.TheVariants.{Read, Write, Turns}
 
--- what holds where every line was written, and what where one may be missing
-abbrev pub MatchFault : StreamFault → Type 0 → Type 0 → Type 0
-MatchFault Read Whole Cut = Whole
-MatchFault Turns Whole Cut = Whole
-MatchFault Write Whole Cut = Cut
+-- what holds after a failed read, what after too many reads, and what after a failed write
+abbrev pub MatchFault : StreamFault → Type 0 → Type 0 → Type 0 → Type 0
+MatchFault Read AfterRead AfterTurns AfterWrite = AfterRead
+MatchFault Turns AfterRead AfterTurns AfterWrite = AfterTurns
+MatchFault Write AfterRead AfterTurns AfterWrite = AfterWrite

@@ -1,5 +1,5 @@
 -- What is done with a piece of a stream.
-use Rattle.std.specs.Prelude.{◌≡◌, ℕ, List, [], Option, None, Some}
+use Rattle.std.specs.Prelude.{◌≡◌, ℕ, ◌≤◌, List, [], length, Option, None, Some}
 use Rattle.std.specs.Io.KnownBytes.{Appends, Consumes}
 use Rattle.edi_cutter.specs.declared.cut_fault.CutFault.{CutFault}
 use Rattle.office_replies.specs.declared.response.Response.{Response}
@@ -46,9 +46,10 @@ pub record PieceDelivered {D : Type 0} (stands : List (List ℕ) → D → Type 
 abbrev pub IsLeft : List ℕ → List ℕ → List ℕ → List ℕ → Type 0
 IsLeft pending' rest pending bytes = (pending ≡ pending') × (bytes ≡ rest)
 
--- The interchanges that what was read begins with were answered by their lines, and less than one is pending.
+-- So many bytes or more were read. The interchanges that they begin with were answered by their lines, and less than one is pending.
 pub record Sofar {D : Type 0} (stands : List (List ℕ) → D → Type 0) (answers : List (List ℕ) → List ℕ → Response → Type 0)
-    (ds : List (List ℕ)) (left left' : Option (List ℕ)) (pending : List ℕ) (desk : D) (worst : Worst) (written written' : Option (List ℕ)) : Type 0 where
+    (least : ℕ) (ds : List (List ℕ)) (left left' : Option (List ℕ)) (pending : List ℕ) (desk : D) (worst : Worst) (written written' : Option (List ℕ)) : Type 0 where
   pub bytes : List ℕ
   pub reads : Consumes left left' bytes
+  pub long : least ≤ length bytes
   pub piece : PieceAnswered stands answers ds (LeavesOver pending) [] bytes desk Fine worst written written'

@@ -76,13 +76,14 @@ pub record Streamed {D : Type 0} (stands : List (List ℕ) → D → Type 0) (an
   pub writes : Appends written written' (response_lines responses ++ end_text end)
   pub is_worst : worst ≡ worse_of (worst_from Fine responses) (end_worst end)
 
--- The interchanges at the front of what was read were answered by their lines.
+-- So many bytes or more were read, and the interchanges at their front were answered by their lines.
 pub record Began {D : Type 0} (stands : List (List ℕ) → D → Type 0) (answers : List (List ℕ) → List ℕ → Response → Type 0)
-    (ds : List (List ℕ)) (left left' written written' : Option (List ℕ)) (desk : D) : Type 0 where
+    (least : ℕ) (ds : List (List ℕ)) (left left' written written' : Option (List ℕ)) (desk : D) : Type 0 where
   pub bytes : List ℕ
   pub texts : List (List ℕ)
   pub responses : List Response
   pub reads : Consumes left left' bytes
+  pub long : least ≤ length bytes
   pub cuts : CutsFrom GoesOnAnyhow [] bytes texts
   pub answered : Answered stands answers ds texts responses desk
   pub writes : Appends written written' (response_lines responses)

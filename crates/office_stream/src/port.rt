@@ -35,7 +35,8 @@ impl<T> Port<T> {
     pub fn failed(&self) -> bool
         ensures { result ≡ self.now.failed }
     {
-        self.failed
+        let Port { inner: _, failed } = self;
+        *failed
     }
 }
 

@@ -30,13 +30,18 @@ pub fn run_stream<R: Read, W: Write, D: Deliver>(
     ensures ok { IfOk result (λ worst. (opening : D) (ds : List (List ℕ)) → D.stands opening ds desk.old → Streamed (D.stands opening) (D.answers opening) ds (R.remaining reader.old.inner) (R.remaining reader.new.inner) (W.contents writer.old.inner) (W.contents writer.new.inner) desk.new worst) }
 
     // What was delivered before a fault stands. After a read's fault, or too many reads, each line of it was written. After a
-    // write's fault nothing is said of the lines, since a writer that fails tells nothing of what it took.
+    // write's fault nothing is said of the lines, since a writer that fails tells nothing of what it took. Each read that is
+    // not the last gives a byte at least, so Turns comes behind that many bytes.
     ensures err { IfErr result (λ fault. (opening : D) (ds : List (List ℕ)) → D.stands opening ds desk.old → MatchFault fault
-        (Began (D.stands opening) (D.answers opening) ds (R.remaining reader.old.inner) (R.remaining reader.new.inner) (W.contents writer.old.inner) (W.contents writer.new.inner) desk.new)
+        (Began (D.stands opening) (D.answers opening) 0 ds (R.remaining reader.old.inner) (R.remaining reader.new.inner) (W.contents writer.old.inner) (W.contents writer.new.inner) desk.new)
+        (Began (D.stands opening) (D.answers opening) turns ds (R.remaining reader.old.inner) (R.remaining reader.new.inner) (W.contents writer.old.inner) (W.contents writer.new.inner) desk.new)
         (Delivered (D.stands opening) (D.answers opening) ds (R.remaining reader.old.inner) (R.remaining reader.new.inner) desk.new)) }
 
-    // A fault of the reader or the writer is answered only where it has failed.
-    ensures failed { IfErr result (λ fault. MatchFault fault (fault ≡ StreamFault.Read → reader.new.failed ≡ true) (writer.new.failed ≡ true)) }
+    // A fault of the reader or the writer is answered only where it has failed, and Turns only where neither has.
+    ensures failed { IfErr result (λ fault. MatchFault fault
+        (reader.new.failed ≡ true)
+        ((reader.new.failed ≡ reader.old.failed) × (writer.new.failed ≡ writer.old.failed))
+        (writer.new.failed ≡ true)) }
 {
     let mut cutter = Cutter::new(alloc);
     let mut buffer = [0; 4096];

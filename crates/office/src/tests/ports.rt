@@ -203,3 +203,25 @@ fn a_program_whose_output_fails_ends_with_three(rt: HostRuntime) -> Result<(), F
     assert_eq!(&rt; status, 3);
     Ok(())
 }
+
+/// The stream is left after so many reads, and no read more is made.
+#[test]
+fn a_stream_is_left_after_so_many_reads(rt: HostRuntime) -> Result<(), Fail> {
+    for reads in [0, 1, 136, 137, 260, 381] {
+        let pieces = Pieces {
+            text: STREAM,
+            next: 1,
+            size: 1,
+        };
+        let mut desk = opened_desk(&rt, rt.alloc());
+        let mut input = Port::new(pieces);
+        let mut output = Port::new(Vec::new(rt.alloc()));
+        let left = run_stream(rt.alloc(), &mut input, &mut output, &mut desk, reads as u64);
+        assert_eq!(&rt; left, Err(StreamFault::Turns));
+        assert!(&rt; !input.failed());
+        assert_eq!(&rt; input.into_inner().text.len(), STREAM.len() - reads);
+        let expected = lines(rt.alloc(), &TAKEN[..ended_within(reads)], &[])?;
+        assert_eq!(&rt; output.into_inner().as_slice(), expected.as_slice());
+    }
+    Ok(())
+}

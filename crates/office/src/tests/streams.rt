@@ -125,3 +125,20 @@ fn what_is_no_stream_of_interchanges_is_cut_by_name(rt: HostRuntime) -> Result<(
         ("{\"answer\":\"cut\",\"fault\":\"Service\"}\n", "", 1),
     )
 }
+
+/// In the demonstration's yard, the early one gets the slot that the gate-out before it has left: it was taken as its gap
+/// closed, behind that gate-out.
+#[test]
+fn what_closes_a_gap_decides_the_order_across_partners(rt: HostRuntime) -> Result<(), Fail> {
+    assert_prints(
+        &rt,
+        rt.alloc(),
+        "demo",
+        b"UNB+UNOA:3+HAULB+TERM1+240305:0910+1'UNH+1+CODECO:D:95B:UN'BGM+34+G1+9'EQD+CN+ABCU0000017+22G1:102:5+++5'UNT+4+1'UNZ+1+1'\r\nUNB+UNOA:3+HAULA+TERM1+240305:0910+2'UNH+1+CODECO:D:95B:UN'BGM+34+G1+9'EQD+CN+ABCU0000038+22G1:102:5+++5'UNT+4+1'UNZ+1+2'\r\nUNB+UNOA:3+HAULB+TERM1+240305:0910+2'UNH+1+CODECO:D:95B:UN'BGM+34+G1+9'EQD+CN+ABCU0000022+22G1:102:5+++5'UNT+4+1'UNZ+1+2'\r\nUNB+UNOA:3+HAULA+TERM1+240305:0910+1'UNH+1+CODECO:D:95B:UN'BGM+36+G1+9'EQD+CN+ABCU0000017+22G1:102:5+++5'UNT+4+1'UNZ+1+1'\r\nUNB+UNOA:3+HAULA+TERM1+240305:0910+2'UNH+1+CODECO:D:95B:UN'BGM+34+G1+9'EQD+CN+ABCU0000038+22G1:102:5+++5'UNT+4+1'UNZ+1+2'\r\n",
+        (
+            "{\"answer\":\"taken\",\"number\":1,\"partner\":\"HAULB\",\"reply\":{\"contrl\":\"UNB+UNOA:3+TERM1+HAULB+240305:0910+1'UNH+1+CONTRL:D:3:UN'UCI+1+HAULB+TERM1+7'UCM+1+CODECO:D:95B:UN+7'UNT+4+1'UNZ+1+1'\",\"messages\":[{\"lines\":[{\"box\":\"ABCU0000017\",\"line\":1,\"outcome\":\"done\",\"slot\":\"A001011\"}],\"reference\":\"1\",\"result\":\"accepted\"}]}}\n{\"answer\":\"waiting\",\"next\":1,\"number\":2,\"partner\":\"HAULA\"}\n{\"answer\":\"taken\",\"number\":2,\"partner\":\"HAULB\",\"reply\":{\"contrl\":\"UNB+UNOA:3+TERM1+HAULB+240305:0910+2'UNH+1+CONTRL:D:3:UN'UCI+2+HAULB+TERM1+7'UCM+1+CODECO:D:95B:UN+7'UNT+4+1'UNZ+1+2'\",\"messages\":[{\"lines\":[{\"box\":\"ABCU0000022\",\"line\":1,\"outcome\":\"done\",\"slot\":\"A001021\"}],\"reference\":\"1\",\"result\":\"accepted\"}]}}\n{\"answer\":\"taken\",\"number\":1,\"partner\":\"HAULA\",\"reply\":{\"contrl\":\"UNB+UNOA:3+TERM1+HAULA+240305:0910+1'UNH+1+CONTRL:D:3:UN'UCI+1+HAULA+TERM1+7'UCM+1+CODECO:D:95B:UN+7'UNT+4+1'UNZ+1+1'\",\"messages\":[{\"lines\":[{\"box\":\"ABCU0000017\",\"line\":1,\"outcome\":\"gone\"}],\"reference\":\"1\",\"result\":\"accepted\"}]}}\n{\"answer\":\"repeat\",\"number\":2,\"partner\":\"HAULA\",\"reply\":{\"contrl\":\"UNB+UNOA:3+TERM1+HAULA+240305:0910+2'UNH+1+CONTRL:D:3:UN'UCI+2+HAULA+TERM1+7'UCM+1+CODECO:D:95B:UN+7'UNT+4+1'UNZ+1+2'\",\"messages\":[{\"lines\":[{\"box\":\"ABCU0000038\",\"line\":1,\"outcome\":\"done\",\"slot\":\"A001011\"}],\"reference\":\"1\",\"result\":\"accepted\"}]}}\n",
+            "",
+            0,
+        ),
+    )
+}

@@ -6,7 +6,9 @@ use Rattle.office_stream.proofs.stream.run_stream.Given as goal
 abbrev pub invariant-reads : goal.invariant-reads
 invariant-reads g l = record {
   running : l.cutter.fault ≡ None;
+  reader : l.reader.failed ≡ l.fn.reader.failed;
+  writer : l.writer.failed ≡ l.fn.writer.failed;
   sofar : (opening : g.row.D.Denot) (ds : List (List ℕ)) → g.D.Deliver.stands opening ds l.fn.desk →
-      Sofar (g.D.Deliver.stands opening) (g.D.Deliver.answers opening) ds (g.R.Read.remaining l.fn.reader.inner) (g.R.Read.remaining l.reader.inner)
+      Sofar (g.D.Deliver.stands opening) (g.D.Deliver.answers opening) l.counter ds (g.R.Read.remaining l.fn.reader.inner) (g.R.Read.remaining l.reader.inner)
       (pending l.cutter) l.desk l.worst (g.W.Write.contents l.fn.writer.inner) (g.W.Write.contents l.writer.inner);
 }
