@@ -1,23 +1,25 @@
 -- Bytes are read one after the other, as far as a place that stops.
-use Rattle.std.proofs.Common.{◌≡◌, ℕ, zero, suc, ◌+◌, ◌-◌, ◌<◌, ◌≤◌, Bool, true, false, cond, ◌==◌, nat_lt, List, [], ◌∷◌, ◌++◌, length, take, drop, get_or, refl, sym, ap, subst, ◌∙◌, inl, inr, arith}
-use Rattle.std.proofs.lemmas.Bool.{cases_Bool, true≢false, false≢true, ltb-true, ltb-false}
+use Rattle.std.proofs.Common.{◌≡◌, ℕ, zero, suc, ◌+◌, ◌-◌, ◌<◌, ◌≤◌, Bool, true, false, cond, ◌==◌, ◌&&◌, nat_lt, Option, None, Some, List, [], ◌∷◌, ◌++◌, length, take, drop, get_or, refl, sym, ap, subst, ◌∙◌, inl, inr, arith}
+use Rattle.std.proofs.lemmas.Bool.{and_parts, eq-eqb, cases_Bool, true≢false, false≢true, ltb-true, ltb-false}
 use Rattle.std.proofs.lemmas.List.{take-append-le, take_all, take_more, take-take, length-append, length-take-le, length-drop}
 use Rattle.std.proofs.Math.Seq.{take-add}
-use Rattle.edi_segments.specs.Characters.{is_data_byte, is_release}
+use Rattle.std.specs.Prelude.{unwrap_or}
+use Rattle.edi_segments.specs.Characters.{is_data_byte, is_tag_byte, is_release}
+use Rattle.edi_segments.proofs.SegmentsLemmas.{tag_is_no_break}
 use Rattle.edi_segments.specs.Tokens as tokens
-use Rattle.edi_segments.specs.Tokens.{token_of, releases}
+use Rattle.edi_segments.specs.Tokens.{token_of}
 use Rattle.edi_segments.specs.declared.service.Service.{Service}
 use Rattle.edi_segments.specs.declared.token.Token.TheVariants.{Data, Release, Component, Element, Terminator, Invalid}
 use Rattle.edi_cutter.specs.Places as places
 use Rattle.edi_cutter.specs.Places.{place_by, inside_by, place_after, stops, Reads, ReadsTo, Keeps, StayInside}
 use Rattle.edi_cutter.specs.declared.place.Place.{Place}
-use Rattle.edi_cutter.specs.declared.place.Place.TheVariants.{Inside}
+use Rattle.edi_cutter.specs.declared.place.Place.TheVariants.{Between, Inside}
 use Rattle.edi_cutter.proofs.PlaceLemmas.{after_append}
 
 -- ---- among the elements
 
-quiet : (release component element terminator plain closes : Bool) → plain ≡ true → terminator ≡ false
-    → (let t = cond release Release (cond component Component (cond element Element (cond terminator Terminator (cond plain Data Invalid)))) in releases t ≡ false → inside_by t closes ≡ Inside false closes)
+quiet : (release component element terminator plain closes : Bool) → plain ≡ true → terminator ≡ false → release ≡ false
+    → inside_by (cond release Release (cond component Component (cond element Element (cond terminator Terminator (cond plain Data Invalid))))) closes ≡ Inside false closes
 quiet true component element terminator plain closes is none r = absurd (true≢false r)
 quiet false true element terminator plain closes is none r = refl
 quiet false false true terminator plain closes is none r = refl
@@ -25,16 +27,27 @@ quiet false false false true plain closes is none r = absurd (true≢false none)
 quiet false false false false true closes is none r = refl
 quiet false false false false false closes is none r = absurd (false≢true is)
 
-one_inside : (s : Service) (b : ℕ) → is_data_byte b ≡ true → b == s.terminator ≡ false → releases (token_of s false b) ≡ false → (closes : Bool) → place_by s (Inside false closes) b ≡ Inside false closes
+-- where there is no release character, the terminator stands for it
+no_release : (release : Option ℕ) (terminator b : ℕ) → b == unwrap_or release terminator ≡ false → is_release release b ≡ false
+no_release None terminator b other = refl
+no_release (Some r) terminator b other = other
+
+one_inside : (s : Service) (b : ℕ) → is_data_byte b ≡ true → b == s.terminator ≡ false → is_release s.release b ≡ false → (closes : Bool) → place_by s (Inside false closes) b ≡ Inside false closes
 unfolding tokens.token_of
 one_inside s b plain terminator r closes =
     quiet (is_release s.release b) (b == s.component) (b == s.element) (b == s.terminator) (is_data_byte b) closes plain terminator r
 
-pub stays_one : (s : Service) (b : ℕ) → is_data_byte b ≡ true → b == s.terminator ≡ false → releases (token_of s false b) ≡ false → StayInside s (b ∷ [])
+stays_alone : (s : Service) (b : ℕ) → is_data_byte b ≡ true → b == s.terminator ≡ false → is_release s.release b ≡ false → StayInside s (b ∷ [])
 unfolding places.place_after
-stays_one s b plain terminator r closes zero h = refl
-stays_one s b plain terminator r closes (suc zero) h = one_inside s b plain terminator r closes
-stays_one s b plain terminator r closes (suc (suc m)) h = absurd (omega (arith, h))
+stays_alone s b plain terminator r closes zero h = refl
+stays_alone s b plain terminator r closes (suc zero) h = one_inside s b plain terminator r closes
+stays_alone s b plain terminator r closes (suc (suc m)) h = absurd (omega (arith, h))
+
+pub stays_one : (s : Service) (terminator release b : ℕ) → terminator ≡ s.terminator → release ≡ unwrap_or s.release terminator
+    → is_data_byte b ≡ true → b == terminator ≡ false → b == release ≡ false → StayInside s (b ∷ [])
+stays_one s terminator release b is_terminator is_release plain other another =
+    stays_alone s b plain (subst (λ t. b == t ≡ false) is_terminator other)
+    (no_release s.release terminator b (subst (λ r. b == r ≡ false) is_release another))
 
 pub stays_more : (s : Service) (bytes : List ℕ) (b : ℕ) → StayInside s bytes → StayInside s (b ∷ []) → StayInside s (bytes ++ b ∷ [])
 stays_more s bytes b all one closes m h =
@@ -84,6 +97,39 @@ reads_quiet s place bytes q going within keeps = record {
   leads = sym (keeps q (omega arith));
   before = λ m h. ap stops (keeps m (omega (arith, h))) ∙ going;
 }
+
+-- a tag and the separator behind it
+tag_of_four : (s : Service) (a b c d : ℕ) (rest : List ℕ) → is_tag_byte a ≡ true → is_tag_byte b ≡ true → is_tag_byte c ≡ true → d == s.element ≡ true
+    → Reads s (Between false) (a ∷ b ∷ c ∷ d ∷ rest) 4 (Inside false (a == 85 && b == 78 && c == 90))
+unfolding places.place_after
+tag_of_four s a b c d rest first second third separator = record {
+  within = omega arith;
+  leads = rw (tag_is_no_break a first, first, second, third, separator) refl;
+  before = goes;
+}
+  where
+    goes : (m : ℕ) → m < 4 → stops (place_after s (Between false) (take m (a ∷ b ∷ c ∷ d ∷ rest))) ≡ false
+    goes zero h = refl
+    goes (suc zero) h = rw (tag_is_no_break a first, first) refl
+    goes (suc (suc zero)) h = rw (tag_is_no_break a first, first, second) refl
+    goes (suc (suc (suc zero))) h = rw (tag_is_no_break a first, first, second, third) refl
+    goes (suc (suc (suc (suc m)))) h = absurd (omega (arith, h))
+
+pub reads_tag : (s : Service) (closed closes : Bool) (place : Place) (bytes : List ℕ) → place ≡ Between closed → stops place ≡ false → 4 ≤ length bytes
+    → (is_tag_byte (get_or bytes 0 0) && is_tag_byte (get_or bytes 1 0) && is_tag_byte (get_or bytes 2 0)) ≡ true → get_or bytes 3 0 ≡ s.element
+    → closes ≡ (get_or bytes 0 0 == 85 && get_or bytes 1 0 == 78 && get_or bytes 2 0 == 90)
+    → Reads s place bytes 4 (Inside false closes)
+reads_tag s closed closes place [] is going long tag separator last = absurd (omega (arith, long))
+reads_tag s closed closes place (a ∷ []) is going long tag separator last = absurd (omega (arith, long))
+reads_tag s closed closes place (a ∷ b ∷ []) is going long tag separator last = absurd (omega (arith, long))
+reads_tag s closed closes place (a ∷ b ∷ c ∷ []) is going long tag separator last = absurd (omega (arith, long))
+reads_tag s closed closes place (a ∷ b ∷ c ∷ d ∷ rest) is going long tag separator last =
+    let bytes = a ∷ b ∷ c ∷ d ∷ rest in
+    let running : closed ≡ false = sym (ap stops is) ∙ going in
+    let all = and_parts (is_tag_byte a && is_tag_byte b) (is_tag_byte c) tag in
+    let two = and_parts (is_tag_byte a) (is_tag_byte b) all.0 in
+    subst (λ (p : Place). Reads s p bytes 4 (Inside false closes)) (sym (is ∙ ap Between running))
+    (subst (λ (x : Bool). Reads s (Between false) bytes 4 (Inside false x)) (sym last) (tag_of_four s a b c d rest two.0 two.1 all.1 (eq-eqb d s.element separator)))
 
 pub reads_nothing : (s : Service) (place : Place) (bytes : List ℕ) → Reads s place bytes 0 place
 unfolding places.place_after
