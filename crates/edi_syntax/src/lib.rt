@@ -13,6 +13,7 @@ mod message_end;
 pub mod message_segments;
 pub mod numbers;
 pub mod opening;
+mod service_tag;
 mod survey;
 mod tallied;
 mod tally;

@@ -5,6 +5,7 @@ ghost use Rattle.edi_syntax.specs.Messages.{are_messages, is_inner};
 ghost use Rattle.edi_syntax.specs.Tallies.{EndsMessage};
 
 use super::group::is_of_group;
+use super::service_tag::may_be_of_service;
 use edi_segments::{CheckedSegments, Segment};
 
 /// The end of a message, as its place in the text.
@@ -49,11 +50,13 @@ pub(crate) fn message_end<'t, 'a>(behind: CheckedSegments<'t, 'a>) -> Option<Mes
 }
 
 /// A segment that neither begins nor ends a message or an interchange.
+#[tactic(auto, using(crate::proofs::TagLemmas::of_inside))]
 fn is_inner(segment: Segment<'_>) -> bool
     ensures { result ≡ is_inner (content segment.entry) }
 {
-    !segment.has_tag(b"UNH")
-        && !segment.has_tag(b"UNT")
-        && !segment.has_tag(b"UNB")
-        && !segment.has_tag(b"UNZ")
+    !may_be_of_service(segment)
+        || !segment.has_tag(b"UNH")
+            && !segment.has_tag(b"UNT")
+            && !segment.has_tag(b"UNB")
+            && !segment.has_tag(b"UNZ")
 }
