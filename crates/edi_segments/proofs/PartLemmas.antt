@@ -1,6 +1,8 @@
 -- The parts of a segment's text stand for its elements and values.
 use Rattle.std.proofs.Common.{◌≡◌, ℕ, zero, suc, ◌+◌, ◌<◌, ◌≤◌, Bool, true, false, cond, nat_eq, List, [], ◌∷◌, length, take, drop, get_or, map, Option, Some, None, refl, sym, ap, ◌∙◌, inl, inr, add-one, arith}
 use Rattle.std.specs.Option.{option_map, option_map_or}
+use Rattle.std.specs.Prelude.{unwrap_or}
+use Rattle.edi_segments.specs.Characters.{is_data_byte, is_release}
 use Rattle.std.proofs.lemmas.List.{at_drop_more, at_drop_all, drop-drop}
 use Rattle.std.proofs.lemmas.Bool.{eqb-true, eq-eqb, cases_Bool}
 use Rattle.edi_segments.specs.Tokens.{token_of, releases}
@@ -196,6 +198,22 @@ pub separator_passed : (s : Service) (separator : ℕ) (bytes : List ℕ) (i : �
 separator_passed s separator bytes i within other plain =
     separator_further s separator false bytes i within other
     ∙ ap (λ (released : Bool). option_map (λ n. i + 1 + n) (separator_of s separator released (drop (i + 1) bytes))) plain
+
+no_release : (release : Option ℕ) (separator b : ℕ) → nat_eq b (unwrap_or release separator) ≡ false → is_release release b ≡ false
+no_release None separator b other = refl
+no_release (Some r) separator b other = other
+
+releases_nothing : (component element terminator plain : Bool) → releases (cond component Component (cond element Element (cond terminator Terminator (cond plain Data Invalid)))) ≡ false
+releases_nothing true element terminator plain = refl
+releases_nothing false true terminator plain = refl
+releases_nothing false false true plain = refl
+releases_nothing false false false true = refl
+releases_nothing false false false false = refl
+
+-- another byte than the release character, for which the separator stands where there is none
+pub not_releasing : (s : Service) (separator release b : ℕ) → release ≡ unwrap_or s.release separator → nat_eq b release ≡ false → releases (token_of s false b) ≡ false
+unfolding token_of
+not_releasing s separator release b is other = rw (no_release s.release separator b (ap (nat_eq b) (sym is) ∙ other)) (releases_nothing (nat_eq b s.component) (nat_eq b s.element) (nat_eq b s.terminator) (is_data_byte b))
 
 -- a release character, and what it releases
 pub separator_released : (s : Service) (separator : ℕ) (bytes : List ℕ) (i : ℕ) → i + 1 < length bytes → nat_eq (get_or bytes i 0) separator ≡ false → releases (token_of s false (get_or bytes i 0)) ≡ true → option_map (λ n. i + n) (separator_of s separator false (drop i bytes)) ≡ option_map (λ n. i + 2 + n) (separator_of s separator false (drop (i + 2) bytes))
