@@ -1,6 +1,7 @@
 #!/bin/sh
 # Times `office demo` on streams of 1,000 and 10,000 interchanges of one line each: a haulier's gate-outs of a container that
-# isn't there, so that the yard stays as it is and the stream, the runs and the replies are what is timed.
+# isn't there, so that the yard stays as it is and the stream, the runs and the replies are what is timed. Then holds a stream
+# back behind its first interchange, and counts the lines that were written meanwhile.
 set -eu
 top=$(cd "$(dirname "$0")/../.." && pwd)
 work=$(mktemp -d)
@@ -14,3 +15,12 @@ for count in 1000 10000; do
     time "$top/crates/office/out/office" demo < "$work/$count.edi" > "$work/$count.out"
     wc -l < "$work/$count.out"
 done
+{
+    head -n 1 "$work/1000.edi"
+    sleep 2
+    tail -n +2 "$work/1000.edi"
+} | "$top/crates/office/out/office" demo > "$work/held.out" &
+sleep 1
+echo "lines written while a stream is held back behind its first interchange: $(wc -l < "$work/held.out") (wanted: 1)"
+wait
+echo "lines written in the end: $(wc -l < "$work/held.out") (wanted: 1000)"
