@@ -13,6 +13,9 @@ const RELEASED: &[u8] =
 
 const ADVISED: &[u8] = b"UNA:+.  '\nUNB+UNOA:3'FTX+WHY?'UNZ+1+1'";
 
+const CONTROLS: &[u8] =
+    b"UNA\x01\x02.\x03 \x04\r\nUNB\x02A\x01?'\x04FTX\x02\x03\x04UNZ\x02\x03\x03\x04UNZ\x02\x80\x04";
+
 /// How many interchanges the piece completes, and how many of them are the expected one in their turn.
 fn count_cut(
     cutter: &mut Cutter,
@@ -62,7 +65,7 @@ fn cut_bytes(alloc: Global, stream: &[u8], expected: &[&[u8]]) -> bool {
 
 #[test]
 fn cuts_two_interchanges_however_the_stream_is_cut(rt: HostRuntime) -> Result<(), Fail> {
-    for second in [SECOND, ADVISED, RELEASED] {
+    for second in [SECOND, ADVISED, RELEASED, CONTROLS] {
         let mut stream = Vec::new(rt.alloc());
         stream.extend_from_slice(FIRST)?;
         stream.extend_from_slice(b"\r\n")?;

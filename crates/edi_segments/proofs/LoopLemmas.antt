@@ -35,14 +35,6 @@ pub end_past : (s : Service) (released : Bool) (bytes : List ℕ) (i : ℕ) → 
 unfolding end_of
 end_past s released bytes i past = at_drop_all (end_of s released) bytes i past
 
-pub inside_from : (t : Token) → (t ≡ Terminator → ⊥) → (t ≡ Invalid → ⊥) → stays_inside t ≡ true
-inside_from Data a b = refl
-inside_from Release a b = refl
-inside_from Component a b = refl
-inside_from Element a b = refl
-inside_from Terminator a b = absurd (a refl)
-inside_from Invalid a b = absurd (b refl)
-
 pub no_end : (s : Service) (released : Bool) (bytes : List ℕ) → length bytes ≡ 0 → end_of s released bytes ≡ None
 unfolding end_of
 no_end s released [] h = refl

@@ -105,12 +105,40 @@ fn the_longest_text_and_one_byte_more(rt: HostRuntime) -> Result<(), Fail> {
 }
 
 #[test]
+fn takes_an_interchange_of_the_greatest_length(rt: HostRuntime) -> Result<(), Fail> {
+    let front: &[u8] = b"UNB+UNOA:3+HAULA+TERM1+240305:0910+1'UNH+1+A'FTX+";
+    let back: &[u8] = b"'UNT+3+1'UNZ+1+1'";
+    let value = vec![in rt.alloc(); b'A'; 1_048_510]?;
+    for (more, expected) in [
+        (b"".as_slice(), None),
+        (b"A".as_slice(), Some(SyntaxFault::TooLong)),
+    ] {
+        let mut text = Vec::new(rt.alloc());
+        text.extend_from_slice(front)?;
+        text.extend_from_slice(&value)?;
+        text.extend_from_slice(more)?;
+        text.extend_from_slice(back)?;
+        assert!(rt; text.as_slice().len() == 1_048_576 || more.len() == 1);
+        assert!(rt; fault(&text) == expected);
+    }
+    Ok(())
+}
+
+#[test]
 fn answers_each_fault(rt: HostRuntime) {
     let rows: &[(&[u8], SyntaxFault)] = &[
         (b"UNA:+", SyntaxFault::Service),
         (b"UNA++.? 'UNB+UNOA:3'", SyntaxFault::Service),
         (b"UNA:+.?A'UNB+UNOA:3", SyntaxFault::Segment),
         (b"UNB", SyntaxFault::Segment),
+        (
+            b"UNB+UNOA:3+HAULA+TERM1+240305:0910+1'UNZ+0+1?",
+            SyntaxFault::Segment,
+        ),
+        (
+            b"UNB+UNOA:3+HAULA+TERM1+240305:0910+1'UNZ+0+1?'",
+            SyntaxFault::Segment,
+        ),
         (b"", SyntaxFault::NoEnvelope),
         (
             b"UNB+UNOA:3+HAULA+TERM1+240305:0910+1'UNZ+0+1'",
@@ -184,6 +212,49 @@ fn answers_each_fault(rt: HostRuntime) {
     for (text, expected) in rows {
         assert!(rt; fault(text) == Some(*expected), "{expected:?}");
     }
+}
+
+#[test]
+fn prepares_on_days_of_the_calendar_alone(rt: HostRuntime) {
+    let rows: &[(&[u8], SyntaxFault)] = &[
+        (
+            b"UNB+UNOA:3+HAULA+TERM1+000229:0910+1'UNZ+0+1'",
+            SyntaxFault::Empty,
+        ),
+        (
+            b"UNB+UNOA:3+HAULA+TERM1+230229:0910+1'UNZ+0+1'",
+            SyntaxFault::Moment,
+        ),
+        (
+            b"UNB+UNOA:3+HAULA+TERM1+240229:0910+1'UNZ+0+1'",
+            SyntaxFault::Empty,
+        ),
+    ];
+    for (text, expected) in rows {
+        assert!(rt; fault(text) == Some(*expected), "{expected:?}");
+    }
+}
+
+#[test]
+fn reads_an_interchange_under_other_service_characters(rt: HostRuntime) -> Result<(), Fail> {
+    let text =
+        b"UNA*|,! ~\r\nUNB|UNOA*3|HAUL!|A|TERM!*1|240305*0910|1~UNH|1|A~\nFTX|?:+'|!!|!~*!||\x80~UNT|3|1~UNZ|1|1~";
+    let envelope = open_envelope(text)?;
+    let head = envelope.head();
+    assert!(rt; head.sender(1).equals(b"HAUL|A"));
+    assert!(rt; head.recipient(1).equals(b"TERM*1"));
+    let frame = envelope.frames().next().ok_or("no message")?;
+    let segment = frame.segments().next().ok_or("no FTX")?;
+    assert!(rt; segment.component(1, 1).equals(b"?:+'"));
+    assert!(rt; segment.component(2, 1).equals(b"!"));
+    assert!(rt; segment.component(3, 1).equals(b"~"));
+    assert!(rt; segment.component(3, 2).equals(b"|"));
+    assert!(rt; segment.component(4, 1).equals(b"\x80"));
+    let mut spelled = Vec::new(rt.alloc());
+    segment.component(1, 1).spell_into(&mut spelled)?;
+    segment.component(3, 1).spell_into(&mut spelled)?;
+    assert_eq!(rt; spelled.as_slice(), b"???:?+?'~".as_slice());
+    Ok(())
 }
 
 #[test]
