@@ -36,10 +36,11 @@ pub record AnswerContent : Type 0 where
 abbrev pub answer_with : AnswerKind → ℕ → List ℕ → Worst → AnswerContent
 answer_with kind status body how_bad = record { kind = kind; status = status; body = body; how_bad = how_bad }
 
--- an interchange that was taken, with its reply, is answered by this text
+-- the answer to an interchange of the partner with a code that is taken, with its reply
 abbrev pub taken_answer : List ℕ → ℕ → List ℕ → AnswerContent
 taken_answer code number reply = answer_with (kinds.Taken reply) 200 (answer_text (codes "taken") number code reply) worst.Fine
 
+-- the answer to one that was taken before
 abbrev pub repeat_answer : List ℕ → ℕ → List ℕ → AnswerContent
 repeat_answer code number reply = answer_with (kinds.Repeat reply) 200 (answer_text (codes "repeat") number code reply) worst.Fine
 
