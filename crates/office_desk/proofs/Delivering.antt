@@ -27,8 +27,9 @@ use Rattle.office_replies.specs.declared.worst.Worst.TheVariants as worst
 use Rattle.office_stream.specs.Delivering.{Delivers}
 use Rattle.office_desk.specs.declared.desk.Desk.{Desk}
 use Rattle.office_desk.specs.Admission.{Parties, admission, admitted, addressed, added, partner_from, sender_of, number_in, deliveries_of}
-use Rattle.office_desk.specs.Answers.{GivesOrNotNow, content_of, refusal_of, answer_with, refusal_to, plain_refusal, told_answer, answer_at, answer_to, code_of}
-use Rattle.office_desk.specs.Desks.{parties, DeskStands, DeskAnswers, Taken}
+use Rattle.office_desk.specs.Kinds as kinds
+use Rattle.office_desk.specs.Answers.{GivesOrNotNow, content_of, error_of, refusal_of, answer_with, refusal_to, plain_refusal, told_answer, answer_at, answer_to, code_of}
+use Rattle.office_desk.specs.Desks.{parties, DeskStands, DeskAnswers, RefusedSurely, Taken}
 
 -- ---- what is added
 
@@ -201,8 +202,52 @@ plain header fault (Some partner) (Some error) (inr e) = absurd cc
 pub refused_plainly : (header : Content) (fault : Fault) (sender error : Option ℕ) → (sender ≡ None) ⊎ (error ≡ None) →
     GivesOrNotNow (refusal_to header fault sender error) (response.Refused fault)
 refused_plainly header fault sender error e =
-    ap (λ body. answer_with (fault_status fault) body worst.Refused) (append-nil (refusal_text fault ++ []) ∙ append-nil (refusal_text fault))
+    ap (λ body. answer_with (kinds.Refused fault) (fault_status fault) body worst.Refused) (append-nil (refusal_text fault ++ []) ∙ append-nil (refusal_text fault))
     ∙ sym (plain header fault sender error e)
+
+-- ---- refusals that take no memory
+
+-- a text is refused for one fault
+one_fault : (P : Parties) (text : List ℕ) (fault other : Fault) → admission P text ≡ Err fault → admission P text ≡ Err other → fault ≡ other
+one_fault P text fault other e e' = let same : Err fault ≡ Err other = sym e ∙ e' in cc
+
+pub plain_surely : (P : Parties) (delivered text : List ℕ) (fault : Fault) → text ≡ interchange_of delivered → admission P text ≡ Err fault →
+    RefusedSurely P (interchange_of delivered) (response.Refused fault)
+plain_surely P delivered text fault is refused =
+    let here : admission P (interchange_of delivered) ≡ Err fault = subst (λ other. admission P other ≡ Err fault) is refused in
+    λ other e none. ap response.Refused (one_fault P (interchange_of delivered) fault other here e)
+
+-- a fault of the body, of a known sender
+pub syntax_surely : (P : Parties) (delivered text : List ℕ) (fault : SyntaxFault) (partner : ℕ) (given : Response) → text ≡ interchange_of delivered →
+    admission P text ≡ Err (Syntax fault) → sender_of P (header_of (segments_in text)) ≡ Some partner →
+    (interchange_error fault ≡ None → given ≡ response.Refused (Syntax fault)) → RefusedSurely P (interchange_of delivered) given
+syntax_surely P delivered text fault partner given is refused some plainly = subst (λ other. RefusedSurely P other given) is (surely text refused some)
+  where
+    surely : (text : List ℕ) → admission P text ≡ Err (Syntax fault) → sender_of P (header_of (segments_in text)) ≡ Some partner → RefusedSurely P text given
+    surely text refused some other e (inl none) = absurd cc
+    surely text refused some other e (inr none) =
+        let same : Syntax fault ≡ other = one_fault P text (Syntax fault) other refused e in
+        plainly (ap error_of same ∙ none) ∙ ap response.Refused same
+
+has_code : (code : ℕ) → Some code ≡ None → ⊥
+has_code code e = absurd cc
+
+-- a stray has a CONTRL
+pub stray_surely : (P : Parties) (delivered text : List ℕ) (partner : ℕ) (given : Response) → text ≡ interchange_of delivered →
+    admission P text ≡ Err WrongRecipient → sender_of P (header_of (segments_in text)) ≡ Some partner → RefusedSurely P (interchange_of delivered) given
+stray_surely P delivered text partner given is refused some = subst (λ other. RefusedSurely P other given) is (surely text refused some)
+  where
+    surely : (text : List ℕ) → admission P text ≡ Err WrongRecipient → sender_of P (header_of (segments_in text)) ≡ Some partner → RefusedSurely P text given
+    surely text refused some other e (inl none) = absurd cc
+    surely text refused some other e (inr none) =
+        absurd (has_code 7 (ap error_of (one_fault P text WrongRecipient other refused e) ∙ none))
+
+-- what is admitted isn't refused
+pub admitted_surely : (P : Parties) (delivered text : List ℕ) (place : ℕ × ℕ) (given : Response) → text ≡ interchange_of delivered → admission P text ≡ Ok place →
+    RefusedSurely P (interchange_of delivered) given
+admitted_surely P delivered text place given is admits =
+    let here : admission P (interchange_of delivered) ≡ Ok place = subst (λ other. admission P other ≡ Ok place) is admits in
+    λ other e none. let never : Ok place ≡ Err other = sym here ∙ e in absurd cc
 
 -- ---- what the head tells
 

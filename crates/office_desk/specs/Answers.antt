@@ -1,5 +1,5 @@
 -- What a delivery is answered.
-use Rattle.std.specs.Prelude.{◌≡◌, ℕ, List, [], Option, None, Some, Result, Ok, Err, encode_utf8_all}
+use Rattle.std.specs.Prelude.{◌≡◌, ◌⊎◌, ℕ, List, [], Option, None, Some, Result, Ok, Err, encode_utf8_all}
 use Rattle.std.specs.Option.{unwrap_or}
 use Rattle.edi_segments.specs.Text.{Content}
 use Rattle.edi_segments.specs.Interchange.{interchange_of, segments_in}
@@ -23,22 +23,33 @@ use Rattle.office_replies.specs.declared.response.Response.TheVariants as respon
 use Rattle.office_replies.specs.declared.worst.Worst.{Worst}
 use Rattle.office_replies.specs.declared.worst.Worst.TheVariants as worst
 use Rattle.office_desk.specs.Admission.{Parties, admission, sender_of, deliveries_of}
+use Rattle.office_desk.specs.Kinds.{AnswerKind, kind_of}
+use Rattle.office_desk.specs.Kinds as kinds
 
--- an answer: its status of HTTP, its body, and how bad it is
+-- an answer: its kind, its status of HTTP, its body, and how bad it is
 pub record AnswerContent : Type 0 where
+  pub kind : AnswerKind
   pub status : ℕ
   pub body : List ℕ
   pub how_bad : Worst
 
-abbrev pub answer_with : ℕ → List ℕ → Worst → AnswerContent
-answer_with status body how_bad = record { status = status; body = body; how_bad = how_bad }
+abbrev pub answer_with : AnswerKind → ℕ → List ℕ → Worst → AnswerContent
+answer_with kind status body how_bad = record { kind = kind; status = status; body = body; how_bad = how_bad }
+
+-- the answer to an interchange of the partner with a code that is taken, with its reply
+abbrev pub taken_answer : List ℕ → ℕ → List ℕ → AnswerContent
+taken_answer code number reply = answer_with (kinds.Taken reply) 200 (answer_text (codes "taken") number code reply) worst.Fine
+
+-- the answer to one that was taken before
+abbrev pub repeat_answer : List ℕ → ℕ → List ℕ → AnswerContent
+repeat_answer code number reply = answer_with (kinds.Repeat reply) 200 (answer_text (codes "repeat") number code reply) worst.Fine
 
 -- what the runs tell of a number of the partner with a code
 abbrev pub told_answer : List ℕ → ℕ → Told → AnswerContent
-told_answer code number (told.Taken reply) = answer_with 200 (answer_text (codes "taken") number code (unwrap_or reply [])) worst.Fine
-told_answer code number (told.Repeat reply) = answer_with 200 (answer_text (codes "repeat") number code (unwrap_or reply [])) worst.Fine
-told_answer code number (told.Waiting next) = answer_with 202 (waiting_text next number code) worst.Fine
-told_answer code number told.Clash = answer_with 409 (clash_text number code) worst.Refused
+told_answer code number (told.Taken reply) = taken_answer code number (unwrap_or reply [])
+told_answer code number (told.Repeat reply) = repeat_answer code number (unwrap_or reply [])
+told_answer code number (told.Waiting next) = answer_with kinds.Waiting 202 (waiting_text next number code) worst.Fine
+told_answer code number told.Clash = answer_with kinds.Clash 409 (clash_text number code) worst.Refused
 
 -- the error code (0085) of the CONTRL that a refusal carries, where it carries one
 abbrev pub error_of : Fault → Option ℕ
@@ -47,12 +58,12 @@ error_of UnknownSender = None
 error_of WrongRecipient = Some 7
 
 abbrev pub plain_refusal : Fault → AnswerContent
-plain_refusal fault = answer_with (fault_status fault) (refusal_text fault) worst.Refused
+plain_refusal fault = answer_with (kinds.Refused fault) (fault_status fault) (refusal_text fault) worst.Refused
 
 -- with the CONTRL that rejects the interchange of that header
 abbrev pub rejection : Content → Fault → ℕ → AnswerContent
 rejection header fault error =
-    answer_with (fault_status fault) (refused_text (encode_utf8_all (rejection_text header error)) (fault_name fault)) worst.Refused
+    answer_with (kinds.Refused fault) (fault_status fault) (refused_text (encode_utf8_all (rejection_text header error)) (fault_name fault)) worst.Refused
 
 -- a CONTRL goes to a sender with an account alone
 abbrev pub refusal_to : Content → Fault → Option ℕ → Option ℕ → AnswerContent
@@ -62,6 +73,10 @@ refusal_to header fault None error = plain_refusal fault
 
 abbrev pub refusal_of : Parties → Content → Fault → AnswerContent
 refusal_of parties header fault = refusal_to header fault (sender_of parties header) (error_of fault)
+
+-- the refusal carries no CONTRL: its sender has no account, or its fault no error code
+abbrev pub HasNoContrl : Parties → Content → Fault → Type 0
+HasNoContrl parties header fault = (sender_of parties header ≡ None) ⊎ (error_of fault ≡ None)
 
 abbrev pub code_of : Parties → ℕ → List ℕ
 code_of parties partner = unwrap_or (with_number parties.partners partner) []
@@ -78,7 +93,7 @@ answer_to parties taken opening ds delivered =
 
 -- the response is this answer
 abbrev pub content_of : Response → AnswerContent
-content_of response = answer_with (status_of response) (body_of response) (worst_of response)
+content_of response = answer_with (kind_of response) (status_of response) (body_of response) (worst_of response)
 
 -- it is, or it is NotNow
 abbrev pub GivesOrNotNow : AnswerContent → Response → Type 0

@@ -1,14 +1,18 @@
 -- At which deliveries a desk stands.
-use Rattle.std.specs.Prelude.{◌≡◌, ℕ, List, [], ◌∷◌, ◌++◌, map, string_bytes}
+use Rattle.std.specs.Prelude.{◌≡◌, ℕ, List, [], ◌∷◌, ◌++◌, map, string_bytes, Err}
+use Rattle.edi_segments.specs.Interchange.{segments_in}
+use Rattle.edi_syntax.specs.Envelope.{header_of}
 use Rattle.partner_core.specs.Machine.{Taking}
 use Rattle.partner_core.specs.Deliveries.{Delivery}
 use Rattle.partner_core.specs.Answers.{answer_of}
 use Rattle.partner_core.specs.declared.runs.Runs.{Runs}
 use Rattle.partner_core.specs.Runs.{StandsAt}
+use Rattle.office_replies.specs.declared.fault.Fault.{Fault}
 use Rattle.office_replies.specs.declared.response.Response.{Response}
+use Rattle.office_replies.specs.declared.response.Response.TheVariants as response
 use Rattle.office_desk.specs.declared.desk.Desk.{Desk}
-use Rattle.office_desk.specs.Admission.{Parties, deliveries_of}
-use Rattle.office_desk.specs.Answers.{answer_to, told_answer, content_of}
+use Rattle.office_desk.specs.Admission.{Parties, admission, deliveries_of}
+use Rattle.office_desk.specs.Answers.{HasNoContrl, answer_to, told_answer, content_of}
 
 abbrev pub parties : {M : Type 0} → Desk M → Parties
 parties desk = record { terminal = string_bytes desk.terminal; partners = map string_bytes desk.partners.items }
@@ -28,3 +32,9 @@ pub record Taken {M : Type 0} (taken : Taking M) (opening : M) (ds : List Delive
     (response : Response) (runs : Runs M) : Type 0 where
   pub answers : content_of response ≡ told_answer code d.number (answer_of taken opening ds d)
   pub stands : StandsAt taken opening (ds ++ d ∷ []) runs
+
+-- A text that is refused without a CONTRL is refused by the fault's fixed body: this is never NotNow.
+abbrev pub RefusedSurely : Parties → List ℕ → Response → Type 0
+RefusedSurely parties text given =
+    (fault : Fault) → admission parties text ≡ Err fault → HasNoContrl parties (header_of (segments_in text)) fault →
+    given ≡ response.Refused fault

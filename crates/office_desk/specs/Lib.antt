@@ -1,3 +1,4 @@
+pub mod Kinds
 pub mod Admission
 pub mod Answers
 pub mod Desks

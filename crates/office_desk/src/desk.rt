@@ -111,14 +111,16 @@ impl<M: Machine> Desk<M> {
 }
 
 impl<M: Machine> Deliver for Desk<M> {
-    ghost use Rattle.office_desk.specs.Desks.{DeskStands, DeskAnswers};
+    ghost use Rattle.office_desk.specs.Desks.{parties, DeskStands, DeskAnswers, RefusedSurely};
 
     ghost stands = { DeskStands M.taken };
 
     ghost answers = { DeskAnswers M.taken };
 
+    /// A refusal without a CONTRL takes no memory, so it is never answered NotNow.
     fn deliver(&mut self, alloc: Global, delivered: &[u8]) -> Response
-        ensures { (opening : Desk M) (ds : List (List ℕ)) → DeskStands M.taken opening ds self.old → Delivers (DeskStands M.taken opening) (DeskAnswers M.taken opening) ds delivered.now result self.new }
+        ensures delivers { (opening : Desk M) (ds : List (List ℕ)) → DeskStands M.taken opening ds self.old → Delivers (DeskStands M.taken opening) (DeskAnswers M.taken opening) ds delivered.now result self.new }
+        ensures sure { RefusedSurely (parties self.old) (interchange_of delivered.now) result }
     {
         let text = interchange_text(delivered);
         let head = match Head::open(text) {

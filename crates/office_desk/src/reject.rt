@@ -2,6 +2,7 @@ ghost use Rattle.std.specs.Prelude.{◌≡◌, ◌<◌, ℕ, IfOk, true, Some, N
 ghost use Rattle.edi_syntax.specs.Envelope.{header_of};
 ghost use Rattle.edi_syntax.specs.Heads.{head_segments};
 ghost use Rattle.office_replies.specs.declared.fault.Fault.{Fault};
+ghost use Rattle.office_replies.specs.declared.response.Response.{Response};
 ghost use Rattle.edi_messages.specs.ErrorCodes.{interchange_error};
 ghost use Rattle.office_desk.specs.Answers.{GivesOrNotNow, rejection, refusal_to, content_of};
 
@@ -13,7 +14,8 @@ use std::alloc::{AllocError, Global};
 
 /// The answer to an interchange of a known sender whose body has a fault: with a CONTRL.
 pub(crate) fn refuse(alloc: Global, head: &Head<'_>, fault: SyntaxFault) -> Response
-    ensures { (partner : ℕ) → GivesOrNotNow (refusal_to (header_of (head_segments head.now)) (Fault.Syntax fault) (Some partner) (interchange_error fault)) result }
+    ensures answer { (partner : ℕ) → GivesOrNotNow (refusal_to (header_of (head_segments head.now)) (Fault.Syntax fault) (Some partner) (interchange_error fault)) result }
+    ensures sure { interchange_error fault ≡ None → result ≡ Response.Refused (Fault.Syntax fault) }
 {
     match interchange_error(fault) {
         Some(error) => reject(alloc, head, Fault::Syntax(fault), error),
