@@ -96,6 +96,7 @@ fn told(
 }
 
 /// Gives the rows' orders, one after the other. Each has the answer of its row, and makes as many changes as its row says.
+/// Where that is a slot, the container then stands there.
 fn assert_answers(
     rt: &impl Abort,
     alloc: Global,
@@ -103,10 +104,13 @@ fn assert_answers(
     rows: &[Row],
 ) -> Result<(), AllocError> {
     for row in rows {
-        let (partner, text, ask, answer, changes) = *row;
+        let (partner, text, ask, answer, changes) = row;
         let order = ask.order(rt, alloc, text)?;
-        let got = told(alloc, terminal, partner, &order)?;
-        assert_eq!(rt; got, (answer.outcome(rt), changes), "{text}");
+        let got = told(alloc, terminal, *partner, &order)?;
+        assert_eq!(rt; got, (answer.outcome(rt), *changes), "{text}");
+        if let Outcome::Done(slot) = got.0 {
+            assert_stands(rt, terminal, text, Some(slot));
+        }
     }
     Ok(())
 }
@@ -116,20 +120,23 @@ fn assert_stands(rt: &impl Abort, terminal: &Terminal, text: &str, slot: Option<
     assert_eq!(rt; terminal.slot_of(number(rt, text)), slot, "{text}");
 }
 
-/// How far the container's line of that side is.
-fn assert_line(
+/// How far lines of the call are, each by its side and container.
+fn assert_lines(
     rt: &impl Abort,
+    alloc: Global,
     terminal: &Terminal,
-    call: &Call,
-    side: Side,
-    text: &str,
-    state: Option<LineState>,
-) {
-    assert_eq!(rt;
-        terminal.line_state(call, side, number(rt, text)),
-        state,
-        "{text}"
-    );
+    lines: &[(Side, &str, Option<LineState>)],
+) -> Result<(), AllocError> {
+    let call = call(alloc)?;
+    for line in lines {
+        let (side, text, state) = *line;
+        assert_eq!(rt;
+            terminal.line_state(&call, side, number(rt, text)),
+            state,
+            "{text}"
+        );
+    }
+    Ok(())
 }
 
 /// How many visits there were.

@@ -3,7 +3,6 @@ use crate::{Outcome, Reason};
 use std::process::Abort;
 
 /// What a terminal answers.
-#[derive(Clone, Copy)]
 pub(super) enum Answer {
     /// The container stands in the slot of this name.
     Done(&'static str),
@@ -15,13 +14,13 @@ pub(super) enum Answer {
 }
 
 impl Answer {
-    pub(super) fn outcome(self, rt: &impl Abort) -> Outcome {
+    pub(super) fn outcome(&self, rt: &impl Abort) -> Outcome {
         match self {
             Answer::Done(name) => Outcome::Done(slot(rt, name)),
             Answer::Gone => Outcome::Gone,
             Answer::Listed => Outcome::Listed,
             Answer::Buried(text) => Outcome::Refused(Reason::Buried(number(rt, text))),
-            Answer::Refused(reason) => Outcome::Refused(reason),
+            Answer::Refused(reason) => Outcome::Refused(*reason),
         }
     }
 }

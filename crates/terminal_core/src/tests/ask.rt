@@ -4,7 +4,6 @@ use std::alloc::{AllocError, Global};
 use std::process::Abort;
 
 /// What is asked for a container.
-#[derive(Clone, Copy)]
 pub(super) enum Ask {
     Comes,
     /// It comes into the slot of this name.
@@ -21,7 +20,7 @@ pub(super) enum Ask {
 impl Ask {
     /// The order for the container of this number.
     pub(super) fn order(
-        self,
+        &self,
         rt: &impl Abort,
         alloc: Global,
         text: &str,

@@ -10,9 +10,9 @@ use std::alloc::{AllocError, Global};
 use std::process::Abort;
 use std::test::Fail;
 
-/// The first container comes, the second is put onto it, and the first goes once the second moved. The last number is
-/// that of the changes so far.
-const BY_GATE: [Row; 5] = [
+/// The first container comes, the second is put onto it, and the first goes once the second moved. Then the first comes
+/// off a vessel. The last number is that of the changes so far.
+const ORDERS: [Row; 8] = [
     (HAULIER, FIRST, Ask::Comes, Answer::Done("A001011"), 2),
     (
         HAULIER,
@@ -30,10 +30,6 @@ const BY_GATE: [Row; 5] = [
         5,
     ),
     (HAULIER, FIRST, Ask::Goes, Answer::Gone, 7),
-];
-
-/// After that the first container comes off a vessel.
-const BY_SHIP: [Row; 3] = [
     (QUAY, SECOND, Ask::ListsToLoad, Answer::Listed, 8),
     (QUAY, FIRST, Ask::ListsToDischarge, Answer::Listed, 9),
     (QUAY, FIRST, Ask::Discharges, Answer::Done("A001011"), 12),
@@ -136,7 +132,7 @@ impl Trial {
         alloc: Global,
         partner: u16,
         order: &Order,
-        answer: Answer,
+        answer: &Answer,
         changes: usize,
     ) -> Result<(), AllocError> {
         let got = self.take(rt, alloc, partner, order)?;
@@ -147,9 +143,9 @@ impl Trial {
     /// Gives the rows' orders, one after the other.
     fn takes(&mut self, rt: &impl Abort, alloc: Global, rows: &[Row]) -> Result<(), AllocError> {
         for row in rows {
-            let (partner, text, ask, answer, changes) = *row;
+            let (partner, text, ask, answer, changes) = row;
             let order = again(&mut self.refused, || ask.order(rt, alloc, text))?;
-            self.assert_taken(rt, alloc, partner, &order, answer, changes)?;
+            self.assert_taken(rt, alloc, *partner, &order, answer, *changes)?;
         }
         Ok(())
     }
@@ -157,17 +153,13 @@ impl Trial {
     /// The second container goes onto a vessel, and not twice.
     fn loads_once(&mut self, rt: &impl Abort, alloc: Global) -> Result<(), AllocError> {
         let goes = again(&mut self.refused, || Ask::Loads.order(rt, alloc, SECOND))?;
-        self.assert_taken(rt, alloc, QUAY, &goes, Answer::Gone, 15)?;
-        self.assert_taken(rt, alloc, QUAY, &goes, Answer::Refused(Reason::NotIn), 15)
+        self.assert_taken(rt, alloc, QUAY, &goes, &Answer::Gone, 15)?;
+        self.assert_taken(rt, alloc, QUAY, &goes, &Answer::Refused(Reason::NotIn), 15)
     }
 }
 
-/// Whether memory was refused on the way.
-fn takes_every_kind(rt: &impl Abort, alloc: Global) -> Result<bool, AllocError> {
-    let mut trial = Trial::new(rt, alloc)?;
-    trial.takes(rt, alloc, &BY_GATE)?;
-    trial.takes(rt, alloc, &BY_SHIP)?;
-    trial.loads_once(rt, alloc)?;
+/// The second container is gone by ship, and the first is here again.
+fn assert_end(rt: &impl Abort, trial: &Trial) {
     let end = Shown {
         visits: 3,
         last: Some((3, false)),
@@ -178,6 +170,14 @@ fn takes_every_kind(rt: &impl Abort, alloc: Global) -> Result<bool, AllocError> 
         changes: 15,
     };
     assert_eq!(rt; trial.shown(rt), end);
+}
+
+/// Whether memory was refused on the way.
+fn takes_every_kind(rt: &impl Abort, alloc: Global) -> Result<bool, AllocError> {
+    let mut trial = Trial::new(rt, alloc)?;
+    trial.takes(rt, alloc, &ORDERS)?;
+    trial.loads_once(rt, alloc)?;
+    assert_end(rt, &trial);
     Ok(trial.refused)
 }
 

@@ -1,7 +1,7 @@
 //! Rows that are a state's, and rows that are none.
 
 use super::{
-    A, Answer, Ask, FIRST, HAULIER, Row, SECOND, assert_answers, assert_line, assert_stands,
+    A, Answer, Ask, FIRST, HAULIER, Row, SECOND, assert_answers, assert_lines, assert_stands,
     assert_visits, call, moment, number, size_type, slot,
 };
 use crate::{
@@ -133,24 +133,16 @@ fn containers_stand_where_their_rows_say(rt: HostRuntime) -> Result<(), Fail> {
 fn lines_are_as_far_as_their_rows_say(rt: HostRuntime) -> Result<(), Fail> {
     let alloc = rt.alloc();
     let terminal = whole_terminal(&rt, alloc)?;
-    let call = call(alloc)?;
-    assert_line(
+    assert_lines(
         &rt,
+        alloc,
         &terminal,
-        &call,
-        Side::Load,
-        FIRST,
-        Some(LineState::Pending),
-    );
-    assert_line(
-        &rt,
-        &terminal,
-        &call,
-        Side::Discharge,
-        SECOND,
-        Some(LineState::Done),
-    );
-    assert_line(&rt, &terminal, &call, Side::Load, SECOND, None);
+        &[
+            (Side::Load, FIRST, Some(LineState::Pending)),
+            (Side::Discharge, SECOND, Some(LineState::Done)),
+            (Side::Load, SECOND, None),
+        ],
+    )?;
     Ok(())
 }
 

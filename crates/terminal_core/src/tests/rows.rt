@@ -1,13 +1,15 @@
 //! The worked rows.
 
 use super::{
-    Answer, Ask, FIRST, HAULIER, LINE, QUAY, Row, SECOND, YARD, assert_answers, assert_line,
-    assert_stands, assert_visits, call, slot, terminal,
+    Answer, Ask, FIRST, HAULIER, LINE, QUAY, Row, SECOND, YARD, assert_answers, assert_lines,
+    assert_visits, terminal,
 };
-use crate::{LineState, Reason, Side};
+use crate::{LineState, Reason, Side, Terminal};
+use std::alloc::{AllocError, Global};
+use std::process::Abort;
 use std::test::Fail;
 
-const BURIED: [Row; 4] = [
+const BURIED: [Row; 6] = [
     (HAULIER, FIRST, Ask::Comes, Answer::Done("A001011"), 2),
     (
         HAULIER,
@@ -24,9 +26,6 @@ const BURIED: [Row; 4] = [
         Answer::Done("A003011"),
         1,
     ),
-];
-
-const FREE: [Row; 2] = [
     (HAULIER, FIRST, Ask::Goes, Answer::Gone, 2),
     (HAULIER, FIRST, Ask::Goes, Answer::Refused(Reason::NotIn), 0),
 ];
@@ -36,8 +35,6 @@ fn a_buried_box_waits_until_the_one_above_moves(rt: HostRuntime) -> Result<(), F
     let alloc = rt.alloc();
     let mut terminal = terminal(&rt, alloc, 1_000)?;
     assert_answers(&rt, alloc, &mut terminal, &BURIED)?;
-    assert_stands(&rt, &terminal, SECOND, Some(slot(&rt, "A003011")));
-    assert_answers(&rt, alloc, &mut terminal, &FREE)?;
     Ok(())
 }
 
@@ -68,24 +65,16 @@ fn what_a_list_names_is_loaded_once(rt: HostRuntime) -> Result<(), Fail> {
     let alloc = rt.alloc();
     let mut terminal = terminal(&rt, alloc, 1_000)?;
     assert_answers(&rt, alloc, &mut terminal, &LOADED)?;
-    let call = call(alloc)?;
-    assert_line(
+    assert_lines(
         &rt,
+        alloc,
         &terminal,
-        &call,
-        Side::Load,
-        FIRST,
-        Some(LineState::Done),
-    );
-    assert_line(
-        &rt,
-        &terminal,
-        &call,
-        Side::Load,
-        SECOND,
-        Some(LineState::Pending),
-    );
-    assert_line(&rt, &terminal, &call, Side::Discharge, SECOND, None);
+        &[
+            (Side::Load, FIRST, Some(LineState::Done)),
+            (Side::Load, SECOND, Some(LineState::Pending)),
+            (Side::Discharge, SECOND, None),
+        ],
+    )?;
     Ok(())
 }
 
@@ -138,13 +127,23 @@ const NO_VISIT_MORE: [Row; 3] = [
     ),
 ];
 
+/// A copy of the terminal answers so.
+fn assert_copy_answers(
+    rt: &impl Abort,
+    alloc: Global,
+    terminal: &Terminal,
+    rows: &[Row],
+) -> Result<(), AllocError> {
+    let mut copy = terminal.copy(alloc)?;
+    assert_answers(rt, alloc, &mut copy, rows)
+}
+
 #[test]
 fn visits_are_limited_whether_open_or_closed(rt: HostRuntime) -> Result<(), Fail> {
     let alloc = rt.alloc();
     let mut terminal = terminal(&rt, alloc, 1)?;
     assert_answers(&rt, alloc, &mut terminal, &ONE_VISIT)?;
-    let mut copy = terminal.copy(alloc)?;
-    assert_answers(&rt, alloc, &mut copy, &NO_VISIT_MORE)?;
+    assert_copy_answers(&rt, alloc, &terminal, &NO_VISIT_MORE)?;
     assert_visits(&rt, &terminal, 1);
     Ok(())
 }
