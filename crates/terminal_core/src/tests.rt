@@ -95,8 +95,7 @@ fn told(
     Ok((outcome, changes.len()))
 }
 
-/// Gives the rows' orders, one after the other. Each has the answer of its row, and makes as many changes as its row says.
-/// Where that is a slot, the container then stands there.
+/// Gives the rows' orders, one after the other: each is answered as its row says.
 fn assert_answers(
     rt: &impl Abort,
     alloc: Global,
@@ -104,15 +103,31 @@ fn assert_answers(
     rows: &[Row],
 ) -> Result<(), AllocError> {
     for row in rows {
-        let (partner, text, ask, answer, changes) = row;
-        let order = ask.order(rt, alloc, text)?;
-        let got = told(alloc, terminal, *partner, &order)?;
-        assert_eq!(rt; got, (answer.outcome(rt), *changes), "{text}");
-        if let Outcome::Done(slot) = got.0 {
-            assert_stands(rt, terminal, text, Some(slot));
-        }
+        let got = asked(rt, alloc, terminal, row)?;
+        assert_answer(rt, terminal, row, got);
     }
     Ok(())
+}
+
+/// The outcome of the row's order, and how many changes it made.
+fn asked(
+    rt: &impl Abort,
+    alloc: Global,
+    terminal: &mut Terminal,
+    row: &Row,
+) -> Result<(Outcome, usize), AllocError> {
+    let (partner, text, ask, _, _) = row;
+    let order = ask.order(rt, alloc, text)?;
+    told(alloc, terminal, *partner, &order)
+}
+
+/// That is the answer of the row, with as many changes. Where it is a slot, the container stands there now.
+fn assert_answer(rt: &impl Abort, terminal: &Terminal, row: &Row, got: (Outcome, usize)) {
+    let (_, text, _, answer, changes) = row;
+    assert_eq!(rt; got, (answer.outcome(rt), *changes), "{text}");
+    if let Outcome::Done(slot) = got.0 {
+        assert_stands(rt, terminal, text, Some(slot));
+    }
 }
 
 /// Where the container stands.

@@ -150,34 +150,39 @@ impl Trial {
         Ok(())
     }
 
+    fn takes_every_kind(&mut self, rt: &impl Abort, alloc: Global) -> Result<(), AllocError> {
+        self.takes(rt, alloc, &ORDERS)?;
+        self.loads_once(rt, alloc)?;
+        self.assert_end(rt);
+        Ok(())
+    }
+
     /// The second container goes onto a vessel, and not twice.
     fn loads_once(&mut self, rt: &impl Abort, alloc: Global) -> Result<(), AllocError> {
         let goes = again(&mut self.refused, || Ask::Loads.order(rt, alloc, SECOND))?;
         self.assert_taken(rt, alloc, QUAY, &goes, &Answer::Gone, 15)?;
         self.assert_taken(rt, alloc, QUAY, &goes, &Answer::Refused(Reason::NotIn), 15)
     }
-}
 
-/// The second container is gone by ship, and the first is here again.
-fn assert_end(rt: &impl Abort, trial: &Trial) {
-    let end = Shown {
-        visits: 3,
-        last: Some((3, false)),
-        first: Some(slot(rt, "A001011")),
-        second: None,
-        to_load: Some(LineState::Done),
-        to_discharge: Some(LineState::Done),
-        changes: 15,
-    };
-    assert_eq!(rt; trial.shown(rt), end);
+    /// The second container is gone by ship, and the first is here again.
+    fn assert_end(&self, rt: &impl Abort) {
+        let end = Shown {
+            visits: 3,
+            last: Some((3, false)),
+            first: Some(slot(rt, "A001011")),
+            second: None,
+            to_load: Some(LineState::Done),
+            to_discharge: Some(LineState::Done),
+            changes: 15,
+        };
+        assert_eq!(rt; self.shown(rt), end);
+    }
 }
 
 /// Whether memory was refused on the way.
 fn takes_every_kind(rt: &impl Abort, alloc: Global) -> Result<bool, AllocError> {
     let mut trial = Trial::new(rt, alloc)?;
-    trial.takes(rt, alloc, &ORDERS)?;
-    trial.loads_once(rt, alloc)?;
-    assert_end(rt, &trial);
+    trial.takes_every_kind(rt, alloc)?;
     Ok(trial.refused)
 }
 
