@@ -1,17 +1,39 @@
 //! Orders of every kind where memory is refused once: `rt try --test --fail-alloc N` refuses the Nth allocation.
 
-use super::{A, HAULIER, QUAY, call, entry, moment, number, slot};
+use super::{
+    Answer, Ask, FIRST, HAULIER, QUAY, Row, SECOND, call, number, slot, terminal as empty_terminal,
+};
 use crate::{Change, LineState, Outcome, Reason, Side, Source, Terminal};
 use box6346::Slot;
 use edi_messages::{Call, Order};
 use std::alloc::{AllocError, Global};
 use std::process::Abort;
 use std::test::Fail;
-use yard_core::Plan;
 
-const FIRST: &str = "ABCU0000017";
-
-const SECOND: &str = "ABCU0000022";
+/// The first container comes, the second is put onto it, and the first goes once the second moved. Then the first comes
+/// off a vessel. The last number is that of the changes so far.
+const ORDERS: [Row; 8] = [
+    (HAULIER, FIRST, Ask::Comes, Answer::Done("A001011"), 2),
+    (
+        HAULIER,
+        SECOND,
+        Ask::ComesTo("A001012"),
+        Answer::Done("A001012"),
+        4,
+    ),
+    (HAULIER, FIRST, Ask::Goes, Answer::Buried(SECOND), 4),
+    (
+        QUAY,
+        SECOND,
+        Ask::Moves("A003011"),
+        Answer::Done("A003011"),
+        5,
+    ),
+    (HAULIER, FIRST, Ask::Goes, Answer::Gone, 7),
+    (QUAY, SECOND, Ask::ListsToLoad, Answer::Listed, 8),
+    (QUAY, FIRST, Ask::ListsToDischarge, Answer::Listed, 9),
+    (QUAY, FIRST, Ask::Discharges, Answer::Done("A001011"), 12),
+];
 
 /// What is made, once more where memory is refused.
 fn again<T: Drop, F: Fn() -> Result<T, AllocError>>(
@@ -27,54 +49,6 @@ fn again<T: Drop, F: Fn() -> Result<T, AllocError>>(
             make()
         }
     }
-}
-
-fn empty_terminal(rt: &impl Abort, alloc: Global) -> Result<Terminal, AllocError> {
-    let plan = Plan::new(&[A]).expect(rt, "a plan");
-    Terminal::new(alloc, plan, 1_000)
-}
-
-fn gate_in(
-    rt: &impl Abort,
-    alloc: Global,
-    text: &str,
-    slot: Option<Slot>,
-) -> Result<Order, AllocError> {
-    let entry = entry(rt, alloc, text, slot)?;
-    Ok(Order::GateIn(entry))
-}
-
-fn list_load(rt: &impl Abort, alloc: Global) -> Result<Order, AllocError> {
-    let call = call(alloc)?;
-    let port = String::from_str(alloc, "SGSIN")?;
-    Ok(Order::ListLoad {
-        call,
-        number: number(rt, SECOND),
-        port,
-    })
-}
-
-fn list_discharge(rt: &impl Abort, alloc: Global) -> Result<Order, AllocError> {
-    let call = call(alloc)?;
-    Ok(Order::ListDischarge {
-        call,
-        number: number(rt, FIRST),
-    })
-}
-
-fn discharge(rt: &impl Abort, alloc: Global) -> Result<Order, AllocError> {
-    let call = call(alloc)?;
-    let entry = entry(rt, alloc, FIRST, None)?;
-    Ok(Order::Discharge { call, entry })
-}
-
-fn load(rt: &impl Abort, alloc: Global) -> Result<Order, AllocError> {
-    let call = call(alloc)?;
-    Ok(Order::Load {
-        call,
-        number: number(rt, SECOND),
-        moment: moment(rt),
-    })
 }
 
 /// What shows of a terminal and the changes so far.
@@ -102,7 +76,7 @@ struct Trial {
 impl Trial {
     fn new(rt: &impl Abort, alloc: Global) -> Result<Trial, AllocError> {
         let mut refused = false;
-        let terminal = again(&mut refused, || empty_terminal(rt, alloc))?;
+        let terminal = again(&mut refused, || empty_terminal(rt, alloc, 1_000))?;
         let call = again(&mut refused, || call(alloc))?;
         Ok(Trial {
             terminal,
@@ -151,84 +125,64 @@ impl Trial {
         Ok((outcome, self.changes.len()))
     }
 
-    /// The first container comes, the second is put onto it, and the first goes once the second moved.
-    fn takes_by_gate(&mut self, rt: &impl Abort, alloc: Global) -> Result<(), AllocError> {
-        let first = number(rt, FIRST);
-        let second = number(rt, SECOND);
-        let ground = slot(rt, "A001011");
-        let above = slot(rt, "A001012");
-        let other = slot(rt, "A003011");
-        let comes = again(&mut self.refused, || gate_in(rt, alloc, FIRST, None))?;
-        assert_eq!(rt;
-            self.take(rt, alloc, HAULIER, &comes)?,
-            (Outcome::Done(ground), 2)
-        );
-        let comes = again(
-            &mut self.refused,
-            || gate_in(rt, alloc, SECOND, Some(above)),
-        )?;
-        assert_eq!(rt;
-            self.take(rt, alloc, HAULIER, &comes)?,
-            (Outcome::Done(above), 4)
-        );
-        let goes = Order::GateOut {
-            number: first,
-            moment: moment(rt),
-        };
-        assert_eq!(rt;
-            self.take(rt, alloc, HAULIER, &goes)?,
-            (Outcome::Refused(Reason::Buried(second)), 4)
-        );
-        let moves = Order::Move {
-            number: second,
-            slot: other,
-        };
-        assert_eq!(rt;
-            self.take(rt, alloc, QUAY, &moves)?,
-            (Outcome::Done(other), 5)
-        );
-        assert_eq!(rt; self.take(rt, alloc, HAULIER, &goes)?, (Outcome::Gone, 7));
+    /// Gives an order. It has this answer, and there are as many changes then.
+    fn assert_taken(
+        &mut self,
+        rt: &impl Abort,
+        alloc: Global,
+        partner: u16,
+        order: &Order,
+        answer: &Answer,
+        changes: usize,
+    ) -> Result<(), AllocError> {
+        let got = self.take(rt, alloc, partner, order)?;
+        assert_eq!(rt; got, (answer.outcome(rt), changes));
         Ok(())
     }
 
-    /// The first container comes off a vessel, and the second goes onto it.
-    fn takes_by_ship(&mut self, rt: &impl Abort, alloc: Global) -> Result<(), AllocError> {
-        let ground = slot(rt, "A001011");
-        let lists = again(&mut self.refused, || list_load(rt, alloc))?;
-        assert_eq!(rt; self.take(rt, alloc, QUAY, &lists)?, (Outcome::Listed, 8));
-        let lists = again(&mut self.refused, || list_discharge(rt, alloc))?;
-        assert_eq!(rt; self.take(rt, alloc, QUAY, &lists)?, (Outcome::Listed, 9));
-        let comes = again(&mut self.refused, || discharge(rt, alloc))?;
-        assert_eq!(rt;
-            self.take(rt, alloc, QUAY, &comes)?,
-            (Outcome::Done(ground), 12)
-        );
-        let goes = again(&mut self.refused, || load(rt, alloc))?;
-        assert_eq!(rt; self.take(rt, alloc, QUAY, &goes)?, (Outcome::Gone, 15));
-        assert_eq!(rt;
-            self.take(rt, alloc, QUAY, &goes)?,
-            (Outcome::Refused(Reason::NotIn), 15)
-        );
+    /// Gives the rows' orders, one after the other.
+    fn takes(&mut self, rt: &impl Abort, alloc: Global, rows: &[Row]) -> Result<(), AllocError> {
+        for row in rows {
+            let (partner, text, ask, answer, changes) = row;
+            let order = again(&mut self.refused, || ask.order(rt, alloc, text))?;
+            self.assert_taken(rt, alloc, *partner, &order, answer, *changes)?;
+        }
         Ok(())
+    }
+
+    fn takes_every_kind(&mut self, rt: &impl Abort, alloc: Global) -> Result<(), AllocError> {
+        self.takes(rt, alloc, &ORDERS)?;
+        self.loads_once(rt, alloc)?;
+        self.assert_end(rt);
+        Ok(())
+    }
+
+    /// The second container goes onto a vessel, and not twice.
+    fn loads_once(&mut self, rt: &impl Abort, alloc: Global) -> Result<(), AllocError> {
+        let goes = again(&mut self.refused, || Ask::Loads.order(rt, alloc, SECOND))?;
+        self.assert_taken(rt, alloc, QUAY, &goes, &Answer::Gone, 15)?;
+        self.assert_taken(rt, alloc, QUAY, &goes, &Answer::Refused(Reason::NotIn), 15)
+    }
+
+    /// The second container is gone by ship, and the first is here again.
+    fn assert_end(&self, rt: &impl Abort) {
+        let end = Shown {
+            visits: 3,
+            last: Some((3, false)),
+            first: Some(slot(rt, "A001011")),
+            second: None,
+            to_load: Some(LineState::Done),
+            to_discharge: Some(LineState::Done),
+            changes: 15,
+        };
+        assert_eq!(rt; self.shown(rt), end);
     }
 }
 
 /// Whether memory was refused on the way.
 fn takes_every_kind(rt: &impl Abort, alloc: Global) -> Result<bool, AllocError> {
     let mut trial = Trial::new(rt, alloc)?;
-    trial.takes_by_gate(rt, alloc)?;
-    trial.takes_by_ship(rt, alloc)?;
-    let ground = slot(rt, "A001011");
-    let end = Shown {
-        visits: 3,
-        last: Some((3, false)),
-        first: Some(ground),
-        second: None,
-        to_load: Some(LineState::Done),
-        to_discharge: Some(LineState::Done),
-        changes: 15,
-    };
-    assert_eq!(rt; trial.shown(rt), end);
+    trial.takes_every_kind(rt, alloc)?;
     Ok(trial.refused)
 }
 

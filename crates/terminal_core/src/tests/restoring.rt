@@ -1,20 +1,16 @@
 //! Rows that are a state's, and rows that are none.
 
-use super::{A, HAULIER, call, moment, number, slot, told};
-use crate::{
-    Arrival, Departure, LineState, Listing, Outcome, Reason, RestoreFault, Side, Source, Stay,
-    Terminal, Visit, Way,
+use super::{
+    A, Answer, Ask, FIRST, HAULIER, Row, SECOND, assert_answers, assert_lines, assert_stands,
+    assert_visits, call, moment, number, size_type, slot,
 };
-use box6346::SizeType;
-use edi_messages::Order;
+use crate::{
+    Arrival, Departure, LineState, Listing, RestoreFault, Side, Source, Stay, Terminal, Visit, Way,
+};
 use std::alloc::{AllocError, Global};
 use std::process::Abort;
 use std::test::Fail;
 use yard_core::Plan;
-
-const FIRST: &str = "ABCU0000017";
-
-const SECOND: &str = "ABCU0000022";
 
 const BY_GATE: Source = Source {
     partner: HAULIER,
@@ -26,7 +22,7 @@ fn open(rt: &impl Abort, alloc: Global, visit: u32, text: &str) -> Result<Visit,
     Ok(Visit {
         number: visit,
         container: number(rt, text),
-        size_type: SizeType::parse(b"22G1").expect(rt, "a size-type"),
+        size_type: size_type(rt),
         is_laden: true,
         booking,
         arrival: Arrival {
@@ -124,32 +120,12 @@ fn whole_terminal(rt: &impl Abort, alloc: Global) -> Result<Terminal, Fail> {
     Ok(restored(rt, alloc, 3, visits, places, lines).expect(rt, "a state"))
 }
 
-fn goes(
-    rt: &impl Abort,
-    alloc: Global,
-    terminal: &mut Terminal,
-    text: &str,
-) -> Result<(Outcome, usize), AllocError> {
-    let order = Order::GateOut {
-        number: number(rt, text),
-        moment: moment(rt),
-    };
-    told(alloc, terminal, HAULIER, order)
-}
-
 #[test]
 fn containers_stand_where_their_rows_say(rt: HostRuntime) -> Result<(), Fail> {
-    let alloc = rt.alloc();
-    let terminal = whole_terminal(&rt, alloc)?;
-    assert_eq!(rt;
-        terminal.slot_of(number(&rt, FIRST)),
-        Some(slot(&rt, "A001011"))
-    );
-    assert_eq!(rt;
-        terminal.slot_of(number(&rt, SECOND)),
-        Some(slot(&rt, "A001012"))
-    );
-    assert_eq!(rt; terminal.visits().len(), 3);
+    let terminal = whole_terminal(&rt, rt.alloc())?;
+    assert_stands(&rt, &terminal, FIRST, Some(slot(&rt, "A001011")));
+    assert_stands(&rt, &terminal, SECOND, Some(slot(&rt, "A001012")));
+    assert_visits(&rt, &terminal, 3);
     Ok(())
 }
 
@@ -157,66 +133,75 @@ fn containers_stand_where_their_rows_say(rt: HostRuntime) -> Result<(), Fail> {
 fn lines_are_as_far_as_their_rows_say(rt: HostRuntime) -> Result<(), Fail> {
     let alloc = rt.alloc();
     let terminal = whole_terminal(&rt, alloc)?;
-    let call = call(alloc)?;
-    assert_eq!(rt;
-        terminal.line_state(&call, Side::Load, number(&rt, FIRST)),
-        Some(LineState::Pending)
-    );
-    assert_eq!(rt;
-        terminal.line_state(&call, Side::Discharge, number(&rt, SECOND)),
-        Some(LineState::Done)
-    );
-    assert_eq!(rt;
-        terminal.line_state(&call, Side::Load, number(&rt, SECOND)),
-        None
-    );
+    assert_lines(
+        &rt,
+        alloc,
+        &terminal,
+        &[
+            (Side::Load, FIRST, Some(LineState::Pending)),
+            (Side::Discharge, SECOND, Some(LineState::Done)),
+            (Side::Load, SECOND, None),
+        ],
+    )?;
     Ok(())
 }
+
+const BURIED_THEN_GONE: [Row; 2] = [
+    (HAULIER, FIRST, Ask::Goes, Answer::Buried(SECOND), 0),
+    (HAULIER, SECOND, Ask::Goes, Answer::Gone, 2),
+];
 
 #[test]
 fn a_step_follows_what_was_restored(rt: HostRuntime) -> Result<(), Fail> {
     let alloc = rt.alloc();
     let mut terminal = whole_terminal(&rt, alloc)?;
-    assert_eq!(rt;
-        goes(&rt, alloc, &mut terminal, FIRST)?,
-        (Outcome::Refused(Reason::Buried(number(&rt, SECOND))), 0)
-    );
-    assert_eq!(rt;
-        goes(&rt, alloc, &mut terminal, SECOND)?,
-        (Outcome::Gone, 2)
-    );
+    assert_answers(&rt, alloc, &mut terminal, &BURIED_THEN_GONE)?;
     Ok(())
 }
 
-#[test]
-fn no_rows_are_an_empty_state(rt: HostRuntime) -> Result<(), Fail> {
-    let alloc = rt.alloc();
+/// The terminal of no rows.
+fn empty_terminal(rt: &impl Abort, alloc: Global) -> Terminal {
     let terminal = restored(
-        &rt,
+        rt,
         alloc,
         0,
         Vec::new(alloc),
         Vec::new(alloc),
         Vec::new(alloc),
-    )
-    .expect(&rt, "a state");
-    assert_eq!(rt; terminal.visits().len(), 0);
-    assert_eq!(rt; terminal.slot_of(number(&rt, FIRST)), None);
+    );
+    terminal.expect(rt, "a state")
+}
+
+#[test]
+fn no_rows_are_an_empty_state(rt: HostRuntime) -> Result<(), Fail> {
+    let terminal = empty_terminal(&rt, rt.alloc());
+    assert_visits(&rt, &terminal, 0);
+    assert_stands(&rt, &terminal, FIRST, None);
+    Ok(())
+}
+
+/// The answer on places of the three visits.
+fn assert_fault(
+    rt: &impl Abort,
+    alloc: Global,
+    places: &[Stay],
+    want: Option<RestoreFault>,
+) -> Result<(), Fail> {
+    assert_eq!(rt; fault(rt, alloc, places)?, want);
     Ok(())
 }
 
 #[test]
 fn each_open_visit_has_its_place(rt: HostRuntime) -> Result<(), Fail> {
     let alloc = rt.alloc();
-    let ground = stay(&rt, FIRST, 1, "A001011");
-    let above = stay(&rt, SECOND, 3, "A001012");
-    let again = stay(&rt, SECOND, 3, "A003011");
-    assert_eq!(rt; fault(&rt, alloc, &[ground, above])?, None);
-    assert_eq!(rt; fault(&rt, alloc, &[ground])?, Some(RestoreFault::Unsound));
-    assert_eq!(rt;
-        fault(&rt, alloc, &[ground, above, again])?,
-        Some(RestoreFault::Unsound)
-    );
+    let places = [
+        stay(&rt, FIRST, 1, "A001011"),
+        stay(&rt, SECOND, 3, "A001012"),
+        stay(&rt, SECOND, 3, "A003011"),
+    ];
+    assert_fault(&rt, alloc, &places[..2], None)?;
+    assert_fault(&rt, alloc, &places[..1], Some(RestoreFault::Unsound))?;
+    assert_fault(&rt, alloc, &places, Some(RestoreFault::Unsound))?;
     Ok(())
 }
 
@@ -235,23 +220,32 @@ fn no_other_place_is_taken_for_an_open_visit(rt: HostRuntime) -> Result<(), Fail
     ] {
         let ground = stay(&rt, FIRST, 1, "A001011");
         let other = stay(&rt, SECOND, visit, name);
-        assert_eq!(rt;
-            fault(&rt, alloc, &[ground, other])?,
-            Some(RestoreFault::Unsound)
-        );
+        assert_fault(&rt, alloc, &[ground, other], Some(RestoreFault::Unsound))?;
     }
     Ok(())
 }
 
-/// The answer on visits where one container stands.
-fn visits_fault(
+/// The answer on visits where the first container stands, with the first visit.
+fn assert_visits_fault(
     rt: &impl Abort,
     alloc: Global,
     limit: u32,
     visits: Vec<Visit>,
-) -> Result<Option<RestoreFault>, Fail> {
+    want: Option<RestoreFault>,
+) -> Result<(), Fail> {
     let places = vec![in alloc; stay(rt, FIRST, 1, "A001011")]?;
-    Ok(restored(rt, alloc, limit, visits, places, Vec::new(alloc)).err())
+    let fault = restored(rt, alloc, limit, visits, places, Vec::new(alloc)).err();
+    assert_eq!(rt; fault, want);
+    Ok(())
+}
+
+/// The first container's visit, and a closed one of this number.
+fn two_visits(rt: &impl Abort, alloc: Global, second: u32) -> Result<Vec<Visit>, AllocError> {
+    let visits = vec![in alloc;
+        open(rt, alloc, 1, FIRST)?,
+        closed(rt, alloc, second, SECOND)?,
+    ]?;
+    Ok(visits)
 }
 
 #[test]
@@ -262,11 +256,8 @@ fn visits_are_numbered_within_the_limit(rt: HostRuntime) -> Result<(), Fail> {
         (3, 3, Some(RestoreFault::Unsound)),
         (1, 2, Some(RestoreFault::Unsound)),
     ] {
-        let visits = vec![in alloc;
-            open(&rt, alloc, 1, FIRST)?,
-            closed(&rt, alloc, second, SECOND)?,
-        ]?;
-        assert_eq!(rt; visits_fault(&rt, alloc, limit, visits)?, fault);
+        let visits = two_visits(&rt, alloc, second)?;
+        assert_visits_fault(&rt, alloc, limit, visits, fault)?;
     }
     Ok(())
 }
@@ -275,24 +266,24 @@ fn visits_are_numbered_within_the_limit(rt: HostRuntime) -> Result<(), Fail> {
 fn no_container_has_two_open_visits(rt: HostRuntime) -> Result<(), Fail> {
     let alloc = rt.alloc();
     let visits = vec![in alloc; open(&rt, alloc, 1, FIRST)?, open(&rt, alloc, 2, FIRST)?]?;
-    assert_eq!(rt;
-        visits_fault(&rt, alloc, 2, visits)?,
-        Some(RestoreFault::Unsound)
-    );
-    Ok(())
+    assert_visits_fault(&rt, alloc, 2, visits, Some(RestoreFault::Unsound))
+}
+
+/// Three lines, of which the last stands already.
+fn three_lines(rt: &impl Abort, alloc: Global) -> Result<Vec<Listing>, AllocError> {
+    let lines = vec![in alloc;
+        line(rt, alloc, Side::Load, FIRST, LineState::Pending)?,
+        line(rt, alloc, Side::Discharge, FIRST, LineState::Pending)?,
+        line(rt, alloc, Side::Load, FIRST, LineState::Done)?,
+    ]?;
+    Ok(lines)
 }
 
 #[test]
 fn no_line_is_given_twice(rt: HostRuntime) -> Result<(), Fail> {
     let alloc = rt.alloc();
-    let lines = vec![in alloc;
-        line(&rt, alloc, Side::Load, FIRST, LineState::Pending)?,
-        line(&rt, alloc, Side::Discharge, FIRST, LineState::Pending)?,
-        line(&rt, alloc, Side::Load, FIRST, LineState::Done)?,
-    ]?;
-    assert_eq!(rt;
-        restored(&rt, alloc, 3, Vec::new(alloc), Vec::new(alloc), lines).err(),
-        Some(RestoreFault::Unsound)
-    );
+    let lines = three_lines(&rt, alloc)?;
+    let terminal = restored(&rt, alloc, 3, Vec::new(alloc), Vec::new(alloc), lines);
+    assert_eq!(rt; terminal.err(), Some(RestoreFault::Unsound));
     Ok(())
 }
