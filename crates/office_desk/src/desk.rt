@@ -10,6 +10,7 @@ ghost use Rattle.office_stream.specs.Delivering.{Delivers};
 ghost use Rattle.office_desk.specs.Admission.{partner_from, deliveries_of};
 ghost use Rattle.office_desk.specs.Answers.{code_of};
 
+use crate::place::place_of;
 use crate::reject::{refuse, reject};
 use edi_messages::WRONG_RECIPIENT;
 use edi_segments::{Component, interchange_text};
@@ -66,14 +67,7 @@ impl<M: Machine> Desk<M> {
         ensures within { IfSome result (λ place. place < length self.now.partners.items) }
         ensures number { option_map (λ place. place + 1) result ≡ partner_from 1 (value code.entry) (map string_bytes self.now.partners.items) }
     {
-        let mut place = 0;
-        for partner in &self.partners {
-            if code.equals(partner.as_bytes()) {
-                return Some(place);
-            }
-            place += 1;
-        }
-        None
+        place_of(&self.partners, code)
     }
 
     /// Hands an interchange of a partner to the runs.
