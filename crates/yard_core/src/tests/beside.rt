@@ -4,6 +4,7 @@ use super::{number, plan};
 use crate::{Block, Yard, YardFault};
 use box6346::{BoxNumber, Length, Slot};
 use std::alloc::{AllocError, Global};
+use std::process::Abort;
 use std::test::Fail;
 
 const BLOCKS: [Block; 2] = [
@@ -262,53 +263,134 @@ fn drawn_slot(drawn: u32, length: Length) -> Slot {
     }
 }
 
+/// The length of a box: one in four is a forty.
+fn drawn_length(drawn: u32) -> Length {
+    if drawn >> 25 & 3 == 0 {
+        Length::Forty
+    } else {
+        Length::Twenty
+    }
+}
+
+/// A yard beside the list of its boxes, and all its slots.
+#[derive(Drop)]
+struct Pair {
+    yard: Yard,
+    list: List,
+    slots: Vec<Slot>,
+    /// How many calls there were.
+    turn: u32,
+}
+
+impl Pair {
+    fn new(rt: &impl Abort, alloc: Global) -> Result<Pair, AllocError> {
+        let yard = Yard::new(alloc, plan(rt, &BLOCKS))?;
+        let slots = slots(alloc)?;
+        Ok(Pair {
+            yard,
+            list: List {
+                boxes: Vec::new(alloc),
+            },
+            slots,
+            turn: 0,
+        })
+    }
+
+    fn assert_places(
+        &mut self,
+        rt: &impl Abort,
+        number: BoxNumber,
+        length: Length,
+        slot: Slot,
+    ) -> Result<(), AllocError> {
+        let want = self.list.place(number, length, slot)?;
+        assert_eq!(rt;
+            self.yard.place(number, length, slot),
+            want,
+            "{}",
+            self.turn
+        );
+        Ok(())
+    }
+
+    fn assert_places_first(
+        &mut self,
+        rt: &impl Abort,
+        number: BoxNumber,
+        length: Length,
+    ) -> Result<(), AllocError> {
+        let want = self.list.place_first(&self.slots, number, length)?;
+        assert_eq!(rt;
+            self.yard.place_first(number, length),
+            want,
+            "{}",
+            self.turn
+        );
+        Ok(())
+    }
+
+    fn assert_removes(&mut self, rt: &impl Abort, number: BoxNumber) {
+        let want = self.list.remove(number);
+        assert_eq!(rt; self.yard.remove(number), want, "{}", self.turn);
+    }
+
+    fn assert_shifts(
+        &mut self,
+        rt: &impl Abort,
+        number: BoxNumber,
+        slot: Slot,
+    ) -> Result<(), AllocError> {
+        let want = self.list.shift(number, slot)?;
+        assert_eq!(rt; self.yard.shift(number, slot), want, "{}", self.turn);
+        Ok(())
+    }
+
+    /// Both stand alike.
+    fn assert_stands(&self, rt: &impl Abort, number: BoxNumber) {
+        let want = self.list.find(number).map(|b| b.1);
+        assert_eq!(rt; self.yard.slot_of(number), want, "{}", self.turn);
+    }
+
+    /// One of the four calls, at both: they answer alike.
+    fn assert_call(
+        &mut self,
+        rt: &impl Abort,
+        call: u32,
+        number: BoxNumber,
+        length: Length,
+        slot: Slot,
+    ) -> Result<(), AllocError> {
+        match call {
+            0..=5 => self.assert_places(rt, number, length, slot),
+            6 => self.assert_places_first(rt, number, length),
+            7..=11 => {
+                self.assert_removes(rt, number);
+                Ok(())
+            }
+            _ => self.assert_shifts(rt, number, slot),
+        }
+    }
+
+    /// One call more, as the numbers have it that follow this one. The last of them.
+    fn turn(&mut self, rt: &impl Abort, drawn: u32) -> Result<u32, AllocError> {
+        let first = next(drawn);
+        let number = number(rt, first >> 20 & 63);
+        let second = next(first);
+        let length = drawn_length(second);
+        let slot = drawn_slot(second, length);
+        self.assert_call(rt, first >> 28, number, length, slot)?;
+        self.assert_stands(rt, number);
+        self.turn = self.turn.saturating_add(1);
+        Ok(second)
+    }
+}
+
 #[test]
 fn columns_answer_as_a_plain_list(rt: HostRuntime) -> Result<(), Fail> {
-    let alloc = rt.alloc();
-    let mut yard = Yard::new(alloc, plan(&rt, &BLOCKS))?;
-    let mut list = List {
-        boxes: Vec::new(alloc),
-    };
-    let slots = slots(alloc)?;
+    let mut pair = Pair::new(&rt, rt.alloc())?;
     let mut drawn = 1u32;
-    for turn in 0..4000u32 {
-        drawn = next(drawn);
-        let call = drawn >> 28;
-        let number = number(&rt, drawn >> 20 & 63);
-        drawn = next(drawn);
-        let length = if drawn >> 25 & 3 == 0 {
-            Length::Forty
-        } else {
-            Length::Twenty
-        };
-        let slot = drawn_slot(drawn, length);
-        match call {
-            0..=5 => {
-                assert_eq!(rt;
-                    yard.place(number, length, slot),
-                    list.place(number, length, slot)?,
-                    "{turn}"
-                );
-            }
-            6 => {
-                assert_eq!(rt;
-                    yard.place_first(number, length),
-                    list.place_first(&slots, number, length)?,
-                    "{turn}"
-                );
-            }
-            7..=11 => assert_eq!(rt; yard.remove(number), list.remove(number), "{turn}"),
-            _ => assert_eq!(rt;
-                yard.shift(number, slot),
-                list.shift(number, slot)?,
-                "{turn}"
-            ),
-        }
-        assert_eq!(rt;
-            yard.slot_of(number),
-            list.find(number).map(|b| b.1),
-            "{turn}"
-        );
+    for _ in 0..4000u32 {
+        drawn = pair.turn(&rt, drawn)?;
     }
     Ok(())
 }

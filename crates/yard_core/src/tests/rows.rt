@@ -6,10 +6,8 @@ use box6346::Length::{Forty, Twenty};
 use std::process::Abort;
 use std::test::Fail;
 
-#[test]
-fn boxes_stand_on_the_ground_or_on_their_kind(rt: HostRuntime) -> Result<(), Fail> {
-    let alloc = rt.alloc();
-    let mut yard = Yard::new(alloc, plan(&rt, &[A]))?;
+/// Boxes one after the other, each with the answer that it gets.
+fn assert_places(rt: &impl Abort, yard: &mut Yard) {
     for (serial, length, name, want) in [
         (1, Twenty, "A001011", Ok(())),
         (2, Twenty, "A003011", Ok(())),
@@ -23,17 +21,26 @@ fn boxes_stand_on_the_ground_or_on_their_kind(rt: HostRuntime) -> Result<(), Fai
         (1, Forty, "A008011", Err(YardFault::Present)),
     ] {
         assert_eq!(rt;
-            yard.place(number(&rt, serial), length, slot(&rt, name)),
+            yard.place(number(rt, serial), length, slot(rt, name)),
             want,
             "{serial}"
         );
     }
-    let blocker = number(&rt, 3);
-    assert_eq!(rt;
-        yard.remove(number(&rt, 1)),
-        Err(YardFault::Buried(blocker))
-    );
-    assert_eq!(rt; yard.remove(number(&rt, 4)), Err(YardFault::Absent));
+}
+
+/// The first box is below the third, and the fourth is not there.
+fn assert_stay(rt: &impl Abort, yard: &mut Yard) {
+    let blocker = number(rt, 3);
+    assert_eq!(rt; yard.remove(number(rt, 1)), Err(YardFault::Buried(blocker)));
+    assert_eq!(rt; yard.remove(number(rt, 4)), Err(YardFault::Absent));
+}
+
+#[test]
+fn boxes_stand_on_the_ground_or_on_their_kind(rt: HostRuntime) -> Result<(), Fail> {
+    let alloc = rt.alloc();
+    let mut yard = Yard::new(alloc, plan(&rt, &[A]))?;
+    assert_places(&rt, &mut yard);
+    assert_stay(&rt, &mut yard);
     let mut copy = yard.copy(alloc)?;
     assert_goes_on(&rt, &mut yard);
     assert_goes_on(&rt, &mut copy);
