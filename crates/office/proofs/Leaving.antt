@@ -19,13 +19,13 @@ pub opens_demo : (setup : Setup) (desk : Desk MachineState)
     → partner_codes setup.accounts.items ≡ demo_partners → partner_kinds setup.accounts.items ≡ demo_kinds
     → setup.blocks.items ≡ demo_blocks → setup.visit_limit ≡ 999999999
     → parties desk ≡ record { terminal = string_bytes setup.terminal; partners = partner_codes setup.accounts.items }
-    → desk.runs.machine ≡ opening_machine setup.codes setup.accounts.items setup.blocks.items setup.visit_limit
+    → desk.runs.machine ≡ opening_machine (string_bytes setup.terminal) setup.codes setup.accounts.items setup.blocks.items setup.visit_limit
     → DeskStands interchange_taken desk [] desk → OpensDemo desk
 opens_demo setup desk terminal table partners kinds blocks limit parties_are machine_is stands = record {
   table = setup.codes;
   codes_are = table;
   parties_are = parties_are ∙ ap (λ terminal. record { terminal = terminal; partners = partner_codes setup.accounts.items }) terminal ∙ ap (λ partners. record { terminal = codes "TERM1"; partners = partners }) partners;
-  machine_is = rw (kinds, blocks, limit) at machine_is;
+  machine_is = rw (terminal, partners, kinds, blocks, limit) at machine_is;
   stands = stands;
 }
 

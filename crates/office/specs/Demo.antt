@@ -13,7 +13,6 @@ use Rattle.office_desk.specs.Admission.{Parties}
 use Rattle.office_desk.specs.Desks.{DeskStands, DeskAnswers, parties}
 use Rattle.office_replies.specs.declared.worst.Worst.{Worst}
 use Rattle.office_stream.specs.Streams.{Streamed, Began, Delivered}
-use Rattle.office_stream.specs.declared.stream_fault.StreamFault.{StreamFault}
 use Rattle.office_stream.specs.declared.stream_fault.StreamFault.TheVariants.{Read, Write, Turns}
 use Rattle.office.specs.declared.demo_fault.DemoFault.{DemoFault}
 use Rattle.office.specs.declared.demo_fault.DemoFault.TheVariants.{Setup, Stream}
@@ -40,6 +39,7 @@ demo_parties = record { terminal = codes "TERM1"; partners = demo_partners }
 -- an empty terminal, for partners of those kinds and with those codes
 abbrev pub demo_machine : CodeTable → MachineState
 demo_machine table = record {
+  parties = demo_parties;
   codes = table;
   kinds = demo_kinds;
   terminal = empty_state (record { plan = demo_blocks; boxes = finite_map.empty }) 999999999;

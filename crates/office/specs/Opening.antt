@@ -18,9 +18,10 @@ partner_codes accounts = map (λ account. string_bytes account.code) accounts
 abbrev pub partner_kinds : List Account → List PartnerKind
 partner_kinds accounts = map (λ account. account.kind) accounts
 
--- what takes the interchanges of those partners, over an empty yard of those blocks
-abbrev pub opening_machine : CodeTable → List Account → List Block → ℕ → MachineState
-opening_machine codes accounts blocks limit = record {
+-- what takes the interchanges of those partners to that address, over an empty yard of those blocks
+abbrev pub opening_machine : List ℕ → CodeTable → List Account → List Block → ℕ → MachineState
+opening_machine address codes accounts blocks limit = record {
+  parties = record { terminal = address; partners = partner_codes accounts };
   codes = codes;
   kinds = partner_kinds accounts;
   terminal = empty_state (record { plan = blocks; boxes = finite_map.empty }) limit;

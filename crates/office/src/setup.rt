@@ -1,4 +1,4 @@
-ghost use Rattle.std.specs.Prelude.{◌≡◌, [], IfOk, IfErr, map, codes, string_bytes};
+ghost use Rattle.std.specs.Prelude.{◌≡◌, ◌≤◌, [], IfOk, IfErr, length, map, codes, string_bytes};
 ghost use Rattle.edi_messages.specs.Codes.{table_texts};
 ghost use Rattle.office_machine.specs.Taking.{interchange_taken};
 ghost use Rattle.office_desk.specs.Desks.{DeskStands, parties};
@@ -60,7 +60,7 @@ impl Setup {
     pub fn open(self, alloc: Global) -> Result<Desk<TerminalMachine>, SetupFault>
         ensures stands { IfOk result (λ desk. DeskStands interchange_taken desk [] desk) }
         ensures parties { IfOk result (λ desk. parties desk ≡ record { terminal = string_bytes self.terminal; partners = partner_codes self.accounts.items }) }
-        ensures machine { IfOk result (λ desk. desk.runs.machine ≡ opening_machine self.codes self.accounts.items self.blocks.items self.visit_limit) }
+        ensures machine { IfOk result (λ desk. desk.runs.machine ≡ opening_machine (string_bytes self.terminal) self.codes self.accounts.items self.blocks.items self.visit_limit) }
 
         // Where the set-up has a fault, that one, the blocks' before the number of partners.
         ensures sound { IfOk result (λ desk. IsSound self) }
@@ -73,20 +73,29 @@ impl Setup {
         if self.accounts.len() > PARTNERS {
             return Err(SetupFault::Partners);
         }
-        let Ok(partners) = codes_of(alloc, self.accounts.as_slice()) else {
-            return Err(SetupFault::Memory);
-        };
-        let Ok(kinds) = kinds_of(alloc, self.accounts.as_slice()) else {
-            return Err(SetupFault::Memory);
-        };
-        let Ok(empty) = Terminal::new(alloc, plan, self.visit_limit) else {
-            return Err(SetupFault::Memory);
-        };
-        let machine = TerminalMachine::new(self.codes, kinds, empty);
-        match Desk::new(alloc, self.terminal, partners, machine) {
+        match self.open_sound(alloc, plan) {
             Ok(desk) => Ok(desk),
             Err(_) => Err(SetupFault::Memory),
         }
+    }
+
+    /// The same where it has no fault.
+    fn open_sound(self, alloc: Global, plan: Plan) -> Result<Desk<TerminalMachine>, AllocError>
+        requires plan { plan ≡ self.blocks.items }
+        requires few { length self.accounts.items ≤ 999 }
+        ensures stands { IfOk result (λ desk. DeskStands interchange_taken desk [] desk) }
+        ensures parties { IfOk result (λ desk. parties desk ≡ record { terminal = string_bytes self.terminal; partners = partner_codes self.accounts.items }) }
+        ensures machine { IfOk result (λ desk. desk.runs.machine ≡ opening_machine (string_bytes self.terminal) self.codes self.accounts.items self.blocks.items self.visit_limit) }
+    {
+        let machine = TerminalMachine::new(
+            String::from_str(alloc, self.terminal.as_str())?,
+            codes_of(alloc, &self.accounts)?,
+            kinds_of(alloc, &self.accounts)?,
+            self.codes,
+            Terminal::new(alloc, plan, self.visit_limit)?,
+        );
+        let partners = codes_of(alloc, &self.accounts)?;
+        Desk::new(alloc, self.terminal, partners, machine)
     }
 }
 

@@ -5,6 +5,7 @@ mod failing_reader;
 mod failing_writer;
 mod interchanges;
 mod lists;
+mod machine;
 mod messages;
 mod pieces;
 mod ports;

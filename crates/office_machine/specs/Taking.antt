@@ -1,13 +1,11 @@
 -- What taking an interchange does to the terminal, and what is replied.
-use Rattle.std.specs.Prelude.{ℕ, List, [], ◌∷◌, map, Option, None, Some, Result, Ok, Err, encode_utf8_all}
+use Rattle.std.specs.Prelude.{ℕ, ◌==◌, Bool, false, cond, List, [], ◌∷◌, map, Option, None, Some, Result, Ok, Err, encode_utf8_all}
 use Rattle.std.specs.Option.{unwrap_or}
 use Rattle.box6346.specs.declared.box_number.BoxNumber.{BoxNumber}
 use Rattle.edi_moments.specs.Moments.{CivilMoment}
 use Rattle.edi_segments.specs.Text.{Content}
 use Rattle.edi_segments.specs.Interchange.{segments_in}
-use Rattle.edi_segments.specs.declared.syntax_fault.SyntaxFault.{SyntaxFault}
 use Rattle.edi_syntax.specs.Envelope.{header_of, messages_of}
-use Rattle.edi_syntax.specs.Faults.{fault_of}
 use Rattle.edi_syntax.specs.Header.{control_number, preparation}
 use Rattle.edi_syntax.specs.Messages.{Message, message_reference}
 use Rattle.edi_messages.specs.Contrl.{contrl_text}
@@ -29,11 +27,14 @@ use Rattle.terminal_core.specs.declared.outcome.Outcome.TheVariants.{Refused}
 use Rattle.terminal_core.specs.declared.reason.Reason.{Reason}
 use Rattle.terminal_core.specs.declared.reason.Reason.TheVariants.{Form, CheckDigit, Size, Moment, SlotText}
 use Rattle.terminal_core.specs.declared.source.Source.{Source}
+use Rattle.office_replies.specs.declared.fault.Fault.{Fault}
 use Rattle.office_replies.specs.declared.line_report.LineReport.{LineReport}
+use Rattle.office_desk.specs.Admission.{Parties, admission}
 use Rattle.office_replies.specs.Messages.{VerdictContent, accepted, rejected, ReportContent, reply_content_text}
 
--- the terminal's codes, what each partner is, and the terminal
+-- who the terminal and its partners are, the codes of document names, what each partner is, and the terminal
 pub record MachineState : Type 0 where
+  pub parties : Parties
   pub codes : CodeTable
   pub kinds : List PartnerKind
   pub terminal : TerminalState
@@ -119,19 +120,25 @@ codes_for machine kind = record { kind = kind; table = machine.codes }
 abbrev pub source_in : ℕ → Content → Source
 source_in partner header = record { partner = partner; number = unwrap_or (control_number header) 0 }
 
--- where the text has no fault, and its header a moment
-abbrev pub taken_at : MachineState → ℕ → PartnerKind → List Content → Option SyntaxFault → Option CivilMoment → MachineState × List ℕ
-taken_at machine partner kind segments (Some fault) opened = nothing_taken machine
-taken_at machine partner kind segments None None = nothing_taken machine
-taken_at machine partner kind segments None (Some opened) =
+-- where the header has a moment
+abbrev pub taken_at : MachineState → ℕ → PartnerKind → List Content → Option CivilMoment → MachineState × List ℕ
+taken_at machine partner kind segments None = nothing_taken machine
+taken_at machine partner kind segments (Some opened) =
     with_messages machine segments
     (messages_taken machine.terminal (codes_for machine kind) (source_in partner (header_of segments)) opened (messages_of segments))
 
-abbrev pub taken_of : MachineState → ℕ → List ℕ → Option PartnerKind → MachineState × List ℕ
-taken_of machine partner text None = nothing_taken machine
-taken_of machine partner text (Some kind) =
-    taken_at machine partner kind (segments_in text) (fault_of text) (preparation (header_of (segments_in text)))
+abbrev pub taken_of : MachineState → ℕ → List Content → Option PartnerKind → MachineState × List ℕ
+taken_of machine partner segments None = nothing_taken machine
+taken_of machine partner segments (Some kind) = taken_at machine partner kind segments (preparation (header_of segments))
 
--- Take: the interchange of a partner, counted from 1. What is no interchange, or of no partner, changes nothing.
+-- the text was admitted, and for this partner
+abbrev pub is_for : ℕ → Result (ℕ × ℕ) Fault → Bool
+is_for partner (Ok place) = place.0 == partner
+is_for partner (Err fault) = false
+
+-- Take: the interchange of a partner, counted from 1. A text that is not admitted for that partner changes nothing.
 abbrev pub interchange_taken : MachineState → ℕ → List ℕ → MachineState × List ℕ
-interchange_taken machine partner text = taken_of machine partner text (with_number machine.kinds partner)
+interchange_taken machine partner text =
+    cond (is_for partner (admission machine.parties text))
+    (taken_of machine partner (segments_in text) (with_number machine.kinds partner))
+    (nothing_taken machine)
