@@ -219,8 +219,12 @@ fn a_stream_is_left_after_so_many_reads(rt: HostRuntime) -> Result<(), Fail> {
         let left = run_stream(rt.alloc(), &mut input, &mut output, &mut desk, reads as u64);
         assert_eq!(&rt; left, Err(StreamFault::Turns));
         assert!(&rt; !input.failed());
-        assert_eq!(&rt; input.into_inner().text.len(), STREAM.len() - reads);
-        let expected = lines(rt.alloc(), &TAKEN[..ended_within(reads)], &[])?;
+        let answered = ended_within(reads).min(TAKEN.len());
+        assert_eq!(&rt;
+            input.into_inner().text.len(),
+            STREAM.len().saturating_sub(reads)
+        );
+        let expected = lines(rt.alloc(), &TAKEN[..answered], &[])?;
         assert_eq!(&rt; output.into_inner().as_slice(), expected.as_slice());
     }
     Ok(())
