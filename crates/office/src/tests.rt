@@ -11,6 +11,7 @@ mod pieces;
 mod ports;
 mod refusals;
 mod settings;
+mod slots;
 mod streams;
 
 use crate::command;

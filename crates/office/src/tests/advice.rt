@@ -25,6 +25,10 @@ fn characters_that_may_not_serve_are_refused(rt: HostRuntime) -> Result<(), Fail
                 b"UNA++.? 'UNB+UNOA:3+HAULA+TERM1+240305:0910+000001'UNH+1+CODECO:D:95B:UN:ITG14'BGM+34+G1+9'EQD+CN+ABCU0000017+22G1:102:5+++5'FTX+AAI+++WHY?'UNT+5+1'UNZ+1+000001'",
                 "{\"answer\":\"refused\",\"fault\":\"Service\"}",
             ),
+            (
+                b"UNA++.? 'UNB+UNOA:3+HAULA+TERM1+240305:0910+000001'UNH+1+CODECO:D:95B:UN:ITG14'BGM+34+G1+9'EQD+CN+ABCU0000017+22G1:102:5+++5'UNT+4+1'UNZ+1+000001'",
+                "{\"answer\":\"refused\",\"fault\":\"Service\"}",
+            ),
             (b"UNA:+", "{\"answer\":\"refused\",\"fault\":\"Service\"}"),
             (
                 b"UNB+UNOA:3+HAULA+TERM1+240305:0910+000001'UNH+1+CODECO:D:95B:UN:ITG14'BGM+34+G1+9'EQD+CN+ABCU0000017+22G1:102:5+++5'UNT+4+1'UNZ+1+000001'",

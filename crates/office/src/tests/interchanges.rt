@@ -78,7 +78,7 @@ fn an_early_one_is_taken_when_its_turn_comes(rt: HostRuntime) -> Result<(), Fail
 }
 
 #[test]
-fn the_sender_and_the_recipient_are_those_of_the_desk(rt: HostRuntime) -> Result<(), Fail> {
+fn a_refused_one_leaves_its_number_free(rt: HostRuntime) -> Result<(), Fail> {
     assert_answers(
         &rt,
         rt.alloc(),
@@ -129,6 +129,7 @@ fn what_is_no_interchange_is_refused(rt: HostRuntime) -> Result<(), Fail> {
         &[
             (b"", "{\"answer\":\"refused\",\"fault\":\"NoEnvelope\"}"),
             (b"UNB", "{\"answer\":\"refused\",\"fault\":\"Segment\"}"),
+            (b"AAAA", "{\"answer\":\"refused\",\"fault\":\"Segment\"}"),
             (
                 b"UNB+UNOA:3+HAULA+TERM1+240305:0910+000001'UNH+1+CODECO:D:95B:UN:ITG14'BGM+34+G1+9'EQD+CN+ABCU0000017+22G1:102:5+++5'UNT+4+1'UNZ+1+000001",
                 "{\"answer\":\"refused\",\"fault\":\"Segment\"}",

@@ -88,3 +88,30 @@ fn a_message_with_a_fault_is_rejected_and_its_number_used(rt: HostRuntime) -> Re
         ],
     )
 }
+
+#[test]
+fn a_message_without_its_document_is_rejected(rt: HostRuntime) -> Result<(), Fail> {
+    assert_answers(
+        &rt,
+        rt.alloc(),
+        &[(
+            b"UNB+UNOA:3+HAULA+TERM1+240305:0910+1'UNH+1+CODECO:D:95B:UN'EQD+CN+ABCU0000017+22G1:102:5+++5'UNT+3+1'UNZ+1+1'",
+            "{\"answer\":\"taken\",\"number\":1,\"partner\":\"HAULA\",\"reply\":{\"contrl\":\"UNB+UNOA:3+TERM1+HAULA+240305:0910+1'UNH+1+CONTRL:D:3:UN'UCI+1+HAULA+TERM1+7'UCM+1+CODECO:D:95B:UN+4+13'UNT+4+1'UNZ+1+1'\",\"messages\":[{\"fault\":\"NoBgm\",\"reference\":\"1\",\"result\":\"rejected\"}]}}",
+        )],
+    )
+}
+
+#[test]
+fn a_message_of_more_than_999_lines_is_rejected(rt: HostRuntime) -> Result<(), Fail> {
+    let mut text = Vec::new(rt.alloc());
+    text.extend_from_slice(
+        b"UNB+UNOA:3+HAULA+TERM1+240305:0910+1'UNH+1+CODECO:D:95B:UN'BGM+34+G1+9'",
+    )?;
+    for _ in 0..1000 {
+        text.extend_from_slice(b"EQD+CN'")?;
+    }
+    text.extend_from_slice(b"UNT+1003+1'UNZ+1+1'")?;
+    let rejected =
+        "{\"answer\":\"taken\",\"number\":1,\"partner\":\"HAULA\",\"reply\":{\"contrl\":\"UNB+UNOA:3+TERM1+HAULA+240305:0910+1'UNH+1+CONTRL:D:3:UN'UCI+1+HAULA+TERM1+7'UCM+1+CODECO:D:95B:UN+4+18'UNT+4+1'UNZ+1+1'\",\"messages\":[{\"fault\":\"TooMany\",\"reference\":\"1\",\"result\":\"rejected\"}]}}";
+    assert_answers(&rt, rt.alloc(), &[(text.as_slice(), rejected)])
+}

@@ -122,7 +122,7 @@ fn ended_within(count: usize) -> usize {
 
 #[test]
 fn a_failed_read_leaves_what_was_answered(rt: HostRuntime) -> Result<(), Fail> {
-    for reads in 0..STREAM.len() / 10 {
+    for reads in 0..STREAM.len() / 10 + 2 {
         let pieces = Pieces {
             text: STREAM,
             next: 10,

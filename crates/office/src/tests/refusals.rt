@@ -30,7 +30,25 @@ fn counts_and_references_of_the_trailers_are_held_to_the_text(rt: HostRuntime) -
 }
 
 #[test]
-fn a_control_reference_is_a_number_from_one_to_nine_digits(rt: HostRuntime) -> Result<(), Fail> {
+fn nothing_stands_outside_messages(rt: HostRuntime) -> Result<(), Fail> {
+    assert_answers(
+        &rt,
+        rt.alloc(),
+        &[
+            (
+                b"UNB+UNOA:3+HAULA+TERM1+240305:0910+1'UNH+1+CODECO:D:95B:UN'BGM+34+G1+9'EQD+CN+ABCU0000017+22G1:102:5+++5'UNT+4+1'FTX+A'UNZ+1+1'",
+                "{\"answer\":\"refused\",\"contrl\":\"UNB+UNOA:3+TERM1+HAULA+240305:0910+1'UNH+1+CONTRL:D:3:UN'UCI+1+HAULA+TERM1+4+13'UNT+3+1'UNZ+1+1'\",\"fault\":\"MessageFrame\"}",
+            ),
+            (
+                b"UNB+UNOA:3+HAULA+TERM1+240305:0910+1'UNH+1+CODECO:D:95B:UN'BGM+34+G1+9'EQD+CN+ABCU0000017+22G1:102:5+++5'UNT+4+1'UNZ+1+1'",
+                "{\"answer\":\"taken\",\"number\":1,\"partner\":\"HAULA\",\"reply\":{\"contrl\":\"UNB+UNOA:3+TERM1+HAULA+240305:0910+1'UNH+1+CONTRL:D:3:UN'UCI+1+HAULA+TERM1+7'UCM+1+CODECO:D:95B:UN+7'UNT+4+1'UNZ+1+1'\",\"messages\":[{\"lines\":[{\"box\":\"ABCU0000017\",\"line\":1,\"outcome\":\"done\",\"slot\":\"A001011\"}],\"reference\":\"1\",\"result\":\"accepted\"}]}}",
+            ),
+        ],
+    )
+}
+
+#[test]
+fn a_control_reference_is_a_number_up_to_999999999(rt: HostRuntime) -> Result<(), Fail> {
     assert_answers(
         &rt,
         rt.alloc(),
@@ -103,30 +121,21 @@ fn another_syntax_moment_or_group_is_refused(rt: HostRuntime) -> Result<(), Fail
     )
 }
 
+/// The byte behind a mebibyte, whatever it is.
 #[test]
 fn a_text_of_more_than_a_mebibyte_is_too_long(rt: HostRuntime) -> Result<(), Fail> {
     let thousand = [b'A'; 1024];
     let mut text = Vec::new(rt.alloc());
-    let mut stream = Vec::new(rt.alloc());
-    stream.extend_from_slice(b"FTX+")?;
-    for _ in 0..1024 {
+    text.extend_from_slice(b"FTX+")?;
+    for _ in 0..1023 {
         text.extend_from_slice(&thousand)?;
-        stream.extend_from_slice(&thousand)?;
     }
+    text.extend_from_slice(&thousand[..1020])?;
+    let end = "{\"answer\":\"cut\",\"fault\":\"End\"}\n";
+    assert_prints(&rt, rt.alloc(), "demo", text.as_slice(), (end, "", 1))?;
     text.push(b'A')?;
-    assert_answers(
-        &rt,
-        rt.alloc(),
-        &[(
-            text.as_slice(),
-            "{\"answer\":\"refused\",\"fault\":\"TooLong\"}",
-        )],
-    )?;
-    assert_prints(
-        &rt,
-        rt.alloc(),
-        "demo",
-        stream.as_slice(),
-        ("{\"answer\":\"cut\",\"fault\":\"TooLong\"}\n", "", 1),
-    )
+    let cut = "{\"answer\":\"cut\",\"fault\":\"TooLong\"}\n";
+    assert_prints(&rt, rt.alloc(), "demo", text.as_slice(), (cut, "", 1))?;
+    let refused = "{\"answer\":\"refused\",\"fault\":\"TooLong\"}";
+    assert_answers(&rt, rt.alloc(), &[(text.as_slice(), refused)])
 }

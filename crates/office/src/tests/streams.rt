@@ -114,6 +114,13 @@ fn what_is_no_stream_of_interchanges_is_cut_by_name(rt: HostRuntime) -> Result<(
         &rt,
         rt.alloc(),
         "demo",
+        b"UNB+UNOA:3+HAULA+TERM1+240305:0910+000001'UNH+1+CODECO:D:95B:UN:ITG14'BGM+34+G1+9'EQD+CN+ABCU0000017+22G1:102:5+++5'UNT+4+1'UNZ+1+000001",
+        (end, "", 1),
+    )?;
+    assert_prints(
+        &rt,
+        rt.alloc(),
+        "demo",
         b"AAAA",
         ("{\"answer\":\"cut\",\"fault\":\"Segment\"}\n", "", 1),
     )?;
@@ -121,7 +128,7 @@ fn what_is_no_stream_of_interchanges_is_cut_by_name(rt: HostRuntime) -> Result<(
         &rt,
         rt.alloc(),
         "demo",
-        b"UNA++.? 'UNB+UNOA:3",
+        b"UNA++.? 'UNB+UNOA:3+HAULA+TERM1+240305:0910+000001'UNH+1+CODECO:D:95B:UN:ITG14'BGM+34+G1+9'EQD+CN+ABCU0000017+22G1:102:5+++5'UNT+4+1'UNZ+1+000001'",
         ("{\"answer\":\"cut\",\"fault\":\"Service\"}\n", "", 1),
     )
 }
