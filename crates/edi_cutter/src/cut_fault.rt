@@ -5,9 +5,9 @@ ghost use Rattle.std.specs.Prelude.{◌≡◌};
 pub enum CutFault {
     /// An interchange has more than 1,048,576 bytes.
     TooLong,
-    /// A service string advice names characters that may not be used.
+    /// A service string advice (UNA) names characters that may not be used.
     Service,
-    /// No segments go on so.
+    /// No continuation of these bytes is a text of segments.
     Segment,
     /// Memory was refused.
     Memory,

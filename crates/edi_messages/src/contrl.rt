@@ -14,7 +14,8 @@ use edi_syntax::{Envelope, Frame, Frames, Head};
 use itoa::Buffer;
 use std::alloc::{AllocError, Global};
 
-/// The CONTRL that acknowledges an interchange, with a verdict on each message.
+/// The CONTRL that acknowledges an interchange (UCI, 0083 `7`), with a verdict on each of its messages, in their order (UCM,
+/// 0083 and 0085). An error is that memory was refused.
 pub fn write_contrl(
     alloc: Global,
     envelope: &Envelope<'_>,
@@ -34,7 +35,8 @@ pub fn write_contrl(
     Ok(text)
 }
 
-/// The CONTRL that rejects an interchange.
+/// The CONTRL that rejects an interchange (UCI, 0083 `4`) with the code of an error (0085). An error is that memory was
+/// refused.
 pub fn write_rejection(alloc: Global, head: &Head<'_>, code: u8) -> Result<Vec<u8>, AllocError>
     ensures { IfOk result (λ text. text.items ≡ rejection_text (header_of (head_segments head.now)) code) }
 {

@@ -20,8 +20,8 @@ pub fn message_error(fault: MessageFault) -> Option<u8>
     }
 }
 
-/// The error code (0085) for an interchange that is rejected. `None` where its header can't be read, so that no CONTRL
-/// answers it.
+/// The error code (0085) for an interchange that is rejected. `None` for a fault that is told of the text
+/// before its messages are looked at: no CONTRL answers these.
 pub fn interchange_error(fault: SyntaxFault) -> Option<u8>
     ensures { result ≡ interchange_error fault }
 {

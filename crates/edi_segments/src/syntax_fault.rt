@@ -4,32 +4,34 @@
 pub enum SyntaxFault {
     /// More than 1,048,576 bytes.
     TooLong = 1,
-    /// The service string advice is cut short, or names characters that may not be used.
+    /// The service string advice (UNA) is cut short, or names characters that may not be used.
     Service,
     /// What follows it is not a list of segments, each with its terminator.
     Segment,
-    /// The first segment isn't UNB, the last isn't UNZ, or sender or recipient is empty or has a byte that can't be printed.
+    /// The first segment isn't UNB, the last isn't UNZ, sender (0004) or recipient (0010) is empty, or a component of S002 or
+    /// S003 has a byte that can't be printed.
     NoEnvelope,
     /// A segment UNG or UNE.
     Group,
-    /// Another syntax than UNOA, UNOB or UNOC, or another version than 1, 2 or 3.
+    /// Another syntax (0001) than UNOA, UNOB or UNOC, or another version (0002) than 1, 2 or 3.
     Version,
-    /// The control reference isn't 1 to 14 digits with a value from 1 to 999,999,999.
+    /// The control reference (0020 of UNB) isn't 1 to 14 digits with a value from 1 to 999,999,999.
     Number,
-    /// Date and time aren't those of a moment from 2000 to 2099.
+    /// Date (0017) and time (0019) aren't those of a moment from 2000 to 2099.
     Moment,
-    /// A test.
+    /// A test: the test indicator (0035) is `1`.
     Test,
     /// Between UNB and UNZ stands anything but messages, from UNH to UNT.
     MessageFrame,
-    /// A UNT doesn't give the number of its message's segments.
+    /// A UNT doesn't give the number of its message's segments (0074), in 1 to 6 digits.
     SegmentCount,
-    /// The reference of a message is bad or differs in its UNT, or a part of its identity can't be printed.
+    /// The reference of a message (0062) isn't 1 to 14 bytes that can be printed, or differs in its UNT, or a component of its
+    /// identity (S009) can't be printed.
     MessageReference,
     /// No message.
     Empty,
-    /// The UNZ doesn't give the number of messages.
+    /// The UNZ doesn't give the number of messages (0036), in 1 to 6 digits.
     ControlCount,
-    /// The UNZ gives another control reference than the UNB.
+    /// The UNZ gives another control reference (0020) than the UNB.
     ControlReference,
 }

@@ -97,7 +97,8 @@ impl<'a> Head<'a> {
         }
     }
 
-    /// A part of the sender (S002), counted from one: identification (0004) and its qualifiers.
+    /// A part of the sender (S002), counted from one: identification (0004), its qualifier (0007) and the
+    /// address for reverse routing (0008).
     pub fn sender(&self, component: usize) -> Component<'a>
         requires { 0 < component }
         ensures { value result ≡ sender (header_of (head_segments self.now)) component }
@@ -105,7 +106,8 @@ impl<'a> Head<'a> {
         self.header.component(2, component)
     }
 
-    /// A part of the recipient (S003), counted from one: identification (0010) and its qualifiers.
+    /// A part of the recipient (S003), counted from one: identification (0010), its qualifier (0007) and the
+    /// routing address (0014).
     pub fn recipient(&self, component: usize) -> Component<'a>
         requires { 0 < component }
         ensures { value result ≡ recipient (header_of (head_segments self.now)) component }

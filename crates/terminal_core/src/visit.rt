@@ -7,12 +7,15 @@ use box6346::{BoxNumber, SizeType};
 pub struct Visit {
     /// Visits are numbered 1, 2, .. as they are opened.
     pub number: u32,
+    /// The container's number (ISO 6346).
     pub container: BoxNumber,
+    /// Its size-type (ISO 6346).
     pub size_type: SizeType,
     /// Whether it is full.
     pub is_laden: bool,
     /// The booking, empty where none was given.
     pub booking: String,
+    /// How and when it came, and where it was placed.
     pub arrival: Arrival,
     /// None while the container is here.
     pub departure: Option<Departure>,
