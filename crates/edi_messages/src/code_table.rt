@@ -26,7 +26,9 @@ impl CodeTable {
     /// Twice where two of one message type are the same: of the first three, of the next two or of the last two.
     #[tactic(auto, using(crate::proofs::CodeTexts::code_at))]
     pub fn new(codes: [&[u8]; 7]) -> Result<CodeTable, CodeFault>
-        ensures ok { IfOk result (λ table. (table_fault (texts_of codes.entry) ≡ None) × (table_texts table ≡ texts_of codes.entry)) }
+        ensures ok { IfOk result
+            (λ table. (table_fault (texts_of codes.entry) ≡ None) ×
+            (table_texts table ≡ texts_of codes.entry)) }
         ensures err { IfErr result (λ fault. table_fault (texts_of codes.entry) ≡ Some fault) }
     {
         if !are_codes(codes) {

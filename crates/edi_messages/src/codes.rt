@@ -73,7 +73,8 @@ fn first_meaning(
     first: (Code, OrderKind),
     second: (Code, OrderKind),
 ) -> Option<OrderKind>
-    ensures { result ≡ cond (bytes_eq (value component.entry) (code_text first.0)) (Some first.1) (cond (bytes_eq (value component.entry) (code_text second.0)) (Some second.1) None) }
+    ensures { result ≡ cond (bytes_eq (value component.entry) (code_text first.0)) (Some first.1)
+        (cond (bytes_eq (value component.entry) (code_text second.0)) (Some second.1) None) }
 {
     if first.0.is_in(component) {
         Some(first.1)

@@ -22,7 +22,9 @@ pub fn write_contrl(
     verdicts: &[Verdict],
 ) -> Result<Vec<u8>, AllocError>
     requires { length verdicts.now ≡ length (messages_of (envelope_segments envelope.now)) }
-    ensures { IfOk result (λ text. text.items ≡ contrl_text (header_of (envelope_segments envelope.now)) (messages_of (envelope_segments envelope.now)) verdicts.now) }
+    ensures { IfOk result
+        (λ text. text.items ≡ contrl_text (header_of (envelope_segments envelope.now))
+        (messages_of (envelope_segments envelope.now)) verdicts.now) }
 {
     let head = envelope.head();
     let frames = envelope.frames();
@@ -137,7 +139,8 @@ fn write_parties(head: &Head<'_>, out: &mut Vec<u8>) -> Result<(), AllocError>
 
 #[tactic(auto, unfolding(crate::specs::Contrl::parties_answered))]
 fn write_parties_answered(head: &Head<'_>, out: &mut Vec<u8>) -> Result<(), AllocError>
-    ensures { OnOk result (out.new.items ≡ out.old.items ++ parties_answered (header_of (head_segments head.now))) }
+    ensures { OnOk result
+        (out.new.items ≡ out.old.items ++ parties_answered (header_of (head_segments head.now))) }
 {
     write_recipient(head, out)?;
     out.push(b'+')?;
@@ -179,7 +182,8 @@ fn write_opening(head: &Head<'_>, out: &mut Vec<u8>) -> Result<(), AllocError>
 }
 
 fn write_interchange_response(head: &Head<'_>, out: &mut Vec<u8>) -> Result<(), AllocError>
-    ensures { OnOk result (out.new.items ≡ out.old.items ++ interchange_response (header_of (head_segments head.now))) }
+    ensures { OnOk result
+        (out.new.items ≡ out.old.items ++ interchange_response (header_of (head_segments head.now))) }
 {
     write_response_start(out)?;
     write_reference(head, out)?;
@@ -232,7 +236,8 @@ fn write_message_responses(
     verdicts: &[Verdict],
     out: &mut Vec<u8>,
 ) -> Result<(), AllocError>
-    ensures { OnOk result (out.new.items ≡ out.old.items ++ message_responses (messages_left frames.entry) verdicts.now) }
+    ensures { OnOk result
+        (out.new.items ≡ out.old.items ++ message_responses (messages_left frames.entry) verdicts.now) }
 {
     let mut frames = frames;
     for verdict in verdicts {

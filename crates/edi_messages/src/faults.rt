@@ -149,7 +149,8 @@ fn miscounts_equipment(frame: &Frame<'_>) -> bool
 }
 
 fn is_equipment_count(component: Component<'_>, segments: MessageSegments<'_>) -> bool
-    ensures { result ≡ is_count (value component.entry) (count_by is_equipment (message_segments_left segments.entry)) }
+    ensures { result ≡ is_count (value component.entry)
+        (count_by is_equipment (message_segments_left segments.entry)) }
 {
     match number_of(component, 6) {
         Some(number) => has_equipments(segments, number),

@@ -23,7 +23,9 @@ pub(crate) fn read_order(
     opened: Moment,
     group: Group<'_>,
 ) -> Result<Result<Order, LineFault>, AllocError>
-    ensures { IfOk result (λ read. result_map_both order_content (λ fault. fault) read ≡ order_of (purpose_spanned purpose.entry) opened (group_content group.entry)) }
+    ensures { IfOk result
+        (λ read. result_map_both order_content (λ fault. fault) read ≡ order_of
+        (purpose_spanned purpose.entry) opened (group_content group.entry)) }
 {
     match purpose {
         PurposeSpan::GateIn => gate_in(alloc, opened, group),
@@ -41,7 +43,9 @@ fn gate_in(
     opened: Moment,
     group: Group<'_>,
 ) -> Result<Result<Order, LineFault>, AllocError>
-    ensures { IfOk result (λ read. result_map_both order_content (λ fault. fault) read ≡ read_gate_in opened (group_content group.entry)) }
+    ensures { IfOk result
+        (λ read. result_map_both order_content (λ fault. fault) read ≡ read_gate_in opened
+        (group_content group.entry)) }
 {
     match read_entry(alloc, opened, group)? {
         Ok(entry) => Ok(Ok(Order::GateIn(entry))),
@@ -50,7 +54,8 @@ fn gate_in(
 }
 
 fn gate_out(opened: Moment, group: Group<'_>) -> Result<Order, LineFault>
-    ensures { result_map_both order_content (λ fault. fault) result ≡ read_gate_out opened (group_content group.entry) }
+    ensures { result_map_both order_content (λ fault. fault) result ≡ read_gate_out opened
+        (group_content group.entry) }
 {
     let number = read_number(group)?;
     let moment = read_moment(opened, group)?;
@@ -70,7 +75,9 @@ fn discharge_line(
     call: CallSpan<'_>,
     group: Group<'_>,
 ) -> Result<Result<Order, LineFault>, AllocError>
-    ensures { IfOk result (λ read. result_map_both order_content (λ fault. fault) read ≡ read_discharge_line (call_spanned call.entry) (group_content group.entry)) }
+    ensures { IfOk result
+        (λ read. result_map_both order_content (λ fault. fault) read ≡ read_discharge_line
+        (call_spanned call.entry) (group_content group.entry)) }
 {
     match read_number(group) {
         Ok(number) => {
@@ -86,7 +93,9 @@ fn load_line(
     call: CallSpan<'_>,
     group: Group<'_>,
 ) -> Result<Result<Order, LineFault>, AllocError>
-    ensures { IfOk result (λ read. result_map_both order_content (λ fault. fault) read ≡ read_load_line (call_spanned call.entry) (group_content group.entry)) }
+    ensures { IfOk result
+        (λ read. result_map_both order_content (λ fault. fault) read ≡ read_load_line
+        (call_spanned call.entry) (group_content group.entry)) }
 {
     match read_number(group) {
         Ok(number) => {
@@ -104,7 +113,9 @@ fn discharge(
     opened: Moment,
     group: Group<'_>,
 ) -> Result<Result<Order, LineFault>, AllocError>
-    ensures { IfOk result (λ read. result_map_both order_content (λ fault. fault) read ≡ read_discharge (call_spanned call.entry) opened (group_content group.entry)) }
+    ensures { IfOk result
+        (λ read. result_map_both order_content (λ fault. fault) read ≡ read_discharge
+        (call_spanned call.entry) opened (group_content group.entry)) }
 {
     match read_entry(alloc, opened, group)? {
         Ok(entry) => {
@@ -121,7 +132,9 @@ fn load(
     opened: Moment,
     group: Group<'_>,
 ) -> Result<Result<Order, LineFault>, AllocError>
-    ensures { IfOk result (λ read. result_map_both order_content (λ fault. fault) read ≡ read_load (call_spanned call.entry) opened (group_content group.entry)) }
+    ensures { IfOk result
+        (λ read. result_map_both order_content (λ fault. fault) read ≡ read_load (call_spanned call.entry)
+        opened (group_content group.entry)) }
 {
     let number = match read_number(group) {
         Ok(number) => number,
@@ -144,7 +157,9 @@ fn read_entry(
     opened: Moment,
     group: Group<'_>,
 ) -> Result<Result<Entry, LineFault>, AllocError>
-    ensures { IfOk result (λ read. result_map_both entry_content (λ fault. fault) read ≡ read_entry opened (group_content group.entry)) }
+    ensures { IfOk result
+        (λ read. result_map_both entry_content (λ fault. fault) read ≡ read_entry opened
+        (group_content group.entry)) }
 {
     match read_entry_facts(opened, group) {
         Ok(facts) => {

@@ -18,7 +18,8 @@ use edi_segments::{Component, Segment};
 
 /// What a group says of a container that comes into the yard, or the first fault of its line.
 pub(crate) fn read_entry_facts(opened: Moment, group: Group<'_>) -> Result<EntryFacts, LineFault>
-    ensures { result_map_both (entry_with (booking (group_content group.entry))) (λ fault. fault) result ≡ read_entry opened (group_content group.entry) }
+    ensures { result_map_both (entry_with (booking (group_content group.entry))) (λ fault. fault)
+        result ≡ read_entry opened (group_content group.entry) }
 {
     let number = read_number(group)?;
     let size_type = read_size(group)?;

@@ -35,7 +35,9 @@ pub fn read_message(
     ensures ok { IfOk result (λ read. reading codes.now opened (message frame.now) ≡ Ok (message_content read)) }
 
     // Memory is wanted only where no other fault applies.
-    ensures err { IfErr result (λ fault. MatchResult (reading codes.now opened (message frame.now)) (λ _. fault ≡ MessageFault.Memory) (λ lowest. fault ≡ lowest)) }
+    ensures err { IfErr result
+        (λ fault. MatchResult (reading codes.now opened (message frame.now))
+        (λ _. fault ≡ MessageFault.Memory) (λ lowest. fault ≡ lowest)) }
 {
     if let Some(fault) = message_fault(frame, codes) {
         return Err(fault);
@@ -55,7 +57,9 @@ fn build(
     opened: Moment,
     purpose: PurposeSpan<'_>,
 ) -> Result<Message, AllocError>
-    ensures { IfOk result (λ built. message_content built ≡ message_of (purpose_spanned purpose.entry) opened (message frame.now)) }
+    ensures { IfOk result
+        (λ built. message_content built ≡ message_of (purpose_spanned purpose.entry) opened
+        (message frame.now)) }
 {
     let call = call_if_any(alloc, call_of(purpose))?;
     let lines = read_lines(alloc, purpose, opened, frame.segments())?;
@@ -81,7 +85,9 @@ fn read_lines(
     opened: Moment,
     segments: MessageSegments<'_>,
 ) -> Result<Vec<Line>, AllocError>
-    ensures { IfOk result (λ lines. map line_content lines.items ≡ lines_of (purpose_spanned purpose.entry) opened (message_segments_left segments.entry)) }
+    ensures { IfOk result
+        (λ lines. map line_content lines.items ≡ lines_of (purpose_spanned purpose.entry) opened
+        (message_segments_left segments.entry)) }
 {
     let mut lines = Vec::new(alloc);
     let mut rest = segments;
@@ -103,7 +109,9 @@ fn read_line(
     opened: Moment,
     group: Group<'_>,
 ) -> Result<Line, AllocError>
-    ensures { IfOk result (λ line. line_content line ≡ line_of (purpose_spanned purpose.entry) opened (group_content group.entry)) }
+    ensures { IfOk result
+        (λ line. line_content line ≡ line_of (purpose_spanned purpose.entry) opened
+        (group_content group.entry)) }
 {
     match read_order(alloc, purpose, opened, group)? {
         Ok(order) => Ok(Line::Order(order)),

@@ -29,7 +29,8 @@ pub(crate) fn pending_line(
     port: &str,
 ) -> Result<Listing, AllocError>
     ensures key { IfOk result (λ line. key_of line ≡ line_key (call_content call.now) side container) }
-    ensures content { IfOk result (λ line. line_content line ≡ record { port = port.now; state = LineState.Pending }) }
+    ensures content { IfOk result
+        (λ line. line_content line ≡ record { port = port.now; state = LineState.Pending }) }
 {
     let call = copied_call(alloc, call)?;
     let port = String::from_str(alloc, port)?;
@@ -49,7 +50,8 @@ pub(crate) fn line_listed(
     container: BoxNumber,
     port: &str,
 ) -> Result<Change, AllocError>
-    ensures { IfOk result (λ change. change_content change ≡ listed_on (call_content call.now) side container port.now) }
+    ensures { IfOk result
+        (λ change. change_content change ≡ listed_on (call_content call.now) side container port.now) }
 {
     let call = copied_call(alloc, call)?;
     let port = String::from_str(alloc, port)?;

@@ -62,7 +62,8 @@ impl Lists {
 
     /// How far a line is, if there is one.
     pub(crate) fn state(&self, call: &Call, side: Side, container: BoxNumber) -> Option<LineState>
-        ensures { result ≡ option_map (λ l. l.state) (finite_map.get self.now (line_key (call_content call.now) side container)) }
+        ensures { result ≡ option_map (λ l. l.state)
+            (finite_map.get self.now (line_key (call_content call.now) side container)) }
     {
         match place_of(&self.rows, call, side, container) {
             Some(place) => Some(self.rows[place].state),
@@ -82,7 +83,10 @@ impl Lists {
 
     /// Has a line that is there be done.
     pub(crate) fn finish(&mut self, call: &Call, side: Side, container: BoxNumber)
-        ensures { (line : LineContent) → finite_map.get self.old (line_key (call_content call.now) side container) ≡ Some line → self.new ≡ finite_map.insert self.old (line_key (call_content call.now) side container) (record line { state = LineState.Done }) }
+        ensures { (line : LineContent) →
+            finite_map.get self.old (line_key (call_content call.now) side container) ≡ Some line →
+            self.new ≡ finite_map.insert self.old (line_key (call_content call.now) side container)
+            (record line { state = LineState.Done }) }
     {
         if let Some(place) = place_of(&self.rows, call, side, container) {
             let row = &mut self.rows[place];
@@ -105,7 +109,9 @@ fn are_once(rows: &[Listing]) -> bool
 
 // Where the line stands.
 fn place_of(rows: &[Listing], call: &Call, side: Side, container: BoxNumber) -> Option<usize>
-    ensures { MatchOption result (NoneBefore (call_content call.now) side container rows.now (length rows.now)) (IsFirstAt (call_content call.now) side container rows.now) }
+    ensures { MatchOption result
+        (NoneBefore (call_content call.now) side container rows.now (length rows.now))
+        (IsFirstAt (call_content call.now) side container rows.now) }
 {
     for (place, row) in rows.iter().enumerate() {
         if is_line(row, call, side, container) {

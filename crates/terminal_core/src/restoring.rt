@@ -86,7 +86,9 @@ fn settled_yard(
 fn put(yard: &mut Yard, visits: &[Visit], place: &Stay) -> Result<(), RestoreFault>
     requires numbered { AreNumbered 1 (map visit_content visits.now) }
     requires sound { IsSound yard.old.plan (finite_map.get yard.old.boxes) }
-    ensures answer { MatchResult result (λ _. IsPut (map visit_content visits.now) yard.old yard.new place.now) (RefusesPut (map visit_content visits.now) yard.old place.now) }
+    ensures answer { MatchResult result
+        (λ _. IsPut (map visit_content visits.now) yard.old yard.new place.now)
+        (RefusesPut (map visit_content visits.now) yard.old place.now) }
     ensures sound { IsSound yard.new.plan (finite_map.get yard.new.boxes) }
 {
     let Some(length) = named_length(visits, place) else {
@@ -111,7 +113,10 @@ fn cause(fault: YardFault) -> RestoreFault
 // The length of the container, by the open visit that its place names.
 fn named_length(visits: &[Visit], place: &Stay) -> Option<Length>
     requires { AreNumbered 1 (map visit_content visits.now) }
-    ensures { MatchOption result ((visit : VisitContent) → ¬ Names (map visit_content visits.now) place.now visit) (λ length. (visit : VisitContent) × Names (map visit_content visits.now) place.now visit × (length ≡ length_of visit.size_type)) }
+    ensures { MatchOption result
+        ((visit : VisitContent) → ¬ Names (map visit_content visits.now) place.now visit)
+        (λ length. (visit : VisitContent) × Names (map visit_content visits.now) place.now visit ×
+        (length ≡ length_of visit.size_type)) }
 {
     if place.visit == 0 {
         return None;
@@ -129,7 +134,8 @@ fn named_length(visits: &[Visit], place: &Stay) -> Option<Length>
 // Whether each open visit is named by a place.
 fn are_all_named(alloc: Global, visits: &[Visit], places: &[Stay]) -> Result<bool, AllocError>
     requires numbered { AreNumbered 1 (map visit_content visits.now) }
-    requires named { (place : Stay) → Contains places.now place → (1 ≤ place.visit) × (place.visit ≤ length visits.now) }
+    requires named { (place : Stay) → Contains places.now place → (1 ≤ place.visit) ×
+        (place.visit ≤ length visits.now) }
     ensures { IfOk result (λ b. IsTrue b ↔ AreNamed (map visit_content visits.now) places.now) }
 {
     let marks = named(alloc, visits.len(), places)?;
@@ -140,7 +146,9 @@ fn are_all_named(alloc: Global, visits: &[Visit], places: &[Stay]) -> Result<boo
 fn named(alloc: Global, count: usize, places: &[Stay]) -> Result<Vec<bool>, AllocError>
     requires { (place : Stay) → Contains places.now place → (1 ≤ place.visit) × (place.visit ≤ count) }
     ensures len { IfOk result (λ marks. length marks.items ≡ count) }
-    ensures marks { IfOk result (λ marks. (k : ℕ) → k < count → slice_index_or marks.items k false ≡ list_any (λ place. place.visit == k + 1) places.now) }
+    ensures marks { IfOk result
+        (λ marks. (k : ℕ) → k < count →
+        slice_index_or marks.items k false ≡ list_any (λ place. place.visit == k + 1) places.now) }
 {
     let mut marks = vec![in alloc; false; count]?;
     for place in places {
@@ -152,7 +160,9 @@ fn named(alloc: Global, count: usize, places: &[Stay]) -> Result<Vec<bool>, Allo
 // Whether each open visit is marked.
 fn are_marked(visits: &[Visit], marks: &[bool]) -> bool
     requires { length marks.now ≡ length visits.now }
-    ensures { IsTrue result ↔ ((k : ℕ) (visit : Visit) → slice_get visits.now k ≡ Some visit → is_none visit.departure ≡ true → slice_index_or marks.now k false ≡ true) }
+    ensures { IsTrue result ↔
+        ((k : ℕ) (visit : Visit) → slice_get visits.now k ≡ Some visit → is_none visit.departure ≡ true →
+        slice_index_or marks.now k false ≡ true) }
 {
     for (index, visit) in visits.iter().enumerate() {
         if visit.departure.is_none() && !marks[index] {

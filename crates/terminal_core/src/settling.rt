@@ -16,7 +16,9 @@ use yard_core::{Yard, YardFault};
 pub(crate) fn settle(yard: &mut Yard, entry: &Entry) -> Result<Result<Slot, Reason>, AllocError>
     requires plan { IsPlan yard.old.plan }
     requires sound { IsSound yard.old.plan (finite_map.get yard.old.boxes) }
-    ensures ok { IfOk result (λ answer. MatchResult answer (Settles yard.old yard.new (entry_content entry.now)) (Unsettled yard.old (entry_content entry.now))) }
+    ensures ok { IfOk result
+        (λ answer. MatchResult answer (Settles yard.old yard.new (entry_content entry.now))
+        (Unsettled yard.old (entry_content entry.now))) }
     ensures refused { IfOk result (λ answer. OnErr answer (yard.new ≡ yard.old)) }
     ensures err { OnErr result (yard.new ≡ yard.old) }
     ensures sound { IsSound yard.new.plan (finite_map.get yard.new.boxes) }

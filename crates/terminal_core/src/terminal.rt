@@ -60,7 +60,8 @@ impl Model for Terminal {
 impl Terminal {
     /// A terminal with no containers, visits or lists.
     pub fn new(alloc: Global, plan: Plan, visit_limit: u32) -> Result<Terminal, AllocError>
-        ensures empty { IfOk result (λ t. t ≡ empty_state (record { plan = plan; boxes = finite_map.empty }) visit_limit) }
+        ensures empty { IfOk result
+            (λ t. t ≡ empty_state (record { plan = plan; boxes = finite_map.empty }) visit_limit) }
         ensures whole { IfOk result IsWhole }
     {
         let yard = Yard::new(alloc, plan)?;
@@ -85,7 +86,9 @@ impl Terminal {
         ensures ok { IfOk result (AreRowsOf plan visit_limit visits.items places.items lines.items) }
 
         // These are the rows of no other state.
-        ensures only { IfOk result (λ t. (state : TerminalState) → AreRowsOf plan visit_limit visits.items places.items lines.items state → t ≡ state) }
+        ensures only { IfOk result
+            (λ t. (state : TerminalState) →
+            AreRowsOf plan visit_limit visits.items places.items lines.items state → t ≡ state) }
         ensures whole { IfOk result IsWhole }
         ensures unsound { IfErr result (RefusesRows plan visit_limit visits.items places.items lines.items) }
     {
@@ -119,7 +122,8 @@ impl Terminal {
 
     /// How far a line of a call's list is, if there is one.
     pub fn line_state(&self, call: &Call, side: Side, container: BoxNumber) -> Option<LineState>
-        ensures told { result ≡ option_map (λ l. l.state) (line_of self.now (call_content call.now) side container) }
+        ensures told { result ≡ option_map (λ l. l.state)
+            (line_of self.now (call_content call.now) side container) }
         ensures whole { IsWhole self.now }
     {
         self.lists.state(call, side, container)
@@ -134,7 +138,9 @@ impl Terminal {
         order: &Order,
         changes: &mut Vec<Change>,
     ) -> Result<Outcome, AllocError>
-        ensures ok { IfOk result (λ outcome. Follows (step self.old source (order_content order.now)) self.new outcome (map change_content changes.old.items) (map change_content changes.new.items)) }
+        ensures ok { IfOk result
+            (λ outcome. Follows (step self.old source (order_content order.now)) self.new outcome
+            (map change_content changes.old.items) (map change_content changes.new.items)) }
         ensures err { OnErr result (self.new ≡ self.old) }
         ensures kept { OnErr result (changes.new.items ≡ changes.old.items) }
         ensures planned { IfOk result (IsPlanned self.new.yard.plan) }
@@ -155,7 +161,9 @@ impl Terminal {
         changes: &mut Vec<Change>,
     ) -> Result<Outcome, AllocError>
         requires { vec_len changes.old + 3 ≤ vec_capacity changes.old }
-        ensures ok { IfOk result (λ outcome. Follows (step self.old source (order_content order.now)) self.new outcome (map change_content changes.old.items) (map change_content changes.new.items)) }
+        ensures ok { IfOk result
+            (λ outcome. Follows (step self.old source (order_content order.now)) self.new outcome
+            (map change_content changes.old.items) (map change_content changes.new.items)) }
         ensures err { OnErr result (self.new ≡ self.old) }
         ensures kept { OnErr result (changes.new.items ≡ changes.old.items) }
         ensures planned { IfOk result (IsPlanned self.new.yard.plan) }
@@ -192,7 +200,9 @@ impl Terminal {
         changes: &mut Vec<Change>,
     ) -> Result<Outcome, AllocError>
         requires { vec_len changes.old + 2 ≤ vec_capacity changes.old }
-        ensures ok { IfOk result (λ outcome. Follows (step_gate_in self.old source (entry_content entry.now)) self.new outcome (map change_content changes.old.items) (map change_content changes.new.items)) }
+        ensures ok { IfOk result
+            (λ outcome. Follows (step_gate_in self.old source (entry_content entry.now)) self.new outcome
+            (map change_content changes.old.items) (map change_content changes.new.items)) }
         ensures err { OnErr result (self.new ≡ self.old) }
         ensures kept { OnErr result (changes.new.items ≡ changes.old.items) }
         ensures planned { IfOk result (IsPlanned self.new.yard.plan) }
@@ -213,7 +223,10 @@ impl Terminal {
         changes: &mut Vec<Change>,
     ) -> Result<Outcome, AllocError>
         requires { vec_len changes.old + 3 ≤ vec_capacity changes.old }
-        ensures ok { IfOk result (λ outcome. Follows (step_discharge self.old source (call_content call.now) (entry_content entry.now)) self.new outcome (map change_content changes.old.items) (map change_content changes.new.items)) }
+        ensures ok { IfOk result
+            (λ outcome. Follows (step_discharge self.old source (call_content call.now)
+            (entry_content entry.now)) self.new outcome (map change_content changes.old.items)
+            (map change_content changes.new.items)) }
         ensures err { OnErr result (self.new ≡ self.old) }
         ensures kept { OnErr result (changes.new.items ≡ changes.old.items) }
         ensures planned { IfOk result (IsPlanned self.new.yard.plan) }
@@ -247,7 +260,9 @@ impl Terminal {
         changes: &mut Vec<Change>,
     ) -> Result<Outcome, AllocError>
         requires { vec_len changes.old + 3 ≤ vec_capacity changes.old }
-        ensures ok { IfOk result (λ outcome. Follows (step_load self.old source (call_content call.now) container moment) self.new outcome (map change_content changes.old.items) (map change_content changes.new.items)) }
+        ensures ok { IfOk result
+            (λ outcome. Follows (step_load self.old source (call_content call.now) container moment) self.new
+            outcome (map change_content changes.old.items) (map change_content changes.new.items)) }
         ensures err { OnErr result (self.new ≡ self.old) }
         ensures kept { OnErr result (changes.new.items ≡ changes.old.items) }
         ensures planned { IfOk result (IsPlanned self.new.yard.plan) }
@@ -281,7 +296,9 @@ impl Terminal {
         changes: &mut Vec<Change>,
     ) -> Result<Outcome, AllocError>
         requires { vec_len changes.old + 1 ≤ vec_capacity changes.old }
-        ensures ok { IfOk result (λ outcome. Follows (listed self.old (call_content call.now) side container port.now) self.new outcome (map change_content changes.old.items) (map change_content changes.new.items)) }
+        ensures ok { IfOk result
+            (λ outcome. Follows (listed self.old (call_content call.now) side container port.now) self.new
+            outcome (map change_content changes.old.items) (map change_content changes.new.items)) }
         ensures err { OnErr result (self.new ≡ self.old) }
         ensures kept { OnErr result (changes.new.items ≡ changes.old.items) }
         ensures no_slot { IfOk result (IsPlanned self.new.yard.plan) }
@@ -307,8 +324,12 @@ impl Terminal {
     )
         requires room { vec_len changes.old + 1 ≤ vec_capacity changes.old }
         requires told { change_content done ≡ line_done (call_content call.now) side container }
-        ensures done { (line : LineContent) → line_of self.old (call_content call.now) side container ≡ Some line → self.new ≡ with_line self.old (call_content call.now) side container (record line { state = LineState.Done }) }
-        ensures changes { map change_content changes.new.items ≡ map change_content changes.old.items ++ line_done (call_content call.now) side container ∷ [] }
+        ensures done { (line : LineContent) →
+            line_of self.old (call_content call.now) side container ≡ Some line →
+            self.new ≡ with_line self.old (call_content call.now) side container
+            (record line { state = LineState.Done }) }
+        ensures changes { map change_content changes.new.items ≡ map change_content
+            changes.old.items ++ line_done (call_content call.now) side container ∷ [] }
         ensures yard { self.new.yard ≡ self.old.yard }
     {
         self.lists.finish(call, side, container);
@@ -347,7 +368,9 @@ impl Terminal {
         changes: &mut Vec<Change>,
     ) -> Result<Outcome, AllocError>
         requires { vec_len changes.old + 2 ≤ vec_capacity changes.old }
-        ensures ok { IfOk result (λ outcome. Follows (entered self.old way source (entry_content entry.now)) self.new outcome (map change_content changes.old.items) (map change_content changes.new.items)) }
+        ensures ok { IfOk result
+            (λ outcome. Follows (entered self.old way source (entry_content entry.now)) self.new outcome
+            (map change_content changes.old.items) (map change_content changes.new.items)) }
         ensures err { OnErr result (self.new ≡ self.old) }
         ensures kept { OnErr result (changes.new.items ≡ changes.old.items) }
         ensures len { vec_len changes.new ≤ vec_len changes.old + 2 }
@@ -403,7 +426,8 @@ impl Terminal {
         changes: &mut Vec<Change>,
     ) -> Outcome
         requires { vec_len changes.old + 2 ≤ vec_capacity changes.old }
-        ensures step { Follows (departed self.old way source container moment) self.new result (map change_content changes.old.items) (map change_content changes.new.items) }
+        ensures step { Follows (departed self.old way source container moment) self.new result
+            (map change_content changes.old.items) (map change_content changes.new.items) }
         ensures len { vec_len changes.new ≤ vec_len changes.old + 2 }
         ensures capacity { vec_capacity changes.old ≤ vec_capacity changes.new }
         ensures no_slot { IsPlanned self.new.yard.plan result }
@@ -423,7 +447,8 @@ impl Terminal {
     // The container goes to another slot: NotIn, Buried, or why it does not fit there.
     fn shift(&mut self, container: BoxNumber, slot: Slot, changes: &mut Vec<Change>) -> Outcome
         requires { vec_len changes.old + 1 ≤ vec_capacity changes.old }
-        ensures step { Follows (moved self.old container slot) self.new result (map change_content changes.old.items) (map change_content changes.new.items) }
+        ensures step { Follows (moved self.old container slot) self.new result
+            (map change_content changes.old.items) (map change_content changes.new.items) }
         ensures planned { IsPlanned self.new.yard.plan result }
     {
         match self.yard.shift(container, slot) {

@@ -65,8 +65,10 @@ pub(crate) fn close(
     moment: Moment,
 ) -> u32
     requires { HasOneVisit container (map visit_content visits.old.items) }
-    ensures closed { map visit_content visits.new.items ≡ map (closed (departure_by way source moment) container) (map visit_content visits.old.items) }
-    ensures number { result ≡ number_of_visit (find (is_open_visit container) (map visit_content visits.old.items)) }
+    ensures closed { map visit_content visits.new.items ≡ map
+        (closed (departure_by way source moment) container) (map visit_content visits.old.items) }
+    ensures number { result ≡ number_of_visit
+        (find (is_open_visit container) (map visit_content visits.old.items)) }
 {
     let Some(place) = open_place(visits, container) else {
         return 0;

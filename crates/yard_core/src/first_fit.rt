@@ -10,7 +10,8 @@ use box6346::{Length, Slot};
 /// The first slot that fits a container of this length, by tier, block letter, bay and row.
 pub(crate) fn first_fit(yard: &Yard, size: Length) -> Option<Slot>
     requires { IsPlan yard.now.plan }
-    ensures { MatchOption result (NoneOpen yard.now size (λ _. Unit {0})) (IsFirstOpen yard.now size (λ _. Unit {0})) }
+    ensures { MatchOption result (NoneOpen yard.now size (λ _. Unit {0}))
+        (IsFirstOpen yard.now size (λ _. Unit {0})) }
 {
     for tier in 1..7 {
         let corner = Slot {
@@ -29,7 +30,8 @@ pub(crate) fn first_fit(yard: &Yard, size: Length) -> Option<Slot>
 // The first in the corner's tier.
 fn first_in_tier(yard: &Yard, size: Length, corner: Slot) -> Option<Slot>
     requires { IsPlan yard.now.plan }
-    ensures { MatchOption result (NoneOpen yard.now size (IsInTier corner)) (IsFirstOpen yard.now size (IsInTier corner)) }
+    ensures { MatchOption result (NoneOpen yard.now size (IsInTier corner))
+        (IsFirstOpen yard.now size (IsInTier corner)) }
 {
     for letter in b'A'..b'Z' + 1 {
         let corner = Slot {
@@ -49,7 +51,8 @@ fn first_in_tier(yard: &Yard, size: Length, corner: Slot) -> Option<Slot>
 fn first_in_block(yard: &Yard, size: Length, block: Block, corner: Slot) -> Option<Slot>
     requires block { block_of yard.now.plan corner.block ≡ Some block }
     requires sized { IsSized block }
-    ensures { MatchOption result (NoneOpen yard.now size (IsInBlock corner)) (IsFirstOpen yard.now size (IsInBlock corner)) }
+    ensures { MatchOption result (NoneOpen yard.now size (IsInBlock corner))
+        (IsFirstOpen yard.now size (IsInBlock corner)) }
 {
     for bay in 1..2 * block.bays as u16 {
         let corner = Slot { bay, ..corner };
@@ -66,7 +69,8 @@ fn first_in_block(yard: &Yard, size: Length, block: Block, corner: Slot) -> Opti
 fn first_in_bay(yard: &Yard, size: Length, block: Block, corner: Slot) -> Option<Slot>
     requires block { block_of yard.now.plan corner.block ≡ Some block }
     requires sized { IsSized block }
-    ensures { MatchOption result (NoneOpen yard.now size (IsInBay corner)) (IsFirstOpen yard.now size (IsInBay corner)) }
+    ensures { MatchOption result (NoneOpen yard.now size (IsInBay corner))
+        (IsFirstOpen yard.now size (IsInBay corner)) }
 {
     for row in 1..block.rows + 1 {
         let slot = Slot { row, ..corner };

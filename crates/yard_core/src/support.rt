@@ -25,7 +25,10 @@ pub(crate) fn misfit(
 ) -> Option<YardFault>
     requires sized { All IsSized plan.now }
     requires long { length columns.now ≡ 480 * length plan.now }
-    ensures { (at : Box → Option Placement) → IsKept plan.now columns.now at → AgreeOn columns.now (finite_map.get placements.now) at → MatchOption result (IsReady plan.now columns.now at placement) (λ f. Misfits plan.now at placement f) }
+    ensures { (at : Box → Option Placement) → IsKept plan.now columns.now at →
+        AgreeOn columns.now (finite_map.get placements.now) at →
+        MatchOption result (IsReady plan.now columns.now at placement)
+        (λ f. Misfits plan.now at placement f) }
 {
     if !plan.has(placement.slot) {
         return Some(YardFault::NoSlot);
@@ -134,7 +137,11 @@ fn blocker(columns: &Columns, site: Site) -> Option<BoxNumber>
     requires near { site.near < length columns.now }
     requires far { site.far < length columns.now }
     requires low { site.height < 6 }
-    ensures { MatchOption result ((level columns.now site.near (site.height + 1) ≡ None) × (level columns.now site.far (site.height + 1) ≡ None)) (λ b. (level columns.now site.near (site.height + 1) ≡ Some b) ⊎ (level columns.now site.far (site.height + 1) ≡ Some b)) }
+    ensures { MatchOption result
+        ((level columns.now site.near (site.height + 1) ≡ None) ×
+        (level columns.now site.far (site.height + 1) ≡ None))
+        (λ b. (level columns.now site.near (site.height + 1) ≡ Some b) ⊎
+        (level columns.now site.far (site.height + 1) ≡ Some b)) }
 {
     match columns.at(site.near, site.height + 1) {
         Some(number) => Some(number),

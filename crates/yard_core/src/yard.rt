@@ -76,7 +76,8 @@ impl Yard {
     /// Puts a container that is not in the yard into a slot where it fits: Present, NoSlot, SlotKind, Taken,
     /// OnAir or Memory.
     pub fn place(&mut self, number: BoxNumber, length: Length, slot: Slot) -> Result<(), YardFault>
-        ensures answer { MatchResult result (λ _. Places self.old self.new number (placement length slot)) (λ f. RefusesPlace self.old number (placement length slot) f) }
+        ensures answer { MatchResult result (λ _. Places self.old self.new number (placement length slot))
+            (λ f. RefusesPlace self.old number (placement length slot) f) }
         ensures err { OnErr result (self.new ≡ self.old) }
         ensures sound { IsSound self.new.plan (finite_map.get self.new.boxes) }
     {
@@ -93,7 +94,8 @@ impl Yard {
     /// Puts a container that is not in the yard into the first slot that it fits, in the order of tier, block
     /// letter, bay and row: Present, NoRoom or Memory.
     pub fn place_first(&mut self, number: BoxNumber, length: Length) -> Result<Slot, YardFault>
-        ensures answer { MatchResult result (λ slot. PlacesFirst self.old self.new number length slot) (λ f. RefusesFirst self.old number length f) }
+        ensures answer { MatchResult result (λ slot. PlacesFirst self.old self.new number length slot)
+            (λ f. RefusesFirst self.old number length f) }
         ensures err { OnErr result (self.new ≡ self.old) }
         ensures sound { IsSound self.new.plan (finite_map.get self.new.boxes) }
     {
@@ -109,7 +111,8 @@ impl Yard {
 
     /// Takes a free container out: Absent or Buried. It needs no memory.
     pub fn remove(&mut self, number: BoxNumber) -> Result<(Length, Slot), YardFault>
-        ensures answer { MatchResult result (λ r. Removes self.old self.new number (placement r.0 r.1)) (λ f. RefusesRemove self.old number f) }
+        ensures answer { MatchResult result (λ r. Removes self.old self.new number (placement r.0 r.1))
+            (λ f. RefusesRemove self.old number f) }
         ensures err { OnErr result (self.new ≡ self.old) }
         ensures sound { IsSound self.new.plan (finite_map.get self.new.boxes) }
     {
@@ -121,10 +124,12 @@ impl Yard {
     /// Moves a free container to a slot that fits the yard without it, which may be its own: Absent, Buried,
     /// NoSlot, SlotKind, Taken or OnAir. It needs no memory.
     pub fn shift(&mut self, number: BoxNumber, slot: Slot) -> Result<(), YardFault>
-        ensures answer { MatchResult result (λ _. (s : Placement) × Shifts self.old self.new number s slot) (λ f. RefusesShift self.old number slot f) }
+        ensures answer { MatchResult result (λ _. (s : Placement) × Shifts self.old self.new number s slot)
+            (λ f. RefusesShift self.old number slot f) }
 
         // A free container's shift to its own slot succeeds.
-        ensures home { (s : Placement) → finite_map.get self.old.boxes number ≡ Some s → IsFree (finite_map.get self.old.boxes) s → slot ≡ s.slot → IsOk result }
+        ensures home { (s : Placement) → finite_map.get self.old.boxes number ≡ Some s →
+            IsFree (finite_map.get self.old.boxes) s → slot ≡ s.slot → IsOk result }
         ensures err { OnErr result (self.new ≡ self.old) }
         ensures sound { IsSound self.new.plan (finite_map.get self.new.boxes) }
     {
@@ -174,7 +179,8 @@ impl Yard {
 
     // Why a container does not fit there, if it does not.
     fn misfit(&self, placement: Placement) -> Option<YardFault>
-        ensures { MatchOption result (IsOpen self.now.plan (finite_map.get self.now.boxes) placement) (λ f. Misfits self.now.plan (finite_map.get self.now.boxes) placement f) }
+        ensures { MatchOption result (IsOpen self.now.plan (finite_map.get self.now.boxes) placement)
+            (λ f. Misfits self.now.plan (finite_map.get self.now.boxes) placement f) }
     {
         misfit(&self.plan, &self.columns, &self.placements, placement)
     }
@@ -183,7 +189,8 @@ impl Yard {
     fn put(&mut self, number: BoxNumber, placement: Placement) -> Result<(), YardFault>
         requires absent { finite_map.get self.old.boxes number ≡ None }
         requires fits { IsOpen self.old.plan (finite_map.get self.old.boxes) placement }
-        ensures ok { OnOk result (self.new ≡ record self.old { boxes = finite_map.insert self.old.boxes number placement }) }
+        ensures ok { OnOk result
+            (self.new ≡ record self.old { boxes = finite_map.insert self.old.boxes number placement }) }
         ensures memory { IfErr result (λ f. f ≡ YardFault.Memory) }
         ensures err { OnErr result (self.new ≡ self.old) }
         ensures sound { IsSound self.new.plan (finite_map.get self.new.boxes) }
