@@ -25,6 +25,8 @@ impl<'a> SegmentCheck<'a> {
             × (segments_to_check check ≡ segments_in text.now)
             × (are_all_segments check ≡ is_segment_text text.now)) }
         ensures err { IfErr result (λ fault. read_fault text.now ≡ Some fault) }
+        ensures advice { IfErr result (λ fault. (fault ≡ SyntaxFault.Service)
+            × (has_bad_advice text.now ≡ true)) }
 
         // No segment takes less than one byte.
         ensures fewer { IfOk result (λ check. length (segments_to_check check)
