@@ -64,7 +64,7 @@ impl<M: Machine> Desk<M> {
         ensures ok { IfOk result (λ response. (opening : M) (ds : List Delivery) →
             StandsAt M.taken opening ds self.old.runs →
             Taken M.taken opening ds (delivery (place + 1) number text.now)
-                (code_of (parties self.old) (place + 1)) response self.new.runs) }
+            (code_of (parties self.old) (place + 1)) response self.new.runs) }
         ensures err { OnErr result ((opening : M) (ds : List Delivery) →
             StandsAt M.taken opening ds self.old.runs → StandsAt M.taken opening ds self.new.runs) }
         ensures kept { parties self.new ≡ parties self.old }
