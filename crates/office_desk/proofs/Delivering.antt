@@ -26,7 +26,8 @@ use Rattle.office_replies.specs.declared.response.Response.TheVariants as respon
 use Rattle.office_replies.specs.declared.worst.Worst.TheVariants as worst
 use Rattle.office_stream.specs.Delivering.{Delivers}
 use Rattle.office_desk.specs.declared.desk.Desk.{Desk}
-use Rattle.office_desk.specs.Admission.{Parties, admission, admitted, addressed, added, partner_from, sender_of, number_in, deliveries_of}
+use Rattle.office_setup.specs.Parties.{Parties, partner_from}
+use Rattle.office_desk.specs.Admission.{admission, admitted, addressed, added, sender_of, number_in, deliveries_of}
 use Rattle.office_desk.specs.Kinds as kinds
 use Rattle.office_desk.specs.Answers.{GivesOrNotNow, content_of, error_of, refusal_of, answer_with, refusal_to, plain_refusal, told_answer, answer_at, answer_to, code_of}
 use Rattle.office_desk.specs.Desks.{parties, DeskStands, DeskAnswers, RefusedSurely, Taken}

@@ -1,5 +1,5 @@
 -- Which texts the office takes.
-use Rattle.std.specs.Prelude.{ℕ, ◌+◌, List, [], ◌∷◌, cond, Option, None, Some, Result, Ok, Err}
+use Rattle.std.specs.Prelude.{ℕ, List, [], ◌∷◌, cond, Option, None, Some, Result, Ok, Err}
 use Rattle.std.specs.Option.{unwrap_or}
 use Rattle.std.specs.Str.{bytes_eq}
 use Rattle.edi_segments.specs.Text.{Content}
@@ -11,16 +11,7 @@ use Rattle.edi_syntax.specs.Header.{sender, recipient, control_number}
 use Rattle.partner_core.specs.Deliveries.{Delivery, delivery}
 use Rattle.office_replies.specs.declared.fault.Fault.{Fault}
 use Rattle.office_replies.specs.declared.fault.Fault.TheVariants.{Syntax, UnknownSender, WrongRecipient}
-
--- the terminal's own code, and those of the partners that have an account
-pub record Parties : Type 0 where
-  pub terminal : List ℕ
-  pub partners : List (List ℕ)
-
--- the number of the first partner with a code, where partners are counted from a number on
-abbrev pub partner_from : ℕ → List ℕ → List (List ℕ) → Option ℕ
-partner_from number code [] = None
-partner_from number code (partner ∷ partners) = cond (bytes_eq code partner) (Some number) (partner_from (number + 1) code partners)
+use Rattle.office_setup.specs.Parties.{Parties, partner_from}
 
 -- the partner that a header names as the sender, counted from 1
 abbrev pub sender_of : Parties → Content → Option ℕ

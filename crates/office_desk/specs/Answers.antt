@@ -22,7 +22,8 @@ use Rattle.office_replies.specs.declared.response.Response.{Response}
 use Rattle.office_replies.specs.declared.response.Response.TheVariants as response
 use Rattle.office_replies.specs.declared.worst.Worst.{Worst}
 use Rattle.office_replies.specs.declared.worst.Worst.TheVariants as worst
-use Rattle.office_desk.specs.Admission.{Parties, admission, sender_of, deliveries_of}
+use Rattle.office_setup.specs.Parties.{Parties}
+use Rattle.office_desk.specs.Admission.{admission, sender_of, deliveries_of}
 use Rattle.office_desk.specs.Kinds.{AnswerKind, kind_of}
 use Rattle.office_desk.specs.Kinds as kinds
 

@@ -1,5 +1,5 @@
 -- At which deliveries a desk stands.
-use Rattle.std.specs.Prelude.{◌≡◌, ℕ, List, [], ◌∷◌, ◌++◌, map, string_bytes, Err}
+use Rattle.std.specs.Prelude.{◌≡◌, ℕ, List, [], ◌∷◌, ◌++◌, Err}
 use Rattle.edi_segments.specs.Interchange.{segments_in}
 use Rattle.edi_syntax.specs.Envelope.{header_of}
 use Rattle.partner_core.specs.Machine.{Taking}
@@ -11,11 +11,13 @@ use Rattle.office_replies.specs.declared.fault.Fault.{Fault}
 use Rattle.office_replies.specs.declared.response.Response.{Response}
 use Rattle.office_replies.specs.declared.response.Response.TheVariants as response
 use Rattle.office_desk.specs.declared.desk.Desk.{Desk}
-use Rattle.office_desk.specs.Admission.{Parties, admission, deliveries_of}
+use Rattle.office_setup.specs.Parties.{Parties, parties_of}
+use Rattle.office_desk.specs.Admission.{admission, deliveries_of}
 use Rattle.office_desk.specs.Answers.{HasNoContrl, answer_to, told_answer, content_of}
 
+-- the terminal and the partners of a desk's set-up
 abbrev pub parties : {M : Type 0} → Desk M → Parties
-parties desk = record { terminal = string_bytes desk.terminal; partners = map string_bytes desk.partners.items }
+parties desk = parties_of desk.setup
 
 -- from that opening, after those deliveries, it is this desk
 pub record DeskStands {M : Type 0} (taken : Taking M) (opening : Desk M) (ds : List (List ℕ)) (desk : Desk M) : Type 0 where

@@ -1,21 +1,18 @@
-ghost use Rattle.std.specs.Prelude.{◌≡◌, ◌<◌, ◌≤◌, ◌+◌, ℕ, List, [], ◌∷◌, IfOk, OnErr, IfSome, Some, None, length, map, string_bytes, slice_get};
-ghost use Rattle.std.specs.Option.{option_map};
+ghost use Rattle.std.specs.Prelude.{◌≡◌, ◌<◌, ◌≤◌, ◌+◌, ℕ, List, [], IfOk, OnErr, length};
 ghost use Rattle.edi_segments.specs.Interchange.{interchange_of};
-ghost use Rattle.edi_segments.specs.Segment.{value};
 ghost use Rattle.partner_core.specs.Order.{state};
 ghost use Rattle.partner_core.specs.Deliveries.{Delivery, delivery};
 ghost use Rattle.partner_core.specs.Runs.{StandsAt, partner_count};
-ghost use Rattle.office_replies.specs.declared.response.Response.{Response};
 ghost use Rattle.office_stream.specs.Delivering.{Delivers};
-ghost use Rattle.office_desk.specs.Admission.{partner_from, deliveries_of};
+ghost use Rattle.office_desk.specs.Admission.{deliveries_of};
 ghost use Rattle.office_desk.specs.Answers.{code_of};
 
-use crate::place::place_of;
 use crate::reject::{refuse, reject};
 use edi_messages::WRONG_RECIPIENT;
-use edi_segments::{Component, interchange_text};
+use edi_segments::interchange_text;
 use edi_syntax::Head;
 use office_replies::{Fault, Response, answer_head, clash, waiting};
+use office_setup::Setup;
 use office_stream::Deliver;
 use partner_core::{Answer, Machine, Runs};
 use std::alloc::{AllocError, Global};
@@ -23,35 +20,26 @@ use std::alloc::{AllocError, Global};
 /// The terminal's desk in memory: it admits what is delivered, and takes each partner's unbroken run of interchanges.
 #[derive(Drop)]
 pub struct Desk<M> {
-    terminal: String,
-    partners: Vec<String>,
+    setup: Setup,
     runs: Runs<M>,
-    ghost counted: { partner_count runs ≡ length partners.items },
-    ghost few: { length partners.items ≤ 999 },
+    ghost counted: { partner_count runs ≡ length setup.partners.items },
+    ghost few: { length setup.partners.items ≤ 999 },
 }
 
 impl<M: Machine> Desk<M> {
+    ghost use Rattle.office_setup.specs.Parties.{parties_of};
     ghost use Rattle.office_desk.specs.Desks.{parties, DeskStands, Taken};
 
-    /// A desk to which nothing has been delivered. `terminal` is the code by which interchanges name this office as their
-    /// recipient, `partners` are the codes of those with an account, numbered from 1.
-    pub fn new(
-        alloc: Global,
-        terminal: String,
-        partners: Vec<String>,
-        machine: M,
-    ) -> Result<Desk<M>, AllocError>
-        requires { length partners.items ≤ 999 }
-        ensures parties { IfOk result (λ desk. parties desk ≡ record { terminal = string_bytes terminal; partners = map string_bytes partners.items }) }
+    /// A desk to which nothing has been delivered, for the terminal and the partners of a set-up, with a machine that takes
+    /// their interchanges.
+    pub fn new(alloc: Global, setup: Setup, machine: M) -> Result<Desk<M>, AllocError>
+        requires { length setup.partners.items ≤ 999 }
+        ensures parties { IfOk result (λ desk. parties desk ≡ parties_of setup) }
         ensures machine { IfOk result (λ desk. desk.runs.machine ≡ machine) }
         ensures stands { IfOk result (λ desk. DeskStands M.taken desk [] desk) }
     {
-        let runs = Runs::new(alloc, machine, partners.len() as u16)?;
-        Ok(Desk {
-            terminal,
-            partners,
-            runs,
-        })
+        let runs = Runs::new(alloc, machine, setup.partners.len() as u16)?;
+        Ok(Desk { setup, runs })
     }
 
     /// What has been taken.
@@ -62,14 +50,6 @@ impl<M: Machine> Desk<M> {
         self.runs.machine()
     }
 
-    /// Where the partner with a code stands among the partners.
-    fn place_of(&self, code: Component<'_>) -> Option<usize>
-        ensures within { IfSome result (λ place. place < length self.now.partners.items) }
-        ensures number { option_map (λ place. place + 1) result ≡ partner_from 1 (value code.entry) (map string_bytes self.now.partners.items) }
-    {
-        place_of(&self.partners, code)
-    }
-
     /// Hands an interchange of a partner to the runs.
     fn take(
         &mut self,
@@ -78,16 +58,19 @@ impl<M: Machine> Desk<M> {
         number: u32,
         text: &[u8],
     ) -> Result<Response, AllocError>
-        requires place { place < length self.old.partners.items }
+        requires place { place < length self.old.setup.partners.items }
         requires positive { 1 ≤ number }
         requires limit { number ≤ 999999999 }
-        ensures ok { IfOk result (λ response. (opening : M) (ds : List Delivery) → StandsAt M.taken opening ds self.old.runs →
-            Taken M.taken opening ds (delivery (place + 1) number text.now) (code_of (parties self.old) (place + 1)) response self.new.runs) }
-        ensures err { OnErr result ((opening : M) (ds : List Delivery) → StandsAt M.taken opening ds self.old.runs → StandsAt M.taken opening ds self.new.runs) }
+        ensures ok { IfOk result (λ response. (opening : M) (ds : List Delivery) →
+            StandsAt M.taken opening ds self.old.runs →
+            Taken M.taken opening ds (delivery (place + 1) number text.now)
+            (code_of (parties self.old) (place + 1)) response self.new.runs) }
+        ensures err { OnErr result ((opening : M) (ds : List Delivery) →
+            StandsAt M.taken opening ds self.old.runs → StandsAt M.taken opening ds self.new.runs) }
         ensures kept { parties self.new ≡ parties self.old }
     {
         let partner = place as u16 + 1;
-        let code = self.partners[place].as_str();
+        let code = self.setup.partners[place].code.as_str();
         let taken = answer_head(alloc, "taken", number, code)?;
         let repeat = answer_head(alloc, "repeat", number, code)?;
         let waiting = waiting(alloc, self.runs.next_of(partner), number, code)?;
@@ -113,7 +96,8 @@ impl<M: Machine> Deliver for Desk<M> {
 
     /// A refusal without a CONTRL takes no memory, so it is never answered NotNow.
     fn deliver(&mut self, alloc: Global, delivered: &[u8]) -> Response
-        ensures delivers { (opening : Desk M) (ds : List (List ℕ)) → DeskStands M.taken opening ds self.old → Delivers (DeskStands M.taken opening) (DeskAnswers M.taken opening) ds delivered.now result self.new }
+        ensures delivers { (opening : Desk M) (ds : List (List ℕ)) → DeskStands M.taken opening ds self.old →
+            Delivers (DeskStands M.taken opening) (DeskAnswers M.taken opening) ds delivered.now result self.new }
         ensures sure { RefusedSurely (parties self.old) (interchange_of delivered.now) result }
     {
         let text = interchange_text(delivered);
@@ -121,7 +105,7 @@ impl<M: Machine> Deliver for Desk<M> {
             Ok(head) => head,
             Err(fault) => return Response::Refused(Fault::Syntax(fault)),
         };
-        let Some(place) = self.place_of(head.sender(1)) else {
+        let Some(place) = self.setup.place_of(head.sender(1)) else {
             return match head.body() {
                 Err(fault) => Response::Refused(Fault::Syntax(fault)),
                 Ok(_) => Response::Refused(Fault::UnknownSender),
@@ -130,7 +114,7 @@ impl<M: Machine> Deliver for Desk<M> {
         if let Err(fault) = head.body() {
             return refuse(alloc, &head, fault);
         }
-        if !head.recipient(1).equals(self.terminal.as_bytes()) {
+        if !head.recipient(1).equals(self.setup.terminal.as_bytes()) {
             return reject(alloc, &head, Fault::WrongRecipient, WRONG_RECIPIENT);
         }
         match self.take(alloc, place, head.number(), text) {

@@ -2,8 +2,6 @@
 #![tactic(auto)]
 
 mod desk;
-mod place;
 mod reject;
 
 pub use desk::Desk;
-pub use place::place_of;

@@ -14,7 +14,8 @@ use std::alloc::{AllocError, Global};
 
 /// The answer to an interchange of a known sender whose body has a fault: with a CONTRL.
 pub(crate) fn refuse(alloc: Global, head: &Head<'_>, fault: SyntaxFault) -> Response
-    ensures answer { (partner : ℕ) → GivesOrNotNow (refusal_to (header_of (head_segments head.now)) (Fault.Syntax fault) (Some partner) (interchange_error fault)) result }
+    ensures answer { (partner : ℕ) → GivesOrNotNow
+        (refusal_to (header_of (head_segments head.now)) (Fault.Syntax fault) (Some partner) (interchange_error fault)) result }
     ensures sure { interchange_error fault ≡ None → result ≡ Response.Refused (Fault.Syntax fault) }
 {
     match interchange_error(fault) {
@@ -39,7 +40,8 @@ fn rejection(
     fault: Fault,
     error: u8,
 ) -> Result<Response, AllocError>
-    ensures { IfOk result (λ response. content_of response ≡ rejection (header_of (head_segments head.now)) fault error) }
+    ensures { IfOk result (λ response.
+        content_of response ≡ rejection (header_of (head_segments head.now)) fault error) }
 {
     let contrl = write_rejection(alloc, head, error)?;
     let contrl = text_of(alloc, &contrl)?;

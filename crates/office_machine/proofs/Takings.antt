@@ -1,6 +1,8 @@
 -- What is taken, where it is known what partner it is of and that it is an interchange.
-use Rattle.std.proofs.Common.{◌≡◌, ◌≢◌, ℕ, suc, ◌==◌, ◌&&◌, Bool, true, false, cond, List, [], ◌∷◌, length, Some, None, Result, Ok, Err, OnOk, IfOk, refl, sym, ap, subst, ◌∙◌}
+use Rattle.std.proofs.Common.{◌≡◌, ◌≢◌, ℕ, zero, suc, ◌==◌, ◌&&◌, Bool, true, false, cond, List, [], ◌∷◌, length, Some, None, Result, Ok, Err, OnOk, IfOk, refl, sym, ap, subst, ◌∙◌}
+use Rattle.std.specs.Option.{option_map}
 use Rattle.std.specs.Result.{MatchResult}
+use Rattle.std.proofs.lemmas.Option.{slice_get-map}
 use Rattle.edi_moments.specs.Moments.{CivilMoment}
 use Rattle.edi_segments.specs.Text.{Content}
 use Rattle.edi_segments.specs.Interchange.{segments_in}
@@ -19,8 +21,28 @@ use Rattle.terminal_core.specs.State.{TerminalState}
 use Rattle.terminal_core.specs.declared.source.Source.{Source}
 use Rattle.office_replies.specs.Messages.{rejected, ReportContent}
 use Rattle.office_replies.specs.declared.fault.Fault.{Fault}
-use Rattle.office_desk.specs.Admission.{Parties, admission, admitted, addressed, sender_of}
-use Rattle.office_machine.specs.Taking.{MachineState, verdict_on, messages_taken, verdicts_of, with_messages, nothing_taken, reply_to, codes_for, source_in, taken_at, taken_of, is_for, interchange_taken}
+use Rattle.office_setup.specs.declared.account.Account.{Account}
+use Rattle.office_setup.specs.declared.setup.Setup.{Setup}
+use Rattle.office_setup.specs.Parties.{Parties, partner_kinds, parties_of}
+use Rattle.office_setup.specs.Setups.{setup_content}
+use Rattle.office_setup.proofs.Contents.{same_parties, same_kinds}
+use Rattle.office_desk.specs.Admission.{admission, admitted, addressed, sender_of}
+use Rattle.office_machine.specs.Taking.{MachineState, machine_of, verdict_on, messages_taken, verdicts_of, with_messages, nothing_taken, reply_to, codes_for, source_in, taken_at, taken_of, is_for, interchange_taken}
+
+-- ---- a machine and its set-up
+
+-- what the partner with a number is
+pub kind_at : (accounts : List Account) (number : ℕ) → with_number (partner_kinds accounts) number ≡ option_map (λ account. account.kind) (with_number accounts number)
+kind_at accounts zero = refl
+kind_at accounts (suc i) = slice_get-map (λ account. account.kind) accounts i
+
+-- an equal set-up over the same terminal
+pub copied_machine : (copy setup : Setup) (left terminal : TerminalState) → setup_content copy ≡ setup_content setup → left ≡ terminal → machine_of copy left ≡ machine_of setup terminal
+copied_machine copy setup left terminal same same_terminal =
+    ap (λ parties. record { parties = parties; codes = copy.codes; kinds = partner_kinds copy.partners.items; terminal = left }) (same_parties copy setup same)
+    ∙ ap (λ codes. record { parties = parties_of setup; codes = codes; kinds = partner_kinds copy.partners.items; terminal = left }) (ap (λ content. content.codes) same)
+    ∙ ap (λ kinds. record { parties = parties_of setup; codes = setup.codes; kinds = kinds; terminal = left }) (same_kinds copy.partners.items setup.partners.items (ap (λ content. content.partners) same))
+    ∙ ap (machine_of setup) same_terminal
 
 -- a fault that is not want of memory is that of the message
 pub rejected_on : (state : TerminalState) (source : Source) (read : Result MessageContent MessageFault) (fault : MessageFault) →

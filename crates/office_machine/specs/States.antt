@@ -7,7 +7,7 @@ use Rattle.edi_messages.specs.contracts.code_table.CodeTable as tables
 use Rattle.edi_messages.specs.contracts.partner_kind.PartnerKind as kinds
 use Rattle.terminal_core.specs.Codes.{terminal_code}
 use Rattle.terminal_core.specs.State.{TerminalState}
-use Rattle.office_desk.specs.Admission.{Parties}
+use Rattle.office_setup.specs.Parties.{Parties}
 use Rattle.office_machine.specs.Taking.{MachineState}
 
 abbrev pub parties_code : Coded Parties

@@ -29,7 +29,9 @@ use Rattle.terminal_core.specs.declared.reason.Reason.TheVariants.{Form, CheckDi
 use Rattle.terminal_core.specs.declared.source.Source.{Source}
 use Rattle.office_replies.specs.declared.fault.Fault.{Fault}
 use Rattle.office_replies.specs.declared.line_report.LineReport.{LineReport}
-use Rattle.office_desk.specs.Admission.{Parties, admission}
+use Rattle.office_setup.specs.Parties.{Parties, partner_kinds, parties_of}
+use Rattle.office_setup.specs.declared.setup.Setup.{Setup}
+use Rattle.office_desk.specs.Admission.{admission}
 use Rattle.office_replies.specs.Messages.{VerdictContent, accepted, rejected, ReportContent, reply_content_text}
 
 -- who the terminal and its partners are, the codes of document names, what each partner is, and the terminal
@@ -38,6 +40,15 @@ pub record MachineState : Type 0 where
   pub codes : CodeTable
   pub kinds : List PartnerKind
   pub terminal : TerminalState
+
+-- those of a set-up, over a terminal
+abbrev pub machine_of : Setup → TerminalState → MachineState
+machine_of setup terminal = record {
+  parties = parties_of setup;
+  codes = setup.codes;
+  kinds = partner_kinds setup.partners.items;
+  terminal = terminal;
+}
 
 -- ---- a line
 

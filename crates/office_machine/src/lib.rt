@@ -2,7 +2,6 @@
 //! became of each.
 #![tactic(auto)]
 
-mod append;
 mod line;
 mod machine;
 mod message;

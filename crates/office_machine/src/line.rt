@@ -2,7 +2,6 @@ ghost use Rattle.std.specs.Prelude.{◌≡◌, ◌++◌, ◌∷◌, [], IfOk, On
 ghost use Rattle.edi_messages.specs.Owned.{order_content, line_content};
 ghost use Rattle.office_machine.specs.Taking.{number_ordered, reason_of, line_taken, lines_taken};
 
-use crate::append::append;
 use box6346::BoxNumber;
 use edi_messages::{Line, LineFault, Order};
 use office_replies::LineReport;
@@ -16,8 +15,10 @@ pub(crate) fn take_lines(
     source: Source,
     lines: &[Line],
 ) -> Result<Vec<LineReport>, AllocError>
-    ensures state { IfOk result (λ reports. terminal.new ≡ (lines_taken terminal.old source (map line_content lines.now)).0) }
-    ensures reports { IfOk result (λ reports. reports.items ≡ (lines_taken terminal.old source (map line_content lines.now)).1) }
+    ensures state { IfOk result (λ reports.
+        terminal.new ≡ (lines_taken terminal.old source (map line_content lines.now)).0) }
+    ensures reports { IfOk result (λ reports.
+        reports.items ≡ (lines_taken terminal.old source (map line_content lines.now)).1) }
 {
     let mut reports = Vec::new(alloc);
     for line in lines {
@@ -34,19 +35,22 @@ fn take_line(
     reports: &mut Vec<LineReport>,
 ) -> Result<(), AllocError>
     ensures state { OnOk result (terminal.new ≡ (line_taken terminal.old source (line_content line.now)).0) }
-    ensures reports { OnOk result (reports.new.items ≡ reports.old.items ++ (line_taken terminal.old source (line_content line.now)).1 ∷ []) }
+    ensures reports { OnOk result (reports.new.items
+        ≡ reports.old.items ++ (line_taken terminal.old source (line_content line.now)).1 ∷ []) }
 {
     match line {
         Line::Order(order) => {
             let mut changes = Vec::new(alloc);
             let outcome = terminal.step(alloc, source, order, &mut changes)?;
             let number = Some(number_ordered(order));
-            append(reports, LineReport { number, outcome })
+            reports.push(LineReport { number, outcome })?;
+            Ok(())
         }
         Line::Refusal(refusal) => {
             let number = refusal.number;
             let outcome = Outcome::Refused(reason_of(refusal.fault));
-            append(reports, LineReport { number, outcome })
+            reports.push(LineReport { number, outcome })?;
+            Ok(())
         }
     }
 }

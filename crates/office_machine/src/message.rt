@@ -23,8 +23,10 @@ pub(crate) fn take_messages(
     opened: Moment,
     frames: Frames<'_>,
 ) -> Result<Vec<MessageReport>, AllocError>
-    ensures state { IfOk result (λ reports. terminal.new ≡ (messages_taken terminal.old codes.now source opened (messages_left frames.entry)).0) }
-    ensures reports { IfOk result (λ reports. map report_content reports.items ≡ (messages_taken terminal.old codes.now source opened (messages_left frames.entry)).1) }
+    ensures state { IfOk result (λ reports. terminal.new
+        ≡ (messages_taken terminal.old codes.now source opened (messages_left frames.entry)).0) }
+    ensures reports { IfOk result (λ reports. map report_content reports.items
+        ≡ (messages_taken terminal.old codes.now source opened (messages_left frames.entry)).1) }
 {
     let mut frames = frames;
     let mut reports = Vec::new(alloc);
@@ -44,8 +46,10 @@ fn take_message(
     opened: Moment,
     frame: &Frame<'_>,
 ) -> Result<MessageVerdict, AllocError>
-    ensures state { IfOk result (λ verdict. terminal.new ≡ (verdict_on terminal.old source (reading codes.now opened (message frame.now))).0) }
-    ensures verdict { IfOk result (λ verdict. verdict_content verdict ≡ (verdict_on terminal.old source (reading codes.now opened (message frame.now))).1) }
+    ensures state { IfOk result (λ verdict. terminal.new
+        ≡ (verdict_on terminal.old source (reading codes.now opened (message frame.now))).0) }
+    ensures verdict { IfOk result (λ verdict. verdict_content verdict
+        ≡ (verdict_on terminal.old source (reading codes.now opened (message frame.now))).1) }
 {
     match read_message(alloc, frame, opened, codes) {
         Ok(message) => {

@@ -9,7 +9,7 @@ use Rattle.office_desk.proofs.desk.Desk.take.Goals as goal
 
 pub returns-in-Taken-clause-ok : goal.returns-in-Taken-clause-ok
 returns-in-Taken-clause-ok g c = λ opening ds stands.
-    let partners = c.args.self.now.partners.items in
+    let partners = c.args.self.now.setup.partners.items in
     let partner = c.index.result.now in
     let d = delivery (c.args.place + 1) c.args.number c.args.text.now in
     let code = c.as_str-code.ensures.value ∙ sym (code_at partners c.args.place partner (slice_get_read partners _ c.args.place partner refl c.requires.place c.index.ensures)) in
@@ -17,7 +17,7 @@ returns-in-Taken-clause-ok g c = λ opening ds stands.
 
 pub returns-in-Repeat-clause-ok : goal.returns-in-Repeat-clause-ok
 returns-in-Repeat-clause-ok g c = λ opening ds stands.
-    let partners = c.args.self.now.partners.items in
+    let partners = c.args.self.now.setup.partners.items in
     let partner = c.index.result.now in
     let d = delivery (c.args.place + 1) c.args.number c.args.text.now in
     let code = c.as_str-code.ensures.value ∙ sym (code_at partners c.args.place partner (slice_get_read partners _ c.args.place partner refl c.requires.place c.index.ensures)) in
@@ -25,7 +25,7 @@ returns-in-Repeat-clause-ok g c = λ opening ds stands.
 
 pub returns-in-Clash-clause-ok : goal.returns-in-Clash-clause-ok
 returns-in-Clash-clause-ok g c = λ opening ds stands.
-    let partners = c.args.self.now.partners.items in
+    let partners = c.args.self.now.setup.partners.items in
     let partner = c.index.result.now in
     let d = delivery (c.args.place + 1) c.args.number c.args.text.now in
     let code = c.as_str-code.ensures.value ∙ sym (code_at partners c.args.place partner (slice_get_read partners _ c.args.place partner refl c.requires.place c.index.ensures)) in
@@ -33,7 +33,7 @@ returns-in-Clash-clause-ok g c = λ opening ds stands.
 
 pub returns-in-Waiting-clause-ok : goal.returns-in-Waiting-clause-ok
 returns-in-Waiting-clause-ok g c = λ opening ds stands.
-    let partners = c.args.self.now.partners.items in
+    let partners = c.args.self.now.setup.partners.items in
     let partner = c.index.result.now in
     let d = delivery (c.args.place + 1) c.args.number c.args.text.now in
     let code = c.as_str-code.ensures.value ∙ sym (code_at partners c.args.place partner (slice_get_read partners _ c.args.place partner refl c.requires.place c.index.ensures)) in
