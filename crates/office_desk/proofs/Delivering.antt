@@ -30,7 +30,7 @@ use Rattle.office_setup.specs.Parties.{Parties, partner_from}
 use Rattle.office_desk.specs.Admission.{admission, admitted, addressed, added, sender_of, number_in, deliveries_of}
 use Rattle.office_desk.specs.Kinds as kinds
 use Rattle.office_desk.specs.Answers.{GivesOrNotNow, content_of, error_of, refusal_of, answer_with, refusal_to, plain_refusal, told_answer, answer_at, answer_to, code_of}
-use Rattle.office_desk.specs.Desks.{parties, DeskStands, DeskAnswers, RefusedSurely, Taken}
+use Rattle.office_desk.specs.Desks.{parties, DeskStands, DeskAnswers, MayBeNotNow, RefusedSurely, Taken}
 
 -- ---- what is added
 
@@ -47,24 +47,29 @@ deliveries_more P (first ∷ ds) delivered =
 
 -- ---- refusals
 
+-- what is refused surely is not answered NotNow
+not_now_surely : (P : Parties) (text : List ℕ) → RefusedSurely P text response.NotNow → MayBeNotNow P text
+not_now_surely P text surely fault refused plain = let never : response.NotNow ≡ response.Refused fault = surely fault refused plain in absurd cc
+
 -- a response that is this answer answers the next delivery
 answers_or_not : {M : Type 0} (taken : Taking M) (opening : Desk M) (ds : List (List ℕ)) (delivered : List ℕ) (given : Response) (desk : Desk M) →
-    GivesOrNotNow (answer_to (parties opening) taken opening.runs.machine ds delivered) given → DeskStands taken opening ds desk →
-    DeskStands taken opening (ds ++ delivered ∷ []) desk → Delivers (DeskStands taken opening) (DeskAnswers taken opening) ds delivered given desk
-answers_or_not taken opening ds delivered (response.Taken head reply) desk gives before after = (gives, after)
-answers_or_not taken opening ds delivered (response.Repeat head reply) desk gives before after = (gives, after)
-answers_or_not taken opening ds delivered (response.Waiting body) desk gives before after = (gives, after)
-answers_or_not taken opening ds delivered (response.Clash body) desk gives before after = (gives, after)
-answers_or_not taken opening ds delivered (response.Refused fault) desk gives before after = (gives, after)
-answers_or_not taken opening ds delivered (response.Rejected fault body) desk gives before after = (gives, after)
-answers_or_not taken opening ds delivered response.NotNow desk gives before after = before
+    GivesOrNotNow (answer_to (parties opening) taken opening.runs.machine ds delivered) given → RefusedSurely (parties opening) (interchange_of delivered) given →
+    DeskStands taken opening ds desk → DeskStands taken opening (ds ++ delivered ∷ []) desk → Delivers (DeskStands taken opening) (DeskAnswers taken opening) ds delivered given desk
+answers_or_not taken opening ds delivered (response.Taken head reply) desk gives surely before after = (gives, after)
+answers_or_not taken opening ds delivered (response.Repeat head reply) desk gives surely before after = (gives, after)
+answers_or_not taken opening ds delivered (response.Waiting body) desk gives surely before after = (gives, after)
+answers_or_not taken opening ds delivered (response.Clash body) desk gives surely before after = (gives, after)
+answers_or_not taken opening ds delivered (response.Refused fault) desk gives surely before after = (gives, after)
+answers_or_not taken opening ds delivered (response.Rejected fault body) desk gives surely before after = (gives, after)
+answers_or_not taken opening ds delivered response.NotNow desk gives surely before after = (not_now_surely (parties opening) (interchange_of delivered) surely, before)
 
 -- A text that is refused adds nothing.
 refusal_of_text : {M : Type 0} (taken : Taking M) (opening : Desk M) (ds : List (List ℕ)) (delivered : List ℕ) (given : Response) (desk : Desk M) (fault : Fault) →
     DeskStands taken opening ds desk → admission (parties desk) (interchange_of delivered) ≡ Err fault →
     GivesOrNotNow (refusal_of (parties desk) (header_of (segments_in (interchange_of delivered))) fault) given →
+    RefusedSurely (parties desk) (interchange_of delivered) given →
     Delivers (DeskStands taken opening) (DeskAnswers taken opening) ds delivered given desk
-refusal_of_text {M} taken opening ds delivered given desk fault stands refused gives =
+refusal_of_text {M} taken opening ds delivered given desk fault stands refused gives surely =
     let P = parties opening in
     let text = interchange_of delivered in
     let here : admission P text ≡ Err fault = subst (λ others. admission others text ≡ Err fault) stands.same_parties refused in
@@ -76,15 +81,17 @@ refusal_of_text {M} taken opening ds delivered given desk fault stands refused g
     } in
     let answer : GivesOrNotNow (refusal_of P (header_of (segments_in text)) fault) given = subst (λ others. GivesOrNotNow (refusal_of others (header_of (segments_in text)) fault) given) stands.same_parties gives in
     answers_or_not taken opening ds delivered given desk
-    (subst (λ place. GivesOrNotNow (answer_at P taken opening.runs.machine (deliveries_of P ds) text place) given) (sym here) answer) stands after
+    (subst (λ place. GivesOrNotNow (answer_at P taken opening.runs.machine (deliveries_of P ds) text place) given) (sym here) answer)
+    (subst (λ others. RefusedSurely others text given) stands.same_parties surely) stands after
 
 pub refusal_delivered : {M : Type 0} (taken : Taking M) (opening : Desk M) (ds : List (List ℕ)) (delivered text : List ℕ) (given : Response) (desk : Desk M) (fault : Fault) →
     text ≡ interchange_of delivered → DeskStands taken opening ds desk → admission (parties desk) text ≡ Err fault →
     GivesOrNotNow (refusal_of (parties desk) (header_of (segments_in text)) fault) given →
+    RefusedSurely (parties desk) (interchange_of delivered) given →
     Delivers (DeskStands taken opening) (DeskAnswers taken opening) ds delivered given desk
-refusal_delivered taken opening ds delivered text given desk fault is stands refused gives =
+refusal_delivered taken opening ds delivered text given desk fault is stands refused gives surely =
     refusal_of_text taken opening ds delivered given desk fault stands (subst (λ other. admission (parties desk) other ≡ Err fault) is refused)
-    (subst (λ other. GivesOrNotNow (refusal_of (parties desk) (header_of (segments_in other)) fault) given) is gives)
+    (subst (λ other. GivesOrNotNow (refusal_of (parties desk) (header_of (segments_in other)) fault) given) is gives) surely
 
 -- ---- what is taken
 
@@ -101,7 +108,7 @@ never_now code number (told.Waiting next) e = not_fine (ap (λ answer. answer.ho
 never_now code number told.Clash e = not_refused (ap (λ answer. answer.how_bad) e)
 
 delivers_now : {M : Type 0} (taken : Taking M) (opening : Desk M) (ds : List (List ℕ)) (delivered : List ℕ) (given : Response) (desk : Desk M) (code : List ℕ) (number : ℕ) (kind : Told) →
-    content_of given ≡ told_answer code number kind → DeskAnswers taken opening ds delivered given →
+    content_of given ≡ told_answer code number kind → content_of given ≡ answer_to (parties opening) taken opening.runs.machine ds delivered →
     DeskStands taken opening (ds ++ delivered ∷ []) desk → Delivers (DeskStands taken opening) (DeskAnswers taken opening) ds delivered given desk
 delivers_now taken opening ds delivered (response.Taken head reply) desk code number kind e answers after = (answers, after)
 delivers_now taken opening ds delivered (response.Repeat head reply) desk code number kind e answers after = (answers, after)
@@ -131,7 +138,7 @@ taken_as_text {M} taken opening ds delivered given old new partner number stands
     } in
     let kind = answer_of taken opening.runs.machine before (delivery partner number text) in
     let answer : content_of given ≡ told_answer (code_of P partner) number kind = subst (λ others. content_of given ≡ told_answer (code_of others partner) number kind) stands.same_parties done.answers in
-    let answers : DeskAnswers taken opening ds delivered given =
+    let answers : content_of given ≡ answer_to P taken opening.runs.machine ds delivered =
     subst (λ place. content_of given ≡ answer_at P taken opening.runs.machine before text place) (sym here) answer in
     delivers_now taken opening ds delivered given new (code_of P partner) number kind answer answers after
 
@@ -147,12 +154,16 @@ taken_delivered taken opening ds delivered text given old new partner number is 
     Taken taken first before (delivery partner number other) (code_of (parties old) partner) given new.runs) is takes)
 
 -- where it was not taken, the desk stands where it stood
-pub not_now_delivered : {M : Type 0} (taken : Taking M) (opening : Desk M) (ds : List (List ℕ)) (old new : Desk M) → DeskStands taken opening ds old → parties new ≡ parties old →
-    ((first : M) (before : List Delivery) → StandsAt taken first before old.runs → StandsAt taken first before new.runs) → DeskStands taken opening ds new
-not_now_delivered taken opening ds old new stands same stays = record {
-  same_parties = same ∙ stands.same_parties;
-  runs_stand = stays opening.runs.machine (deliveries_of (parties opening) ds) stands.runs_stand;
-}
+pub not_now_delivered : {M : Type 0} (taken : Taking M) (opening : Desk M) (ds : List (List ℕ)) (delivered : List ℕ) (old new : Desk M) → DeskStands taken opening ds old → parties new ≡ parties old →
+    ((first : M) (before : List Delivery) → StandsAt taken first before old.runs → StandsAt taken first before new.runs) →
+    RefusedSurely (parties old) (interchange_of delivered) response.NotNow →
+    Delivers (DeskStands taken opening) (DeskAnswers taken opening) ds delivered response.NotNow new
+not_now_delivered taken opening ds delivered old new stands same stays surely =
+    (not_now_surely (parties opening) (interchange_of delivered) (subst (λ others. RefusedSurely others (interchange_of delivered) response.NotNow) stands.same_parties surely),
+    record {
+      same_parties = same ∙ stands.same_parties;
+      runs_stand = stays opening.runs.machine (deliveries_of (parties opening) ds) stands.runs_stand;
+    })
 
 -- ---- faults
 

@@ -1,6 +1,6 @@
 -- At which deliveries a desk stands.
 use Rattle.std.specs.Prelude.{◌≡◌, ℕ, List, [], ◌∷◌, ◌++◌, Err}
-use Rattle.edi_segments.specs.Interchange.{segments_in}
+use Rattle.edi_segments.specs.Interchange.{interchange_of, segments_in}
 use Rattle.edi_syntax.specs.Envelope.{header_of}
 use Rattle.partner_core.specs.Machine.{Taking}
 use Rattle.partner_core.specs.Deliveries.{Delivery}
@@ -24,10 +24,16 @@ pub record DeskStands {M : Type 0} (taken : Taking M) (opening : Desk M) (ds : L
   pub same_parties : parties desk ≡ parties opening
   pub runs_stand : StandsAt taken opening.runs.machine (deliveries_of (parties opening) ds) desk.runs
 
--- from that opening, after those deliveries, the response is the answer to the next
+-- A text that is refused without a CONTRL has the fixed body of its fault, so it is never answered NotNow.
+abbrev pub MayBeNotNow : Parties → List ℕ → Type 0
+MayBeNotNow parties text =
+    (fault : Fault) → admission parties text ≡ Err fault → HasNoContrl parties (header_of (segments_in text)) fault → ⊥
+
+-- from that opening, after those deliveries, the response is the answer to the next, or NotNow where that may be
 abbrev pub DeskAnswers : {M : Type 0} → Taking M → Desk M → List (List ℕ) → List ℕ → Response → Type 0
-DeskAnswers taken opening ds delivered response =
-    content_of response ≡ answer_to (parties opening) taken opening.runs.machine ds delivered
+DeskAnswers taken opening ds delivered response.NotNow = MayBeNotNow (parties opening) (interchange_of delivered)
+DeskAnswers taken opening ds delivered given =
+    content_of given ≡ answer_to (parties opening) taken opening.runs.machine ds delivered
 
 -- the response is what the runs tell of a delivery of the partner with a code, and they stand behind it
 pub record Taken {M : Type 0} (taken : Taking M) (opening : M) (ds : List Delivery) (d : Delivery) (code : List ℕ)
@@ -35,7 +41,7 @@ pub record Taken {M : Type 0} (taken : Taking M) (opening : M) (ds : List Delive
   pub answers : content_of response ≡ told_answer code d.number (answer_of taken opening ds d)
   pub stands : StandsAt taken opening (ds ++ d ∷ []) runs
 
--- A text that is refused without a CONTRL is refused by the fault's fixed body: this is never NotNow.
+-- a text that is refused without a CONTRL is refused by the fault's fixed body
 abbrev pub RefusedSurely : Parties → List ℕ → Response → Type 0
 RefusedSurely parties text given =
     (fault : Fault) → admission parties text ≡ Err fault → HasNoContrl parties (header_of (segments_in text)) fault →
