@@ -1,26 +1,16 @@
 -- One answer more.
-use Rattle.std.proofs.Common.{◌≡◌, ℕ, List, [], ◌∷◌, ◌++◌, refl, sym, subst}
+use Rattle.std.proofs.Common.{◌≡◌, ℕ, List, [], ◌∷◌, ◌++◌, refl, sym, ap, subst, ◌∙◌}
 use Rattle.office_replies.specs.declared.response.Response.{Response}
-use Rattle.office_replies.specs.declared.response.Response.TheVariants.{Taken, Repeat, Waiting, Clash, Refused, Rejected, NotNow}
 use Rattle.office_replies.specs.declared.worst.Worst.{Worst}
+use Rattle.office_replies.specs.declared.worst.Worst.TheVariants.{Fine, Refused, NotNow}
 use Rattle.office_replies.specs.Responses.{worst_of, worse_of}
-use Rattle.office_stream.specs.Delivering.{Delivers, answered, AnswersNext, AnswersEach, deliveries}
-use Rattle.office_stream.specs.Lines.{worst_from}
+use Rattle.office_stream.specs.Delivering.{Delivers, answered, AnswersEach, deliveries}
+use Rattle.office_stream.specs.Lines.{worst_of_all}
 use Rattle.office_stream.specs.Streams.{Answered}
 
 module _ {D : Type 0} (stands : List (List ℕ) → D → Type 0) (answers : List (List ℕ) → List ℕ → Response → Type 0) where
-  delivers_next : (ds : List (List ℕ)) (text : List ℕ) (response : Response) (new : D) → Delivers stands answers ds text response new →
-      AnswersNext answers ds text response × stands (answered ds text response) new
-  delivers_next ds text (Taken head reply) new h = h
-  delivers_next ds text (Repeat head reply) new h = h
-  delivers_next ds text (Waiting body) new h = h
-  delivers_next ds text (Clash body) new h = h
-  delivers_next ds text (Refused fault) new h = h
-  delivers_next ds text (Rejected fault body) new h = h
-  delivers_next ds text NotNow new h = (tt, h)
-
   one_more : (ds texts : List (List ℕ)) (responses : List Response) (text : List ℕ) (response : Response) → AnswersEach answers ds texts responses →
-      AnswersNext answers (deliveries ds texts responses) text response →
+      answers (deliveries ds texts responses) text response →
       AnswersEach answers ds (texts ++ text ∷ []) (responses ++ response ∷ [])
       × (deliveries ds (texts ++ text ∷ []) (responses ++ response ∷ []) ≡ answered (deliveries ds texts responses) text response)
   one_more ds [] [] text response each next = ((next, tt), refl)
@@ -34,11 +24,10 @@ module _ {D : Type 0} (stands : List (List ℕ) → D → Type 0) (answers : Lis
       Answered stands answers ds texts responses old → Delivers stands answers (deliveries ds texts responses) text response new →
       Answered stands answers ds (texts ++ text ∷ []) (responses ++ response ∷ []) new
   answered_more ds texts responses old new text response before delivers =
-      let next = delivers_next (deliveries ds texts responses) text response new delivers in
-      let both = one_more ds texts responses text response before.each next.0 in
+      let both = one_more ds texts responses text response before.each delivers.0 in
       record {
         each = both.0;
-        stands_now = subst (λ others. stands others new) (sym both.1) next.1;
+        stands_now = subst (λ others. stands others new) (sym both.1) delivers.1;
       }
 
   both_each : (ds texts more : List (List ℕ)) (responses others : List Response) → AnswersEach answers ds texts responses →
@@ -58,11 +47,26 @@ module _ {D : Type 0} (stands : List (List ℕ) → D → Type 0) (answers : Lis
       let both = both_each ds texts more responses others before.each then.each in
       record { each = both.0; stands_now = subst (λ at. stands at new) (sym both.1) then.stands_now }
 
-pub worst_from-both : (worst : Worst) (responses others : List Response) → worst_from worst (responses ++ others) ≡ worst_from (worst_from worst responses) others
-worst_from-both worst [] others = refl
-worst_from-both worst (first ∷ responses) others = worst_from-both (worse_of worst (worst_of first)) responses others
+-- ---- the worst of the answers
 
-pub worst_from-append : (worst : Worst) (responses : List Response) (response : Response) →
-    worst_from worst (responses ++ response ∷ []) ≡ worse_of (worst_from worst responses) (worst_of response)
-worst_from-append worst [] response = refl
-worst_from-append worst (first ∷ responses) response = worst_from-append (worse_of worst (worst_of first)) responses response
+pub worse_of-Fine : (worst : Worst) → worse_of worst Fine ≡ worst
+worse_of-Fine Fine = refl
+worse_of-Fine Refused = refl
+worse_of-Fine NotNow = refl
+
+pub worse_of-assoc : (a b c : Worst) → worse_of (worse_of a b) c ≡ worse_of a (worse_of b c)
+worse_of-assoc NotNow b c = refl
+worse_of-assoc Fine b c = refl
+worse_of-assoc Refused NotNow c = refl
+worse_of-assoc Refused Fine c = refl
+worse_of-assoc Refused Refused NotNow = refl
+worse_of-assoc Refused Refused Refused = refl
+worse_of-assoc Refused Refused Fine = refl
+
+pub worst_of_both : (responses others : List Response) → worst_of_all (responses ++ others) ≡ worse_of (worst_of_all responses) (worst_of_all others)
+worst_of_both [] others = refl
+worst_of_both (first ∷ responses) others =
+    ap (worse_of (worst_of first)) (worst_of_both responses others) ∙ sym (worse_of-assoc (worst_of first) (worst_of_all responses) (worst_of_all others))
+
+pub worst_of_more : (responses : List Response) (response : Response) → worst_of_all (responses ++ response ∷ []) ≡ worse_of (worst_of_all responses) (worst_of response)
+worst_of_more responses response = worst_of_both responses (response ∷ []) ∙ ap (worse_of (worst_of_all responses)) (worse_of-Fine (worst_of response))

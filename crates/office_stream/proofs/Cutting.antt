@@ -1,30 +1,15 @@
--- Interchanges one after the other, cut from bytes that come in pieces.
-use Rattle.std.proofs.Common.{◌≡◌, ℕ, ◌+◌, List, [], ◌∷◌, ◌++◌, length, take, drop, Option, None, Some, true, false, inl, inr, append_assoc, refl, sym, ap, subst, ◌∙◌, arith}
+-- Interchanges one after the other, cut from a stream.
+use Rattle.std.proofs.Common.{◌≡◌, ℕ, List, [], ◌∷◌, ◌++◌, true, false, None, Some, inl, inr, append_assoc, refl, sym, ap, subst, ◌∙◌, arith}
+use Rattle.std.proofs.lemmas.Bool.{cases_Bool, false≢true}
 use Rattle.edi_segments.specs.Advice.{without_breaks}
 use Rattle.edi_segments.specs.Characters.{is_break}
-use Rattle.edi_cutter.specs.Cuts.{Faults}
+use Rattle.edi_cutter.specs.Cuts.{is_whole, fault_of, IsInterchange, IsPending, Faults}
+use Rattle.edi_cutter.specs.Places.{place_after}
 use Rattle.edi_cutter.specs.declared.cut_fault.CutFault.{CutFault}
-use Rattle.edi_cutter.specs.declared.cut_fault.CutFault.TheVariants.{TooLong, Service, Segment, Memory}
-use Rattle.office_stream.specs.declared.stream_end.StreamEnd.TheVariants.{Cut}
-use Rattle.std.proofs.lemmas.List.{take-append-le, drop-append-le, length-append}
-use Rattle.std.proofs.Math.Seq.{take-append-add, drop-append-add}
-use Rattle.std.proofs.lemmas.Bool.{cases_Bool}
-use Rattle.office_stream.specs.Streams.{CutsFrom, LeavesOver, IsCutBy, GoesOnAnyhow, EndsAs}
-use Rattle.office_stream.specs.Pieces.{EndsPiece}
+use Rattle.office_stream.specs.Streams.{CutsFrom}
+use Rattle.office_stream.specs.Pieces.{LeavesOver}
 
--- more interchanges behind those
-pub cuts_append : (P Q : List ℕ → List ℕ → Type 0) (more : List (List ℕ)) → ((pending bytes : List ℕ) → P pending bytes → CutsFrom Q pending bytes more) →
-    (pending bytes : List ℕ) (texts : List (List ℕ)) → CutsFrom P pending bytes texts → CutsFrom Q pending bytes (texts ++ more)
-cuts_append P Q more on pending bytes [] cuts = on pending bytes cuts
-cuts_append P Q more on pending bytes (text ∷ texts) (n, within, is, cut, behind) =
-    (n, within, is, cut, cuts_append P Q more on [] (drop n bytes) texts behind)
-
--- another end
-pub cuts_weaker : (P Q : List ℕ → List ℕ → Type 0) → ((pending bytes : List ℕ) → P pending bytes → Q pending bytes) →
-    (pending bytes : List ℕ) (texts : List (List ℕ)) → CutsFrom P pending bytes texts → CutsFrom Q pending bytes texts
-cuts_weaker P Q on pending bytes [] cuts = on pending bytes cuts
-cuts_weaker P Q on pending bytes (text ∷ texts) (n, within, is, cut, behind) =
-    (n, within, is, cut, cuts_weaker P Q on [] (drop n bytes) texts behind)
+-- ---- line breaks at the front
 
 break_front : (x : ℕ) (xs : List ℕ) → is_break x ≡ true → without_breaks (x ∷ xs) ≡ without_breaks xs
 break_front x xs e = rw e refl
@@ -40,51 +25,63 @@ stripped_twice (x ∷ xs) b = elim (cases_Bool (is_break x)) [
   | inr e ↦ ap (λ y. without_breaks (y ++ b)) (no_break_front x xs e)
 ]
 
-stripped_behind : (q0 bytes q x : List ℕ) → without_breaks (q0 ++ bytes) ≡ q → without_breaks (q0 ++ (bytes ++ x)) ≡ without_breaks (q ++ x)
-stripped_behind q0 bytes q x is =
-    ap without_breaks (sym (append_assoc q0 bytes x)) ∙ sym (stripped_twice (q0 ++ bytes) x) ∙ ap (λ y. without_breaks (y ++ x)) is
+-- behind a byte that is none of them all bytes stay
+stripped_some : (a b : List ℕ) → (without_breaks a ≡ [] → ⊥) → without_breaks (a ++ b) ≡ without_breaks a ++ b
+stripped_some [] b some = absurd (some refl)
+stripped_some (x ∷ xs) b some = elim (cases_Bool (is_break x)) [
+  | inl e ↦ break_front x (xs ++ b) e ∙ stripped_some xs b (λ none. some (break_front x xs e ∙ none)) ∙ ap (λ y. y ++ b) (sym (break_front x xs e))
+  | inr e ↦ no_break_front x (xs ++ b) e ∙ ap (λ y. y ++ b) (sym (no_break_front x xs e))
+]
 
--- what holds of a piece behind pending bytes holds of all bytes
-abbrev pub HoldsOfAll : (List ℕ → List ℕ → Type 0) → Type 0
-HoldsOfAll P = (q0 bytes q piece : List ℕ) → without_breaks (q0 ++ bytes) ≡ q → P q piece → P q0 (bytes ++ piece)
+-- ---- no bytes
 
-pub cuts_join : (P : List ℕ → List ℕ → Type 0) → HoldsOfAll P → (q0 bytes q piece : List ℕ) (texts more : List (List ℕ)) →
-    CutsFrom (LeavesOver q) q0 bytes texts → CutsFrom P q piece more → CutsFrom P q0 (bytes ++ piece) (texts ++ more)
-cuts_join P all q0 bytes q piece [] [] left behind = all q0 bytes q piece left.1 behind
-cuts_join P all q0 bytes q piece [] (text ∷ more) left (n, within, is, cut, behind) = (
-  length bytes + n,
-  omega (arith, length-append bytes piece),
-  is,
-  ap (λ x. without_breaks (q0 ++ x)) (take-append-add bytes piece n) ∙ stripped_behind q0 bytes q (take n piece) left.1 ∙ cut,
-  subst (λ x. CutsFrom P [] x more) (sym (drop-append-add bytes piece n)) behind,
-)
-cuts_join P all q0 bytes q piece (text ∷ texts) more (n, within, is, cut, left) behind = (
-  n,
-  omega (arith, length-append bytes piece),
-  is,
-  ap (λ x. without_breaks (q0 ++ x)) (take-append-le n bytes piece within) ∙ cut,
-  subst (λ x. CutsFrom P [] x (texts ++ more)) (sym (drop-append-le n bytes piece within)) (cuts_join P all [] (drop n bytes) q piece texts more left behind),
-)
+pub nothing_pending : IsPending []
+unfolding place_after
+nothing_pending = ((refl, refl), λ m below. absurd (omega arith))
 
-pub anyhow_of_all : HoldsOfAll GoesOnAnyhow
-anyhow_of_all q0 bytes q piece is then = tt
+pub some_bytes : (text : List ℕ) → IsInterchange text → text ≡ [] → ⊥
+some_bytes text is none = false≢true (sym nothing_pending.0.1 ∙ ap is_whole (sym none) ∙ is.1)
 
-pub left_over_of_all : (rest : List ℕ) → HoldsOfAll (LeavesOver rest)
-left_over_of_all rest q0 bytes q piece is then = (then.0, stripped_behind q0 bytes q piece is ∙ then.1)
+no_fault_there : (text : List ℕ) (fault : CutFault) → fault_of text ≡ None → fault_of text ≡ Some fault → ⊥
+no_fault_there text fault none some = let both = sym none ∙ some in absurd cc
 
-cut_of_all : (fault : CutFault) → HoldsOfAll (IsCutBy fault)
-cut_of_all fault q0 bytes q piece is (n, within, stands) = (
-  length bytes + n,
-  omega (arith, length-append bytes piece),
-  subst (λ x. Faults x fault) (sym (ap (λ x. without_breaks (q0 ++ x)) (take-append-add bytes piece n) ∙ stripped_behind q0 bytes q (take n piece) is)) stands,
-)
+pub some_faulty : (text : List ℕ) (fault : CutFault) → Faults text fault → text ≡ [] → ⊥
+some_faulty text fault faults none = no_fault_there text fault (ap fault_of none ∙ nothing_pending.0.0) faults.0
 
-pub cut_end_of_all : (fault : CutFault) → HoldsOfAll (EndsAs (Cut fault))
-cut_end_of_all TooLong q0 bytes q piece is then = cut_of_all TooLong q0 bytes q piece is then
-cut_end_of_all Service q0 bytes q piece is then = cut_of_all Service q0 bytes q piece is then
-cut_end_of_all Segment q0 bytes q piece is then = cut_of_all Segment q0 bytes q piece is then
-cut_end_of_all Memory q0 bytes q piece is then = tt
+pub no_front : (a b : List ℕ) → a ++ b ≡ [] → a ≡ []
+no_front [] b e = refl
+no_front (x ∷ a) b e = absurd cc
 
-pub piece_end_of_all : (fault : Option CutFault) (rest : List ℕ) → HoldsOfAll (EndsPiece fault rest)
-piece_end_of_all None rest = left_over_of_all rest
-piece_end_of_all (Some fault) rest = cut_end_of_all fault
+-- ---- cutting
+
+-- what stands at the front of a stream stands there when more bytes come
+pub stripped_more : (text front behind : List ℕ) → (text ≡ [] → ⊥) → without_breaks front ≡ text → without_breaks (front ++ behind) ≡ text ++ behind
+stripped_more text front behind some is = stripped_some front behind (λ none. some (sym is ∙ none)) ∙ ap (λ y. y ++ behind) is
+
+-- more interchanges behind those
+pub cuts_more : (P Q : List ℕ → Type 0) (more : List (List ℕ)) → ((stream : List ℕ) → P (without_breaks stream) → CutsFrom Q stream more) →
+    (stream : List ℕ) (texts : List (List ℕ)) → CutsFrom P stream texts → CutsFrom Q stream (texts ++ more)
+cuts_more P Q more on stream [] cuts = on stream cuts
+cuts_more P Q more on stream (text ∷ texts) (behind, is, cut, others) = (behind, is, cut, cuts_more P Q more on behind texts others)
+
+-- another end
+pub cuts_weaker : (P Q : List ℕ → Type 0) → ((rest : List ℕ) → P rest → Q rest) → (stream : List ℕ) (texts : List (List ℕ)) → CutsFrom P stream texts → CutsFrom Q stream texts
+cuts_weaker P Q on stream [] cuts = on (without_breaks stream) cuts
+cuts_weaker P Q on stream (text ∷ texts) (behind, is, cut, others) = (behind, is, cut, cuts_weaker P Q on behind texts others)
+
+cuts_same : (P : List ℕ → Type 0) (stream stream' : List ℕ) (texts : List (List ℕ)) → without_breaks stream ≡ without_breaks stream' → CutsFrom P stream' texts → CutsFrom P stream texts
+cuts_same P stream stream' [] same cuts = subst P (sym same) cuts
+cuts_same P stream stream' (text ∷ texts) same (behind, is, cut, others) = (behind, is, same ∙ cut, others)
+
+-- more bytes behind those
+pub cuts_join : (P : List ℕ → Type 0) (q piece stream : List ℕ) (texts more : List (List ℕ)) → CutsFrom (LeavesOver q) stream texts →
+    CutsFrom P (q ++ piece) more → CutsFrom P (stream ++ piece) (texts ++ more)
+cuts_join P q piece stream [] more left then =
+    cuts_same P (stream ++ piece) (q ++ piece) more (sym (stripped_twice stream piece) ∙ ap (λ y. without_breaks (y ++ piece)) left.0) then
+cuts_join P q piece stream (text ∷ texts) more (behind, is, cut, left) then =
+    let some : without_breaks stream ≡ [] → ⊥ = λ none. some_bytes text is (no_front text behind (sym cut ∙ none)) in (
+      behind ++ piece,
+      is,
+      stripped_some stream piece some ∙ ap (λ y. y ++ piece) cut ∙ append_assoc text behind piece,
+      cuts_join P q piece behind texts more left then,
+    )

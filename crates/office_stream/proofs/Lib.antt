@@ -1,4 +1,5 @@
 pub mod Answering
+pub mod Writing
 pub mod Cutting
 pub mod PieceLemmas
 pub mod StreamLemmas

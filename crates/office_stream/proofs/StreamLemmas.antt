@@ -1,11 +1,10 @@
 -- A stream, piece by piece.
-use Rattle.std.proofs.Common.{◌≡◌, ℕ, ◌+◌, ◌≤◌, ◌<◌, List, [], ◌∷◌, ◌++◌, Option, None, Some, Result, Ok, Err, IfOk, IfErr, OnOk, Bool, true, false, cond, ◌≢◌, ◌⊎◌, inl, inr, take, arith, length, refl, sym, ap, subst, ◌∙◌}
+use Rattle.std.proofs.Common.{◌≡◌, ℕ, List, [], ◌∷◌, ◌++◌, Option, None, Some, Result, Ok, Err, IfOk, IfErr, OnOk, Bool, true, false, cond, ◌≢◌, ◌⊎◌, inl, inr, take, arith, length, append_assoc, refl, sym, ap, subst, ◌∙◌}
 use Rattle.std.specs.Io.KnownBytes.{Appends, Consumes, Keeps, IsAtEnd}
-use Rattle.std.proofs.KnownBytes.{Appends-trans, Consumes-trans, Consumes-kept, Consumes-nil, Appends-nil}
+use Rattle.std.proofs.KnownBytes.{Appends-trans, Consumes-trans, Consumes-kept, Consumes-nil, Appends-nil, Keeps-refl}
 use Rattle.std.proofs.lemmas.Grind.{flat_map-append}
-use Rattle.std.proofs.lemmas.List.{append-nil, length-append, length-take-le}
+use Rattle.std.proofs.lemmas.List.{append-nil}
 use Rattle.std.proofs.lemmas.Bool.{eqb-true}
-use Rattle.edi_cutter.specs.Places.{place_after}
 use Rattle.edi_cutter.specs.Cuts.{Cutting, pending, is_whole, is_nil, IsPending}
 use Rattle.edi_cutter.specs.declared.cut_fault.CutFault.{CutFault}
 use Rattle.office_replies.specs.declared.response.Response.{Response}
@@ -13,31 +12,40 @@ use Rattle.office_replies.specs.declared.worst.Worst.{Worst}
 use Rattle.office_replies.specs.declared.worst.Worst.TheVariants.{Fine}
 use Rattle.office_replies.specs.Responses.{worse_of}
 use Rattle.office_stream.specs.Delivering.{deliveries}
-use Rattle.office_stream.specs.Lines.{response_lines, worst_from, end_text, end_worst}
-use Rattle.office_stream.specs.Streams.{LeavesOver, EndsAs, ReadsTo, GoesOnAnyhow, Streamed, Began, Delivered}
-use Rattle.office_stream.specs.Pieces.{EndsPiece, PieceAnswered, PieceDelivered, Sofar}
+use Rattle.office_stream.specs.Fronts.{AppendsFront}
+use Rattle.office_stream.specs.Lines.{response_lines, worst_of_all, end_text, end_worst}
+use Rattle.office_stream.specs.Streams.{CutsFrom, EndsAs, ReadsTo, GoesOnAnyhow, Answered, Streamed, Began, LineCutShort, Delivered}
+use Rattle.office_stream.specs.Pieces.{EndsPiece, LeavesOver, PieceAnswered}
 use Rattle.office_stream.specs.Faults.{MatchFault}
 use Rattle.office_stream.specs.declared.stream_fault.StreamFault.{StreamFault}
 use Rattle.office_stream.specs.declared.stream_fault.StreamFault.TheVariants.{Write}
 use Rattle.office_stream.specs.declared.stream_end.StreamEnd.{StreamEnd}
 use Rattle.office_stream.specs.declared.stream_end.StreamEnd.TheVariants.{Whole, Open, Cut}
-use Rattle.office_stream.proofs.Answering.{answered_both, worst_from-both}
+use Rattle.office_stream.proofs.Answering.{answered_both, worst_of_both}
 use Rattle.office_stream.proofs.PieceLemmas.{piece_ends}
-use Rattle.office_stream.proofs.Cutting.{HoldsOfAll, cuts_join, cuts_weaker, anyhow_of_all, piece_end_of_all}
+use Rattle.office_stream.proofs.Cutting.{cuts_join, cuts_weaker, nothing_pending}
 
-more_bytes : (least : ℕ) (bytes piece : List ℕ) → least ≤ length bytes → 0 < length piece → least + 1 ≤ length (bytes ++ piece)
-more_bytes least bytes piece long some = rw (length-append bytes piece) (omega (arith, long, some))
+-- The interchanges of what was read were answered by their lines, and less than one is pending.
+pub record Sofar {D : Type 0} (stands : List (List ℕ) → D → Type 0) (answers : List (List ℕ) → List ℕ → Response → Type 0)
+    (ds : List (List ℕ)) (left left' : Option (List ℕ)) (pending : List ℕ) (desk : D) (worst : Worst) (written written' : Option (List ℕ)) : Type 0 where
+  pub bytes : List ℕ
+  pub reads : Consumes left left' bytes
+  pub piece : PieceAnswered stands answers ds (LeavesOver pending) bytes desk Fine worst written written'
 
--- a read that gave bytes
-pub some_taken : (n : ℕ) (buffer : List ℕ) → n ≢ 0 → n ≤ length buffer → 0 < length (take n buffer)
-some_taken n buffer some within = rw (length-take-le n buffer within) (omega (arith, some))
-
-nothing_pending : IsPending []
-unfolding place_after
-nothing_pending = ((refl, refl), λ m below. absurd (omega arith))
+-- They are all that is to be answered: nothing but the cut line is to be written.
+pub record AtEnd {D : Type 0} (stands : List (List ℕ) → D → Type 0) (answers : List (List ℕ) → List ℕ → Response → Type 0)
+    (ds : List (List ℕ)) (left left' : Option (List ℕ)) (end : StreamEnd) (desk : D) (worst : Worst) (written written' : Option (List ℕ)) : Type 0 where
+  pub bytes : List ℕ
+  pub reads : Consumes left left' bytes
+  pub ended : ReadsTo end left'
+  pub piece : PieceAnswered stands answers ds (EndsAs end) bytes desk Fine worst written written'
 
 same_bytes : (a b c : Option (List ℕ)) (bytes : List ℕ) → Consumes a b bytes → Consumes b c [] → Consumes a c bytes
 same_bytes a b c bytes reads more = subst (Consumes a c) (append-nil bytes) (Consumes-trans a b c bytes [] reads more)
+
+lines_both : (responses others : List Response) (part : List ℕ) → response_lines responses ++ (response_lines others ++ part) ≡ response_lines (responses ++ others) ++ part
+lines_both responses others part =
+    sym (append_assoc (response_lines responses) (response_lines others) part) ∙ ap (λ text. text ++ part) (sym (flat_map-append _ responses others))
 
 pub nil_is : (q : List ℕ) → is_nil q ≡ true → q ≡ []
 nil_is [] e = refl
@@ -51,182 +59,174 @@ nil_is_not q e none = not_both (is_nil q) (ap is_nil none) e
 
 module _ {D : Type 0} (stands : List (List ℕ) → D → Type 0) (answers : List (List ℕ) → List ℕ → Response → Type 0) where
   -- a piece behind what was read before
-  pub pieces_join : (P : List ℕ → List ℕ → Type 0) → HoldsOfAll P → (ds : List (List ℕ)) (bytes q piece : List ℕ) (old new : D) (worst worst' : Worst) (a b c : Option (List ℕ)) →
-      (before : PieceAnswered stands answers ds (LeavesOver q) [] bytes old Fine worst a b) →
-      PieceAnswered stands answers (deliveries ds before.texts before.responses) P q piece new worst worst' b c →
-      PieceAnswered stands answers ds P [] (bytes ++ piece) new Fine worst' a c
-  pieces_join P all ds bytes q piece old new worst worst' a b c before then = record {
+  pieces_join : (P : List ℕ → Type 0) (ds : List (List ℕ)) (bytes q piece : List ℕ) (old new : D) (worst worst' : Worst) (a b c : Option (List ℕ)) →
+      (before : PieceAnswered stands answers ds (LeavesOver q) bytes old Fine worst a b) →
+      PieceAnswered stands answers (deliveries ds before.texts before.responses) P (q ++ piece) new worst worst' b c →
+      PieceAnswered stands answers ds P (bytes ++ piece) new Fine worst' a c
+  pieces_join P ds bytes q piece old new worst worst' a b c before then = record {
     texts = before.texts ++ then.texts;
     responses = before.responses ++ then.responses;
-    cuts = cuts_join P all [] bytes q piece before.texts then.texts before.cuts then.cuts;
+    cuts = cuts_join P q piece bytes before.texts then.texts before.cuts then.cuts;
     answered = answered_both stands answers ds before.texts then.texts before.responses then.responses old new before.answered then.answered;
-    is_worst = then.is_worst ∙ ap (λ w. worst_from w then.responses) before.is_worst ∙ sym (worst_from-both Fine before.responses then.responses);
+    is_worst = then.is_worst ∙ ap (λ w. worse_of w (worst_of_all then.responses)) before.is_worst ∙ sym (worst_of_both before.responses then.responses);
     writes = subst (Appends a c) (sym (flat_map-append _ before.responses then.responses)) (Appends-trans a b c (response_lines before.responses) (response_lines then.responses) before.writes then.writes);
   }
 
-  pub sofar_more : (least : ℕ) (ds : List (List ℕ)) (left mid left' : Option (List ℕ)) (q q' piece : List ℕ) (old new : D) (worst worst' : Worst) (a b c : Option (List ℕ)) →
-      Sofar stands answers least ds left mid q old worst a b → Consumes mid left' piece → 0 < length piece →
-      ((others : List (List ℕ)) → stands others old → PieceAnswered stands answers others (EndsPiece None q') q piece new worst worst' b c) →
-      Sofar stands answers (least + 1) ds left left' q' new worst' a c
-  sofar_more least ds left mid left' q q' piece old new worst worst' a b c before reads some next =
-      let then = next (deliveries ds before.piece.texts before.piece.responses) before.piece.answered.stands_now in
-      record {
-        bytes = before.bytes ++ piece;
-        reads = Consumes-trans left mid left' before.bytes piece before.reads reads;
-        long = more_bytes least before.bytes piece before.long some;
-        piece = pieces_join (EndsPiece None q') (piece_end_of_all None q') ds before.bytes q piece old new worst worst' a b c before.piece then;
-      }
-
-  began_from : (least : ℕ) (ds : List (List ℕ)) (left left' : Option (List ℕ)) (P : List ℕ → List ℕ → Type 0) (bytes : List ℕ) (desk : D) (worst : Worst) (a b : Option (List ℕ)) →
-      Consumes left left' bytes → least ≤ length bytes → PieceAnswered stands answers ds P [] bytes desk Fine worst a b → Began stands answers least ds left left' a b desk
-  began_from least ds left left' P bytes desk worst a b reads long done = record {
-    bytes = bytes;
-    texts = done.texts;
-    responses = done.responses;
-    reads = reads;
-    long = long;
-    cuts = cuts_weaker P GoesOnAnyhow (λ pending rest at. tt) [] bytes done.texts done.cuts;
-    answered = done.answered;
-    writes = done.writes;
+  pub sofar_more : (ds : List (List ℕ)) (left mid left' : Option (List ℕ)) (q q' piece : List ℕ) (old new : D) (worst worst' : Worst) (a b c : Option (List ℕ)) →
+      Sofar stands answers ds left mid q old worst a b → Consumes mid left' piece →
+      ((others : List (List ℕ)) → stands others old → PieceAnswered stands answers others (EndsPiece None q') (q ++ piece) new worst worst' b c) →
+      Sofar stands answers ds left left' q' new worst' a c
+  sofar_more ds left mid left' q q' piece old new worst worst' a b c before reads next = record {
+    bytes = before.bytes ++ piece;
+    reads = Consumes-trans left mid left' before.bytes piece before.reads reads;
+    piece = pieces_join (EndsPiece None q') ds before.bytes q piece old new worst worst' a b c before.piece
+        (next (deliveries ds before.piece.texts before.piece.responses) before.piece.answered.stands_now);
   }
 
-  -- too many reads
-  pub began_now : (least turns : ℕ) (ds : List (List ℕ)) (left left' : Option (List ℕ)) (q : List ℕ) (desk : D) (worst : Worst) (a b : Option (List ℕ)) → turns ≤ least →
-      Sofar stands answers least ds left left' q desk worst a b → Began stands answers turns ds left left' a b desk
-  began_now least turns ds left left' q desk worst a b all before =
-      began_from turns ds left left' (LeavesOver q) before.bytes desk worst a b before.reads (omega (arith, all, before.long)) before.piece
-
-  -- a read that failed
-  pub began : (least : ℕ) (ds : List (List ℕ)) (left mid left' : Option (List ℕ)) (q : List ℕ) (desk : D) (worst : Worst) (a b : Option (List ℕ)) →
-      Sofar stands answers least ds left mid q desk worst a b → Keeps mid left' → Began stands answers 0 ds left left' a b desk
-  began least ds left mid left' q desk worst a b before same =
-      began_from 0 ds left left' (LeavesOver q) before.bytes desk worst a b (Consumes-kept left mid left' before.bytes before.reads same) (omega arith) before.piece
-
-  -- a write that failed, in the middle of a piece
-  pub delivered : (least : ℕ) (ds : List (List ℕ)) (left mid left' : Option (List ℕ)) (q piece : List ℕ) (old new : D) (worst : Worst) (a b : Option (List ℕ)) →
-      Sofar stands answers least ds left mid q old worst a b → Consumes mid left' piece →
-      ((others : List (List ℕ)) → stands others old → PieceDelivered stands answers others q piece new) →
-      Delivered stands answers ds left left' new
-  delivered least ds left mid left' q piece old new worst a b before reads next =
-      let then = next (deliveries ds before.piece.texts before.piece.responses) before.piece.answered.stands_now in
-      record {
-        bytes = before.bytes ++ piece;
-        texts = before.piece.texts ++ then.texts;
-        responses = before.piece.responses ++ then.responses;
-        reads = Consumes-trans left mid left' before.bytes piece before.reads reads;
-        cuts = cuts_join GoesOnAnyhow anyhow_of_all [] before.bytes q piece before.piece.texts then.texts before.piece.cuts then.cuts;
-        answered = answered_both stands answers ds before.piece.texts then.texts before.piece.responses then.responses old new before.piece.answered then.answered;
-      }
-
   -- before the first read
-  pub nothing_read : (ds : List (List ℕ)) (left : Option (List ℕ)) (q : List ℕ) (desk : D) (a : Option (List ℕ)) → q ≡ [] → stands ds desk → Sofar stands answers 0 ds left left q desk Fine a a
+  pub nothing_read : (ds : List (List ℕ)) (left : Option (List ℕ)) (q : List ℕ) (desk : D) (a : Option (List ℕ)) → q ≡ [] → stands ds desk → Sofar stands answers ds left left q desk Fine a a
   nothing_read ds left q desk a none at = record {
     bytes = [];
     reads = Consumes-nil left;
-    long = omega arith;
     piece = record {
       texts = [];
       responses = [];
-      cuts = (subst IsPending (sym none) nothing_pending, sym none);
+      cuts = (sym none, subst IsPending (sym none) nothing_pending);
       answered = record { each = tt; stands_now = at };
       is_worst = refl;
       writes = Appends-nil a;
     };
   }
 
-  -- the end of the stream, with the line that tells it
-  ends : (ds : List (List ℕ)) (left left' : Option (List ℕ)) (end : StreamEnd) (bytes : List ℕ) (desk : D) (worst all : Worst) (a b c : Option (List ℕ)) →
-      Consumes left left' bytes → PieceAnswered stands answers ds (EndsAs end) [] bytes desk Fine worst a b → ReadsTo end left' →
-      Appends b c (end_text end) → all ≡ worse_of worst (end_worst end) → Streamed stands answers ds left left' a c desk all
-  ends ds left left' end bytes desk worst all a b c reads done ended writes is = record {
-    bytes = bytes;
-    texts = done.texts;
-    responses = done.responses;
-    end = end;
-    reads = reads;
-    ended = ended;
-    cuts = done.cuts;
-    answered = done.answered;
-    writes = Appends-trans a b c (response_lines done.responses) (end_text end) done.writes writes;
-    is_worst = is ∙ ap (λ w. worse_of w (end_worst end)) done.is_worst;
-  }
-
-  pub ends_whole : (least : ℕ) (ds : List (List ℕ)) (left mid left' : Option (List ℕ)) (q : List ℕ) (desk : D) (worst all : Worst) (a b c : Option (List ℕ)) →
-      Sofar stands answers least ds left mid q desk worst a b → Consumes mid left' [] → IsAtEnd left' → q ≡ [] → Appends b c (end_text Whole) →
-      all ≡ worse_of worst (end_worst Whole) → Streamed stands answers ds left left' a c desk all
-  ends_whole least ds left mid left' q desk worst all a b c before reads ended none writes is =
-      ends ds left left' Whole before.bytes desk worst all a b c (same_bytes left mid left' before.bytes before.reads reads)
-      (piece_ends stands answers ds (LeavesOver q) (LeavesOver []) [] before.bytes desk Fine worst a b (λ pending bytes at. subst (λ r. LeavesOver r pending bytes) none at) before.piece)
-      ended writes is
-
-  pub ends_open : (least : ℕ) (ds : List (List ℕ)) (left mid left' : Option (List ℕ)) (q : List ℕ) (desk : D) (worst all : Worst) (a b c : Option (List ℕ)) →
-      Sofar stands answers least ds left mid q desk worst a b → Consumes mid left' [] → IsAtEnd left' → q ≢ [] → Appends b c (end_text Open) →
-      all ≡ worse_of worst (end_worst Open) → Streamed stands answers ds left left' a c desk all
-  ends_open least ds left mid left' q desk worst all a b c before reads ended some writes is =
-      ends ds left left' Open before.bytes desk worst all a b c (same_bytes left mid left' before.bytes before.reads reads)
-      (piece_ends stands answers ds (LeavesOver q) (EndsAs Open) [] before.bytes desk Fine worst a b (λ pending bytes at. (q, some, at)) before.piece)
-      ended writes is
-
-  pub ends_cut_off : (least : ℕ) (ds : List (List ℕ)) (left mid left' : Option (List ℕ)) (q q' piece : List ℕ) (fault : CutFault) (old new : D) (worst worst' all : Worst) (a b c d : Option (List ℕ)) →
-      Sofar stands answers least ds left mid q old worst a b → Consumes mid left' piece →
-      ((others : List (List ℕ)) → stands others old → PieceAnswered stands answers others (EndsPiece (Some fault) q') q piece new worst worst' b c) →
-      Appends c d (end_text (Cut fault)) → all ≡ worse_of worst' (end_worst (Cut fault)) → Streamed stands answers ds left left' a d new all
-  ends_cut_off least ds left mid left' q q' piece fault old new worst worst' all a b c d before reads next writes is =
-      let then = next (deliveries ds before.piece.texts before.piece.responses) before.piece.answered.stands_now in
-      ends ds left left' (Cut fault) (before.bytes ++ piece) new worst' all a c d (Consumes-trans left mid left' before.bytes piece before.reads reads)
-      (pieces_join (EndsPiece (Some fault) q') (piece_end_of_all (Some fault) q') ds before.bytes q piece old new worst worst' a b c before.piece then)
-      tt writes is
-
-  pub piece_at : (ds : List (List ℕ)) (cut cut' : Option CutFault) (q q' piece : List ℕ) (desk : D) (before worst : Worst) (a b : Option (List ℕ)) → cut ≡ cut' →
-      PieceAnswered stands answers ds (EndsPiece cut q') q piece desk before worst a b → PieceAnswered stands answers ds (EndsPiece cut' q') q piece desk before worst a b
-  piece_at ds cut cut' q q' piece desk before worst a b is done =
-      subst (λ c. PieceAnswered stands answers ds (EndsPiece c q') q piece desk before worst a b) is done
-
-  -- the end of the input
-  pub ends_input : (least : ℕ) (ds : List (List ℕ)) (left mid left' : Option (List ℕ)) (q : List ℕ) (end : StreamEnd) (desk : D) (worst all : Worst) (a b c : Option (List ℕ)) →
-      Sofar stands answers least ds left mid q desk worst a b → Consumes mid left' [] → IsAtEnd left' →
-      ((end ≡ Whole) × (q ≡ [])) ⊎ ((end ≡ Open) × (q ≢ [])) → Appends b c (end_text end) →
-      all ≡ worse_of worst (end_worst end) → Streamed stands answers ds left left' a c desk all
-  ends_input least ds left mid left' q end desk worst all a b c before reads ended how writes is = elim how [
-    | inl whole ↦ ends_whole least ds left mid left' q desk worst all a b c before reads ended whole.1
-        (subst (λ e. Appends b c (end_text e)) whole.0 writes) (subst (λ e. all ≡ worse_of worst (end_worst e)) whole.0 is)
-    | inr less ↦ ends_open least ds left mid left' q desk worst all a b c before reads ended less.1
-        (subst (λ e. Appends b c (end_text e)) less.0 writes) (subst (λ e. all ≡ worse_of worst (end_worst e)) less.0 is)
-  ]
-
-  -- a write that failed behind a piece
-  pub delivered_piece : (least : ℕ) (ds : List (List ℕ)) (left mid left' : Option (List ℕ)) (q piece : List ℕ) (P : List ℕ → List ℕ → Type 0) (old new : D) (worst worst' : Worst) (a b c : Option (List ℕ)) →
-      Sofar stands answers least ds left mid q old worst a b → Consumes mid left' piece →
-      ((others : List (List ℕ)) → stands others old → PieceAnswered stands answers others P q piece new worst worst' b c) →
-      Delivered stands answers ds left left' new
-  delivered_piece least ds left mid left' q piece P old new worst worst' a b c before reads next =
-      delivered least ds left mid left' q piece old new worst a b before reads
-      (λ others at. let done = next others at in record {
-        texts = done.texts;
-        responses = done.responses;
-        cuts = cuts_weaker P GoesOnAnyhow (λ pending rest stands. tt) q piece done.texts done.cuts;
-        answered = done.answered;
-      })
-
-  pub delivered_sofar : (least : ℕ) (ds : List (List ℕ)) (left mid left' : Option (List ℕ)) (q : List ℕ) (desk : D) (worst : Worst) (a b : Option (List ℕ)) →
-      Sofar stands answers least ds left mid q desk worst a b → Consumes mid left' [] → Delivered stands answers ds left left' desk
-  delivered_sofar least ds left mid left' q desk worst a b before reads = record {
+  -- a read that failed
+  pub began : (ds : List (List ℕ)) (left mid left' : Option (List ℕ)) (q : List ℕ) (desk : D) (worst : Worst) (a b : Option (List ℕ)) →
+      Sofar stands answers ds left mid q desk worst a b → Keeps mid left' → Began stands answers ds left left' a b desk
+  began ds left mid left' q desk worst a b before same = record {
     bytes = before.bytes;
     texts = before.piece.texts;
     responses = before.piece.responses;
-    reads = same_bytes left mid left' before.bytes before.reads reads;
-    cuts = cuts_weaker (LeavesOver q) GoesOnAnyhow (λ pending rest at. tt) [] before.bytes before.piece.texts before.piece.cuts;
+    reads = Consumes-kept left mid left' before.bytes before.reads same;
+    cuts = cuts_weaker (LeavesOver q) IsPending (λ rest at. subst IsPending (sym at.0) at.1) before.bytes before.piece.texts before.piece.cuts;
     answered = before.piece.answered;
+    writes = before.piece.writes;
   }
+
+  -- too many reads
+  pub began_now : (ds : List (List ℕ)) (left left' : Option (List ℕ)) (q : List ℕ) (desk : D) (worst : Worst) (a b : Option (List ℕ)) →
+      Sofar stands answers ds left left' q desk worst a b → Began stands answers ds left left' a b desk
+  began_now ds left left' q desk worst a b before = began ds left left' left' q desk worst a b before (Keeps-refl left')
+
+  -- a write that failed, in the middle of a piece
+  pub cut_short : (ds : List (List ℕ)) (left mid left' : Option (List ℕ)) (q piece : List ℕ) (old new : D) (worst : Worst) (a b c : Option (List ℕ)) →
+      Sofar stands answers ds left mid q old worst a b → Consumes mid left' piece →
+      ((others : List (List ℕ)) → stands others old → LineCutShort stands answers others (q ++ piece) b c new) →
+      Delivered stands answers ds left left' a c new
+  cut_short ds left mid left' q piece old new worst a b c before reads next =
+      let then = next (deliveries ds before.piece.texts before.piece.responses) before.piece.answered.stands_now in
+      let texts = before.piece.texts ++ (then.texts ++ then.last ∷ []) in
+      let texts_are : texts ≡ (before.piece.texts ++ then.texts) ++ then.last ∷ [] = sym (append_assoc before.piece.texts then.texts (then.last ∷ [])) in
+      let responses_are : before.piece.responses ++ (then.responses ++ then.response ∷ []) ≡ (before.piece.responses ++ then.responses) ++ then.response ∷ [] =
+      sym (append_assoc before.piece.responses then.responses (then.response ∷ [])) in
+      record {
+        bytes = before.bytes ++ piece;
+        reads = Consumes-trans left mid left' before.bytes piece before.reads reads;
+        cut_short = inl (record {
+          texts = before.piece.texts ++ then.texts;
+          last = then.last;
+          responses = before.piece.responses ++ then.responses;
+          response = then.response;
+          part = then.part;
+          cuts = subst (CutsFrom GoesOnAnyhow (before.bytes ++ piece)) texts_are
+              (cuts_join GoesOnAnyhow q piece before.bytes before.piece.texts (then.texts ++ then.last ∷ []) before.piece.cuts then.cuts);
+          answered = subst (λ all. Answered stands answers ds all ((before.piece.responses ++ then.responses) ++ then.response ∷ []) new) texts_are
+              (subst (λ all. Answered stands answers ds texts all new) responses_are
+              (answered_both stands answers ds before.piece.texts (then.texts ++ then.last ∷ []) before.piece.responses (then.responses ++ then.response ∷ []) old new before.piece.answered then.answered));
+          front = then.front;
+          writes = subst (Appends a c) (lines_both before.piece.responses then.responses then.part)
+              (Appends-trans a b c (response_lines before.piece.responses) (response_lines then.responses ++ then.part) before.piece.writes then.writes);
+        });
+      }
+
+  -- the end of the input
+  pub input_ends : (ds : List (List ℕ)) (left mid left' : Option (List ℕ)) (q : List ℕ) (end : StreamEnd) (desk : D) (worst : Worst) (a b : Option (List ℕ)) →
+      Sofar stands answers ds left mid q desk worst a b → Consumes mid left' [] → IsAtEnd left' →
+      ((end ≡ Whole) × (q ≡ [])) ⊎ ((end ≡ Open) × (q ≢ [])) → AtEnd stands answers ds left left' end desk worst a b
+  input_ends ds left mid left' q end desk worst a b before reads ended how =
+      let all = same_bytes left mid left' before.bytes before.reads reads in
+      elim how [
+        | inl whole ↦ subst (λ e. AtEnd stands answers ds left left' e desk worst a b) (sym whole.0) (record {
+          bytes = before.bytes;
+          reads = all;
+          ended = ended;
+          piece = piece_ends stands answers ds (LeavesOver q) (EndsAs Whole) before.bytes desk Fine worst a b (λ rest at. at.0 ∙ whole.1) before.piece;
+        })
+        | inr less ↦ subst (λ e. AtEnd stands answers ds left left' e desk worst a b) (sym less.0) (record {
+          bytes = before.bytes;
+          reads = all;
+          ended = ended;
+          piece = piece_ends stands answers ds (LeavesOver q) (EndsAs Open) before.bytes desk Fine worst a b
+              (λ rest at. (subst IsPending (sym at.0) at.1, λ none. less.1 (sym at.0 ∙ none))) before.piece;
+        })
+      ]
+
+  -- a stream that can't be cut further
+  pub stream_cut : (ds : List (List ℕ)) (left mid left' : Option (List ℕ)) (q q' piece : List ℕ) (fault : CutFault) (old new : D) (worst worst' : Worst) (a b c : Option (List ℕ)) →
+      Sofar stands answers ds left mid q old worst a b → Consumes mid left' piece →
+      ((others : List (List ℕ)) → stands others old → PieceAnswered stands answers others (EndsPiece (Some fault) q') (q ++ piece) new worst worst' b c) →
+      AtEnd stands answers ds left left' (Cut fault) new worst' a c
+  stream_cut ds left mid left' q q' piece fault old new worst worst' a b c before reads next = record {
+    bytes = before.bytes ++ piece;
+    reads = Consumes-trans left mid left' before.bytes piece before.reads reads;
+    ended = tt;
+    piece = pieces_join (EndsPiece (Some fault) q') ds before.bytes q piece old new worst worst' a b c before.piece
+        (next (deliveries ds before.piece.texts before.piece.responses) before.piece.answered.stands_now);
+  }
+
+  -- the last line
+  pub streamed : (ds : List (List ℕ)) (left left' : Option (List ℕ)) (end : StreamEnd) (desk : D) (worst all : Worst) (a b c : Option (List ℕ)) →
+      AtEnd stands answers ds left left' end desk worst a b → Appends b c (end_text end) → all ≡ worse_of worst (end_worst end) →
+      Streamed stands answers ds left left' a c desk all
+  streamed ds left left' end desk worst all a b c at writes is = record {
+    bytes = at.bytes;
+    texts = at.piece.texts;
+    responses = at.piece.responses;
+    end = end;
+    reads = at.reads;
+    ended = at.ended;
+    cuts = at.piece.cuts;
+    answered = at.piece.answered;
+    writes = Appends-trans a b c (response_lines at.piece.responses) (end_text end) at.piece.writes writes;
+    is_worst = is ∙ ap (λ w. worse_of w (end_worst end)) at.piece.is_worst;
+  }
+
+  -- a write of it that failed
+  pub end_cut_short : (ds : List (List ℕ)) (left left' : Option (List ℕ)) (end : StreamEnd) (desk : D) (worst : Worst) (a b c : Option (List ℕ)) →
+      AtEnd stands answers ds left left' end desk worst a b → AppendsFront b c (end_text end) → Delivered stands answers ds left left' a c desk
+  end_cut_short ds left left' end desk worst a b c at (part, front, writes) = record {
+    bytes = at.bytes;
+    reads = at.reads;
+    cut_short = inr (record {
+      texts = at.piece.texts;
+      responses = at.piece.responses;
+      end = end;
+      part = part;
+      ended = at.ended;
+      cuts = at.piece.cuts;
+      answered = at.piece.answered;
+      front = front;
+      writes = Appends-trans a b c (response_lines at.piece.responses) part at.piece.writes writes;
+    });
+  }
+
+  pub piece_at : (ds : List (List ℕ)) (cut cut' : Option CutFault) (q' stream : List ℕ) (desk : D) (before worst : Worst) (a b : Option (List ℕ)) → cut ≡ cut' →
+      PieceAnswered stands answers ds (EndsPiece cut q') stream desk before worst a b → PieceAnswered stands answers ds (EndsPiece cut' q') stream desk before worst a b
+  piece_at ds cut cut' q' stream desk before worst a b is done =
+      subst (λ c. PieceAnswered stands answers ds (EndsPiece c q') stream desk before worst a b) is done
 
 -- ---- faults
 
-pub at_write : (fault : StreamFault) (A B C : Type 0) → fault ≡ Write → C → MatchFault fault A B C
+pub at_write : (fault : StreamFault) (A B C : Type 0) → fault ≡ Write → B → MatchFault fault A B C
 at_write fault A B C is holds = subst (λ f. MatchFault f A B C) (sym is) holds
-
-pub ok_weaker : {T E : Type 0} (r : Result T E) (P Q : T → Type 0) → ((value : T) → P value → Q value) → IfOk r P → IfOk r Q
-ok_weaker (Ok value) P Q on holds = on value holds
-ok_weaker (Err e) P Q on holds = tt
 
 pub ok_with : {T E : Type 0} (r : Result T E) (P : T → Type 0) (X : Type 0) (Q : T → Type 0) → ((value : T) → P value → X → Q value) → IfOk r P → OnOk r X → IfOk r Q
 ok_with (Ok value) P X Q on holds more = on value holds more

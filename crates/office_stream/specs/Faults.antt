@@ -2,8 +2,8 @@
 use Rattle.office_stream.specs.declared.stream_fault.StreamFault.{StreamFault}
 use Rattle.office_stream.specs.declared.stream_fault.StreamFault.TheVariants.{Read, Write, Turns}
 
--- what holds after a failed read, what after too many reads, and what after a failed write
+-- what holds after a failed read, what after a failed write, and what after too many reads
 abbrev pub MatchFault : StreamFault → Type 0 → Type 0 → Type 0 → Type 0
-MatchFault Read AfterRead AfterTurns AfterWrite = AfterRead
-MatchFault Turns AfterRead AfterTurns AfterWrite = AfterTurns
-MatchFault Write AfterRead AfterTurns AfterWrite = AfterWrite
+MatchFault Read AfterRead AfterWrite AfterTurns = AfterRead
+MatchFault Write AfterRead AfterWrite AfterTurns = AfterWrite
+MatchFault Turns AfterRead AfterWrite AfterTurns = AfterTurns

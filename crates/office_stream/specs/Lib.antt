@@ -1,4 +1,5 @@
 pub mod Delivering
+pub mod Fronts
 pub mod Lines
 pub mod Streams
 pub mod Pieces

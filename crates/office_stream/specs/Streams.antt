@@ -1,5 +1,5 @@
 -- A stream as the interchanges that are cut out of it, and what is done with them.
-use Rattle.std.specs.Prelude.{◌≡◌, ◌≢◌, ℕ, ◌≤◌, List, [], ◌∷◌, ◌++◌, length, take, drop, Option}
+use Rattle.std.specs.Prelude.{◌≡◌, ◌≢◌, ◌⊎◌, ℕ, List, [], ◌∷◌, ◌++◌, Option}
 use Rattle.std.specs.Io.KnownBytes.{Consumes, Appends, IsAtEnd}
 use Rattle.edi_segments.specs.Advice.{without_breaks}
 use Rattle.edi_cutter.specs.Cuts.{IsInterchange, IsPending, Faults}
@@ -7,46 +7,49 @@ use Rattle.edi_cutter.specs.declared.cut_fault.CutFault.{CutFault}
 use Rattle.edi_cutter.specs.declared.cut_fault.CutFault.TheVariants.{TooLong, Service, Segment, Memory}
 use Rattle.office_replies.specs.declared.response.Response.{Response}
 use Rattle.office_replies.specs.declared.worst.Worst.{Worst}
-use Rattle.office_replies.specs.declared.worst.Worst.TheVariants.{Fine}
-use Rattle.office_replies.specs.Responses.{worse_of}
+use Rattle.office_replies.specs.Responses.{body_of, worse_of}
 use Rattle.office_stream.specs.Delivering.{AnswersEach, deliveries}
-use Rattle.office_stream.specs.Lines.{end_text, end_worst, response_lines, worst_from}
+use Rattle.office_stream.specs.Fronts.{IsFront}
+use Rattle.office_stream.specs.Lines.{line, end_text, end_worst, response_lines, worst_of_all}
 use Rattle.office_stream.specs.declared.stream_end.StreamEnd.{StreamEnd}
 use Rattle.office_stream.specs.declared.stream_end.StreamEnd.TheVariants.{Whole, Open, Cut}
 
 -- ---- cutting
 
--- Behind pending bytes, the bytes begin with these interchanges, one after the other, each from its first byte that is not
--- CR or LF to the terminator of its trailer, and what stands behind them ends so.
-abbrev pub CutsFrom : (List ℕ → List ℕ → Type 0) → List ℕ → List ℕ → List (List ℕ) → Type 0
-CutsFrom Ends pending bytes [] = Ends pending bytes
-CutsFrom Ends pending bytes (text ∷ texts) =
-    (n : ℕ) × (n ≤ length bytes) × IsInterchange text × (without_breaks (pending ++ take n bytes) ≡ text) × CutsFrom Ends [] (drop n bytes) texts
-
--- with less than an interchange, CR and LF at its front aside
-abbrev pub LeavesOver : List ℕ → List ℕ → List ℕ → Type 0
-LeavesOver rest pending bytes = IsPending rest × (without_breaks (pending ++ bytes) ≡ rest)
+-- A stream begins with these interchanges, each behind any number of CR and LF. What is left over behind them, without the CR
+-- and LF at its front, ends so.
+abbrev pub CutsFrom : (List ℕ → Type 0) → List ℕ → List (List ℕ) → Type 0
+CutsFrom Ends stream [] = Ends (without_breaks stream)
+CutsFrom Ends stream (first ∷ others) =
+    (behind : List ℕ) × IsInterchange first × (without_breaks stream ≡ first ++ behind) × CutsFrom Ends behind others
 
 -- with a fault at one of the bytes, and none before
-abbrev pub IsCutBy : CutFault → List ℕ → List ℕ → Type 0
-IsCutBy fault pending bytes = (n : ℕ) × (n ≤ length bytes) × Faults (without_breaks (pending ++ take n bytes)) fault
+abbrev pub IsCutBy : CutFault → List ℕ → Type 0
+IsCutBy fault rest = (front behind : List ℕ) × Faults front fault × (rest ≡ front ++ behind)
 
 -- with anything
-abbrev pub GoesOnAnyhow : List ℕ → List ℕ → Type 0
-GoesOnAnyhow pending bytes = Unit {0}
+abbrev pub GoesOnAnyhow : List ℕ → Type 0
+GoesOnAnyhow rest = Unit {0}
 
--- how a stream ends. A cut for want of memory may stand anywhere.
-abbrev pub EndsAs : StreamEnd → List ℕ → List ℕ → Type 0
-EndsAs Whole pending bytes = LeavesOver [] pending bytes
-EndsAs Open pending bytes = (rest : List ℕ) × (rest ≢ []) × LeavesOver rest pending bytes
-EndsAs (Cut TooLong) pending bytes = IsCutBy TooLong pending bytes
-EndsAs (Cut Service) pending bytes = IsCutBy Service pending bytes
-EndsAs (Cut Segment) pending bytes = IsCutBy Segment pending bytes
-EndsAs (Cut Memory) pending bytes = GoesOnAnyhow pending bytes
+-- how a stream ends, by what is left over. A cut for want of memory may stand anywhere.
+abbrev pub EndsAs : StreamEnd → List ℕ → Type 0
+EndsAs Whole rest = rest ≡ []
+EndsAs Open rest = IsPending rest × (rest ≢ [])
+EndsAs (Cut TooLong) rest = IsCutBy TooLong rest
+EndsAs (Cut Service) rest = IsCutBy Service rest
+EndsAs (Cut Segment) rest = IsCutBy Segment rest
+EndsAs (Cut Memory) rest = GoesOnAnyhow rest
 
 -- these are the interchanges of a stream, and so it ends
 abbrev pub Cuts : List ℕ → List (List ℕ) → StreamEnd → Type 0
-Cuts bytes texts end = CutsFrom (EndsAs end) [] bytes texts
+Cuts stream texts end = CutsFrom (EndsAs end) stream texts
+
+-- A stream has one list of interchanges and one end, unless memory is wanting. So its answers don't depend on the pieces that
+-- it comes in.
+abbrev pub CutsAreOne : Type 0
+CutsAreOne =
+    (stream : List ℕ) (texts texts' : List (List ℕ)) (end end' : StreamEnd) → end ≢ Cut Memory → end' ≢ Cut Memory
+    → Cuts stream texts end → Cuts stream texts' end' → (texts ≡ texts') × (end ≡ end')
 
 -- the stream was read to its end, or it is cut
 abbrev pub ReadsTo : StreamEnd → Option (List ℕ) → Type 0
@@ -74,26 +77,51 @@ pub record Streamed {D : Type 0} (stands : List (List ℕ) → D → Type 0) (an
   pub cuts : Cuts bytes texts end
   pub answered : Answered stands answers ds texts responses desk
   pub writes : Appends written written' (response_lines responses ++ end_text end)
-  pub is_worst : worst ≡ worse_of (worst_from Fine responses) (end_worst end)
+  pub is_worst : worst ≡ worse_of (worst_of_all responses) (end_worst end)
 
--- So many bytes or more were read, and the interchanges at their front were answered by their lines.
+-- All interchanges of the bytes that were read were answered by their lines, and less than one is left over.
 pub record Began {D : Type 0} (stands : List (List ℕ) → D → Type 0) (answers : List (List ℕ) → List ℕ → Response → Type 0)
-    (least : ℕ) (ds : List (List ℕ)) (left left' written written' : Option (List ℕ)) (desk : D) : Type 0 where
+    (ds : List (List ℕ)) (left left' written written' : Option (List ℕ)) (desk : D) : Type 0 where
   pub bytes : List ℕ
   pub texts : List (List ℕ)
   pub responses : List Response
   pub reads : Consumes left left' bytes
-  pub long : least ≤ length bytes
-  pub cuts : CutsFrom GoesOnAnyhow [] bytes texts
+  pub cuts : CutsFrom IsPending bytes texts
   pub answered : Answered stands answers ds texts responses desk
   pub writes : Appends written written' (response_lines responses)
 
--- The interchanges at the front of what was read were delivered and answered. Of the lines nothing is said.
-pub record Delivered {D : Type 0} (stands : List (List ℕ) → D → Type 0) (answers : List (List ℕ) → List ℕ → Response → Type 0)
-    (ds : List (List ℕ)) (left left' : Option (List ℕ)) (desk : D) : Type 0 where
-  pub bytes : List ℕ
+-- ---- a write that failed
+
+-- A stream begins with these interchanges, and each of them was answered. A front of the last one's line was written, behind
+-- the lines of those before.
+pub record LineCutShort {D : Type 0} (stands : List (List ℕ) → D → Type 0) (answers : List (List ℕ) → List ℕ → Response → Type 0)
+    (ds : List (List ℕ)) (stream : List ℕ) (written written' : Option (List ℕ)) (desk : D) : Type 0 where
+  pub texts : List (List ℕ)
+  pub last : List ℕ
+  pub responses : List Response
+  pub response : Response
+  pub part : List ℕ
+  pub cuts : CutsFrom GoesOnAnyhow stream (texts ++ last ∷ [])
+  pub answered : Answered stands answers ds (texts ++ last ∷ []) (responses ++ response ∷ []) desk
+  pub front : IsFront part (line (body_of response))
+  pub writes : Appends written written' (response_lines responses ++ part)
+
+-- A stream is cut to its end, and each interchange answered by its line. A front of the cut line was written behind them.
+pub record EndCutShort {D : Type 0} (stands : List (List ℕ) → D → Type 0) (answers : List (List ℕ) → List ℕ → Response → Type 0)
+    (ds : List (List ℕ)) (stream : List ℕ) (left' written written' : Option (List ℕ)) (desk : D) : Type 0 where
   pub texts : List (List ℕ)
   pub responses : List Response
-  pub reads : Consumes left left' bytes
-  pub cuts : CutsFrom GoesOnAnyhow [] bytes texts
+  pub end : StreamEnd
+  pub part : List ℕ
+  pub ended : ReadsTo end left'
+  pub cuts : Cuts stream texts end
   pub answered : Answered stands answers ds texts responses desk
+  pub front : IsFront part (end_text end)
+  pub writes : Appends written written' (response_lines responses ++ part)
+
+-- Of the bytes that were read the line of an interchange was cut short, or the cut line, and nothing was done behind it.
+pub record Delivered {D : Type 0} (stands : List (List ℕ) → D → Type 0) (answers : List (List ℕ) → List ℕ → Response → Type 0)
+    (ds : List (List ℕ)) (left left' written written' : Option (List ℕ)) (desk : D) : Type 0 where
+  pub bytes : List ℕ
+  pub reads : Consumes left left' bytes
+  pub cut_short : LineCutShort stands answers ds bytes written written' desk ⊎ EndCutShort stands answers ds bytes left' written written' desk

@@ -2,10 +2,9 @@ ghost use Rattle.std.specs.Prelude.{◌≡◌, ◌++◌, ℕ, List, [], ◌∷�
 ghost use Rattle.std.specs.Io.KnownBytes.{Appends};
 ghost use Rattle.edi_cutter.specs.Cuts.{pending};
 ghost use Rattle.office_replies.specs.Responses.{body_of, worst_of};
-ghost use Rattle.office_replies.specs.declared.response.Response.{Response};
-ghost use Rattle.office_stream.specs.Delivering.{Delivers};
 ghost use Rattle.office_stream.specs.Lines.{line};
-ghost use Rattle.office_stream.specs.Pieces.{AnsweredOne, EndsPiece, PieceAnswered, PieceDelivered};
+ghost use Rattle.office_stream.specs.Pieces.{AnsweredOne, DeliveredOne, EndsPiece, PieceAnswered};
+ghost use Rattle.office_stream.specs.Streams.{LineCutShort};
 
 use crate::deliver::Deliver;
 use crate::line::write_response;
@@ -23,10 +22,17 @@ fn answer_one<W: Write, D: Deliver>(
     writer: &mut Port<W>,
     desk: &mut D,
 ) -> Result<Worst, StreamFault>
-    ensures ok { IfOk result (λ worst. (opening : D) (ds : List (List ℕ)) → D.stands opening ds desk.old → AnsweredOne (D.stands opening) (D.answers opening) ds text.now desk.new worst (W.contents writer.old.inner) (W.contents writer.new.inner)) }
+    ensures ok { IfOk result
+        (λ worst. (opening : D) (ds : List (List ℕ)) → D.stands opening ds desk.old
+        → AnsweredOne (D.stands opening) (D.answers opening) ds text.now desk.new worst
+        (W.contents writer.old.inner) (W.contents writer.new.inner)) }
     ensures kept { OnOk result (writer.new.failed ≡ writer.old.failed) }
-    ensures err { IfErr result (λ fault. (fault ≡ StreamFault.Write) × (writer.new.failed ≡ true)) }
-    ensures delivered { IfErr result (λ fault. (opening : D) (ds : List (List ℕ)) → D.stands opening ds desk.old → (response : Response) × Delivers (D.stands opening) (D.answers opening) ds text.now response desk.new) }
+    ensures err { IfErr result
+        (λ fault. (fault ≡ StreamFault.Write) × (writer.new.failed ≡ true)) }
+    ensures delivered { IfErr result
+        (λ fault. (opening : D) (ds : List (List ℕ)) → D.stands opening ds desk.old
+        → DeliveredOne (D.stands opening) (D.answers opening) ds text.now desk.new
+        (W.contents writer.old.inner) (W.contents writer.new.inner)) }
 {
     let response = desk.deliver(alloc, text);
     match write_response(writer, &response) {
@@ -46,11 +52,19 @@ pub(crate) fn answer_piece<W: Write, D: Deliver>(
     before: Worst,
 ) -> Result<(Worst, Option<CutFault>), StreamFault>
     requires { cutter.old.fault ≡ None }
-    ensures ok { IfOk result (λ done. (opening : D) (ds : List (List ℕ)) → D.stands opening ds desk.old → PieceAnswered (D.stands opening) (D.answers opening) ds (EndsPiece done.1 (pending cutter.new)) (pending cutter.old) piece.now desk.new before done.0 (W.contents writer.old.inner) (W.contents writer.new.inner)) }
+    ensures ok { IfOk result
+        (λ done. (opening : D) (ds : List (List ℕ)) → D.stands opening ds desk.old
+        → PieceAnswered (D.stands opening) (D.answers opening) ds
+        (EndsPiece done.1 (pending cutter.new)) (pending cutter.old ++ piece.now) desk.new before done.0
+        (W.contents writer.old.inner) (W.contents writer.new.inner)) }
     ensures running { IfOk result (λ done. done.1 ≡ None → cutter.new.fault ≡ None) }
     ensures kept { OnOk result (writer.new.failed ≡ writer.old.failed) }
-    ensures err { IfErr result (λ fault. (fault ≡ StreamFault.Write) × (writer.new.failed ≡ true)) }
-    ensures delivered { IfErr result (λ fault. (opening : D) (ds : List (List ℕ)) → D.stands opening ds desk.old → PieceDelivered (D.stands opening) (D.answers opening) ds (pending cutter.old) piece.now desk.new) }
+    ensures err { IfErr result
+        (λ fault. (fault ≡ StreamFault.Write) × (writer.new.failed ≡ true)) }
+    ensures cut_short { IfErr result
+        (λ fault. (opening : D) (ds : List (List ℕ)) → D.stands opening ds desk.old
+        → LineCutShort (D.stands opening) (D.answers opening) ds (pending cutter.old ++ piece.now)
+        (W.contents writer.old.inner) (W.contents writer.new.inner) desk.new) }
 {
     let mut worst = before;
     let mut rest = piece;

@@ -10,10 +10,12 @@ pub trait Deliver: Drop {
     /// From that opening, after those deliveries, it is this. A delivery that was answered NotNow is none.
     ghost stands: { Self → List (List ℕ) → Self → Type 0 };
 
-    /// From that opening, after those deliveries, the answer to the next.
+    /// From that opening, after those deliveries, an answer to the next text. It tells also when that may be NotNow.
     ghost answers: { Self → List (List ℕ) → List ℕ → Response → Type 0 };
 
-    /// Delivers a text. Either it is answered as the next delivery, or NotNow, and then nothing has changed.
+    /// Delivers a text, and answers it. A text that is answered NotNow is no delivery: the next is answered as if it had not
+    /// come.
     fn deliver(&mut self, alloc: Global, delivered: &[u8]) -> Response
-        ensures { (opening : Self) (ds : List (List ℕ)) → stands opening ds self.old → Delivers (stands opening) (answers opening) ds delivered.now result self.new };
+        ensures { (opening : Self) (ds : List (List ℕ)) → stands opening ds self.old
+            → Delivers (stands opening) (answers opening) ds delivered.now result self.new };
 }

@@ -1,6 +1,7 @@
 ghost use Rattle.std.specs.Prelude.{◌≡◌, true, OnOk, OnErr};
 ghost use Rattle.std.specs.Io.KnownBytes.{Appends};
 ghost use Rattle.office_replies.specs.Responses.{body_of};
+ghost use Rattle.office_stream.specs.Fronts.{AppendsFront};
 ghost use Rattle.office_stream.specs.Lines.{line, end_text, end_worst};
 
 use crate::port::Port;
@@ -9,9 +10,12 @@ use edi_cutter::CutFault;
 use office_replies::{Response, Worst};
 use std::io::{Result, Write};
 
-/// Writes a text and LF.
+/// Writes a text and LF. After an error a front of them is written.
 pub(crate) fn write_line<W: Write>(writer: &mut Port<W>, text: &str) -> Result<()>
-    ensures ok { OnOk result (Appends (W.contents writer.old.inner) (W.contents writer.new.inner) (line text.now)) }
+    ensures ok { OnOk result
+        (Appends (W.contents writer.old.inner) (W.contents writer.new.inner) (line text.now)) }
+    ensures front { OnErr result
+        (AppendsFront (W.contents writer.old.inner) (W.contents writer.new.inner) (line text.now)) }
     ensures kept { OnOk result (writer.new.failed ≡ writer.old.failed) }
     ensures err { OnErr result (writer.new.failed ≡ true) }
 {
@@ -19,9 +23,12 @@ pub(crate) fn write_line<W: Write>(writer: &mut Port<W>, text: &str) -> Result<(
     writer.write_all(b"\n")
 }
 
-/// Writes the body of a response, and LF.
+/// Writes the body of a response, and LF. After an error a front of them is written.
 pub(crate) fn write_response<W: Write>(writer: &mut Port<W>, response: &Response) -> Result<()>
-    ensures ok { OnOk result (Appends (W.contents writer.old.inner) (W.contents writer.new.inner) (line (body_of response.now))) }
+    ensures ok { OnOk result
+        (Appends (W.contents writer.old.inner) (W.contents writer.new.inner) (line (body_of response.now))) }
+    ensures front { OnErr result
+        (AppendsFront (W.contents writer.old.inner) (W.contents writer.new.inner) (line (body_of response.now))) }
     ensures kept { OnOk result (writer.new.failed ≡ writer.old.failed) }
     ensures err { OnErr result (writer.new.failed ≡ true) }
 {
@@ -30,9 +37,12 @@ pub(crate) fn write_response<W: Write>(writer: &mut Port<W>, response: &Response
     write_line(writer, response.back())
 }
 
-/// Writes what stands behind the last answer.
+/// Writes what stands behind the last answer. After an error a front of it is written.
 pub(crate) fn write_end<W: Write>(writer: &mut Port<W>, end: StreamEnd) -> Result<()>
-    ensures ok { OnOk result (Appends (W.contents writer.old.inner) (W.contents writer.new.inner) (end_text end)) }
+    ensures ok { OnOk result
+        (Appends (W.contents writer.old.inner) (W.contents writer.new.inner) (end_text end)) }
+    ensures front { OnErr result
+        (AppendsFront (W.contents writer.old.inner) (W.contents writer.new.inner) (end_text end)) }
     ensures kept { OnOk result (writer.new.failed ≡ writer.old.failed) }
     ensures err { OnErr result (writer.new.failed ≡ true) }
 {
@@ -44,7 +54,10 @@ pub(crate) fn write_end<W: Write>(writer: &mut Port<W>, end: StreamEnd) -> Resul
 }
 
 fn write_cut<W: Write>(writer: &mut Port<W>, fault: CutFault) -> Result<()>
-    ensures ok { OnOk result (Appends (W.contents writer.old.inner) (W.contents writer.new.inner) (end_text (StreamEnd.Cut fault))) }
+    ensures ok { OnOk result
+        (Appends (W.contents writer.old.inner) (W.contents writer.new.inner) (end_text (StreamEnd.Cut fault))) }
+    ensures front { OnErr result
+        (AppendsFront (W.contents writer.old.inner) (W.contents writer.new.inner) (end_text (StreamEnd.Cut fault))) }
     ensures kept { OnOk result (writer.new.failed ≡ writer.old.failed) }
     ensures err { OnErr result (writer.new.failed ≡ true) }
 {

@@ -1,25 +1,29 @@
-ghost use Rattle.std.specs.Prelude.{◌≡◌, true, false, OnOk, OnErr};
+ghost use Rattle.std.specs.Prelude.{◌≡◌, ℕ, ◌+◌, ◌-◌, ◌^◌, min, true, false, OnOk, OnErr};
 ghost use Rattle.std.specs.Io.{ReadsAtMost, WritesAtMost};
 ghost use Rattle.std.specs.Io.KnownBytes.{ReadConsumes, WriteAppends, Keeps, Appends};
+ghost use Rattle.office_stream.specs.Fronts.{AppendsFront};
 
-use std::io::{Read, Result, Write};
+use std::io::{Error, ErrorKind, Read, Result, Write};
 
-/// A reader or a writer, and whether a read or a write of it has failed.
+/// A reader or a writer, whether a read or a write of it has failed, and how many reads were made.
 #[derive(Drop)]
 pub struct Port<T> {
     inner: T,
     failed: bool,
+    reads: u64,
 }
 
 impl<T> Port<T> {
-    /// A port that has not failed.
+    /// A port that has not failed, and of which no read was made.
     pub fn new(inner: T) -> Port<T>
         ensures inner { result.inner ≡ inner }
         ensures fresh { result.failed ≡ false }
+        ensures unread { result.reads ≡ 0 }
     {
         Port {
             inner,
             failed: false,
+            reads: 0,
         }
     }
 
@@ -27,7 +31,11 @@ impl<T> Port<T> {
     pub fn into_inner(self) -> T
         ensures { result ≡ self.inner }
     {
-        let Port { inner, failed: _ } = self;
+        let Port {
+            inner,
+            failed: _,
+            reads: _,
+        } = self;
         inner
     }
 
@@ -35,8 +43,15 @@ impl<T> Port<T> {
     pub fn failed(&self) -> bool
         ensures { result ≡ self.now.failed }
     {
-        let Port { inner: _, failed } = self;
-        *failed
+        let failed = self.failed;
+        failed
+    }
+
+    /// How many reads were made, failed ones among them, up to `u64::MAX`.
+    pub fn reads(&self) -> u64
+        ensures { result ≡ self.now.reads }
+    {
+        self.reads
     }
 }
 
@@ -48,7 +63,9 @@ impl<R: Read> Read for Port<R> {
         ensures bytes { ReadConsumes (R.remaining self.old.inner) (R.remaining self.new.inner) result buf.new }
         ensures succeeds { OnOk result (self.new.failed ≡ self.old.failed) }
         ensures fails { OnErr result (self.new.failed ≡ true) }
+        ensures counted { self.new.reads ≡ min (self.old.reads + 1) (2 ^ 64 - 1) }
     {
+        self.reads = self.reads.saturating_add(1);
         match self.inner.read(buf) {
             Ok(count) => Ok(count),
             Err(error) => {
@@ -67,6 +84,7 @@ impl<W: Write> Write for Port<W> {
         ensures bytes { WriteAppends (W.contents self.old.inner) (W.contents self.new.inner) result buf.now }
         ensures succeeds { OnOk result (self.new.failed ≡ self.old.failed) }
         ensures fails { OnErr result (self.new.failed ≡ true) }
+        ensures uncounted { self.new.reads ≡ self.old.reads }
     {
         match self.inner.write(buf) {
             Ok(count) => Ok(count),
@@ -81,6 +99,7 @@ impl<W: Write> Write for Port<W> {
         ensures bytes { Keeps (W.contents self.old.inner) (W.contents self.new.inner) }
         ensures succeeds { OnOk result (self.new.failed ≡ self.old.failed) }
         ensures fails { OnErr result (self.new.failed ≡ true) }
+        ensures uncounted { self.new.reads ≡ self.old.reads }
     {
         match self.inner.flush() {
             Ok(()) => Ok(()),
@@ -93,10 +112,12 @@ impl<W: Write> Write for Port<W> {
 
     fn write_all(&mut self, buf: &[u8]) -> Result<()>
         ensures bytes { OnOk result (Appends (W.contents self.old.inner) (W.contents self.new.inner) buf.now) }
+        ensures front { OnErr result (AppendsFront (W.contents self.old.inner) (W.contents self.new.inner) buf.now) }
         ensures succeeds { OnOk result (self.new.failed ≡ self.old.failed) }
         ensures fails { OnErr result (self.new.failed ≡ true) }
+        ensures uncounted { self.new.reads ≡ self.old.reads }
     {
-        match self.inner.write_all(buf) {
+        match write_whole(&mut self.inner, buf) {
             Ok(()) => Ok(()),
             Err(error) => {
                 self.failed = true;
@@ -104,4 +125,25 @@ impl<W: Write> Write for Port<W> {
             }
         }
     }
+}
+
+/// Writes bytes in as many writes as it takes. A write that was interrupted is made again. After an error a front of the bytes
+/// is written.
+fn write_whole<W: Write>(writer: &mut W, bytes: &[u8]) -> Result<()>
+    ensures bytes { OnOk result (Appends (W.contents writer.old) (W.contents writer.new) bytes.now) }
+    ensures front { OnErr result (AppendsFront (W.contents writer.old) (W.contents writer.new) bytes.now) }
+{
+    let mut rest = bytes;
+    'writes: for _ in 0..u64::MAX {
+        if rest.is_empty() {
+            return Ok(());
+        }
+        match writer.write(rest) {
+            Ok(0) => return Err(Error::from(ErrorKind::WriteZero)),
+            Ok(count) => rest = &rest[count..],
+            Err(error) if error.kind() == ErrorKind::Interrupted => {}
+            Err(error) => return Err(error),
+        }
+    }
+    Err(Error::from(ErrorKind::TimedOut))
 }

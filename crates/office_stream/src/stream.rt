@@ -1,6 +1,7 @@
-ghost use Rattle.std.specs.Prelude.{◌≡◌, ℕ, List, true, IfOk, IfErr, OnOk};
+ghost use Rattle.std.specs.Prelude.{◌≡◌, ℕ, ◌+◌, ◌-◌, ◌^◌, ◌≤◌, min, List, true, IfOk, IfErr, OnOk};
 ghost use Rattle.std.specs.Io.KnownBytes.{Appends};
 ghost use Rattle.office_replies.specs.Responses.{worse_of};
+ghost use Rattle.office_stream.specs.Fronts.{AppendsFront};
 ghost use Rattle.office_stream.specs.Lines.{end_text, end_worst};
 ghost use Rattle.office_stream.specs.Streams.{Streamed, Began, Delivered};
 ghost use Rattle.office_stream.specs.Faults.{MatchFault};
@@ -27,21 +28,36 @@ pub fn run_stream<R: Read, W: Write, D: Deliver>(
     desk: &mut D,
     turns: u64,
 ) -> Result<Worst, StreamFault>
-    ensures ok { IfOk result (λ worst. (opening : D) (ds : List (List ℕ)) → D.stands opening ds desk.old → Streamed (D.stands opening) (D.answers opening) ds (R.remaining reader.old.inner) (R.remaining reader.new.inner) (W.contents writer.old.inner) (W.contents writer.new.inner) desk.new worst) }
+    ensures ok { IfOk result
+        (λ worst. (opening : D) (ds : List (List ℕ)) → D.stands opening ds desk.old
+        → Streamed (D.stands opening) (D.answers opening) ds
+        (R.remaining reader.old.inner) (R.remaining reader.new.inner)
+        (W.contents writer.old.inner) (W.contents writer.new.inner) desk.new worst) }
 
-    // What was delivered before a fault stands. After a read's fault, or too many reads, each line of it was written. After a
-    // write's fault nothing is said of the lines, since a writer that fails tells nothing of what it took. Each read that is
-    // not the last gives a byte at least, so Turns comes behind that many bytes.
-    ensures err { IfErr result (λ fault. (opening : D) (ds : List (List ℕ)) → D.stands opening ds desk.old → MatchFault fault
-        (Began (D.stands opening) (D.answers opening) 0 ds (R.remaining reader.old.inner) (R.remaining reader.new.inner) (W.contents writer.old.inner) (W.contents writer.new.inner) desk.new)
-        (Began (D.stands opening) (D.answers opening) turns ds (R.remaining reader.old.inner) (R.remaining reader.new.inner) (W.contents writer.old.inner) (W.contents writer.new.inner) desk.new)
-        (Delivered (D.stands opening) (D.answers opening) ds (R.remaining reader.old.inner) (R.remaining reader.new.inner) desk.new)) }
+    // What was delivered before a fault stands. After a failed read, or too many reads, all interchanges of what was read are
+    // answered by their lines. After a failed write the lines end where it failed, and nothing was delivered behind it.
+    ensures err { IfErr result
+        (λ fault. (opening : D) (ds : List (List ℕ)) → D.stands opening ds desk.old → MatchFault fault
+        (Began (D.stands opening) (D.answers opening) ds
+        (R.remaining reader.old.inner) (R.remaining reader.new.inner)
+        (W.contents writer.old.inner) (W.contents writer.new.inner) desk.new)
+        (Delivered (D.stands opening) (D.answers opening) ds
+        (R.remaining reader.old.inner) (R.remaining reader.new.inner)
+        (W.contents writer.old.inner) (W.contents writer.new.inner) desk.new)
+        (Began (D.stands opening) (D.answers opening) ds
+        (R.remaining reader.old.inner) (R.remaining reader.new.inner)
+        (W.contents writer.old.inner) (W.contents writer.new.inner) desk.new)) }
 
-    // A fault of the reader or the writer is answered only where it has failed, and Turns only where neither has.
+    // No more reads are made than turns.
+    ensures reads { reader.new.reads ≤ reader.old.reads + turns }
+
+    // A fault of the reader or the writer is answered only where it has failed, and Turns only where neither has and so many
+    // reads were made.
     ensures failed { IfErr result (λ fault. MatchFault fault
         (reader.new.failed ≡ true)
-        ((reader.new.failed ≡ reader.old.failed) × (writer.new.failed ≡ writer.old.failed))
-        (writer.new.failed ≡ true)) }
+        (writer.new.failed ≡ true)
+        ((reader.new.failed ≡ reader.old.failed) × (writer.new.failed ≡ writer.old.failed)
+        × (min (reader.old.reads + turns) (2 ^ 64 - 1) ≤ reader.new.reads))) }
 {
     let mut cutter = Cutter::new(alloc);
     let mut buffer = [0; 4096];
@@ -79,8 +95,11 @@ fn finish<W: Write>(
     worst: Worst,
 ) -> Result<Worst, StreamFault>
     ensures ok { IfOk result (λ all. all ≡ worse_of worst (end_worst end)) }
-    ensures writes { OnOk result (Appends (W.contents writer.old.inner) (W.contents writer.new.inner) (end_text end)) }
-    ensures err { IfErr result (λ fault. (fault ≡ StreamFault.Write) × (writer.new.failed ≡ true)) }
+    ensures writes { OnOk result
+        (Appends (W.contents writer.old.inner) (W.contents writer.new.inner) (end_text end)) }
+    ensures err { IfErr result
+        (λ fault. (fault ≡ StreamFault.Write) × (writer.new.failed ≡ true)
+        × AppendsFront (W.contents writer.old.inner) (W.contents writer.new.inner) (end_text end)) }
 {
     match write_end(writer, end) {
         Ok(()) => Ok(worst.or(end_worst(end))),

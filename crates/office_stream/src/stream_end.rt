@@ -3,7 +3,7 @@ use edi_cutter::CutFault;
 /// How a stream ended.
 #[derive(Clone, Copy, PartialEq, Eq, Debug)]
 pub(crate) enum StreamEnd {
-    /// With an interchange, and CR and LF behind it.
+    /// With nothing but CR and LF behind its interchanges.
     Whole,
     /// Within an interchange.
     Open,

@@ -1,6 +1,7 @@
-use Rattle.std.proofs.Common.{◌≡◌, ℕ, List, None, length}
+use Rattle.std.proofs.Common.{◌≡◌, ℕ, ◌++◌, List, None, length}
 use Rattle.edi_cutter.specs.Cuts.{pending}
-use Rattle.office_stream.specs.Pieces.{PieceAnswered, IsLeft}
+use Rattle.office_stream.specs.Pieces.{PieceAnswered}
+use Rattle.office_stream.proofs.PieceLemmas.{IsLeft}
 use Rattle.office_stream.proofs.answer.answer_piece.Given as goal
 
 abbrev pub invariant-pieces : goal.invariant-pieces
@@ -8,7 +9,7 @@ invariant-pieces g l = record {
   running : l.cutter.fault ≡ None;
   kept : l.writer.failed ≡ l.fn.writer.failed;
   done : (opening : g.row.D.Denot) (ds : List (List ℕ)) → g.D.Deliver.stands opening ds l.fn.desk →
-      PieceAnswered (g.D.Deliver.stands opening) (g.D.Deliver.answers opening) ds (IsLeft (pending l.cutter) l.rest) (pending l.fn.cutter) l.piece l.desk
+      PieceAnswered (g.D.Deliver.stands opening) (g.D.Deliver.answers opening) ds (IsLeft (pending l.cutter) l.rest) (pending l.fn.cutter ++ l.piece) l.desk
       l.fn.before l.worst (g.W.Write.contents l.fn.writer.inner) (g.W.Write.contents l.writer.inner);
 }
 

@@ -1,7 +1,7 @@
 use Rattle.std.proofs.Common.{◌≡◌, ◌≢◌, ◌⊎◌, [], None, Some, inl, inr, refl, sym, ◌∙◌, arith, take}
 use Rattle.edi_cutter.specs.Cuts.{pending}
-use Rattle.office_stream.specs.declared.stream_end.StreamEnd.TheVariants.{Whole, Open}
-use Rattle.office_stream.proofs.StreamLemmas.{nothing_read, sofar_more, some_taken, began, began_now, delivered, delivered_piece, delivered_sofar, piece_at, ends_input, ends_cut_off, nil_is, nil_is_not, at_write, ok_with, err_weaker, starts_running, starts_empty, nothing_taken}
+use Rattle.office_stream.specs.declared.stream_end.StreamEnd.TheVariants.{Whole, Open, Cut}
+use Rattle.office_stream.proofs.StreamLemmas.{nothing_read, sofar_more, began, began_now, cut_short, piece_at, input_ends, stream_cut, streamed, end_cut_short, nil_is, nil_is_not, at_write, ok_with, err_weaker, starts_running, starts_empty, nothing_taken}
 use Rattle.office_stream.proofs.stream.run_stream.Goals as goal
 use Rattle.office_stream.proofs.stream.run_stream.Goals.{then-at_rest, else-at_rest}
 
@@ -10,12 +10,14 @@ reads-init g c = record {
   running = starts_running c.new-cutter.result c.new-cutter.ensures;
   reader = refl;
   writer = refl;
+  most = omega arith;
+  least = omega arith;
   sofar = λ opening ds at. nothing_read (g.D.Deliver.stands opening) (g.D.Deliver.answers opening) ds _ (pending c.new-cutter.result) _ _ (starts_empty c.new-cutter.result c.new-cutter.ensures) at;
 }
 
 pub returns-in-Err-clause-err : goal.returns-in-Err-clause-err
 returns-in-Err-clause-err g c = λ opening ds at.
-    began (g.D.Deliver.stands opening) (g.D.Deliver.answers opening) c.reads.counter ds _ _ _ (pending c.reads.cutter) c.reads.desk c.reads.worst _ _
+    began (g.D.Deliver.stands opening) (g.D.Deliver.answers opening) ds _ _ _ (pending c.reads.cutter) c.reads.desk c.reads.worst _ _
     (c.reads.invariant.sofar opening ds at) c.in-Err.ensures.bytes
 
 pub returns-then-count-eq0-clause-ok : goal.returns-then-count-eq0-clause-ok
@@ -28,16 +30,26 @@ returns-then-count-eq0-clause-ok g c =
     ] in
     ok_with c.finish.result _ _ _
     (λ all is writes opening ds at.
-    ends_input (g.D.Deliver.stands opening) (g.D.Deliver.answers opening) c.reads.counter ds _ _ _ (pending c.reads.cutter) c.if-at_rest.end c.reads.desk c.reads.worst all _ _ _
-    (c.reads.invariant.sofar opening ds at) (nothing_taken _ _ c.in-Ok.count c.read.new.buf none reads.0) (reads.1 none (omega (arith, c.read.auto.buf))) how writes is)
+    streamed (g.D.Deliver.stands opening) (g.D.Deliver.answers opening) ds _ _ c.if-at_rest.end c.reads.desk c.reads.worst all _ _ _
+    (input_ends (g.D.Deliver.stands opening) (g.D.Deliver.answers opening) ds _ _ _ (pending c.reads.cutter) c.if-at_rest.end c.reads.desk c.reads.worst _ _
+    (c.reads.invariant.sofar opening ds at) (nothing_taken _ _ c.in-Ok.count c.read.new.buf none reads.0) (reads.1 none (omega (arith, c.read.auto.buf))) how)
+    writes is)
     c.finish.ensures.ok c.finish.ensures.writes
 
 pub returns-then-count-eq0-clause-err : goal.returns-then-count-eq0-clause-err
 returns-then-count-eq0-clause-err g c =
+    let reads = c.in-Ok.ensures.bytes in
+    let none = c.if-count-eq0.true in
+    let how : ((c.if-at_rest.end ≡ Whole) × (pending c.reads.cutter ≡ [])) ⊎ ((c.if-at_rest.end ≡ Open) × (pending c.reads.cutter ≢ [])) = elim c.if-at_rest.branch [
+      | then-at_rest w ↦ inl (w.end-is, nil_is (pending c.reads.cutter) (sym c.at_rest.ensures ∙ w.if-at_rest.true))
+      | else-at_rest w ↦ inr (w.end-is, nil_is_not (pending c.reads.cutter) (sym c.at_rest.ensures ∙ w.if-at_rest.false))
+    ] in
     err_weaker c.finish.result _ _
     (λ fault is opening ds at. at_write fault _ _ _ is.0
-    (delivered_sofar (g.D.Deliver.stands opening) (g.D.Deliver.answers opening) c.reads.counter ds _ _ _ (pending c.reads.cutter) c.reads.desk c.reads.worst _ _
-    (c.reads.invariant.sofar opening ds at) (nothing_taken _ _ c.in-Ok.count c.read.new.buf c.if-count-eq0.true c.in-Ok.ensures.bytes.0)))
+    (end_cut_short (g.D.Deliver.stands opening) (g.D.Deliver.answers opening) ds _ _ c.if-at_rest.end c.reads.desk c.reads.worst _ _ _
+    (input_ends (g.D.Deliver.stands opening) (g.D.Deliver.answers opening) ds _ _ _ (pending c.reads.cutter) c.if-at_rest.end c.reads.desk c.reads.worst _ _
+    (c.reads.invariant.sofar opening ds at) (nothing_taken _ _ c.in-Ok.count c.read.new.buf none reads.0) (reads.1 none (omega (arith, c.read.auto.buf))) how)
+    is.2))
     c.finish.ensures.err
 
 pub reads-preserved : goal.reads-preserved
@@ -51,20 +63,21 @@ reads-preserved g c =
       running = c.in-Ok-done.ensures.running c.in_default.is;
       reader = c.in-Ok.ensures.succeeds ∙ c.reads.invariant.reader;
       writer = c.in-Ok-done.ensures.kept ∙ c.reads.invariant.writer;
+      most = omega (arith, c.in-Ok.ensures.counted, c.reads.invariant.most);
+      least = omega (arith, c.in-Ok.ensures.counted, c.reads.invariant.least);
       sofar = λ opening ds at.
-          sofar_more (stands opening) (answers opening) c.reads.counter ds _ _ _ q q' piece c.reads.desk c.answer_piece-done.new.desk c.reads.worst c.in-Ok-done.done.0 _ _ _
+          sofar_more (stands opening) (answers opening) ds _ _ _ q q' piece c.reads.desk c.answer_piece-done.new.desk c.reads.worst c.in-Ok-done.done.0 _ _ _
           (c.reads.invariant.sofar opening ds at) c.in-Ok.ensures.bytes.0
-          (some_taken c.in-Ok.count c.read.new.buf c.if-count-eq0.false c.in-Ok.ensures.bound.0)
-          (λ others now. piece_at (stands opening) (answers opening) others c.in-Ok-done.done.1 None q q' piece c.answer_piece-done.new.desk c.reads.worst c.in-Ok-done.done.0 _ _
+          (λ others now. piece_at (stands opening) (answers opening) others c.in-Ok-done.done.1 None q' _ c.answer_piece-done.new.desk c.reads.worst c.in-Ok-done.done.0 _ _
           c.in_default.is (c.in-Ok-done.ensures.ok opening others now));
     }
 
 pub returns-in-Err-done-clause-err : goal.returns-in-Err-done-clause-err
 returns-in-Err-done-clause-err g c = λ opening ds at.
     at_write c.in-Err-done.fault _ _ _ c.in-Err-done.ensures.err.0
-    (delivered (g.D.Deliver.stands opening) (g.D.Deliver.answers opening) c.reads.counter ds _ _ _ (pending c.reads.cutter) (take c.in-Ok.count c.read.new.buf)
-    c.reads.desk c.answer_piece-done.new.desk c.reads.worst _ _ (c.reads.invariant.sofar opening ds at) c.in-Ok.ensures.bytes.0
-    (λ others now. c.in-Err-done.ensures.delivered opening others now))
+    (cut_short (g.D.Deliver.stands opening) (g.D.Deliver.answers opening) ds _ _ _ (pending c.reads.cutter) (take c.in-Ok.count c.read.new.buf)
+    c.reads.desk c.answer_piece-done.new.desk c.reads.worst _ _ _ (c.reads.invariant.sofar opening ds at) c.in-Ok.ensures.bytes.0
+    (λ others now. c.in-Err-done.ensures.cut_short opening others now))
 
 pub returns-in-Some-clause-ok : goal.returns-in-Some-clause-ok
 returns-in-Some-clause-ok g c =
@@ -75,10 +88,11 @@ returns-in-Some-clause-ok g c =
     let q' = pending c.answer_piece-done.new.cutter in
     ok_with c.finish-in-Some.result _ _ _
     (λ all is writes opening ds at.
-    ends_cut_off (stands opening) (answers opening) c.reads.counter ds _ _ _ q q' piece c.in-Some.fault c.reads.desk c.answer_piece-done.new.desk c.reads.worst c.in-Ok-done.done.0 all _ _ _ _
+    streamed (stands opening) (answers opening) ds _ _ (Cut c.in-Some.fault) c.answer_piece-done.new.desk c.in-Ok-done.done.0 all _ _ _
+    (stream_cut (stands opening) (answers opening) ds _ _ _ q q' piece c.in-Some.fault c.reads.desk c.answer_piece-done.new.desk c.reads.worst c.in-Ok-done.done.0 _ _ _
     (c.reads.invariant.sofar opening ds at) c.in-Ok.ensures.bytes.0
-    (λ others now. piece_at (stands opening) (answers opening) others c.in-Ok-done.done.1 (Some c.in-Some.fault) q q' piece c.answer_piece-done.new.desk c.reads.worst c.in-Ok-done.done.0 _ _
-    c.in-Some.is (c.in-Ok-done.ensures.ok opening others now))
+    (λ others now. piece_at (stands opening) (answers opening) others c.in-Ok-done.done.1 (Some c.in-Some.fault) q' _ c.answer_piece-done.new.desk c.reads.worst c.in-Ok-done.done.0 _ _
+    c.in-Some.is (c.in-Ok-done.ensures.ok opening others now)))
     writes is)
     c.finish-in-Some.ensures.ok c.finish-in-Some.ensures.writes
 
@@ -88,12 +102,17 @@ returns-in-Some-clause-err g c =
     let answers = g.D.Deliver.answers in
     let piece = take c.in-Ok.count c.read.new.buf in
     let q = pending c.reads.cutter in
+    let q' = pending c.answer_piece-done.new.cutter in
     err_weaker c.finish-in-Some.result _ _
     (λ fault is opening ds at. at_write fault _ _ _ is.0
-    (delivered_piece (stands opening) (answers opening) c.reads.counter ds _ _ _ q piece _ c.reads.desk c.answer_piece-done.new.desk c.reads.worst c.in-Ok-done.done.0 _ _ _
-    (c.reads.invariant.sofar opening ds at) c.in-Ok.ensures.bytes.0 (λ others now. c.in-Ok-done.ensures.ok opening others now)))
+    (end_cut_short (stands opening) (answers opening) ds _ _ (Cut c.in-Some.fault) c.answer_piece-done.new.desk c.in-Ok-done.done.0 _ _ _
+    (stream_cut (stands opening) (answers opening) ds _ _ _ q q' piece c.in-Some.fault c.reads.desk c.answer_piece-done.new.desk c.reads.worst c.in-Ok-done.done.0 _ _ _
+    (c.reads.invariant.sofar opening ds at) c.in-Ok.ensures.bytes.0
+    (λ others now. piece_at (stands opening) (answers opening) others c.in-Ok-done.done.1 (Some c.in-Some.fault) q' _ c.answer_piece-done.new.desk c.reads.worst c.in-Ok-done.done.0 _ _
+    c.in-Some.is (c.in-Ok-done.ensures.ok opening others now)))
+    is.2))
     c.finish-in-Some.ensures.err
 
 pub returns-clause-err : goal.returns-clause-err
 returns-clause-err g c = λ opening ds at.
-    began_now (g.D.Deliver.stands opening) (g.D.Deliver.answers opening) c.reads.counter c.args.turns ds _ _ (pending c.reads.cutter) c.reads.desk c.reads.worst _ _ (omega arith) (c.reads.invariant.sofar opening ds at)
+    began_now (g.D.Deliver.stands opening) (g.D.Deliver.answers opening) ds _ _ (pending c.reads.cutter) c.reads.desk c.reads.worst _ _ (c.reads.invariant.sofar opening ds at)

@@ -1,6 +1,6 @@
-use Rattle.std.proofs.Common.{◌≡◌, ℕ, List, None}
+use Rattle.std.proofs.Common.{◌≡◌, ℕ, ◌+◌, ◌-◌, ◌^◌, ◌≤◌, min, List, None}
 use Rattle.edi_cutter.specs.Cuts.{pending}
-use Rattle.office_stream.specs.Pieces.{Sofar}
+use Rattle.office_stream.proofs.StreamLemmas.{Sofar}
 use Rattle.office_stream.proofs.stream.run_stream.Given as goal
 
 abbrev pub invariant-reads : goal.invariant-reads
@@ -8,7 +8,9 @@ invariant-reads g l = record {
   running : l.cutter.fault ≡ None;
   reader : l.reader.failed ≡ l.fn.reader.failed;
   writer : l.writer.failed ≡ l.fn.writer.failed;
+  most : l.reader.reads ≤ l.fn.reader.reads + l.counter;
+  least : min (l.fn.reader.reads + l.counter) (2 ^ 64 - 1) ≤ l.reader.reads;
   sofar : (opening : g.row.D.Denot) (ds : List (List ℕ)) → g.D.Deliver.stands opening ds l.fn.desk →
-      Sofar (g.D.Deliver.stands opening) (g.D.Deliver.answers opening) l.counter ds (g.R.Read.remaining l.fn.reader.inner) (g.R.Read.remaining l.reader.inner)
+      Sofar (g.D.Deliver.stands opening) (g.D.Deliver.answers opening) ds (g.R.Read.remaining l.fn.reader.inner) (g.R.Read.remaining l.reader.inner)
       (pending l.cutter) l.desk l.worst (g.W.Write.contents l.fn.writer.inner) (g.W.Write.contents l.writer.inner);
 }

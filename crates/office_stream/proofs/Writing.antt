@@ -1,0 +1,26 @@
+-- What a failed write leaves of a text.
+use Rattle.std.proofs.Common.{◌≡◌, ℕ, List, ◌++◌, take, drop, Option, Result, Ok, Err, OnErr, append_assoc, sym, ap, ◌∙◌}
+use Rattle.std.specs.Io.KnownBytes.{Appends}
+use Rattle.std.proofs.KnownBytes.{Appends-trans}
+use Rattle.std.proofs.lemmas.List.{take-append-drop}
+use Rattle.office_stream.specs.Fronts.{AppendsFront}
+
+pub in_two : (front rest : List ℕ) (n : ℕ) → front ++ rest ≡ (front ++ take n rest) ++ drop n rest
+in_two front rest n = ap (λ y. front ++ y) (sym (take-append-drop n rest)) ∙ sym (append_assoc front (take n rest) (drop n rest))
+
+-- a front of a text is one of a longer text
+pub front_of_longer : (a b : Option (List ℕ)) (text more : List ℕ) → AppendsFront a b text → AppendsFront a b (text ++ more)
+front_of_longer a b text more (front, (behind, is), writes) = (front, (behind ++ more, ap (λ y. y ++ more) is ∙ append_assoc front behind more), writes)
+
+-- a front of what stands behind a text that was written
+pub front_behind : (a b c : Option (List ℕ)) (text more : List ℕ) → Appends a b text → AppendsFront b c more → AppendsFront a c (text ++ more)
+front_behind a b c text more before (front, (behind, is), writes) =
+    (text ++ front, (behind, ap (λ y. text ++ y) is ∙ sym (append_assoc text front behind)), Appends-trans a b c text front before writes)
+
+pub on_err : {T E : Type 0} (r : Result T E) (P : Type 0) → P → OnErr r P
+on_err (Ok value) P holds = tt
+on_err (Err e) P holds = holds
+
+pub on_err_weaker : {T E : Type 0} (r : Result T E) (P Q : Type 0) → (P → Q) → OnErr r P → OnErr r Q
+on_err_weaker (Ok value) P Q on holds = tt
+on_err_weaker (Err e) P Q on holds = on holds
