@@ -158,12 +158,13 @@ pub not_now_delivered : {M : Type 0} (taken : Taking M) (opening : Desk M) (ds :
     ((first : M) (before : List Delivery) → StandsAt taken first before old.runs → StandsAt taken first before new.runs) →
     RefusedSurely (parties old) (interchange_of delivered) response.NotNow →
     Delivers (DeskStands taken opening) (DeskAnswers taken opening) ds delivered response.NotNow new
-not_now_delivered taken opening ds delivered old new stands same stays surely =
-    (not_now_surely (parties opening) (interchange_of delivered) (subst (λ others. RefusedSurely others (interchange_of delivered) response.NotNow) stands.same_parties surely),
-    record {
-      same_parties = same ∙ stands.same_parties;
-      runs_stand = stays opening.runs.machine (deliveries_of (parties opening) ds) stands.runs_stand;
-    })
+not_now_delivered taken opening ds delivered old new stands same stays surely = (
+  not_now_surely (parties opening) (interchange_of delivered) (subst (λ others. RefusedSurely others (interchange_of delivered) response.NotNow) stands.same_parties surely),
+  record {
+    same_parties = same ∙ stands.same_parties;
+    runs_stand = stays opening.runs.machine (deliveries_of (parties opening) ds) stands.runs_stand;
+  },
+)
 
 -- ---- faults
 
