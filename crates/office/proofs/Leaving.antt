@@ -9,22 +9,22 @@ use Rattle.office_stream.specs.Faults.{MatchFault}
 use Rattle.office_stream.specs.declared.stream_fault.StreamFault.{StreamFault}
 use Rattle.office_stream.specs.declared.stream_fault.StreamFault.TheVariants.{Read, Write, Turns}
 use Rattle.office.specs.declared.demo_fault.DemoFault.TheVariants.{Stream}
-use Rattle.office.specs.declared.setup.Setup.{Setup}
-use Rattle.office.specs.Opening.{partner_codes, partner_kinds, opening_machine}
+use Rattle.office_setup.specs.declared.setup.Setup.{Setup}
+use Rattle.office_setup.specs.Parties.{partner_codes, partner_kinds, parties_of}
+use Rattle.office.specs.Opening.{opening_machine}
 use Rattle.office.specs.Demo.{OpensDemo, DemoLeft, demo_turns, demo_codes, demo_partners, demo_kinds, demo_blocks}
 
 -- a desk that was opened from the demonstration's set-up
 pub opens_demo : (setup : Setup) (desk : Desk MachineState)
     → string_bytes setup.terminal ≡ codes "TERM1" → table_texts setup.codes ≡ demo_codes
-    → partner_codes setup.accounts.items ≡ demo_partners → partner_kinds setup.accounts.items ≡ demo_kinds
+    → partner_codes setup.partners.items ≡ demo_partners → partner_kinds setup.partners.items ≡ demo_kinds
     → setup.blocks.items ≡ demo_blocks → setup.visit_limit ≡ 999999999
-    → parties desk ≡ record { terminal = string_bytes setup.terminal; partners = partner_codes setup.accounts.items }
-    → desk.runs.machine ≡ opening_machine (string_bytes setup.terminal) setup.codes setup.accounts.items setup.blocks.items setup.visit_limit
+    → parties desk ≡ parties_of setup → desk.runs.machine ≡ opening_machine setup
     → DeskStands interchange_taken desk [] desk → OpensDemo desk
 opens_demo setup desk terminal table partners kinds blocks limit parties_are machine_is stands = record {
   table = setup.codes;
   codes_are = table;
-  parties_are = parties_are ∙ ap (λ terminal. record { terminal = terminal; partners = partner_codes setup.accounts.items }) terminal ∙ ap (λ partners. record { terminal = codes "TERM1"; partners = partners }) partners;
+  parties_are = parties_are ∙ ap (λ terminal. record { terminal = terminal; partners = partner_codes setup.partners.items }) terminal ∙ ap (λ partners. record { terminal = codes "TERM1"; partners = partners }) partners;
   machine_is = rw (terminal, partners, kinds, blocks, limit) at machine_is;
   stands = stands;
 }

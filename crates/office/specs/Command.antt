@@ -1,6 +1,7 @@
 -- The command line and the exit status.
 use Rattle.std.specs.Prelude.{◌≡◌, ◌⊎◌, ℕ, List, [], ◌∷◌, Bool, false, Option, codes}
 use Rattle.std.specs.Str.{bytes_eq}
+use Rattle.std.specs.Io.KnownBytes.{Appends}
 use Rattle.office_replies.specs.declared.worst.Worst.{Worst}
 use Rattle.office_replies.specs.declared.worst.Worst.TheVariants.{Fine, Refused, NotNow}
 use Rattle.office_stream.specs.declared.stream_fault.StreamFault.TheVariants.{Read, Write, Turns}
@@ -32,8 +33,15 @@ fault_text (Stream Read) = codes "cannot read\n"
 fault_text (Stream Turns) = codes "turns\n"
 fault_text (Stream Write) = []
 
--- The demonstration ends with the status of its stream, or with 3 where it was left before the end.
-abbrev pub DemoEnds : (left left' written written' : Option (List ℕ)) (read_failed read_failed' write_failed write_failed' : Bool) → ℕ → Type 0
-DemoEnds left left' written written' read_failed read_failed' write_failed write_failed' status =
-    ((worst : Worst) × (status ≡ status_of worst) × DemoRuns left left' written written' worst)
-    ⊎ ((fault : DemoFault) × (status ≡ 3) × DemoLeft left left' written written' fault × IsOfPorts read_failed read_failed' write_failed write_failed' fault)
+-- The text is what was told, where telling it has not failed.
+abbrev pub Tells : (failed : Bool) (told told' : Option (List ℕ)) → List ℕ → Type 0
+Tells failed told told' text = failed ≡ false → Appends told told' text
+
+-- The demonstration ends with the status of its stream, and tells nothing, or with 3 where it was left before the end, and
+-- tells why.
+abbrev pub DemoEnds : (left left' written written' : Option (List ℕ)) (read_failed read_failed' write_failed write_failed' : Bool)
+    (tells : List ℕ → Type 0) → ℕ → Type 0
+DemoEnds left left' written written' read_failed read_failed' write_failed write_failed' tells status =
+    ((worst : Worst) × (status ≡ status_of worst) × tells [] × DemoRuns left left' written written' worst)
+    ⊎ ((fault : DemoFault) × (status ≡ 3) × tells (fault_text fault) × DemoLeft left left' written written' fault
+    × IsOfPorts read_failed read_failed' write_failed write_failed' fault)

@@ -2,7 +2,8 @@ ghost use Rattle.std.specs.Prelude.{IfOk, IfErr};
 ghost use Rattle.office.specs.Demo.{DemoRuns, DemoLeft, IsOfPorts};
 
 use crate::demo_fault::DemoFault;
-use crate::setup::Setup;
+use crate::demo_setup::demo_setup;
+use crate::open_desk::open_desk;
 use office_replies::Worst;
 use office_stream::{Port, run_stream};
 use std::alloc::Global;
@@ -18,17 +19,20 @@ pub fn run_demo<R: Read, W: Write>(
     reader: &mut Port<R>,
     writer: &mut Port<W>,
 ) -> Result<Worst, DemoFault>
-    ensures ok { IfOk result (DemoRuns (R.remaining reader.old.inner) (R.remaining reader.new.inner) (W.contents writer.old.inner) (W.contents writer.new.inner)) }
+    ensures ok { IfOk result (DemoRuns (R.remaining reader.old.inner) (R.remaining reader.new.inner)
+        (W.contents writer.old.inner) (W.contents writer.new.inner)) }
 
     // What was done before a fault stands.
-    ensures err { IfErr result (DemoLeft (R.remaining reader.old.inner) (R.remaining reader.new.inner) (W.contents writer.old.inner) (W.contents writer.new.inner)) }
-    ensures failed { IfErr result (IsOfPorts reader.old.failed reader.new.failed writer.old.failed writer.new.failed) }
+    ensures err { IfErr result (DemoLeft (R.remaining reader.old.inner) (R.remaining reader.new.inner)
+        (W.contents writer.old.inner) (W.contents writer.new.inner)) }
+    ensures failed { IfErr result (IsOfPorts reader.old.failed reader.new.failed
+        writer.old.failed writer.new.failed) }
 {
-    let setup = match Setup::demo(alloc) {
+    let setup = match demo_setup(alloc) {
         Ok(setup) => setup,
         Err(fault) => return Err(DemoFault::Setup(fault)),
     };
-    let mut desk = match setup.open(alloc) {
+    let mut desk = match open_desk(alloc, setup) {
         Ok(desk) => desk,
         Err(fault) => return Err(DemoFault::Setup(fault)),
     };

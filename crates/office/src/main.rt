@@ -2,11 +2,11 @@
 //! prints the answer to each.
 #![tactic(auto)]
 
-mod account;
 mod command;
 mod demo;
 mod demo_fault;
-mod setup;
+mod demo_setup;
+mod open_desk;
 mod setup_fault;
 #[cfg(test)]
 mod tests;
@@ -28,7 +28,7 @@ fn run(rt: &HostRuntime) -> io::Result<u8> {
     let words: Vec<String> = env::args(rt)?.collect(alloc)?;
     let mut input = Port::new(rt.stdin());
     let mut output = Port::new(rt.stdout());
-    let mut errors = rt.stderr();
+    let mut errors = Port::new(rt.stderr());
     Ok(command::run(
         alloc,
         words.as_slice(),

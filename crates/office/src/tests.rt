@@ -15,8 +15,10 @@ mod slots;
 mod streams;
 
 use crate::command;
-use crate::setup::Setup;
+use crate::demo_setup::demo_setup;
+use crate::open_desk::open_desk;
 use office_replies::Worst;
+use office_setup::Setup;
 use office_stream::{Deliver, Port, run_stream};
 use std::alloc::Global;
 use std::process::Abort;
@@ -30,7 +32,7 @@ fn demo_with(
     block: Block,
     visit_limit: u32,
 ) -> Result<Setup, Fail> {
-    let mut setup = Setup::demo(alloc).expect(rt, "a set-up");
+    let mut setup = demo_setup(alloc).expect(rt, "a set-up");
     setup.blocks = [block].as_slice().to_vec(alloc)?;
     setup.visit_limit = visit_limit;
     Ok(setup)
@@ -38,7 +40,7 @@ fn demo_with(
 
 /// Delivers each text to a desk to which nothing had been delivered, and holds the body of its answer to the one beside.
 fn assert_answers(rt: &impl Abort, alloc: Global, rows: &[(&[u8], &str)]) -> Result<(), Fail> {
-    let setup = Setup::demo(alloc).expect(rt, "a set-up");
+    let setup = demo_setup(alloc).expect(rt, "a set-up");
     assert_answers_of(rt, alloc, setup, rows)
 }
 
@@ -49,7 +51,7 @@ fn assert_answers_of(
     setup: Setup,
     rows: &[(&[u8], &str)],
 ) -> Result<(), Fail> {
-    let mut desk = setup.open(alloc).expect(rt, "a desk");
+    let mut desk = open_desk(alloc, setup).expect(rt, "a desk");
     for (delivered, expected) in rows {
         let response = desk.deliver(alloc, delivered);
         let mut body = String::from_str(alloc, response.front())?;
@@ -68,7 +70,7 @@ fn assert_streams(
     input: &[u8],
     lines: &str,
 ) -> Result<(), Fail> {
-    let mut desk = setup.open(alloc).expect(rt, "a desk");
+    let mut desk = open_desk(alloc, setup).expect(rt, "a desk");
     let mut output = Port::new(Vec::new(alloc));
     let worst = run_stream(alloc, &mut Port::new(input), &mut output, &mut desk, 100);
     assert_eq!(rt; worst, Ok(Worst::Fine));
@@ -89,7 +91,7 @@ fn assert_prints(
     words.push(String::from_str(alloc, word)?)?;
     let mut reader = Port::new(input);
     let mut writer = Port::new(Vec::new(alloc));
-    let mut errors = Vec::new(alloc);
+    let mut errors = Port::new(Vec::new(alloc));
     let status = command::run(
         alloc,
         words.as_slice(),
@@ -99,8 +101,9 @@ fn assert_prints(
     );
     let (lines, told, wanted) = expected;
     let printed = writer.into_inner();
+    let told_now = errors.into_inner();
     assert_eq!(rt; printed.as_slice(), lines.as_bytes());
-    assert_eq!(rt; errors.as_slice(), told.as_bytes());
+    assert_eq!(rt; told_now.as_slice(), told.as_bytes());
     assert_eq!(rt; status, wanted);
     Ok(())
 }

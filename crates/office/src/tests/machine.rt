@@ -1,13 +1,13 @@
 //! The machine by itself: it takes the interchanges that are admitted for the partner who hands them over, and no others.
 
-use edi_messages::{CodeTable, PartnerKind};
+use crate::demo_setup::demo_setup;
 use office_machine::TerminalMachine;
 use partner_core::Machine;
 use std::alloc::Global;
 use std::process::Abort;
 use std::test::Fail;
 use terminal_core::Terminal;
-use yard_core::{Block, Plan};
+use yard_core::Plan;
 
 /// From HAULA to TERM1.
 const GATE_IN: &[u8] =
@@ -26,27 +26,12 @@ const NOTHING: &str = "{\"contrl\":\"\",\"messages\":[]}";
 const TAKEN: &str =
     "{\"contrl\":\"UNB+UNOA:3+TERM1+HAULA+240305:0910+1'UNH+1+CONTRL:D:3:UN'UCI+1+HAULA+TERM1+7'UCM+1+CODECO:D:95B:UN+7'UNT+4+1'UNZ+1+1'\",\"messages\":[{\"lines\":[{\"box\":\"ABCU0000017\",\"line\":1,\"outcome\":\"done\",\"slot\":\"A001011\"}],\"reference\":\"1\",\"result\":\"accepted\"}]}";
 
-/// TERM1 with two hauliers, HAULA and HAULB.
+/// That of the demonstration: TERM1, where HAULA and HAULB are partners 1 and 2.
 fn machine(rt: &impl Abort, alloc: Global) -> Result<TerminalMachine, Fail> {
-    let block = Block {
-        letter: b'A',
-        bays: 4,
-        rows: 2,
-        tiers: 3,
-    };
-    let plan = Plan::new(&[block]).expect(rt, "a plan");
-    let codes = CodeTable::new([b"34", b"36", b"YMV", b"43", b"45", b"44", b"46"]).expect(
-        rt, "codes",
-    );
-    let mut partners = Vec::new(alloc);
-    partners.push(String::from_str(alloc, "HAULA")?)?;
-    partners.push(String::from_str(alloc, "HAULB")?)?;
-    let kinds = [PartnerKind::Gate, PartnerKind::Gate]
-        .as_slice()
-        .to_vec(alloc)?;
-    let terminal = Terminal::new(alloc, plan, 100)?;
-    let address = String::from_str(alloc, "TERM1")?;
-    Ok(TerminalMachine::new(address, partners, kinds, codes, terminal))
+    let setup = demo_setup(alloc).expect(rt, "a set-up");
+    let plan = Plan::new(setup.blocks.as_slice()).expect(rt, "a plan");
+    let terminal = Terminal::new(alloc, plan, setup.visit_limit)?;
+    Ok(TerminalMachine::new(setup, terminal))
 }
 
 #[test]

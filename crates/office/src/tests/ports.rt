@@ -4,7 +4,8 @@ use super::failing_reader::FailingReader;
 use super::failing_writer::FailingWriter;
 use super::pieces::Pieces;
 use crate::command;
-use crate::setup::Setup;
+use crate::demo_setup::demo_setup;
+use crate::open_desk::open_desk;
 use office_desk::Desk;
 use office_machine::TerminalMachine;
 use office_stream::{Port, StreamFault, run_stream};
@@ -139,8 +140,8 @@ fn a_failed_read_leaves_what_was_answered(rt: HostRuntime) -> Result<(), Fail> {
 }
 
 fn opened_desk(rt: &impl Abort, alloc: Global) -> Desk<TerminalMachine> {
-    let setup = Setup::demo(alloc).expect(rt, "a set-up");
-    setup.open(alloc).expect(rt, "a desk")
+    let setup = demo_setup(alloc).expect(rt, "a set-up");
+    open_desk(alloc, setup).expect(rt, "a desk")
 }
 
 /// A line is four writes: what stands before the reply, the reply, what stands behind it, and LF.

@@ -85,7 +85,7 @@ fn another_command_line_is_told_the_right_one(rt: HostRuntime) -> Result<(), Fai
         &rt,
         rt.alloc(),
         "serve",
-        b"",
+        b"UNB+UNOA:3+HAULA+TERM1+240305:0910+1'UNH+1+CODECO:D:95B:UN'BGM+34+G1+9'EQD+CN+ABCU0000017+22G1:102:5+++5'UNT+4+1'UNZ+1+1'",
         ("", "usage: office demo\n", 2),
     )
 }

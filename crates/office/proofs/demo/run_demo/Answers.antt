@@ -6,18 +6,18 @@ use Rattle.office.proofs.demo.run_demo.Goals as goal
 pub returns-in-Ok-run_stream-clause-ok : goal.returns-in-Ok-run_stream-clause-ok
 returns-in-Ok-run_stream-clause-ok g c =
     let setup = c.in-Ok.ensures in
-    let opened = c.in-Ok-open.ensures in
+    let opened = c.in-Ok-open_desk.ensures in
     record {
-      opening = c.in-Ok-open.desk;
+      opening = c.in-Ok-open_desk.desk;
       desk = c.run_stream.new.desk;
-      opens = opens_demo c.in-Ok.setup c.in-Ok-open.desk setup.terminal setup.table setup.partners setup.kinds setup.blocks setup.limit opened.parties opened.machine opened.stands;
-      streamed = c.in-Ok-run_stream.ensures.ok c.in-Ok-open.desk [] opened.stands;
+      opens = opens_demo c.in-Ok.setup c.in-Ok-open_desk.desk setup.terminal setup.table setup.partners setup.kinds setup.blocks setup.limit opened.parties opened.machine opened.stands;
+      streamed = c.in-Ok-run_stream.ensures.ok c.in-Ok-open_desk.desk [] opened.stands;
     }
 
 pub returns-clause-err : goal.returns-clause-err
 returns-clause-err g c =
     let setup = c.in-Ok.ensures in
-    let opened = c.in-Ok-open.ensures in
-    left_by _ _ _ _ c.in-Ok-open.desk c.run_stream.new.desk c.in-Err-run_stream.fault
-    (opens_demo c.in-Ok.setup c.in-Ok-open.desk setup.terminal setup.table setup.partners setup.kinds setup.blocks setup.limit opened.parties opened.machine opened.stands)
-    (c.in-Err-run_stream.ensures.err c.in-Ok-open.desk [] opened.stands)
+    let opened = c.in-Ok-open_desk.ensures in
+    left_by _ _ _ _ c.in-Ok-open_desk.desk c.run_stream.new.desk c.in-Err-run_stream.fault
+    (opens_demo c.in-Ok.setup c.in-Ok-open_desk.desk setup.terminal setup.table setup.partners setup.kinds setup.blocks setup.limit opened.parties opened.machine opened.stands)
+    (c.in-Err-run_stream.ensures.err c.in-Ok-open_desk.desk [] opened.stands)

@@ -1,9 +1,0 @@
-use edi_messages::PartnerKind;
-
-/// A partner of the terminal.
-#[derive(Drop)]
-pub struct Account {
-    /// The code by which interchanges name it as their sender.
-    pub code: String,
-    pub kind: PartnerKind,
-}
