@@ -12,7 +12,7 @@ use Rattle.office.specs.declared.demo_fault.DemoFault.TheVariants.{Stream}
 use Rattle.office_setup.specs.declared.setup.Setup.{Setup}
 use Rattle.office_setup.specs.Parties.{partner_codes, partner_kinds, parties_of}
 use Rattle.office.specs.Opening.{opening_machine}
-use Rattle.office.specs.Demo.{OpensDemo, DemoLeft, demo_turns, demo_codes, demo_partners, demo_kinds, demo_blocks}
+use Rattle.office.specs.Demo.{OpensDemo, DemoLeft, demo_codes, demo_partners, demo_kinds, demo_blocks}
 
 -- a desk that was opened from the demonstration's set-up
 pub opens_demo : (setup : Setup) (desk : Desk MachineState)
@@ -32,9 +32,9 @@ opens_demo setup desk terminal table partners kinds blocks limit parties_are mac
 -- what a stream from such a desk on leaves behind
 pub left_by : (left left' written written' : Option (List ℕ)) (opening desk : Desk MachineState) (fault : StreamFault) → OpensDemo opening
     → MatchFault fault
-    (Began (DeskStands interchange_taken opening) (DeskAnswers interchange_taken opening) 0 [] left left' written written' desk)
-    (Began (DeskStands interchange_taken opening) (DeskAnswers interchange_taken opening) demo_turns [] left left' written written' desk)
-    (Delivered (DeskStands interchange_taken opening) (DeskAnswers interchange_taken opening) [] left left' desk)
+    (Began (DeskStands interchange_taken opening) (DeskAnswers interchange_taken opening) [] left left' written written' desk)
+    (Delivered (DeskStands interchange_taken opening) (DeskAnswers interchange_taken opening) [] left left' written written' desk)
+    (Began (DeskStands interchange_taken opening) (DeskAnswers interchange_taken opening) [] left left' written written' desk)
     → DemoLeft left left' written written' (Stream fault)
 left_by left left' written written' opening desk Read opens began = record { opening = opening; desk = desk; opens = opens; began = began }
 left_by left left' written written' opening desk Turns opens began = record { opening = opening; desk = desk; opens = opens; began = began }

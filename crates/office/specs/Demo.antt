@@ -60,33 +60,32 @@ pub record DemoRuns (left left' written written' : Option (List ℕ)) (worst : W
   pub opens : OpensDemo opening
   pub streamed : Streamed (DeskStands interchange_taken opening) (DeskAnswers interchange_taken opening) [] left left' written written' desk worst
 
--- So many bytes or more were read, and the interchanges at their front were delivered to such a desk and answered by their
--- lines.
-pub record DemoBegan (least : ℕ) (left left' written written' : Option (List ℕ)) : Type 0 where
+-- All interchanges of what was read were delivered to such a desk and answered by their lines.
+pub record DemoBegan (left left' written written' : Option (List ℕ)) : Type 0 where
   pub opening : Desk MachineState
   pub desk : Desk MachineState
   pub opens : OpensDemo opening
-  pub began : Began (DeskStands interchange_taken opening) (DeskAnswers interchange_taken opening) least [] left left' written written' desk
+  pub began : Began (DeskStands interchange_taken opening) (DeskAnswers interchange_taken opening) [] left left' written written' desk
 
--- They were delivered to such a desk. Of what was written nothing is said.
-pub record DemoDelivered (left left' : Option (List ℕ)) : Type 0 where
+-- They were delivered to such a desk as far as lines could be written, of which the last was cut short.
+pub record DemoDelivered (left left' written written' : Option (List ℕ)) : Type 0 where
   pub opening : Desk MachineState
   pub desk : Desk MachineState
   pub opens : OpensDemo opening
-  pub delivered : Delivered (DeskStands interchange_taken opening) (DeskAnswers interchange_taken opening) [] left left' desk
+  pub delivered : Delivered (DeskStands interchange_taken opening) (DeskAnswers interchange_taken opening) [] left left' written written' desk
 
 -- how many reads of the input are made
 abbrev pub demo_turns : ℕ
 demo_turns = 100000000
 
 -- What was done before a fault. The set-up has none but a want of memory, and then nothing was read or written. A read that
--- failed leaves what was answered before, and so do too many reads, each of which gave a byte at least. So does a write that
--- failed, but that lines may be missing.
+-- failed leaves what was answered before, and so do too many reads. So does a write that failed, but for the line that it cut
+-- short.
 abbrev pub DemoLeft : (left left' written written' : Option (List ℕ)) → DemoFault → Type 0
 DemoLeft left left' written written' (Setup fault) = (fault ≡ Memory) × (left' ≡ left) × (written' ≡ written)
-DemoLeft left left' written written' (Stream Read) = DemoBegan 0 left left' written written'
-DemoLeft left left' written written' (Stream Turns) = DemoBegan demo_turns left left' written written'
-DemoLeft left left' written written' (Stream Write) = DemoDelivered left left'
+DemoLeft left left' written written' (Stream Read) = DemoBegan left left' written written'
+DemoLeft left left' written written' (Stream Turns) = DemoBegan left left' written written'
+DemoLeft left left' written written' (Stream Write) = DemoDelivered left left' written written'
 
 -- a fault of the reader or the writer comes only where it has failed, and any other only where neither has
 abbrev pub IsOfPorts : (read_failed read_failed' write_failed write_failed' : Bool) → DemoFault → Type 0

@@ -1,5 +1,7 @@
-ghost use Rattle.std.specs.Prelude.{IfOk, IfErr};
-ghost use Rattle.office.specs.Demo.{DemoRuns, DemoLeft, IsOfPorts};
+ghost use Rattle.std.specs.Prelude.{◌≡◌, ◌≤◌, ◌+◌, ◌-◌, ◌^◌, min, IfOk, IfErr};
+ghost use Rattle.office.specs.Demo.{DemoRuns, DemoLeft, IsOfPorts, demo_turns};
+ghost use Rattle.office.specs.declared.demo_fault.DemoFault.{DemoFault};
+ghost use Rattle.office_stream.specs.declared.stream_fault.StreamFault.{StreamFault};
 
 use crate::demo_fault::DemoFault;
 use crate::demo_setup::demo_setup;
@@ -27,6 +29,11 @@ pub fn run_demo<R: Read, W: Write>(
         (W.contents writer.old.inner) (W.contents writer.new.inner)) }
     ensures failed { IfErr result (IsOfPorts reader.old.failed reader.new.failed
         writer.old.failed writer.new.failed) }
+
+    // No more reads are made than turns, and where the stream is left for their number, as many.
+    ensures reads { reader.new.reads ≤ reader.old.reads + demo_turns }
+    ensures turns { IfErr result (λ fault. fault ≡ DemoFault.Stream StreamFault.Turns →
+        min (reader.old.reads + demo_turns) (2 ^ 64 - 1) ≤ reader.new.reads) }
 {
     let setup = match demo_setup(alloc) {
         Ok(setup) => setup,
