@@ -42,7 +42,7 @@ nothing_pending = ((refl, refl), λ m below. absurd (omega arith))
 pub some_bytes : (text : List ℕ) → IsInterchange text → text ≡ [] → ⊥
 some_bytes text is none = false≢true (sym nothing_pending.0.1 ∙ ap is_whole (sym none) ∙ is.1)
 
-no_fault_there : (text : List ℕ) (fault : CutFault) → fault_of text ≡ None → fault_of text ≡ Some fault → ⊥
+pub no_fault_there : (text : List ℕ) (fault : CutFault) → fault_of text ≡ None → fault_of text ≡ Some fault → ⊥
 no_fault_there text fault none some = let both = sym none ∙ some in absurd cc
 
 pub some_faulty : (text : List ℕ) (fault : CutFault) → Faults text fault → text ≡ [] → ⊥

@@ -3,3 +3,4 @@ pub mod Writing
 pub mod Cutting
 pub mod PieceLemmas
 pub mod StreamLemmas
+pub mod OneCut

@@ -1,5 +1,5 @@
 -- A stream, piece by piece.
-use Rattle.std.proofs.Common.{◌≡◌, ℕ, List, [], ◌∷◌, ◌++◌, Option, None, Some, Result, Ok, Err, IfOk, IfErr, OnOk, Bool, true, false, cond, ◌≢◌, ◌⊎◌, inl, inr, take, arith, length, append_assoc, refl, sym, ap, subst, ◌∙◌}
+use Rattle.std.proofs.Common.{◌≡◌, ℕ, List, [], ◌∷◌, ◌++◌, Option, None, Some, Result, Ok, Err, IfOk, IfErr, IsErrAnd, OnOk, Bool, true, false, cond, ◌≢◌, ◌⊎◌, inl, inr, take, arith, length, append_assoc, refl, sym, ap, subst, ◌∙◌}
 use Rattle.std.specs.Io.KnownBytes.{Appends, Consumes, Keeps, IsAtEnd}
 use Rattle.std.proofs.KnownBytes.{Appends-trans, Consumes-trans, Consumes-kept, Consumes-nil, Appends-nil, Keeps-refl}
 use Rattle.std.proofs.lemmas.Grind.{flat_map-append}
@@ -235,6 +235,10 @@ ok_with (Err e) P X Q on holds more = tt
 pub err_weaker : {T E : Type 0} (r : Result T E) (P Q : E → Type 0) → ((e : E) → P e → Q e) → IfErr r P → IfErr r Q
 err_weaker (Ok value) P Q on holds = tt
 err_weaker (Err e) P Q on holds = on e holds
+
+pub is_err_and : {T E : Type 0} (r : Result T E) (P Q : E → Type 0) → ((e : E) → P e → Q e) → IsErrAnd r P → IfErr r Q
+is_err_and (Ok value) P Q on holds = tt
+is_err_and (Err e) P Q on holds = on e holds
 
 -- ---- the cutter and the buffer
 

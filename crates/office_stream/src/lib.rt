@@ -4,6 +4,7 @@
 
 mod answer;
 mod deliver;
+pub mod laws;
 mod line;
 mod port;
 mod stream;

@@ -43,8 +43,12 @@ impl<T> Port<T> {
     pub fn failed(&self) -> bool
         ensures { result ≡ self.now.failed }
     {
-        let failed = self.failed;
-        failed
+        let Port {
+            inner: _,
+            failed,
+            reads: _,
+        } = self;
+        *failed
     }
 
     /// How many reads were made, failed ones among them, up to `u64::MAX`.

@@ -75,11 +75,8 @@ pub fn run_stream<R: Read, W: Write, D: Deliver>(
             };
             return finish(writer, end, worst);
         }
-        let done = answer_piece(alloc, &mut cutter, &buffer[..count], writer, desk, worst);
-        let (worst_now, cut) = match done {
-            Ok(done) => done,
-            Err(fault) => return Err(fault),
-        };
+        let piece = &buffer[..count];
+        let (worst_now, cut) = answer_piece(alloc, &mut cutter, piece, writer, desk, worst)?;
         worst = worst_now;
         if let Some(fault) = cut {
             return finish(writer, StreamEnd::Cut(fault), worst);

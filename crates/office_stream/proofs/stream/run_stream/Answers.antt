@@ -1,7 +1,7 @@
 use Rattle.std.proofs.Common.{◌≡◌, ◌≢◌, ◌⊎◌, [], None, Some, inl, inr, refl, sym, ◌∙◌, arith, take}
 use Rattle.edi_cutter.specs.Cuts.{pending}
 use Rattle.office_stream.specs.declared.stream_end.StreamEnd.TheVariants.{Whole, Open, Cut}
-use Rattle.office_stream.proofs.StreamLemmas.{nothing_read, sofar_more, began, began_now, cut_short, piece_at, input_ends, stream_cut, streamed, end_cut_short, nil_is, nil_is_not, at_write, ok_with, err_weaker, starts_running, starts_empty, nothing_taken}
+use Rattle.office_stream.proofs.StreamLemmas.{nothing_read, sofar_more, began, began_now, cut_short, piece_at, input_ends, stream_cut, streamed, end_cut_short, nil_is, nil_is_not, at_write, ok_with, err_weaker, is_err_and, starts_running, starts_empty, nothing_taken}
 use Rattle.office_stream.proofs.stream.run_stream.Goals as goal
 use Rattle.office_stream.proofs.stream.run_stream.Goals.{then-at_rest, else-at_rest}
 
@@ -58,26 +58,28 @@ reads-preserved g c =
     let answers = g.D.Deliver.answers in
     let piece = take c.in-Ok.count c.read.new.buf in
     let q = pending c.reads.cutter in
-    let q' = pending c.answer_piece-done.new.cutter in
+    let q' = pending c.answer_piece.new.cutter in
     record {
-      running = c.in-Ok-done.ensures.running c.in_default.is;
+      running = c.in_ok-worst_now.ensures.running c.in_default.is;
       reader = c.in-Ok.ensures.succeeds ∙ c.reads.invariant.reader;
-      writer = c.in-Ok-done.ensures.kept ∙ c.reads.invariant.writer;
+      writer = c.in_ok-worst_now.ensures.kept ∙ c.reads.invariant.writer;
       most = omega (arith, c.in-Ok.ensures.counted, c.reads.invariant.most);
       least = omega (arith, c.in-Ok.ensures.counted, c.reads.invariant.least);
       sofar = λ opening ds at.
-          sofar_more (stands opening) (answers opening) ds _ _ _ q q' piece c.reads.desk c.answer_piece-done.new.desk c.reads.worst c.in-Ok-done.done.0 _ _ _
+          sofar_more (stands opening) (answers opening) ds _ _ _ q q' piece c.reads.desk c.answer_piece.new.desk c.reads.worst c.in_ok-worst_now.worst_now _ _ _
           (c.reads.invariant.sofar opening ds at) c.in-Ok.ensures.bytes.0
-          (λ others now. piece_at (stands opening) (answers opening) others c.in-Ok-done.done.1 None q' _ c.answer_piece-done.new.desk c.reads.worst c.in-Ok-done.done.0 _ _
-          c.in_default.is (c.in-Ok-done.ensures.ok opening others now));
+          (λ others now. piece_at (stands opening) (answers opening) others c.in_ok-worst_now.cut None q' _ c.answer_piece.new.desk c.reads.worst c.in_ok-worst_now.worst_now _ _
+          c.in_default.is (c.in_ok-worst_now.ensures.ok opening others now));
     }
 
-pub returns-in-Err-done-clause-err : goal.returns-in-Err-done-clause-err
-returns-in-Err-done-clause-err g c = λ opening ds at.
-    at_write c.in-Err-done.fault _ _ _ c.in-Err-done.ensures.err.0
+pub returns-in_err-worst_now-clause-err : goal.returns-in_err-worst_now-clause-err
+returns-in_err-worst_now-clause-err g c =
+    is_err_and c.from_residual.result _ _
+    (λ fault is opening ds at. at_write fault _ _ _ (is ∙ c.in_err-worst_now.ensures.err.0)
     (cut_short (g.D.Deliver.stands opening) (g.D.Deliver.answers opening) ds _ _ _ (pending c.reads.cutter) (take c.in-Ok.count c.read.new.buf)
-    c.reads.desk c.answer_piece-done.new.desk c.reads.worst _ _ _ (c.reads.invariant.sofar opening ds at) c.in-Ok.ensures.bytes.0
-    (λ others now. c.in-Err-done.ensures.cut_short opening others now))
+    c.reads.desk c.answer_piece.new.desk c.reads.worst _ _ _ (c.reads.invariant.sofar opening ds at) c.in-Ok.ensures.bytes.0
+    (λ others now. c.in_err-worst_now.ensures.cut_short opening others now)))
+    c.from_residual.ensures.1
 
 pub returns-in-Some-clause-ok : goal.returns-in-Some-clause-ok
 returns-in-Some-clause-ok g c =
@@ -85,14 +87,14 @@ returns-in-Some-clause-ok g c =
     let answers = g.D.Deliver.answers in
     let piece = take c.in-Ok.count c.read.new.buf in
     let q = pending c.reads.cutter in
-    let q' = pending c.answer_piece-done.new.cutter in
+    let q' = pending c.answer_piece.new.cutter in
     ok_with c.finish-in-Some.result _ _ _
     (λ all is writes opening ds at.
-    streamed (stands opening) (answers opening) ds _ _ (Cut c.in-Some.fault) c.answer_piece-done.new.desk c.in-Ok-done.done.0 all _ _ _
-    (stream_cut (stands opening) (answers opening) ds _ _ _ q q' piece c.in-Some.fault c.reads.desk c.answer_piece-done.new.desk c.reads.worst c.in-Ok-done.done.0 _ _ _
+    streamed (stands opening) (answers opening) ds _ _ (Cut c.in-Some.fault) c.answer_piece.new.desk c.in_ok-worst_now.worst_now all _ _ _
+    (stream_cut (stands opening) (answers opening) ds _ _ _ q q' piece c.in-Some.fault c.reads.desk c.answer_piece.new.desk c.reads.worst c.in_ok-worst_now.worst_now _ _ _
     (c.reads.invariant.sofar opening ds at) c.in-Ok.ensures.bytes.0
-    (λ others now. piece_at (stands opening) (answers opening) others c.in-Ok-done.done.1 (Some c.in-Some.fault) q' _ c.answer_piece-done.new.desk c.reads.worst c.in-Ok-done.done.0 _ _
-    c.in-Some.is (c.in-Ok-done.ensures.ok opening others now)))
+    (λ others now. piece_at (stands opening) (answers opening) others c.in_ok-worst_now.cut (Some c.in-Some.fault) q' _ c.answer_piece.new.desk c.reads.worst c.in_ok-worst_now.worst_now _ _
+    c.in-Some.is (c.in_ok-worst_now.ensures.ok opening others now)))
     writes is)
     c.finish-in-Some.ensures.ok c.finish-in-Some.ensures.writes
 
@@ -102,14 +104,14 @@ returns-in-Some-clause-err g c =
     let answers = g.D.Deliver.answers in
     let piece = take c.in-Ok.count c.read.new.buf in
     let q = pending c.reads.cutter in
-    let q' = pending c.answer_piece-done.new.cutter in
+    let q' = pending c.answer_piece.new.cutter in
     err_weaker c.finish-in-Some.result _ _
     (λ fault is opening ds at. at_write fault _ _ _ is.0
-    (end_cut_short (stands opening) (answers opening) ds _ _ (Cut c.in-Some.fault) c.answer_piece-done.new.desk c.in-Ok-done.done.0 _ _ _
-    (stream_cut (stands opening) (answers opening) ds _ _ _ q q' piece c.in-Some.fault c.reads.desk c.answer_piece-done.new.desk c.reads.worst c.in-Ok-done.done.0 _ _ _
+    (end_cut_short (stands opening) (answers opening) ds _ _ (Cut c.in-Some.fault) c.answer_piece.new.desk c.in_ok-worst_now.worst_now _ _ _
+    (stream_cut (stands opening) (answers opening) ds _ _ _ q q' piece c.in-Some.fault c.reads.desk c.answer_piece.new.desk c.reads.worst c.in_ok-worst_now.worst_now _ _ _
     (c.reads.invariant.sofar opening ds at) c.in-Ok.ensures.bytes.0
-    (λ others now. piece_at (stands opening) (answers opening) others c.in-Ok-done.done.1 (Some c.in-Some.fault) q' _ c.answer_piece-done.new.desk c.reads.worst c.in-Ok-done.done.0 _ _
-    c.in-Some.is (c.in-Ok-done.ensures.ok opening others now)))
+    (λ others now. piece_at (stands opening) (answers opening) others c.in_ok-worst_now.cut (Some c.in-Some.fault) q' _ c.answer_piece.new.desk c.reads.worst c.in_ok-worst_now.worst_now _ _
+    c.in-Some.is (c.in_ok-worst_now.ensures.ok opening others now)))
     is.2))
     c.finish-in-Some.ensures.err
 
