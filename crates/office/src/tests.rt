@@ -100,10 +100,8 @@ fn assert_prints(
         &mut errors,
     );
     let (lines, told, wanted) = expected;
-    let printed = writer.into_inner();
-    let told_now = errors.into_inner();
-    assert_eq!(rt; printed.as_slice(), lines.as_bytes());
-    assert_eq!(rt; told_now.as_slice(), told.as_bytes());
+    assert_eq!(rt; writer.into_inner().as_slice(), lines.as_bytes());
+    assert_eq!(rt; errors.into_inner().as_slice(), told.as_bytes());
     assert_eq!(rt; status, wanted);
     Ok(())
 }

@@ -56,9 +56,9 @@ fn demo<R: Read + Drop>(alloc: Global, reader: R) -> Result<(Vec<u8>, Vec<u8>, u
     words.push(String::from_str(alloc, "demo")?)?;
     let mut input = Port::new(reader);
     let mut output = Port::new(Vec::new(alloc));
-    let mut errors = Vec::new(alloc);
+    let mut errors = Port::new(Vec::new(alloc));
     let status = command::run(alloc, &words, &mut input, &mut output, &mut errors);
-    Ok((output.into_inner(), errors, status))
+    Ok((output.into_inner(), errors.into_inner(), status))
 }
 
 #[test]
@@ -198,9 +198,9 @@ fn a_program_whose_output_fails_ends_with_three(rt: HostRuntime) -> Result<(), F
     };
     let mut input = Port::new(STREAM);
     let mut output = Port::new(writer);
-    let mut errors = Vec::new(rt.alloc());
+    let mut errors = Port::new(Vec::new(rt.alloc()));
     let status = command::run(rt.alloc(), &words, &mut input, &mut output, &mut errors);
-    assert_eq!(&rt; errors.len(), 0);
+    assert_eq!(&rt; errors.into_inner().len(), 0);
     assert_eq!(&rt; status, 3);
     Ok(())
 }
