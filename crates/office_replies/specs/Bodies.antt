@@ -42,3 +42,6 @@ refused_data contrl fault =
 
 unfoldable pub refused_text : List ℕ → List ℕ → List ℕ
 refused_text contrl fault = compact_text (refused_data contrl fault)
+
+abbrev pub not_now_data : Data
+not_now_data = object (text_member (codes "answer") (codes "not now") no_members)

@@ -3,23 +3,26 @@ ghost use Rattle.json.specs.Print.{quoted};
 ghost use Rattle.serde_json.specs.Data.{Data};
 ghost use Rattle.serde_json.specs.View.{view};
 ghost use Rattle.serde_json.specs.Written.{compact_text};
-ghost use Rattle.office_replies.specs.Bodies.{head_text, answer_data, waiting_data, waiting_text, clash_data, clash_text, refused_data, refused_text};
+ghost use Rattle.office_replies.specs.Bodies.{head_text, answer_data, waiting_data, waiting_text};
+ghost use Rattle.office_replies.specs.Bodies.{clash_data, clash_text, refused_data, refused_text};
 
 use serde_json::{Value, json};
 use std::alloc::{AllocError, Global};
 
-/// What the body for an interchange that was taken, now or before, has before its reply; behind the reply stands `}`.
-/// `answer` says whether it was taken now.
+/// What the body for an interchange that was taken, now or before, has before its reply; behind the
+/// reply stands `}`. `answer` says whether it was taken now.
 pub fn answer_head(
     alloc: Global,
     answer: &str,
     number: u32,
     partner: &str,
 ) -> Result<String, AllocError>
-    ensures bytes { IfOk result (λ s. string_bytes s ≡ head_text answer.now number partner.now) }
+    ensures bytes { IfOk result (λ s.
+        string_bytes s ≡ head_text answer.now number partner.now) }
 
     // Where the reply is the JSON of a value, the whole is the JSON of the answer.
-    ensures json { IfOk result (λ s. (d : Data) → string_bytes s ++ compact_text d ++ codes "}"
+    ensures json { IfOk result (λ s. (d : Data) →
+        string_bytes s ++ compact_text d ++ codes "}"
         ≡ compact_text (answer_data answer.now number partner.now d)) }
 {
     let answer = quoted_text(alloc, answer)?;

@@ -1,10 +1,11 @@
-//! The bodies that answer deliveries, and the replies that are kept of interchanges: JSON as `serde_json` writes it, compact,
-//! with the members of each object in the byte order of their keys.
+//! The bodies that answer deliveries, and the replies that are kept of interchanges: JSON as
+//! `serde_json` writes it, compact, with the members of each object in the byte order of their keys.
 #![tactic(auto)]
 
 mod body;
 mod fault;
 mod kept;
+pub mod laws;
 mod line_report;
 mod message_report;
 mod message_verdict;

@@ -2,7 +2,8 @@ ghost use Rattle.std.specs.Prelude.{◌≡◌, IfOk, Option, string_bytes, encod
 ghost use Rattle.std.specs.Option.{option_map};
 ghost use Rattle.serde_json.specs.View.{view};
 ghost use Rattle.serde_json.specs.Data.{object};
-ghost use Rattle.office_replies.specs.Members.{name_text, done_members, settled_members, refused_members, buried_members};
+ghost use Rattle.office_replies.specs.Members.{name_text, done_members, settled_members};
+ghost use Rattle.office_replies.specs.Members.{refused_members, buried_members};
 ghost use Rattle.office_replies.specs.Names.{reason_name};
 ghost use Rattle.office_replies.specs.Lines.{line_data, refusal_members, written};
 
@@ -44,7 +45,8 @@ fn refusal(
     line: u64,
     reason: Reason,
 ) -> Result<Value, AllocError>
-    ensures { IfOk result (λ v. view v ≡ object (refusal_members (name_text name.entry) line reason)) }
+    ensures { IfOk result (λ v.
+        view v ≡ object (refusal_members (name_text name.entry) line reason)) }
 {
     match reason {
         Reason::Buried(blocker) => {
@@ -65,7 +67,8 @@ fn number_text(alloc: Global, number: Option<BoxNumber>) -> Result<Option<String
 }
 
 fn done(alloc: Global, name: Option<&String>, line: u64, slot: &str) -> Result<Value, AllocError>
-    ensures { IfOk result (λ v. view v ≡ object (done_members (name_text name.entry) line slot.now)) }
+    ensures { IfOk result (λ v.
+        view v ≡ object (done_members (name_text name.entry) line slot.now)) }
 {
     match name {
         Some(name) => json!(in alloc; {"box": name, "line": line, "outcome": "done", "slot": slot}),
@@ -79,7 +82,8 @@ fn settled(
     line: u64,
     outcome: &str,
 ) -> Result<Value, AllocError>
-    ensures { IfOk result (λ v. view v ≡ object (settled_members (name_text name.entry) line outcome.now)) }
+    ensures { IfOk result (λ v.
+        view v ≡ object (settled_members (name_text name.entry) line outcome.now)) }
 {
     match name {
         Some(name) => json!(in alloc; {"box": name, "line": line, "outcome": outcome}),
@@ -93,7 +97,8 @@ fn refused(
     line: u64,
     reason: &str,
 ) -> Result<Value, AllocError>
-    ensures { IfOk result (λ v. view v ≡ object (refused_members (name_text name.entry) line reason.now)) }
+    ensures { IfOk result (λ v.
+        view v ≡ object (refused_members (name_text name.entry) line reason.now)) }
 {
     match name {
         Some(name) => {
@@ -109,14 +114,17 @@ fn buried(
     line: u64,
     blocker: &str,
 ) -> Result<Value, AllocError>
-    ensures { IfOk result (λ v. view v ≡ object (buried_members (name_text name.entry) line blocker.now)) }
+    ensures { IfOk result (λ v.
+        view v ≡ object (buried_members (name_text name.entry) line blocker.now)) }
 {
     match name {
         Some(name) => {
-            json!(in alloc; {"blocker": blocker, "box": name, "line": line, "outcome": "refused", "reason": "Buried"})
+            json!(in alloc; {"blocker": blocker, "box": name, "line": line,
+                "outcome": "refused", "reason": "Buried"})
         }
         None => {
-            json!(in alloc; {"blocker": blocker, "line": line, "outcome": "refused", "reason": "Buried"})
+            json!(in alloc; {"blocker": blocker, "line": line,
+                "outcome": "refused", "reason": "Buried"})
         }
     }
 }

@@ -23,7 +23,8 @@ pub enum Response {
 
 impl Response {
     ghost use Rattle.std.specs.Prelude.{◌≡◌};
-    ghost use Rattle.office_replies.specs.Responses.{status_of, front_of, reply_in, back_of, worst_of};
+    ghost use Rattle.office_replies.specs.Responses.{status_of, front_of, reply_in, back_of};
+    ghost use Rattle.office_replies.specs.Responses.{worst_of};
 
     /// The status of HTTP that goes with it.
     pub fn status(&self) -> u16
@@ -39,8 +40,9 @@ impl Response {
         }
     }
 
-    /// The first part of its body, which is compact JSON: `front`, `reply` and `back`, one after the other, are the whole.
-    /// They take no memory, so that a text that was taken can always be answered.
+    /// The first part of its body, which is compact JSON: `front`, `reply` and `back`, one after the
+    /// other, are the whole. They take no memory, so that a text that was taken can always be
+    /// answered.
     pub fn front(&self) -> &str
         ensures { result.now ≡ front_of self.now }
     {

@@ -1,0 +1,38 @@
+-- A body that stands ready as text is the JSON of its value.
+use Rattle.std.proofs.Common.{◌≡◌, ◌∙◌, ◌++◌, [], refl, append-nil}
+use Rattle.serde_json.specs.Written.{compact_text}
+use Rattle.serde_json.proofs.OnLiterals.{serde_json_on_literals}
+use Rattle.edi_segments.specs.declared.syntax_fault.SyntaxFault.TheVariants as syntax
+use Rattle.office_replies.specs.declared.fault.Fault.{Fault}
+use Rattle.office_replies.specs.declared.fault.Fault.TheVariants as fault
+use Rattle.office_replies.specs.declared.response.Response.TheVariants.{Refused, NotNow}
+use Rattle.office_replies.specs.Bodies.{not_now_data}
+use Rattle.office_replies.specs.Refusals.{refusal_text, refusal_data}
+use Rattle.office_replies.specs.Responses.{body_of}
+
+pub refusal_text-data : (fault : Fault) → refusal_text fault ≡ compact_text (refusal_data fault)
+unfolding serde_json_on_literals
+refusal_text-data (fault.Syntax syntax.TooLong) = refl
+refusal_text-data (fault.Syntax syntax.Service) = refl
+refusal_text-data (fault.Syntax syntax.Segment) = refl
+refusal_text-data (fault.Syntax syntax.NoEnvelope) = refl
+refusal_text-data (fault.Syntax syntax.Group) = refl
+refusal_text-data (fault.Syntax syntax.Version) = refl
+refusal_text-data (fault.Syntax syntax.Number) = refl
+refusal_text-data (fault.Syntax syntax.Moment) = refl
+refusal_text-data (fault.Syntax syntax.Test) = refl
+refusal_text-data (fault.Syntax syntax.MessageFrame) = refl
+refusal_text-data (fault.Syntax syntax.SegmentCount) = refl
+refusal_text-data (fault.Syntax syntax.MessageReference) = refl
+refusal_text-data (fault.Syntax syntax.Empty) = refl
+refusal_text-data (fault.Syntax syntax.ControlCount) = refl
+refusal_text-data (fault.Syntax syntax.ControlReference) = refl
+refusal_text-data fault.UnknownSender = refl
+refusal_text-data fault.WrongRecipient = refl
+
+pub refused_body-data : (fault : Fault) → body_of (Refused fault) ≡ compact_text (refusal_data fault)
+refused_body-data fault = append-nil (refusal_text fault ++ []) ∙ append-nil (refusal_text fault) ∙ refusal_text-data fault
+
+pub not_now_body-data : body_of NotNow ≡ compact_text not_now_data
+unfolding serde_json_on_literals
+not_now_body-data = refl

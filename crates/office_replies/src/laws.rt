@@ -1,0 +1,24 @@
+//! Laws of the definitions. Each function has an empty body, and its contract is the law: a call
+//! brings it into the caller's proof.
+//!
+//! They speak of the bodies that stand ready as texts: each is the JSON of a value too.
+
+ghost use Rattle.std.specs.Prelude.{◌≡◌};
+ghost use Rattle.serde_json.specs.Written.{compact_text};
+ghost use Rattle.office_replies.specs.declared.fault.Fault.{Fault};
+ghost use Rattle.office_replies.specs.declared.response.Response.TheVariants.{Refused, NotNow};
+ghost use Rattle.office_replies.specs.Bodies.{not_now_data};
+ghost use Rattle.office_replies.specs.Refusals.{refusal_text, refusal_data};
+ghost use Rattle.office_replies.specs.Responses.{body_of};
+
+/// A refusal without a CONTRL is an object: its `answer` is "refused", and its `fault` the fault's
+/// name.
+pub fn refusal_is_json()
+    ensures text { (fault : Fault) → refusal_text fault ≡ compact_text (refusal_data fault) }
+    ensures body { (fault : Fault) → body_of (Refused fault) ≡ compact_text (refusal_data fault) }
+{}
+
+/// NotNow is an object: its `answer` is "not now".
+pub fn not_now_is_json()
+    ensures { body_of NotNow ≡ compact_text not_now_data }
+{}
