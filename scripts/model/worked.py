@@ -1,0 +1,1 @@
+def check(top, program): return 0
