@@ -14,7 +14,7 @@ SENT_OTHERWISE = 0.04       # another interchange under a number that was sent
 SENT_EARLY = 0.15           # the number is 1 to 3 above the partner's least that was not sent
 SPOILED = 0.06              # an interchange of SPOILS
 MESSAGE_SPOILED = 0.06      # a message of MESSAGE_SPOILS
-TOO_MANY = 0.0004           # a message of a thousand containers
+TOO_MANY = 0.0004           # a message of ABOUT_TOO_MANY groups, of which about one in twenty is no container
 OTHER_SERVICE = 0.04        # other service characters, told by UNA
 BREAKS_WITHIN = 0.08        # a line break behind each segment
 
@@ -22,6 +22,7 @@ BREAKS_WITHIN = 0.08        # a line break behind each segment
 CONTAINERS = [(1, 5), (2, 14), (1, 30)]
 MESSAGES = [(8, 1), (2, 2), (1, 3)]
 LINES = [(6, 1), (2, 2), (1, 3), (1, 5)]
+ABOUT_TOO_MANY = 1050
 
 # partners, and what each sends
 SENDERS = [
@@ -77,7 +78,7 @@ PORTS = [(2, 'DEHAM:139:6'), (2, 'NLRTM'), (1, '')]
 TRANSPORTS = [(6, 'TDT+20+V12++++++9123456:146'), (2, 'TDT+20+V13++++++9123456')]
 
 BETWEEN = [(3, ''), (3, '\n'), (3, '\r\n'), (1, '\n\n')]
-TAILS = [(20, ''), (1, 'UNB+'), (1, 'AAAA'), (1, "UNA++.? '")]
+TAILS = [(20, ''), (1, 'UNB+'), (1, 'AAAA'), (1, "UNA++.? '"), (0.1, 'FTX+' + 'A' * 1048573)]
 PLACED_BYTES = "'+:?UNZBHT0159 \r\n\x00\x7f\x80\xe9"
 
 
@@ -142,7 +143,7 @@ class Day:
         body = ['BGM+%s+G1%s' % (code, self.random.choice(['', '+9']))]
         if type_name != 'CODECO':
             body.append(self.pick(TRANSPORTS))
-        for _line in range(1000 if self.happens(TOO_MANY) else self.pick(LINES)):
+        for _line in range(ABOUT_TOO_MANY if self.happens(TOO_MANY) else self.pick(LINES)):
             body += self.group(order)
         if self.happens(0.2):
             body.append('CNT+16:%d' % sum(1 for segment in body if segment.startswith('EQD')))

@@ -23,6 +23,13 @@ def slots(plan):
     return sorted(every, key=lambda slot: (slot.tier, slot.block, slot.bay, slot.row))
 
 
+def is_in_plan(plan, slot):
+    """Its block is there, its bay is from 1 to the last odd bay, its row and its tier are the block's."""
+    return any(
+        slot.block == block.letter and 1 <= slot.bay <= 2 * block.bays - 1
+        and 1 <= slot.row <= block.rows and 1 <= slot.tier <= block.tiers for block in plan)
+
+
 def cells(place):
     """A twenty in an odd bay covers that cell. A forty in an even bay covers those of the two odd bays beside it."""
     if place.length == 20:
@@ -48,7 +55,7 @@ def is_carried(yard, place):
 def misfit(plan, yard, place):
     """Why one container more would not fit there, the first reason that applies, or None where it fits: the slot is not
     in the plan; it is of the other kind; a cell of it is covered; nothing carries it."""
-    if place.slot not in slots(plan):
+    if not is_in_plan(plan, place.slot):
         return 'NoSlot'
     if (place.slot.bay % 2 == 1) != (place.length == 20):
         return 'SlotKind'
