@@ -15,6 +15,7 @@ file has one subject, in the order in which they stand on one another:
     office.py      admission, taking a text, the answer to a delivery
     stream.py      the lines and the exit status that answer a stream
     days.py        random streams, and how often what comes in them
+    page.py        the page of worked rows, read
     worked.py      the worked rows of docs/WORKED_ROWS.md, and the day of README.md
     beside.py      the program beside all this: scripts/beside
 

@@ -75,8 +75,7 @@ def compare(mix, first_seed):
     for seed in range(first_seed, first_seed + streams):
         text = stream(seed, deliveries, share)
         given = answers(Office(keeps_fold=deliveries > LONGEST_ANEW), text)
-        for answer in given:
-            counted.update(kinds_of(answer))
+        counted.update(kind for answer in given for kind in kinds_of(answer))
         shown = differences(seed, (lines(given), status(given)), answered_by_program(text))
         differing += bool(shown)
         if shown:
@@ -108,6 +107,7 @@ def read_arguments(words):
 
 
 def main():
+    """The worked rows, then each mix; gives the status."""
     try:
         mixes, first_seed = read_arguments(sys.argv[1:])
     except ValueError:

@@ -14,7 +14,7 @@ SENT_OTHERWISE = 0.04       # another interchange under a number that was sent
 SENT_EARLY = 0.15           # the number is 1 to 3 above the partner's least that was not sent
 SPOILED = 0.06              # an interchange of SPOILS
 MESSAGE_SPOILED = 0.06      # a message of MESSAGE_SPOILS
-TOO_MANY = 0.0004           # a message of ABOUT_TOO_MANY groups, of which about one in twenty is no container
+MANY = 0.0004               # a message of 999 containers, or of one too many
 OTHER_SERVICE = 0.04        # other service characters, told by UNA
 BREAKS_WITHIN = 0.08        # a line break behind each segment
 
@@ -22,7 +22,7 @@ BREAKS_WITHIN = 0.08        # a line break behind each segment
 CONTAINERS = [(1, 5), (2, 14), (1, 30)]
 MESSAGES = [(8, 1), (2, 2), (1, 3)]
 LINES = [(6, 1), (2, 2), (1, 3), (1, 5)]
-ABOUT_TOO_MANY = 1050
+MANY_LINES = [(1, 999), (1, 1000)]
 
 # partners, and what each sends
 SENDERS = [
@@ -43,10 +43,12 @@ SPOILS = [
     ('Version', r'UNO[ABC]', 'UNOD'), ('Version', r':[123]\+', ':4+'),
     ('Number', r"\+\d+'", "+0'"), ('Number', r"\+\d+'", "+1000000000'"), ('Number', r"\+\d+'", "+A1'"),
     ('Moment', r'\+24\d\d\d\d:', '+240230:'), ('Moment', r':\d{4}\+', ':2400+'),
+    ('Moment', r':\d{4}\+', ':2360+'),
     ('Test', r"'UNH", "++++++1'UNH"),
     ('MessageFrame', r"'UNT", "'UNH+2'UNT"), ('MessageFrame', r"'UNZ", "'FTX+AAI'UNZ"), ('MessageFrame', r"UNT\+", 'UNX+'),
     ('SegmentCount', r'UNT\+', 'UNT+9'), ('SegmentCount', r'UNT\+\d+', 'UNT+A'),
     ('MessageReference', r'(UNT\+\d+\+)', r'\1X'), ('MessageReference', r'UN:I', 'UN:\u00e9'),
+    ('MessageReference', r"UNH\+\w+\+(.*?'UNT\+\d+\+)\w+'", r"UNH+123456789012345+\g<1>123456789012345'"),
     ('Empty', r"'UNH.*'UNZ\+\d+", "'UNZ+0"),
     ('ControlCount', r'UNZ\+', 'UNZ+9'),
     ('ControlReference', r'(UNZ\+\d+\+)', r'\g<1>0'),
@@ -73,13 +75,15 @@ ODD_SLOTS = ['A1', 'B001011', 'A009011', 'A001031', 'A001014', 'A000011', 'a0010
 BOOKINGS = [(2, 'BN:BK1'), (2, 'BN:A?+B'), (1, 'BN:'), (1, 'BN:' + 'X' * 36), (1, 'ABT:BK2'), (1, "BN:O?'K")]
 MOMENTS = [
     (4, '7:202403080700:203'), (3, '7:20240308:102'), (1, '137:0:999'), (1, ':000002292359:203'),
-    (0.4, '7:20240230:102'), (0.4, '7:2024:203'), (0.4, '7:202403082400:203')]
+    (0.4, '7:20240230:102'), (0.4, '7:20240308:203'), (0.4, '7:202403080700:102'), (0.4, '7:202403082400:203'),
+    (0.4, '7:202403082360:203')]
 PORTS = [(2, 'DEHAM:139:6'), (2, 'NLRTM'), (1, '')]
+REFERENCES = [(8, '%d'), (4, "M?'%d"), (2, 'M??%d'), (2, 'M?:?+%d'), (2, '%014d')]
 TRANSPORTS = [(6, 'TDT+20+V12++++++9123456:146'), (2, 'TDT+20+V13++++++9123456')]
 
 BETWEEN = [(3, ''), (3, '\n'), (3, '\r\n'), (1, '\n\n')]
 TAILS = [(20, ''), (1, 'UNB+'), (1, 'AAAA'), (1, "UNA++.? '"), (0.1, 'FTX+' + 'A' * 1048573)]
-PLACED_BYTES = "'+:?UNZBHT0159 \r\n\x00\x7f\x80\xe9"
+PLACED_BYTES = "'+:?UNZBHT0159 ~\r\n\x00\x1f\x7f\x80\xe9"
 
 
 class Day:
@@ -94,6 +98,7 @@ class Day:
             self.containers.append(first_ten + str(check_digit(first_ten)))
 
     def happens(self, share):
+        """By chance, that share of the times."""
         return self.random.random() < share
 
     def pick(self, table):
@@ -118,7 +123,7 @@ class Day:
             return self.random.choice(ODD_SLOTS)
         return 'A%03d%02d%d' % (self.random.randint(1, 7), self.random.randint(1, 2), self.random.choice([1, 1, 2, 2, 3]))
 
-    def group(self, order):
+    def group(self, order, equipment):
         """An EQD and what stands behind it, in any order."""
         behind = []
         if order == 'Move' or self.happens(0.3):
@@ -130,9 +135,9 @@ class Day:
         if self.happens(0.25):
             behind.append('DTM+' + self.pick(MOMENTS))
         if self.happens(0.1):
-            behind.append('FTX+AAI+++WHY??')
+            behind.append(self.random.choice(['FTX+AAI+++WHY??', 'CNT+7:2']))
         self.random.shuffle(behind)
-        eqd = '+'.join(['EQD', self.pick(EQUIPMENT), self.number(), self.pick(SIZES)]) + self.pick(FULL_OR_EMPTY)
+        eqd = '+'.join(['EQD', equipment, self.number(), self.pick(SIZES)]) + self.pick(FULL_OR_EMPTY)
         return [eqd] + behind
 
     # ---- a message
@@ -143,8 +148,9 @@ class Day:
         body = ['BGM+%s+G1%s' % (code, self.random.choice(['', '+9']))]
         if type_name != 'CODECO':
             body.append(self.pick(TRANSPORTS))
-        for _line in range(ABOUT_TOO_MANY if self.happens(TOO_MANY) else self.pick(LINES)):
-            body += self.group(order)
+        is_long = self.happens(MANY)
+        for _line in range(self.pick(MANY_LINES if is_long else LINES)):
+            body += self.group(order, 'CN' if is_long else self.pick(EQUIPMENT))
         if self.happens(0.2):
             body.append('CNT+16:%d' % sum(1 for segment in body if segment.startswith('EQD')))
         header = 'UNH+%s+%s:D:95B:UN%s' % (reference, type_name, self.random.choice(['', ':ITG14']))
@@ -160,10 +166,9 @@ class Day:
     def interchange(self, code, orders, number):
         """An interchange of a partner under a number, from UNB to UNZ."""
         written = str(number).zfill(self.random.choice([0, 0, 0, 6, 14]))
-        references = ['%d', "M?'%d", '00%d']
         count = self.pick(MESSAGES)
         messages = [
-            self.message(self.pick(orders), self.random.choice(references) % (place + 1)) for place in range(count)]
+            self.message(self.pick(orders), self.pick(REFERENCES) % (place + 1)) for place in range(count)]
         header = 'UNB+%s+%s%s+TERM1+%s+%s' % (
             self.random.choice(['UNOA:3', 'UNOB:1', 'UNOC:2']), code, self.random.choice(['', '', ':ZZ', '::X']),
             self.random.choice(['240305:0910', '240306:1200', '240229:0000']), written)
@@ -190,6 +195,7 @@ class Day:
         return text
 
     def spoiled(self, text):
+        """With one of SPOILS."""
         _fault, what, by = self.random.choice(SPOILS)
         return re.sub(what, by, text, count=1, flags=re.DOTALL)
 

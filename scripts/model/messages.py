@@ -94,6 +94,7 @@ def is_other_type(message, kind):
 
 
 def has_no_bgm(message, kind):
+    """The header has no BGM."""
     return first(header_of(message), 'BGM') is None
 
 
@@ -121,6 +122,7 @@ def has_no_transport(message, kind):
 
 
 def has_no_equipment(message, kind):
+    """No EQD is a container."""
     return not container_groups(message)
 
 
@@ -131,6 +133,7 @@ def has_other_equipment_count(message, kind):
 
 
 def has_too_many(message, kind):
+    """Over 999 containers (own)."""
     return len(container_groups(message)) > 999
 
 

@@ -44,4 +44,5 @@ def slot_of(text):
 
 
 def slot_text(slot):
+    """The name of a slot, which `slot_of` reads."""
     return '%s%03d%02d%d' % slot

@@ -18,4 +18,5 @@ def status(given):
 
 
 def lines(given):
+    """The answers as lines of JSON, without their ends."""
     return [json_text(answer) for answer in given]

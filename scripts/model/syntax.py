@@ -202,6 +202,7 @@ def messages_of(text):
 # ---- the fifteen faults
 
 def is_too_long(text):
+    """Over 1,048,576 bytes (own)."""
     return len(text) > LONGEST_TEXT
 
 
@@ -211,6 +212,7 @@ def has_bad_service(text):
 
 
 def is_no_segments(text):
+    """What follows UNA is no list of segments, each with its terminator."""
     return segments_of(text) is None
 
 
@@ -241,15 +243,17 @@ def has_no_number(text):
 
 
 def has_no_moment(text):
+    """S004 isn't six and four digits of a moment that the calendar has."""
     return moment_of_header(text) is None
 
 
 def is_test(text):
-    """0035, the test indicator, is 1."""
+    """0035, the test indicator, is 1: test interchanges are not taken (own)."""
     return header_of(text).value(11) == '1'
 
 
 def has_other_than_messages(text):
+    """Between UNB and UNZ stands anything but messages."""
     return messages_of(text) is None
 
 
@@ -272,6 +276,7 @@ def has_wrong_message_reference(text):
 
 
 def is_empty(text):
+    """There is no message."""
     return not messages_of(text)
 
 

@@ -15,6 +15,7 @@ ListLine = namedtuple('ListLine', 'port is_done')
 
 
 def refused(reason, **more):
+    """An outcome that changes nothing."""
     return dict(outcome='refused', reason=reason, **more)
 
 
@@ -36,11 +37,13 @@ class Terminal:
     # ---- the gate
 
     def gate_in(self, source, order):
+        """Refused where it is in the yard; then as for any entry."""
         if order.number in self.yard:
             return refused('AlreadyIn')
         return self.enter(Passage('gate', source, order.moment), order)
 
     def gate_out(self, source, order):
+        """Refused where it is not in the yard, or buried."""
         if order.number not in self.yard:
             return refused('NotIn')
         return self.leave(Passage('gate', source, order.moment), order)
@@ -48,7 +51,7 @@ class Terminal:
     # ---- the yard
 
     def move(self, source, order):
-        """The slot has to fit the yard without the container."""
+        """Refused where it is not in the yard, or buried, or where the slot does not fit the yard without it."""
         if order.number not in self.yard:
             return refused('NotIn')
         if blocker(self.yard, order.number):
@@ -71,6 +74,7 @@ class Terminal:
         return dict(outcome='listed')
 
     def load(self, source, order):
+        """Refused where it is not in the yard; where it has no line, or its line is done; where it is buried."""
         if order.number not in self.yard:
             return refused('NotIn')
         if self.line_reason(order):
@@ -78,6 +82,7 @@ class Terminal:
         return self.then_done(order, self.leave(Passage('ship', source, order.moment), order))
 
     def discharge(self, source, order):
+        """Refused where it is in the yard; where it has no line, or its line is done; then as for any entry."""
         if order.number in self.yard:
             return refused('AlreadyIn')
         if self.line_reason(order):
@@ -104,7 +109,8 @@ class Terminal:
     # ---- coming and going
 
     def enter(self, entry, order):
-        """Into the slot that is named, or into the first that fits where none is: a visit is opened."""
+        """Refused where as many visits stand as the set-up allows; where the slot that is named does not fit (no other is
+        tried), or none does. Otherwise it stands there, and a visit is opened."""
         if len(self.visits) >= self.most_visits:
             return refused('VisitLimit')
         length = length_of(order.size_type)

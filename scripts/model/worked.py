@@ -28,6 +28,7 @@ class Rows:
         self.compared, self.wrong, self.checked = 0, [], set()
 
     def expect(self, row, what, is_so):
+        """Counts a check of a row, and keeps what is wrong."""
         self.compared += 1
         self.checked.add(row)
         if not is_so:
@@ -63,6 +64,7 @@ def rows_of_tables(rows):
 
 
 def what_no_contrl_answers(rows):
+    """Four texts, two of them in one cell."""
     text = rows.page.interchange('IN(1, 17)')
     texts = [
         text.replace('UNOA:3', 'UNOD:3'), text.replace('UNOA:3', 'UNOA:4'), text.replace('240305', '240230'),
@@ -72,6 +74,7 @@ def what_no_contrl_answers(rows):
 
 
 def rejected_messages(rows):
+    """Each interchange is taken, and its message rejected with that fault and that 0085."""
     table = rows.page.table('Rejected messages')
     given = rows.deliver('Rejected messages', [rows.page.interchange(cells[0]) for cells in table])
     for (short, fault, code), answer in zip(table, given):
@@ -101,6 +104,7 @@ def numbers(rows):
 
 
 def other_service_characters(rows):
+    """No release character, and the defaults by name."""
     row = 'Other service characters'
     first, wanted = rows.page.texts('The first gate-in')
     text = first.replace("UNT+4+1'", "FTX+AAI+++WHY?'UNT+5+1'")
@@ -109,6 +113,7 @@ def other_service_characters(rows):
 
 
 def released_characters(rows):
+    """What CONTRL, the reference and the visit hold."""
     row = 'Released characters and a booking'
     office = Office()
     answer = office.answer(rows.page.texts(row)[0])
@@ -120,6 +125,7 @@ def released_characters(rows):
 
 
 def two_messages(rows):
+    """One is rejected, the other taken."""
     row = 'Two messages, one of another directory'
     text, contrl, messages = rows.page.texts(row)
     [answer] = rows.deliver(row, [text])
@@ -128,6 +134,7 @@ def two_messages(rows):
 
 
 def wrong_count(rows):
+    """A refusal leaves the number free."""
     row = 'A wrong count, then the right one'
     first, wanted = rows.page.texts('The first gate-in')
     given = rows.deliver(row, [first.replace('UNT+4+1', 'UNT+3+1'), first])
@@ -135,6 +142,7 @@ def wrong_count(rows):
 
 
 def each_line(rows):
+    """Six lines, and the same with another count."""
     row = 'Each line for a reason of its own'
     text = rows.page.texts(row)[0]
     [answer] = rows.deliver(row, [text])
@@ -151,13 +159,17 @@ def each_line(rows):
 
 # ---- names, and the yard by itself
 
-def names(rows):
-    """Check digits and size-types."""
+def check_digits(rows):
+    """Numbers, and their faults."""
     faults = {
         'ABCU0000070': None, 'ABCU0000090': None, 'CSQU3054383': None, 'ABCU0000071': 'CheckDigit',
         'abcu0000017': 'Form', 'ABCX0000017': 'Form'}
     for text, fault in faults.items():
         rows.expect('Check digits', text, text in rows.page.quoted('Check digits') and number_fault(text) == fault)
+
+
+def size_types(rows):
+    """Lengths, where they are taken."""
     for text, length in {'22G1': 20, '4510': 40, 'L5G1': 40, '10G1': None, '2G1': None}.items():
         rows.expect('Size-types', text, text in rows.page.quoted('Size-types') and length_of(text) == length)
 
@@ -181,6 +193,7 @@ def twenties_and_forties(rows):
 # ---- streams
 
 def two_interchanges(rows):
+    """CR and LF between them belong to neither."""
     row = 'Two interchanges, cut anywhere'
     text = rows.page.first + '\r\n' + rows.page.interchange('IN(2, 22)')
     given = answers(Office(), text)
@@ -214,6 +227,7 @@ def day(rows, top):
 
 
 def read(path):
+    """A file's bytes, one character each."""
     with open(path, encoding='latin-1', newline='') as file:
         return file.read()
 
@@ -224,15 +238,14 @@ def check(top, program):
     rows = Rows(page, program)
     for check_row in (
             rows_of_tables, what_no_contrl_answers, rejected_messages, first_and_again, numbers,
-            other_service_characters, released_characters, two_messages, wrong_count, each_line, names,
-            twenties_and_forties, two_interchanges, no_interchange):
+            other_service_characters, released_characters, two_messages, wrong_count, each_line, check_digits,
+            size_types, twenties_and_forties, two_interchanges, no_interchange):
         check_row(rows)
     example = read(os.path.join(top, 'examples/gate-in.edi'))
     rows.expect('The first gate-in', 'examples/gate-in.edi', example.strip() == page.first)
     day(rows, top)
-    for row, part in page.rows.items():
-        rows.expect(row, 'it is checked here', row in rows.checked or not part.startswith('**'))
-    for text in rows.wrong:
-        print('wrong: ' + text[:2000])
+    left = [row for row, part in page.rows.items() if part.startswith('**') and row not in rows.checked]
+    rows.expect('docs/WORKED_ROWS.md', 'rows that are not checked: %s' % left, not left)
+    print(''.join('wrong: %s\n' % text[:2000] for text in rows.wrong), end='')
     print('worked rows and the day of README.md: %d compared, %d wrong' % (rows.compared, len(rows.wrong)))
     return len(rows.wrong)
