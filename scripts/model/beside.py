@@ -8,7 +8,7 @@ from . import worked
 from .days import stream
 from .messages import MESSAGE_FAULTS
 from .office import Office
-from .stream import answers, lines, status
+from .stream import answers, differences, lines, status
 from .syntax import FAULTS
 
 TOP = os.path.dirname(os.path.dirname(os.path.dirname(os.path.abspath(__file__))))
@@ -55,19 +55,6 @@ def kinds_of(answer):
     return kinds
 
 
-def differences(seed, wanted, got):
-    """The texts of the first line that differs between model and program, or of their statuses."""
-    (wanted_lines, wanted_status), (got_lines, got_status) = wanted, got
-    for place in range(max(len(wanted_lines), len(got_lines))):
-        model = wanted_lines[place] if place < len(wanted_lines) else '(no line)'
-        program = got_lines[place] if place < len(got_lines) else '(no line)'
-        if model != program:
-            return ['seed %d, line %d' % (seed, place + 1), '  model   ' + model, '  program ' + program]
-    if wanted_status != got_status:
-        return ['seed %d: the status is %d, by the model %d' % (seed, got_status, wanted_status)]
-    return []
-
-
 def compare(mix, first_seed):
     """Runs a mix; gives how many of each kind were compared and how many streams differ."""
     streams, deliveries, share = mix
@@ -76,7 +63,7 @@ def compare(mix, first_seed):
         text = stream(seed, deliveries, share)
         given = answers(Office(keeps_fold=deliveries > LONGEST_ANEW), text)
         counted.update(kind for answer in given for kind in kinds_of(answer))
-        shown = differences(seed, (lines(given), status(given)), answered_by_program(text))
+        shown = differences('seed %d' % seed, (lines(given), status(given)), answered_by_program(text))
         differing += bool(shown)
         if shown:
             print('\n'.join(shown))

@@ -20,3 +20,17 @@ def status(given):
 def lines(given):
     """The answers as lines of JSON, without their ends."""
     return [json_text(answer) for answer in given]
+
+
+def differences(name, wanted, got):
+    """Lines and status of the model beside those of the program: both texts of the first line that differs, or the
+    statuses where they differ; nothing where all is the same."""
+    (wanted_lines, wanted_status), (got_lines, got_status) = wanted, got
+    for place in range(max(len(wanted_lines), len(got_lines))):
+        model = wanted_lines[place] if place < len(wanted_lines) else '(no line)'
+        program = got_lines[place] if place < len(got_lines) else '(no line)'
+        if model != program:
+            return ['%s, line %d' % (name, place + 1), '  model   ' + model, '  program ' + program]
+    if wanted_status != got_status:
+        return ['%s: the status is %d, by the model %d' % (name, got_status, wanted_status)]
+    return []

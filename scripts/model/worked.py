@@ -11,7 +11,7 @@ import re
 from .names import length_of, number_fault, slot_of, slot_text
 from .office import DEMO, Office, fold_of, json_text
 from .page import Page, is_told, short_of
-from .stream import answers, lines, status
+from .stream import answers, differences, lines, status
 from .yard import Block, Place, blocker, first_slot, misfit
 
 OTHER_SETUPS = {
@@ -44,7 +44,8 @@ class Rows:
 
     def stream(self, row, text, given):
         """The program's lines and status for a stream that is answered so."""
-        self.expect(row, 'the program', self.program(text) == (lines(given), status(given)))
+        shown = differences('the program', (lines(given), status(given)), self.program(text))
+        self.expect(row, '\n'.join(shown), not shown)
 
     def tell(self, row, texts, cells):
         """Each is answered as its cell says."""
