@@ -133,10 +133,6 @@ class Office:
         answer = answer_of(before, delivery, self.reply_of)
         return dict(answer, number=delivery.number, partner=delivery.partner)
 
-    def deliver(self, delivered):
-        """The answer as a line of JSON, without the line's end."""
-        return json_text(self.answer(delivered))
-
 
 def json_text(value):
     """Compact, keys in order, as `serde_json` writes it."""
