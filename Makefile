@@ -1,4 +1,4 @@
-.PHONY: demo test build strength refusals bench
+.PHONY: demo test build strength refusals beside bench
 
 # The main job on a real interchange, by a build that proves nothing (`make build` leaves the proved program).
 demo:
@@ -20,6 +20,10 @@ strength:
 # The orders of a terminal with each allocation refused in turn: some twenty minutes.
 refusals:
 	scripts/refusals terminal_core
+
+# The program beside a plain slow model, on the worked rows and on random streams: about a minute, once it is built.
+beside:
+	scripts/beside
 
 # The times of syntax, yard and stream.
 bench: build

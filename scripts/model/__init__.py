@@ -1,0 +1,24 @@
+"""A plain slow model of the office, to be read against docs/PROFILE.md and docs/crates, and run beside the program.
+
+It is written from the rules and not from the code: no spans, no columns, no next number, no texts that wait. Each
+file has one subject, in the order in which they stand on one another:
+
+    moments.py     moments of the calendar
+    syntax.py      service characters, segments, the fifteen faults of an interchange
+    cuts.py        interchanges out of a stream
+    names.py       container numbers, size-types, slots
+    messages.py    three messages, their faults, and the order of each line
+    contrl.py      the text of CONTRL
+    yard.py        what stands where, what fits, the first slot that fits
+    terminal.py    what an order does: yard, visits, lists
+    deliveries.py  the words of the headline: first text, run, order
+    office.py      admission, taking a text, the answer to a delivery
+    stream.py      the lines and the exit status that answer a stream
+    days.py        random streams, and how often what comes in them
+    page.py        the page of worked rows, read
+    worked.py      the worked rows of docs/WORKED_ROWS.md, and the day of README.md
+    beside.py      the program beside all this: scripts/beside
+
+A text is a str with one character for each byte (Latin-1), so that bytes from 0x80 stand for themselves.
+"Own" in a docstring marks what this office decides for itself, as in docs/PROFILE.md.
+"""

@@ -1,0 +1,111 @@
+"""The program beside the model, on the worked rows and on random streams: scripts/beside."""
+import os
+import subprocess
+import sys
+from collections import Counter
+
+from . import worked
+from .days import stream
+from .messages import MESSAGE_FAULTS
+from .office import Office
+from .stream import answers, differences, lines, status
+from .syntax import FAULTS
+
+TOP = os.path.dirname(os.path.dirname(os.path.dirname(os.path.abspath(__file__))))
+PROGRAM = os.path.join(TOP, 'crates/office/out/office')
+
+# streams, deliveries a stream, share of deliveries with altered bytes: some 60 seconds in all
+MIXES = [(60, 300, 0.0), (600, 20, 0.1)]
+LONGEST_ANEW = 25           # in longer streams the model keeps the fold of the order so far
+
+# every kind that may come in a stream for `office demo`, as `kinds_of` counts them. TooLong, Service and Segment cut a
+# stream, and VisitLimit needs another set-up: as answers to a delivery they are in the worked rows alone.
+REFUSED = [name for name, _applies in FAULTS if name not in ('TooLong', 'Service', 'Segment')]
+REASONS = (
+    'Form CheckDigit Size Moment SlotText AlreadyIn NotIn AlreadyListed NotListed ListLineDone Buried NoSlot SlotKind '
+    'Taken OnAir NoRoom').split()
+EVERY_KIND = (
+    ['answer taken', 'answer repeat', 'answer waiting', 'answer clash']
+    + ['answer refused ' + name for name in REFUSED + ['UnknownSender', 'WrongRecipient']]
+    + ['answer cut ' + name for name in ('TooLong', 'Service', 'Segment', 'End')]
+    + ['message accepted'] + ['message rejected ' + name for name, _applies in MESSAGE_FAULTS]
+    + ['line done', 'line gone', 'line listed'] + ['line refused ' + name for name in REASONS])
+
+USAGE = """usage: scripts/beside [STREAMS DELIVERIES SHARE [SEED]]
+
+Compares crates/office/out/office with the model: first the worked rows and the day of README.md, then random
+streams. STREAMS streams of DELIVERIES interchanges each, SHARE of them (0 to 1) with altered bytes, with the seeds
+from SEED on (1 where none is given). Without arguments: %s.
+""" % ', then '.join('%d %d %s' % mix for mix in MIXES)
+
+
+def answered_by_program(text):
+    """The lines and the exit status of `office demo` for a stream."""
+    done = subprocess.run([PROGRAM, 'demo'], input=text.encode('latin-1'), stdout=subprocess.PIPE, check=False)
+    return done.stdout.decode('utf-8').split('\n')[:-1], done.returncode
+
+
+def kinds_of(answer):
+    """What an answer is counted as: by itself, by each of its messages, and by each of their lines."""
+    kinds = [' '.join(['answer', answer['answer'], answer.get('fault', '')]).strip()]
+    for message in answer.get('reply', {}).get('messages', []):
+        kinds.append(' '.join(['message', message['result'], message.get('fault', '')]).strip())
+        kinds += [
+            ' '.join(['line', line['outcome'], line.get('reason', '')]).strip() for line in message.get('lines', [])]
+    return kinds
+
+
+def compare(mix, first_seed):
+    """Runs a mix; gives how many of each kind were compared and how many streams differ."""
+    streams, deliveries, share = mix
+    counted, differing = Counter(), 0
+    for seed in range(first_seed, first_seed + streams):
+        text = stream(seed, deliveries, share)
+        given = answers(Office(keeps_fold=deliveries > LONGEST_ANEW), text)
+        counted.update(kind for answer in given for kind in kinds_of(answer))
+        shown = differences('seed %d' % seed, (lines(given), status(given)), answered_by_program(text))
+        differing += bool(shown)
+        if shown:
+            print('\n'.join(shown))
+    return counted, differing
+
+
+def report(mix, counted, differing):
+    """Prints what was compared."""
+    answers_counted = sum(count for kind, count in counted.items() if kind.startswith('answer'))
+    print('%d streams of %d deliveries, %g of 1 with altered bytes: %d answers' % (*mix, answers_counted))
+    for kind, count in sorted(counted.items()):
+        print('%10d  %s' % (count, kind))
+    never = [kind for kind in EVERY_KIND if kind not in counted]
+    print('never came: ' + (', '.join(never) or 'none'))
+    print('%d streams differ' % differing)
+
+
+def read_arguments(words):
+    """The mixes that are asked for, and the first seed."""
+    if not words:
+        return MIXES, 1
+    if len(words) not in (3, 4):
+        raise ValueError
+    share = float(words[2])
+    if not 0 <= share <= 1:
+        raise ValueError
+    return [(int(words[0]), int(words[1]), share)], int(words[3]) if len(words) == 4 else 1
+
+
+def main():
+    """The worked rows, then each mix; gives the status."""
+    try:
+        mixes, first_seed = read_arguments(sys.argv[1:])
+    except ValueError:
+        print(USAGE, end='', file=sys.stderr)
+        return 2
+    if not os.path.exists(PROGRAM):
+        print('crates/office/out/office is not built: make build', file=sys.stderr)
+        return 2
+    failed = worked.check(TOP, answered_by_program)
+    for mix in mixes:
+        counted, differing = compare(mix, first_seed)
+        report(mix, counted, differing)
+        failed += differing
+    return 1 if failed else 0

@@ -1,0 +1,49 @@
+"""Interchanges out of a stream: docs/crates/edi_syntax.md and docs/crates/office.md.
+
+An interchange runs from its first byte that is no CR or LF to the terminator of its first segment UNZ. A fault stands
+at the earliest byte where one applies; behind it there is no interchange.
+"""
+from .syntax import Ended, LONGEST_TEXT, Misfit, past_breaks, place_of_segments, read_segment, service_of
+
+
+class BadAdvice(Exception):
+    """The ninth byte is there, and the six bytes behind UNA may not be service characters."""
+
+
+def length_of_first(text):
+    """How many bytes the interchange at the front of a text has."""
+    if text.startswith('UNA') and len(text) < 9:
+        raise Ended
+    service = service_of(text)
+    if service is None:
+        raise BadAdvice
+    tag, place = '', place_of_segments(text)
+    while tag != 'UNZ':
+        (tag, _elements), place = read_segment(text, past_breaks(text, place), service)
+    return place
+
+
+def first_of(stream, place):
+    """The end of the interchange that begins at a place, or the fault that cuts it off. Segment says that no
+    continuation is a list of segments. TooLong stands at the byte behind the longest text, whatever it is. End says
+    that the stream ends within it."""
+    try:
+        return place + length_of_first(stream[place:place + LONGEST_TEXT]), None
+    except BadAdvice:
+        return None, 'Service'
+    except Misfit:
+        return None, 'Segment'
+    except Ended:
+        return None, 'TooLong' if len(stream) - place > LONGEST_TEXT else 'End'
+
+
+def cut(stream):
+    """The interchanges of a stream, and the fault behind them, or None where the stream ends behind the last."""
+    interchanges, place = [], past_breaks(stream, 0)
+    while place < len(stream):
+        end, fault = first_of(stream, place)
+        if fault:
+            return interchanges, fault
+        interchanges.append(stream[place:end])
+        place = past_breaks(stream, end)
+    return interchanges, None

@@ -1,0 +1,252 @@
+"""The worked rows of docs/WORKED_ROWS.md, and the day of README.md, by the model and by the program.
+
+Each row is a function. Interchanges and answers are read from the page and not repeated here; what the page says in
+plain words is written out. Where a row has the set-up of `office demo`, its interchanges are a stream for the program
+too.
+"""
+import glob
+import os
+import re
+
+from .names import length_of, number_fault, slot_of, slot_text
+from .office import DEMO, Office, fold_of, json_text
+from .page import Page, is_told, short_of
+from .stream import answers, differences, lines, status
+from .yard import Block, Place, blocker, first_slot, misfit
+
+OTHER_SETUPS = {
+    'No room': DEMO._replace(plan=[Block('A', bays=1, rows=1, tiers=2)]),
+    'No more visits': DEMO._replace(most_visits=1),
+}
+
+
+class Rows:
+    """The page, the program, and what came of the checks so far."""
+
+    def __init__(self, page, program):
+        self.page, self.program = page, program
+        self.compared, self.wrong, self.checked = 0, [], set()
+
+    def expect(self, row, what, is_so):
+        """Counts a check of a row, and keeps what is wrong."""
+        self.compared += 1
+        self.checked.add(row)
+        if not is_so:
+            self.wrong.append('%s: %s' % (row, what))
+
+    def deliver(self, row, texts):
+        """The answers of an office to which nothing was delivered before."""
+        office = Office(OTHER_SETUPS.get(row, DEMO))
+        given = [office.answer(text) for text in texts]
+        if row not in OTHER_SETUPS:
+            self.stream(row, '\n'.join(texts), given)
+        return given
+
+    def stream(self, row, text, given):
+        """The program's lines and status for a stream that is answered so."""
+        shown = differences('the program', (lines(given), status(given)), self.program(text))
+        self.expect(row, '\n'.join(shown), not shown)
+
+    def tell(self, row, texts, cells):
+        """Each is answered as its cell says."""
+        self.expect(row, 'as many answers as interchanges', len(texts) == len(cells))
+        for cell, answer in zip(cells, self.deliver(row, texts)):
+            self.expect(row, '%s, and not %s' % (cell, json_text(answer)), is_told(cell, answer))
+
+
+# ---- rows that are a table of deliveries
+
+def rows_of_tables(rows):
+    """Each row with a table of what is delivered and what is answered."""
+    for row, text in rows.page.rows.items():
+        if '| Delivered | Answer |' in text and row != 'What no CONTRL answers':
+            table = rows.page.table(row)
+            rows.tell(row, [rows.page.interchange(cells[0]) for cells in table], [cells[1] for cells in table])
+
+
+def what_no_contrl_answers(rows):
+    """Four texts, two of them in one cell."""
+    text = rows.page.interchange('IN(1, 17)')
+    texts = [
+        text.replace('UNOA:3', 'UNOD:3'), text.replace('UNOA:3', 'UNOA:4'), text.replace('240305', '240230'),
+        text.replace("'UNH", "'UNG+1'UNH")]
+    cells = [cells[1] for cells in rows.page.table('What no CONTRL answers')]
+    rows.tell('What no CONTRL answers', texts, cells[:1] + cells)
+
+
+def rejected_messages(rows):
+    """Each interchange is taken, and its message rejected with that fault and that 0085."""
+    table = rows.page.table('Rejected messages')
+    given = rows.deliver('Rejected messages', [rows.page.interchange(cells[0]) for cells in table])
+    for (short, fault, code), answer in zip(table, given):
+        message = dict(fault=fault.split(':')[0], reference='1', result='rejected')
+        rows.expect('Rejected messages', short, answer['answer'] == 'taken' and answer['reply']['messages'] == [message])
+        rows.expect('Rejected messages', code, "+4+%s'UNT" % code in answer['reply']['contrl'])
+
+
+# ---- rows of one or two interchanges
+
+def first_and_again(rows):
+    """The first gate-in, a repeat, a clash."""
+    first, wanted = rows.page.texts('The first gate-in')
+    clash = rows.page.quoted('A clash')[0]
+    given = rows.deliver('A repeat', [first, first + '\r\n', first.replace("'", "'\n")])
+    rows.expect('The first gate-in', given[0], json_text(given[0]) == wanted)
+    rows.expect('A repeat', given[1], json_text(given[1]) == wanted.replace('"taken"', '"repeat"', 1))
+    rows.expect('A clash', given[2], json_text(given[2]) == clash)
+
+
+def numbers(rows):
+    """The last number there is; references that are no numbers."""
+    rows.tell('The last number there is', [rows.page.interchange('IN(999999999, 17)')], ['waiting, next 1'])
+    for reference in ('1000000000', '0', 'A1', '123456789012345'):
+        text = rows.page.interchange('IN(%s, 17)' % reference)
+        rows.tell('A reference that is no number', [text], ['refused Number'])
+
+
+def other_service_characters(rows):
+    """No release character, and the defaults by name."""
+    row = 'Other service characters'
+    first, wanted = rows.page.texts('The first gate-in')
+    text = first.replace("UNT+4+1'", "FTX+AAI+++WHY?'UNT+5+1'")
+    rows.tell(row, ["UNA:+.  '" + text], ['taken: done A001011'])
+    rows.expect(row, 'begun anew', lines(rows.deliver(row, ["UNA:+.? '\n" + first])) == [wanted])
+
+
+def released_characters(rows):
+    """What CONTRL, the reference and the visit hold."""
+    row = 'Released characters and a booking'
+    office = Office()
+    answer = office.answer(rows.page.texts(row)[0])
+    visit = fold_of(DEMO, office.deliveries).terminal.visits[0]
+    rows.expect(row, answer, answer in rows.deliver(row, rows.page.texts(row)))
+    rows.expect(row, 'CONTRL', "UCM+M?'1+CODECO:D:95B:UN+7'" in answer['reply']['contrl'])
+    rows.expect(row, 'the reference', answer['reply']['messages'][0]['reference'] == "M'1")
+    rows.expect(row, visit, (visit.size_type, visit.is_full, visit.booking) == ('22G1', False, 'A+B'))
+
+
+def two_messages(rows):
+    """One is rejected, the other taken."""
+    row = 'Two messages, one of another directory'
+    text, contrl, messages = rows.page.texts(row)
+    [answer] = rows.deliver(row, [text])
+    rows.expect(row, 'CONTRL', answer['reply']['contrl'] == contrl)
+    rows.expect(row, 'the messages', json_text(answer['reply']['messages']) == messages)
+
+
+def wrong_count(rows):
+    """A refusal leaves the number free."""
+    row = 'A wrong count, then the right one'
+    first, wanted = rows.page.texts('The first gate-in')
+    given = rows.deliver(row, [first.replace('UNT+4+1', 'UNT+3+1'), first])
+    rows.expect(row, given, lines(given) == [rows.page.texts(row)[0], wanted])
+
+
+def each_line(rows):
+    """Six lines, and the same with another count."""
+    row = 'Each line for a reason of its own'
+    text = rows.page.texts(row)[0]
+    [answer] = rows.deliver(row, [text])
+    outcomes = answer['reply']['messages'][0]['lines']
+    rows.expect(row, 'line 1', json_text(outcomes[0]) in rows.page.quoted(row))
+    told = [(line.get('reason', line.get('slot')), line.get('box')) for line in outcomes]
+    rows.expect(row, told, told == [
+        ('Form', None), ('CheckDigit', None), ('Size', 'ABCU0000017'), ('Moment', 'ABCU0000022'),
+        ('SlotText', 'ABCU0000038'), ('A002011', 'ABCU0000043')])
+    [answer] = rows.deliver(row, [text.replace('CNT+16:6', 'CNT+16:5')])
+    rows.expect(row, 'the count', answer['reply']['messages'][0].get('fault') == 'EquipmentCount')
+    rows.expect(row, 'CONTRL', "UCM+1+CODECO:D:95B:UN+4+29'" in answer['reply']['contrl'])
+
+
+# ---- names, and the yard by itself
+
+def check_digits(rows):
+    """Numbers, and their faults."""
+    faults = {
+        'ABCU0000070': None, 'ABCU0000090': None, 'CSQU3054383': None, 'ABCU0000071': 'CheckDigit',
+        'abcu0000017': 'Form', 'ABCX0000017': 'Form'}
+    for text, fault in faults.items():
+        rows.expect('Check digits', text, text in rows.page.quoted('Check digits') and number_fault(text) == fault)
+
+
+def size_types(rows):
+    """Lengths, where they are taken."""
+    for text, length in {'22G1': 20, '4510': 40, 'L5G1': 40, '10G1': None, '2G1': None}.items():
+        rows.expect('Size-types', text, text in rows.page.quoted('Size-types') and length_of(text) == length)
+
+
+def twenties_and_forties(rows):
+    """Calls on a yard by itself, each container going by its slot. What fits is placed. (Of Present and Absent the model
+    has no call: it asks the yard before.)"""
+    row = 'Twenties and forties on one another'
+    yard = {name: Place(20, slot_of(name)) for name in ('A001011', 'A003011')}
+    for call, wanted in rows.page.table(row):
+        words = call.split()
+        if words[:2] in (['a', 'twenty'], ['a', 'forty']) and words[2:3] == ['in'] and slot_of(words[3]):
+            place = Place({'twenty': 20, 'forty': 40}[words[1]], slot_of(words[3]))
+            got = misfit(DEMO.plan, yard, place) or 'fits'
+            rows.expect(row, call, got == wanted.split(':')[0])
+            yard.update({words[3]: place} if got == 'fits' else {})
+    rows.expect(row, 'the twenty of A001011 is buried', blocker(yard, 'A001011') == 'A002012')
+    rows.expect(row, 'the first slot for a forty', slot_text(first_slot(DEMO.plan, yard, 40)) == 'A002021')
+
+
+# ---- streams
+
+def two_interchanges(rows):
+    """CR and LF between them belong to neither."""
+    row = 'Two interchanges, cut anywhere'
+    text = rows.page.first + '\r\n' + rows.page.interchange('IN(2, 22)')
+    given = answers(Office(), text)
+    rows.expect(row, given, [answer['answer'] for answer in given] == ['taken', 'taken'])
+    rows.stream(row, text, given)
+
+
+def no_interchange(rows):
+    """What is no interchange, as a delivery by itself and as a stream."""
+    row = 'What is no interchange'
+    for what, alone, streamed in rows.page.table(row):
+        quoted = ''.join(re.findall(r'^`([^`]*)`', what))
+        text = quoted + (rows.page.first if 'FIRST' in what else '') + ('A' * 1048573 if 'times' in what else '')
+        text = text[:-1] if 'without its last byte' in what else text
+        given = answers(Office(), text)
+        rows.expect(row, what + ' by itself', is_told(alone, Office().answer(text)))
+        rows.expect(row, what + ' as a stream', [streamed] == ([short_of(answer) for answer in given] or ['no line']))
+        rows.stream(row, text, given)
+
+
+def day(rows, top):
+    """README's day: its files in their order, and what README says that the program prints."""
+    paths = sorted(glob.glob(os.path.join(top, 'examples/day/*.edi')))
+    text = ''.join(read(path) for path in paths)
+    printed = re.search(r'```text\n(.*?)```', read(os.path.join(top, 'README.md')), re.S).group(1).splitlines()
+    given = answers(Office(), text)
+    for place, line in enumerate(printed):
+        rows.expect('The day of README.md', 'line %d' % (place + 1), lines(given)[place:place + 1] == [line])
+    rows.expect('The day of README.md', 'the number of lines', len(given) == len(printed) == len(paths))
+    rows.stream('The day of README.md', text, given)
+
+
+def read(path):
+    """A file's bytes, one character each."""
+    with open(path, encoding='latin-1', newline='') as file:
+        return file.read()
+
+
+def check(top, program):
+    """All rows and the day; prints what was compared, and each that is wrong. Gives how many are."""
+    page = Page(read(os.path.join(top, 'docs/WORKED_ROWS.md')))
+    rows = Rows(page, program)
+    for check_row in (
+            rows_of_tables, what_no_contrl_answers, rejected_messages, first_and_again, numbers,
+            other_service_characters, released_characters, two_messages, wrong_count, each_line, check_digits,
+            size_types, twenties_and_forties, two_interchanges, no_interchange):
+        check_row(rows)
+    example = read(os.path.join(top, 'examples/gate-in.edi'))
+    rows.expect('The first gate-in', 'examples/gate-in.edi', example.strip() == page.first)
+    day(rows, top)
+    left = [row for row, part in page.rows.items() if part.startswith('**') and row not in rows.checked]
+    rows.expect('docs/WORKED_ROWS.md', 'rows that are not checked: %s' % left, not left)
+    print(''.join('wrong: %s\n' % text[:2000] for text in rows.wrong), end='')
+    print('worked rows and the day of README.md: %d compared, %d wrong' % (rows.compared, len(rows.wrong)))
+    return len(rows.wrong)
