@@ -6,6 +6,7 @@ mod failing_writer;
 mod interchanges;
 mod lists;
 mod machine;
+mod memory;
 mod messages;
 mod pieces;
 mod ports;
@@ -52,6 +53,16 @@ fn assert_answers_of(
     rows: &[(&[u8], &str)],
 ) -> Result<(), Fail> {
     let mut desk = open_desk(alloc, setup).expect(rt, "a desk");
+    assert_answers_from(rt, alloc, &mut desk, rows)
+}
+
+/// The same from a desk on.
+fn assert_answers_from<D: Deliver>(
+    rt: &impl Abort,
+    alloc: Global,
+    desk: &mut D,
+    rows: &[(&[u8], &str)],
+) -> Result<(), Fail> {
     for (delivered, expected) in rows {
         let response = desk.deliver(alloc, delivered);
         let mut body = String::from_str(alloc, response.front())?;
