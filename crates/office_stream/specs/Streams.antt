@@ -44,8 +44,8 @@ EndsAs (Cut Memory) rest = GoesOnAnyhow rest
 abbrev pub Cuts : List ℕ → List (List ℕ) → StreamEnd → Type 0
 Cuts stream texts end = CutsFrom (EndsAs end) stream texts
 
--- A stream has one list of interchanges and one end, unless memory is wanting. So its answers don't depend on the pieces that
--- it comes in.
+-- A stream has one list of interchanges and one end, unless memory is wanting. So both depend on the stream alone, however it
+-- comes in pieces.
 abbrev pub CutsAreOne : Type 0
 CutsAreOne =
     (stream : List ℕ) (texts texts' : List (List ℕ)) (end end' : StreamEnd) → end ≢ Cut Memory → end' ≢ Cut Memory
@@ -119,7 +119,7 @@ pub record EndCutShort {D : Type 0} (stands : List (List ℕ) → D → Type 0) 
   pub front : IsFront part (end_text end)
   pub writes : Appends written written' (response_lines responses ++ part)
 
--- Of the bytes that were read the line of an interchange was cut short, or the cut line, and nothing was done behind it.
+-- A write failed. The line of an interchange of what was read was cut short, or the cut line, and nothing was done behind it.
 pub record Delivered {D : Type 0} (stands : List (List ℕ) → D → Type 0) (answers : List (List ℕ) → List ℕ → Response → Type 0)
     (ds : List (List ℕ)) (left left' written written' : Option (List ℕ)) (desk : D) : Type 0 where
   pub bytes : List ℕ

@@ -26,9 +26,11 @@ pub(crate) fn write_line<W: Write>(writer: &mut Port<W>, text: &str) -> Result<(
 /// Writes the body of a response, and LF. After an error a front of them is written.
 pub(crate) fn write_response<W: Write>(writer: &mut Port<W>, response: &Response) -> Result<()>
     ensures ok { OnOk result
-        (Appends (W.contents writer.old.inner) (W.contents writer.new.inner) (line (body_of response.now))) }
+        (Appends (W.contents writer.old.inner) (W.contents writer.new.inner)
+        (line (body_of response.now))) }
     ensures front { OnErr result
-        (AppendsFront (W.contents writer.old.inner) (W.contents writer.new.inner) (line (body_of response.now))) }
+        (AppendsFront (W.contents writer.old.inner) (W.contents writer.new.inner)
+        (line (body_of response.now))) }
     ensures kept { OnOk result (writer.new.failed ≡ writer.old.failed) }
     ensures err { OnErr result (writer.new.failed ≡ true) }
 {
@@ -55,9 +57,11 @@ pub(crate) fn write_end<W: Write>(writer: &mut Port<W>, end: StreamEnd) -> Resul
 
 fn write_cut<W: Write>(writer: &mut Port<W>, fault: CutFault) -> Result<()>
     ensures ok { OnOk result
-        (Appends (W.contents writer.old.inner) (W.contents writer.new.inner) (end_text (StreamEnd.Cut fault))) }
+        (Appends (W.contents writer.old.inner) (W.contents writer.new.inner)
+        (end_text (StreamEnd.Cut fault))) }
     ensures front { OnErr result
-        (AppendsFront (W.contents writer.old.inner) (W.contents writer.new.inner) (end_text (StreamEnd.Cut fault))) }
+        (AppendsFront (W.contents writer.old.inner) (W.contents writer.new.inner)
+        (end_text (StreamEnd.Cut fault))) }
     ensures kept { OnOk result (writer.new.failed ≡ writer.old.failed) }
     ensures err { OnErr result (writer.new.failed ≡ true) }
 {

@@ -115,8 +115,10 @@ impl<W: Write> Write for Port<W> {
     }
 
     fn write_all(&mut self, buf: &[u8]) -> Result<()>
-        ensures bytes { OnOk result (Appends (W.contents self.old.inner) (W.contents self.new.inner) buf.now) }
-        ensures front { OnErr result (AppendsFront (W.contents self.old.inner) (W.contents self.new.inner) buf.now) }
+        ensures bytes { OnOk result
+            (Appends (W.contents self.old.inner) (W.contents self.new.inner) buf.now) }
+        ensures front { OnErr result
+            (AppendsFront (W.contents self.old.inner) (W.contents self.new.inner) buf.now) }
         ensures succeeds { OnOk result (self.new.failed ≡ self.old.failed) }
         ensures fails { OnErr result (self.new.failed ≡ true) }
         ensures uncounted { self.new.reads ≡ self.old.reads }
