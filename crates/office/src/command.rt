@@ -21,7 +21,7 @@ pub fn run<R: Read, W: Write, E: Write>(
     ensures usage { is_demo (map string_bytes words.now) ≡ false → (result ≡ 2)
         × (reader.new ≡ reader.old) × (writer.new ≡ writer.old)
         × Tells errors.new.failed (E.contents errors.old.inner) (E.contents errors.new.inner)
-            (codes "usage: office demo\n") }
+        (codes "usage: office demo\n") }
     ensures ran { is_demo (map string_bytes words.now) ≡ true →
         DemoEnds (R.remaining reader.old.inner) (R.remaining reader.new.inner)
         (W.contents writer.old.inner) (W.contents writer.new.inner)

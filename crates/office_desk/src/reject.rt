@@ -16,7 +16,7 @@ use std::alloc::{AllocError, Global};
 pub(crate) fn refuse(alloc: Global, head: &Head<'_>, fault: SyntaxFault) -> Response
     ensures answer { (partner : ℕ) → GivesOrNotNow
         (refusal_to (header_of (head_segments head.now)) (Fault.Syntax fault)
-            (Some partner) (interchange_error fault)) result }
+        (Some partner) (interchange_error fault)) result }
     ensures sure { interchange_error fault ≡ None → result ≡ Response.Refused (Fault.Syntax fault) }
 {
     match interchange_error(fault) {
