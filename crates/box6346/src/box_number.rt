@@ -1,6 +1,6 @@
 ghost use Rattle.std.specs.Prelude.{◌≡◌};
 
-use crate::check::check_digit;
+use crate::check::{has_form, is_checked};
 use crate::number_fault::NumberFault;
 use std::marker::Model;
 
@@ -35,16 +35,10 @@ impl BoxNumber {
     pub fn parse(text: &[u8]) -> Result<BoxNumber, NumberFault>
         ensures { result ≡ number_of text.now }
     {
-        let Some(front) = text.first_chunk::<10>() else {
-            return Err(NumberFault::Form);
-        };
-        let Some(digit) = check_digit(front) else {
-            return Err(NumberFault::Form);
-        };
-        if text.len() != 11 || !text[10].is_ascii_digit() {
+        if !has_form(text) {
             return Err(NumberFault::Form);
         }
-        if text[10] != b'0' + digit {
+        if !is_checked(text) {
             return Err(NumberFault::CheckDigit);
         }
         let mut characters = [0; 11];

@@ -1,7 +1,7 @@
-ghost use Rattle.std.specs.Prelude.{◌≡◌, ◌+◌, ◌<◌, ◌^◌, Option, Some, None, IfSome, if◌then◌else◌};
+ghost use Rattle.std.specs.Prelude.{◌≡◌, ◌+◌, ◌<◌, ◌^◌, Option, Some, None, IfSome, IsTrue, if◌then◌else◌};
 ghost use Rattle.std.specs.Char.{is_ascii_uppercase, is_ascii_digit};
 ghost use Rattle.std.specs.List.{list_all};
-ghost use Rattle.box6346.specs.NumberText.{value_of, weighted_sum, check_digit_of, is_category, names_container};
+ghost use Rattle.box6346.specs.NumberText.{value_of, weighted_sum, check_digit_of, has_form, is_category, is_checked, names_container};
 
 use crate::characters::{are_capitals, are_digits};
 
@@ -19,10 +19,39 @@ pub fn check_digit(text: &[u8; 10]) -> Option<u8>
     ensures digit { IfSome result (λ digit. digit < 10) }
 {
     if names_container(text) {
-        Some((sum_of(text) % 11 % 10) as u8)
+        Some(check_digit_of(text))
     } else {
         None
     }
+}
+
+// Whether a text has the form of a whole number, which has a digit more.
+pub(crate) fn has_form(text: &[u8]) -> bool
+    ensures { result ≡ has_form text.now }
+{
+    match text.first_chunk::<10>() {
+        Some(front) => text.len() == 11 && names_container(front) && text[10].is_ascii_digit(),
+        None => false,
+    }
+}
+
+// Whether the last digit of a text of that form is the check digit of the characters before.
+pub(crate) fn is_checked(text: &[u8]) -> bool
+    requires { IsTrue (has_form text.now) }
+    ensures { result ≡ is_checked text.now }
+{
+    match text.first_chunk::<10>() {
+        Some(front) => text[10] == b'0' + check_digit_of(front),
+        None => false,
+    }
+}
+
+// The check digit of ten such characters.
+fn check_digit_of(text: &[u8; 10]) -> u8
+    ensures exact { result ≡ check_digit_of text.now }
+    ensures digit { result < 10 }
+{
+    (sum_of(text) % 11 % 10) as u8
 }
 
 // Whether the ten characters have a number's form.

@@ -18,6 +18,3 @@ pub use number_fault::NumberFault;
 pub use size_fault::SizeFault;
 pub use size_type::SizeType;
 pub use slot::Slot;
-
-#[cfg(test)]
-mod tests;

@@ -6,8 +6,6 @@ pub mod cutter;
 pub mod laws;
 pub mod place;
 pub mod reading;
-#[cfg(test)]
-mod tests;
 
 pub use cut_fault::CutFault;
 pub use cutter::Cutter;

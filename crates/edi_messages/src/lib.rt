@@ -30,8 +30,6 @@ mod purpose;
 mod purpose_span;
 mod read;
 mod reading;
-#[cfg(test)]
-mod tests;
 mod texts;
 pub mod verdict;
 

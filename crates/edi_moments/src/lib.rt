@@ -2,7 +2,5 @@
 #![tactic(auto)]
 
 pub mod moment;
-#[cfg(test)]
-mod tests;
 
 pub use moment::Moment;

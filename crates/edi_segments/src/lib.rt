@@ -20,8 +20,6 @@ pub mod segments;
 pub mod service;
 pub mod spelling;
 pub mod syntax_fault;
-#[cfg(test)]
-mod tests;
 pub mod token;
 mod token_table;
 mod value_end;

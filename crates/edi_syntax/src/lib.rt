@@ -17,8 +17,6 @@ mod service_tag;
 mod survey;
 mod tallied;
 mod tally;
-#[cfg(test)]
-mod tests;
 
 pub use edi_cutter::{CutFault, Cutter};
 pub use edi_moments::Moment;

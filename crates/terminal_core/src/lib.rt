@@ -37,6 +37,3 @@ pub use stay::Stay;
 pub use terminal::Terminal;
 pub use visit::Visit;
 pub use way::Way;
-
-#[cfg(test)]
-mod tests;

@@ -6,7 +6,6 @@ mod memory;
 mod restoring;
 mod rows;
 
-use crate::{LineState, Outcome, Side, Source, Terminal};
 use answer::Answer;
 use ask::Ask;
 use box6346::{BoxNumber, SizeType, Slot};
@@ -15,6 +14,7 @@ use edi_moments::Moment;
 use std::alloc::{AllocError, Global};
 use std::process::Abort;
 use std::test::Fail;
+use terminal_core::{LineState, Outcome, Side, Source, Terminal};
 use yard_core::{Block, Plan};
 
 const HAULIER: u16 = 1;

@@ -1,4 +1,4 @@
-use super::Moment;
+use edi_moments::Moment;
 use std::test::Fail;
 
 #[test]

@@ -1,8 +1,8 @@
 //! Each kind of order from each kind of partner, what an order doesn't read, and many lines.
 
-use super::first;
-use super::shown::shown;
-use crate::{MessageFault, OrderKind, PartnerKind};
+use super::shown::{joined, write_all};
+use super::{assert_fault, assert_words, first, first_message};
+use edi_messages::{MessageFault, OrderKind, PartnerKind};
 use std::alloc::{AllocError, Global};
 use std::test::Fail;
 
@@ -30,15 +30,14 @@ const MESSAGES: [(&[u8], &[u8], PartnerKind, OrderKind); 7] = [
 
 /// A message of one container, of that type and code.
 fn message(alloc: Global, message_type: &[u8], code: &[u8]) -> Result<Vec<u8>, AllocError> {
-    let mut text = Vec::new(alloc);
-    text.extend_from_slice(b"UNB+UNOA:3+A+B+240305:0910+1'UNH+1+")?;
-    text.extend_from_slice(message_type)?;
-    text.extend_from_slice(b":D:95B:UN'BGM+")?;
-    text.extend_from_slice(code)?;
-    text.extend_from_slice(
+    let parts: [&[u8]; 5] = [
+        b"UNB+UNOA:3+A+B+240305:0910+1'UNH+1+",
+        message_type,
+        b":D:95B:UN'BGM+",
+        code,
         b"'TDT+20+V12++++++9123456'EQD+CN+ABCU0000017+22G1'LOC+ZZZ+A001011'UNT+6+1'UNZ+1+1'",
-    )?;
-    Ok(text)
+    ];
+    joined(alloc, &parts)
 }
 
 #[test]
@@ -92,37 +91,40 @@ fn orders_read_what_is_theirs(rt: HostRuntime) -> Result<(), Fail> {
         ),
     ];
     for (text, kind, words) in rows {
-        let message = first(rt.alloc(), text, *kind)?.ok().ok_or("message")?;
-        let said = shown(rt.alloc(), &message)?;
-        assert_eq!(rt; said.as_slice(), *words);
+        assert_words(&rt, rt.alloc(), text, *kind, words)?;
     }
     Ok(())
 }
 
 /// A gate-in of that many containers, with the number of segments as the trailer has it.
 fn many(alloc: Global, count: u32, segments: &[u8]) -> Result<Vec<u8>, AllocError> {
-    let mut text = Vec::new(alloc);
-    text.extend_from_slice(b"UNB+UNOA:3+A+B+240305:0910+1'UNH+1+CODECO:D:95B:UN'BGM+34'")?;
+    let mut text = joined(
+        alloc,
+        &[b"UNB+UNOA:3+A+B+240305:0910+1'UNH+1+CODECO:D:95B:UN'BGM+34'"],
+    )?;
     for _ in 0..count {
         text.extend_from_slice(b"EQD+CN+ABCU0000017+22G1'")?;
     }
-    text.extend_from_slice(b"UNT+")?;
-    text.extend_from_slice(segments)?;
-    text.extend_from_slice(b"+1'UNZ+1+1'")?;
+    write_all(&[b"UNT+", segments, b"+1'UNZ+1+1'"], &mut text)?;
     Ok(text)
 }
 
 #[test]
 fn takes_999_lines(rt: HostRuntime) -> Result<(), Fail> {
-    let most = many(rt.alloc(), 999, b"1002")?;
-    let message = first(rt.alloc(), &most, PartnerKind::Gate)?
-        .ok()
-        .ok_or("message")?;
+    let text = many(rt.alloc(), 999, b"1002")?;
+    let message = first_message(rt.alloc(), &text, PartnerKind::Gate)?;
     assert_eq!(rt; message.lines.len(), 999);
-    let more = many(rt.alloc(), 1_000, b"1003")?;
-    assert_eq!(rt;
-        first(rt.alloc(), &more, PartnerKind::Gate)?.err(),
-        Some(MessageFault::TooMany)
-    );
     Ok(())
+}
+
+#[test]
+fn refuses_1000_lines(rt: HostRuntime) -> Result<(), Fail> {
+    let text = many(rt.alloc(), 1_000, b"1003")?;
+    assert_fault(
+        &rt,
+        rt.alloc(),
+        &text,
+        PartnerKind::Gate,
+        MessageFault::TooMany,
+    )
 }

@@ -1,40 +1,27 @@
 //! Worked interchanges.
 
-use super::shown::shown;
-use super::{answer, first};
-use crate::{MessageFault, PartnerKind};
+use super::{assert_contrl, assert_fault, assert_words};
+use edi_messages::{MessageFault, PartnerKind};
 use std::test::Fail;
 
 #[test]
 fn answers_each_message(rt: HostRuntime) -> Result<(), Fail> {
     let text =
         b"UNB+UNOA:3+HAULA+TERM1+240305:0910+1'UNH+1+CODECO:D:96A:UN'BGM+34+G1+9'UNT+3+1'UNH+2+CODECO:D:95B:UN'BGM+34+G2+9'EQD+CN+ABCU0000017+22G1'UNT+4+2'UNZ+2+1'";
-    let contrl = answer(rt.alloc(), text, PartnerKind::Gate)?;
-    assert_eq!(rt;
-        contrl.as_slice(),
-        b"UNB+UNOA:3+TERM1+HAULA+240305:0910+1'UNH+1+CONTRL:D:3:UN'UCI+1+HAULA+TERM1+7'UCM+1+CODECO:D:96A:UN+4+12'UCM+2+CODECO:D:95B:UN+7'UNT+5+1'UNZ+1+1'".as_slice()
-    );
-    Ok(())
+    let contrl =
+        b"UNB+UNOA:3+TERM1+HAULA+240305:0910+1'UNH+1+CONTRL:D:3:UN'UCI+1+HAULA+TERM1+7'UCM+1+CODECO:D:96A:UN+4+12'UCM+2+CODECO:D:95B:UN+7'UNT+5+1'UNZ+1+1'";
+    assert_contrl(&rt, rt.alloc(), text, PartnerKind::Gate, contrl)
 }
 
 #[test]
 fn writes_released_characters_anew(rt: HostRuntime) -> Result<(), Fail> {
     let text =
         b"UNB+UNOA:3+HAULA+TERM1+240305:0910+1'UNH+M?'1+CODECO:D:95B:UN'BGM+34+G1+9'EQD+CN+ABCU0000017+22G1+++4'RFF+BN:A?+B'UNT+5+M?'1'UNZ+1+1'";
-    let message = first(rt.alloc(), text, PartnerKind::Gate)?
-        .ok()
-        .ok_or("message")?;
-    let words = shown(rt.alloc(), &message)?;
-    assert_eq!(rt;
-        words.as_slice(),
-        b"GateIn / ABCU0000017 22G1 empty A+B 2024-03-05 09:10 anywhere ".as_slice()
-    );
-    let contrl = answer(rt.alloc(), text, PartnerKind::Gate)?;
-    assert_eq!(rt;
-        contrl.as_slice(),
-        b"UNB+UNOA:3+TERM1+HAULA+240305:0910+1'UNH+1+CONTRL:D:3:UN'UCI+1+HAULA+TERM1+7'UCM+M?'1+CODECO:D:95B:UN+7'UNT+4+1'UNZ+1+1'".as_slice()
-    );
-    Ok(())
+    let words = b"GateIn / ABCU0000017 22G1 empty A+B 2024-03-05 09:10 anywhere ";
+    let contrl =
+        b"UNB+UNOA:3+TERM1+HAULA+240305:0910+1'UNH+1+CONTRL:D:3:UN'UCI+1+HAULA+TERM1+7'UCM+M?'1+CODECO:D:95B:UN+7'UNT+4+1'UNZ+1+1'";
+    assert_words(&rt, rt.alloc(), text, PartnerKind::Gate, words)?;
+    assert_contrl(&rt, rt.alloc(), text, PartnerKind::Gate, contrl)
 }
 
 const SIX_LINES: &[u8] =
@@ -46,24 +33,26 @@ const SIX_LINES_COUNTED_AS_FIVE: &[u8] =
 // It also fails for a body that always answers want of memory.
 #[test]
 fn names_the_fault_of_each_line(rt: HostRuntime) -> Result<(), Fail> {
-    let message = first(rt.alloc(), SIX_LINES, PartnerKind::Gate)?
-        .ok()
-        .ok_or("message")?;
-    let words = shown(rt.alloc(), &message)?;
-    assert_eq!(rt;
-        words.as_slice(),
-        b"GateIn / Form / CheckDigit / Size ABCU0000017 / Moment ABCU0000022 / SlotText ABCU0000038 / ABCU0000043 L5G1 full  2024-03-05 09:10 A002011 ".as_slice()
-    );
-    assert_eq!(rt;
-        first(rt.alloc(), SIX_LINES_COUNTED_AS_FIVE, PartnerKind::Gate)?.err(),
-        Some(MessageFault::EquipmentCount)
-    );
-    let contrl = answer(rt.alloc(), SIX_LINES_COUNTED_AS_FIVE, PartnerKind::Gate)?;
-    assert_eq!(rt;
-        contrl.as_slice(),
-        b"UNB+UNOA:3+TERM1+HAULA+240305:0910+1'UNH+1+CONTRL:D:3:UN'UCI+1+HAULA+TERM1+7'UCM+1+CODECO:D:95B:UN+4+29'UNT+4+1'UNZ+1+1'".as_slice()
-    );
-    Ok(())
+    let words =
+        b"GateIn / Form / CheckDigit / Size ABCU0000017 / Moment ABCU0000022 / SlotText ABCU0000038 / ABCU0000043 L5G1 full  2024-03-05 09:10 A002011 ";
+    let contrl =
+        b"UNB+UNOA:3+TERM1+HAULA+240305:0910+1'UNH+1+CONTRL:D:3:UN'UCI+1+HAULA+TERM1+7'UCM+1+CODECO:D:95B:UN+4+29'UNT+4+1'UNZ+1+1'";
+    let fault = MessageFault::EquipmentCount;
+    assert_words(&rt, rt.alloc(), SIX_LINES, PartnerKind::Gate, words)?;
+    assert_fault(
+        &rt,
+        rt.alloc(),
+        SIX_LINES_COUNTED_AS_FIVE,
+        PartnerKind::Gate,
+        fault,
+    )?;
+    assert_contrl(
+        &rt,
+        rt.alloc(),
+        SIX_LINES_COUNTED_AS_FIVE,
+        PartnerKind::Gate,
+        contrl,
+    )
 }
 
 #[test]
@@ -101,9 +90,8 @@ fn rejects_messages_for_their_faults(rt: HostRuntime) -> Result<(), Fail> {
         ),
     ];
     for (text, kind, fault, contrl) in rows {
-        assert_eq!(rt; first(rt.alloc(), text, *kind)?.err(), Some(*fault));
-        let answered = answer(rt.alloc(), text, *kind)?;
-        assert_eq!(rt; answered.as_slice(), *contrl);
+        assert_fault(&rt, rt.alloc(), text, *kind, *fault)?;
+        assert_contrl(&rt, rt.alloc(), text, *kind, contrl)?;
     }
     Ok(())
 }

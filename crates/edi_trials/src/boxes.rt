@@ -1,5 +1,5 @@
 //! Examples from outside: the published example of ISO 6346 and texts with each fault.
-use crate::{BoxNumber, Length, NumberFault, SizeFault, SizeType, Slot, check_digit};
+use box6346::{BoxNumber, Length, NumberFault, SizeFault, SizeType, Slot, check_digit};
 use std::test::Fail;
 
 fn fault_of(text: &[u8]) -> Option<NumberFault> {

@@ -1,6 +1,6 @@
 use super::{number, slot};
-use crate::{Outcome, Reason};
 use std::process::Abort;
+use terminal_core::{Outcome, Reason};
 
 /// What a terminal answers.
 pub(super) enum Answer {

@@ -4,10 +4,10 @@ use super::{
     Answer, Ask, FIRST, HAULIER, LINE, QUAY, Row, SECOND, YARD, assert_answers, assert_lines,
     assert_visits, terminal,
 };
-use crate::{LineState, Reason, Side, Terminal};
 use std::alloc::{AllocError, Global};
 use std::process::Abort;
 use std::test::Fail;
+use terminal_core::{LineState, Reason, Side, Terminal};
 
 const BURIED: [Row; 6] = [
     (HAULIER, FIRST, Ask::Comes, Answer::Done("A001011"), 2),

@@ -2,7 +2,7 @@ use Rattle.std.proofs.Common.{◌≡◌, ◌+◌, length}
 use Rattle.edi_syntax.specs.Envelope.{messages_of}
 use Rattle.edi_syntax.specs.Envelopes.{envelope_segments}
 use Rattle.edi_syntax.specs.Frames.{messages_left}
-use Rattle.edi_messages.proofs.tests.answer.Given as goal
+use Rattle.edi_trials.proofs.messages.answer.Given as goal
 
 -- a verdict for each message so far
 abbrev pub invariant-loop-frame : goal.invariant-loop-frame

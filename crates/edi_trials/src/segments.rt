@@ -1,7 +1,10 @@
-use super::{
+ghost use Rattle.std.specs.Prelude.{◌<◌};
+
+use edi_segments::{
     Segment, SegmentCheck, SegmentReader, SegmentWriter, Segments, SyntaxFault, interchange_text,
     write_component,
 };
+use std::process::Abort;
 use std::test::Fail;
 
 /// The first segment that is read of the text.
@@ -9,35 +12,65 @@ fn first<'a>(text: &'a [u8]) -> Option<Segment<'a>> {
     Segments::read(text).ok()?.next()
 }
 
+const RELEASED: &[u8] = b"RFF+BN:A?+B:??:?'?:?\x80+\xff'\r\n";
+
+/// Holds the value in that place to this one.
+fn assert_value(
+    rt: &impl Abort,
+    segment: &Segment<'_>,
+    element: usize,
+    component: usize,
+    value: &[u8],
+)
+    requires first_element { 0 < element }
+    requires first_component { 0 < component }
+{
+    assert!(rt; segment.component(element, component).equals(value));
+}
+
 #[test]
 fn reads_values_that_are_released(rt: HostRuntime) -> Result<(), Fail> {
-    let segment = first(b"RFF+BN:A?+B:??:?'?:?\x80+\xff'\r\n").ok_or("no segment")?;
+    let segment = first(RELEASED).ok_or("no segment")?;
     assert_eq!(rt; segment.tag(), b"RFF".as_slice());
-    assert!(rt; segment.component(1, 2).equals(b"A+B"));
+    assert_value(&rt, &segment, 1, 2, b"A+B");
+    assert_value(&rt, &segment, 1, 3, b"?");
+    assert_value(&rt, &segment, 1, 4, b"':\x80");
+    assert_value(&rt, &segment, 2, 1, b"\xff");
+    assert_value(&rt, &segment, 2, 2, b"");
+    Ok(())
+}
+
+#[test]
+fn tells_what_a_value_is_like(rt: HostRuntime) -> Result<(), Fail> {
+    let segment = first(RELEASED).ok_or("no segment")?;
     assert_eq!(rt; segment.component(1, 2).len(), 3);
-    assert!(rt; segment.component(1, 3).equals(b"?"));
-    assert!(rt; segment.component(1, 4).equals(b"':\x80"));
     assert!(rt; !segment.component(1, 4).is_printable());
-    assert!(rt; segment.component(2, 1).equals(b"\xff"));
-    assert!(rt; segment.component(2, 2).is_empty());
     assert_eq!(rt; segment.component(1, 1).fixed::<2>(), Some(*b"BN"));
     assert!(rt; segment.component(1, 1).fixed::<3>().is_none());
+    Ok(())
+}
+
+/// The values of the first two elements, in turn.
+#[test]
+fn goes_over_elements_and_values(rt: HostRuntime) -> Result<(), Fail> {
+    let segment = first(RELEASED).ok_or("no segment")?;
+    let wanted: [&[&[u8]]; 2] = [&[b"BN", b"A+B", b"?", b"':\x80"], &[b"\xff"]];
     let mut elements = segment.elements();
-    let mut values = elements.next().ok_or("no element")?;
-    assert!(rt; values.next().ok_or("no value")?.equals(b"BN"));
-    assert!(rt; values.next().ok_or("no value")?.equals(b"A+B"));
-    assert!(rt;
-        elements
-            .next()
-            .ok_or("no element")?
-            .next()
-            .ok_or("no value")?
-            .equals(b"\xff")
-    );
+    for values in wanted {
+        let found = elements.next().ok_or("no element")?;
+        for (value, want) in found.zip(values.iter()) {
+            assert!(rt; value.equals(want));
+        }
+    }
     assert!(rt; elements.next().is_none());
+    Ok(())
+}
+
+#[test]
+fn writes_a_value_and_its_spelling(rt: HostRuntime) -> Result<(), Fail> {
+    let segment = first(RELEASED).ok_or("no segment")?;
     let mut value = Vec::new(rt.alloc());
     segment.component(1, 4).value_into(&mut value)?;
-    assert_eq!(rt; value.as_slice(), b"':\x80".as_slice());
     segment.component(1, 2).spell_into(&mut value)?;
     assert_eq!(rt; value.as_slice(), b"':\x80A?+B".as_slice());
     Ok(())

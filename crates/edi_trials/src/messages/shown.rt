@@ -1,6 +1,7 @@
 //! A message in words: its kind, its call, and a line for each container.
 
-use crate::{Call, Entry, Line, LineFault, LineRefusal, Message, Order, OrderKind};
+use box6346::Slot;
+use edi_messages::{Call, Entry, Line, LineFault, LineRefusal, Message, Order, OrderKind};
 use std::alloc::{AllocError, Global};
 
 /// The message in words, each followed by a space.
@@ -20,9 +21,22 @@ pub fn shown(alloc: Global, message: &Message) -> Result<Vec<u8>, AllocError> {
     Ok(out)
 }
 
+/// These, one after the other.
+pub fn joined(alloc: Global, parts: &[&[u8]]) -> Result<Vec<u8>, AllocError> {
+    let mut out = Vec::new(alloc);
+    write_all(parts, &mut out)?;
+    Ok(out)
+}
+
+pub fn write_all(parts: &[&[u8]], out: &mut Vec<u8>) -> Result<(), AllocError> {
+    for part in parts {
+        out.extend_from_slice(part)?;
+    }
+    Ok(())
+}
+
 fn write_word(word: &[u8], out: &mut Vec<u8>) -> Result<(), AllocError> {
-    out.extend_from_slice(word)?;
-    out.extend_from_slice(b" ")
+    write_all(&[word, b" "], out)
 }
 
 fn write_kind(kind: OrderKind, out: &mut Vec<u8>) -> Result<(), AllocError> {
@@ -48,7 +62,11 @@ fn write_entry(entry: &Entry, out: &mut Vec<u8>) -> Result<(), AllocError> {
     write_word(if entry.is_laden { b"full" } else { b"empty" }, out)?;
     write_word(entry.booking.as_bytes(), out)?;
     write_word(&entry.moment.text(), out)?;
-    match entry.slot {
+    write_place(entry.slot, out)
+}
+
+fn write_place(slot: Option<Slot>, out: &mut Vec<u8>) -> Result<(), AllocError> {
+    match slot {
         Some(slot) => write_word(&slot.text(), out),
         None => write_word(b"anywhere", out),
     }

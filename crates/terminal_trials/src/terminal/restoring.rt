@@ -4,12 +4,12 @@ use super::{
     A, Answer, Ask, FIRST, HAULIER, Row, SECOND, assert_answers, assert_lines, assert_stands,
     assert_visits, call, moment, number, size_type, slot,
 };
-use crate::{
-    Arrival, Departure, LineState, Listing, RestoreFault, Side, Source, Stay, Terminal, Visit, Way,
-};
 use std::alloc::{AllocError, Global};
 use std::process::Abort;
 use std::test::Fail;
+use terminal_core::{
+    Arrival, Departure, LineState, Listing, RestoreFault, Side, Source, Stay, Terminal, Visit, Way,
+};
 use yard_core::Plan;
 
 const BY_GATE: Source = Source {

@@ -1,4 +1,4 @@
-use super::{Head, Service, SyntaxFault, interchange_text, open_envelope};
+use edi_syntax::{Head, Service, SyntaxFault, interchange_text, open_envelope};
 use std::test::Fail;
 
 const GATE_IN: &[u8] =

@@ -3,12 +3,12 @@
 use super::{
     Answer, Ask, FIRST, HAULIER, QUAY, Row, SECOND, call, number, slot, terminal as empty_terminal,
 };
-use crate::{Change, LineState, Outcome, Reason, Side, Source, Terminal};
 use box6346::Slot;
 use edi_messages::{Call, Order};
 use std::alloc::{AllocError, Global};
 use std::process::Abort;
 use std::test::Fail;
+use terminal_core::{Change, LineState, Outcome, Reason, Side, Source, Terminal};
 
 /// The first container comes, the second is put onto it, and the first goes once the second moved. Then the first comes
 /// off a vessel. The last number is that of the changes so far.

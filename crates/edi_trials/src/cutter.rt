@@ -1,4 +1,4 @@
-use super::{CutFault, Cutter};
+use edi_cutter::{CutFault, Cutter};
 use std::alloc::Global;
 use std::test::Fail;
 

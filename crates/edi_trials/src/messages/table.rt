@@ -1,6 +1,6 @@
 //! Tables of codes.
 
-use crate::{CodeFault, CodeTable};
+use edi_messages::{CodeFault, CodeTable};
 use std::test::Fail;
 
 #[test]

@@ -1,0 +1,5 @@
+//! Orders at a terminal, by the worked rows of its rules.
+#![tactic(auto)]
+
+#[cfg(test)]
+mod terminal;
