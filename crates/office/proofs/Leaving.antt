@@ -1,7 +1,7 @@
 -- A desk of the demonstration, and what its stream leaves behind where it ends before the input.
 use Rattle.std.proofs.Common.{◌≡◌, ℕ, List, [], Option, codes, string_bytes, ap, ◌∙◌}
 use Rattle.edi_messages.specs.Codes.{table_texts}
-use Rattle.office_machine.specs.Taking.{MachineState, interchange_taken}
+use Rattle.office_taking.specs.Taking.{MachineState, interchange_taken}
 use Rattle.office_desk.specs.declared.desk.Desk.{Desk}
 use Rattle.office_desk.specs.Desks.{DeskStands, DeskAnswers, parties}
 use Rattle.office_stream.specs.Streams.{Began, Delivered}

@@ -8,7 +8,7 @@ use Rattle.yard_core.specs.declared.block.Block.{Block}
 use Rattle.std.specs.FinMap as finite_map
 use Rattle.terminal_core.specs.State.{empty_state}
 use Rattle.office_setup.specs.Parties.{Parties}
-use Rattle.office_machine.specs.Taking.{MachineState, interchange_taken}
+use Rattle.office_taking.specs.Taking.{MachineState, interchange_taken}
 use Rattle.office_desk.specs.declared.desk.Desk.{Desk}
 use Rattle.office_desk.specs.Desks.{DeskStands, DeskAnswers, parties}
 use Rattle.office_replies.specs.declared.worst.Worst.{Worst}

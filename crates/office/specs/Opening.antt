@@ -4,7 +4,7 @@ use Rattle.std.specs.FinMap as finite_map
 use Rattle.yard_core.specs.Plan.{IsPlan, IsFaulty}
 use Rattle.terminal_core.specs.State.{empty_state}
 use Rattle.office_setup.specs.declared.setup.Setup.{Setup}
-use Rattle.office_machine.specs.Taking.{MachineState, machine_of}
+use Rattle.office_taking.specs.Taking.{MachineState, machine_of}
 use Rattle.office.specs.declared.setup_fault.SetupFault.{SetupFault}
 use Rattle.office.specs.declared.setup_fault.SetupFault.TheVariants.{Codes, Partners, Blocks, Memory}
 

@@ -1,12 +1,12 @@
 ghost use Rattle.std.specs.Prelude.{◌≡◌, ◌≤◌, [], IfOk, IfErr, length};
-ghost use Rattle.office_machine.specs.Taking.{interchange_taken};
+ghost use Rattle.office_taking.specs.Taking.{interchange_taken};
 ghost use Rattle.office_setup.specs.Parties.{parties_of};
 ghost use Rattle.office_desk.specs.Desks.{DeskStands, parties};
 ghost use Rattle.office.specs.Opening.{opening_machine, IsSound, OpensNot};
 
 use crate::setup_fault::SetupFault;
 use office_desk::Desk;
-use office_machine::TerminalMachine;
+use office_taking::TerminalMachine;
 use office_setup::Setup;
 use std::alloc::{AllocError, Global};
 use terminal_core::Terminal;

@@ -24,7 +24,7 @@ use Rattle.office_replies.specs.declared.fault.Fault.TheVariants.{Syntax, Unknow
 use Rattle.office_replies.specs.declared.response.Response.{Response}
 use Rattle.office_replies.specs.declared.response.Response.TheVariants as response
 use Rattle.office_replies.specs.declared.worst.Worst.TheVariants as worst
-use Rattle.office_stream.specs.Delivering.{Delivers}
+use Rattle.office_replies.specs.Delivering.{Delivers}
 use Rattle.office_desk.specs.declared.desk.Desk.{Desk}
 use Rattle.office_setup.specs.Parties.{Parties, partner_from}
 use Rattle.office_desk.specs.Admission.{admission, admitted, addressed, added, sender_of, number_in, deliveries_of}

@@ -1,4 +1,2 @@
-pub mod Kinds
-pub mod Admission
 pub mod Answers
 pub mod Desks

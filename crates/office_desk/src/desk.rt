@@ -3,7 +3,7 @@ ghost use Rattle.edi_segments.specs.Interchange.{interchange_of};
 ghost use Rattle.partner_core.specs.Order.{state};
 ghost use Rattle.partner_core.specs.Deliveries.{Delivery, delivery};
 ghost use Rattle.partner_core.specs.Runs.{StandsAt, partner_count};
-ghost use Rattle.office_stream.specs.Delivering.{Delivers};
+ghost use Rattle.office_replies.specs.Delivering.{Delivers};
 ghost use Rattle.office_desk.specs.Admission.{deliveries_of};
 ghost use Rattle.office_desk.specs.Answers.{code_of};
 

@@ -5,3 +5,6 @@ pub mod Lines
 pub mod Bodies
 pub mod Responses
 pub mod Messages
+pub mod Kinds
+pub mod Contents
+pub mod Delivering

@@ -3,6 +3,7 @@
 #![tactic(auto)]
 
 mod body;
+mod deliver;
 mod fault;
 mod kept;
 pub mod laws;
@@ -16,6 +17,7 @@ mod text;
 mod worst;
 
 pub use body::{answer_head, clash, refused, waiting};
+pub use deliver::Deliver;
 pub use fault::Fault;
 pub use kept::reply;
 pub use line_report::LineReport;

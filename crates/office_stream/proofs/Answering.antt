@@ -4,7 +4,7 @@ use Rattle.office_replies.specs.declared.response.Response.{Response}
 use Rattle.office_replies.specs.declared.worst.Worst.{Worst}
 use Rattle.office_replies.specs.declared.worst.Worst.TheVariants.{Fine, Refused, NotNow}
 use Rattle.office_replies.specs.Responses.{worst_of, worse_of}
-use Rattle.office_stream.specs.Delivering.{Delivers, answered, AnswersEach, deliveries}
+use Rattle.office_replies.specs.Delivering.{Delivers, answered, AnswersEach, deliveries}
 use Rattle.office_stream.specs.Lines.{worst_of_all}
 use Rattle.office_stream.specs.Streams.{Answered}
 

@@ -11,7 +11,7 @@ use Rattle.edi_cutter.specs.declared.cut_fault.CutFault.TheVariants.{TooLong, Se
 use Rattle.office_replies.specs.declared.response.Response.{Response}
 use Rattle.office_replies.specs.declared.worst.Worst.{Worst}
 use Rattle.office_replies.specs.Responses.{body_of, worst_of, worse_of}
-use Rattle.office_stream.specs.Delivering.{deliveries}
+use Rattle.office_replies.specs.Delivering.{deliveries}
 use Rattle.office_stream.specs.Lines.{line, response_lines, worst_of_all}
 use Rattle.office_stream.specs.Streams.{CutsFrom, IsCutBy, GoesOnAnyhow, LineCutShort}
 use Rattle.office_stream.specs.Pieces.{AnsweredOne, DeliveredOne, EndsPiece, PieceAnswered}

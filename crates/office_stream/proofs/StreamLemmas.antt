@@ -11,7 +11,7 @@ use Rattle.office_replies.specs.declared.response.Response.{Response}
 use Rattle.office_replies.specs.declared.worst.Worst.{Worst}
 use Rattle.office_replies.specs.declared.worst.Worst.TheVariants.{Fine}
 use Rattle.office_replies.specs.Responses.{worse_of}
-use Rattle.office_stream.specs.Delivering.{deliveries}
+use Rattle.office_replies.specs.Delivering.{deliveries}
 use Rattle.office_stream.specs.Fronts.{AppendsFront}
 use Rattle.office_stream.specs.Lines.{response_lines, worst_of_all, end_text, end_worst}
 use Rattle.office_stream.specs.Streams.{CutsFrom, EndsAs, ReadsTo, GoesOnAnyhow, Answered, Streamed, Began, LineCutShort, Delivered}

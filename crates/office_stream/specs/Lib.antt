@@ -1,4 +1,3 @@
-pub mod Delivering
 pub mod Fronts
 pub mod Lines
 pub mod Streams

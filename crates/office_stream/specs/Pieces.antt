@@ -7,7 +7,7 @@ use Rattle.office_replies.specs.declared.response.Response.{Response}
 use Rattle.office_replies.specs.declared.worst.Worst.{Worst}
 use Rattle.office_replies.specs.Responses.{body_of, worst_of, worse_of}
 use Rattle.office_stream.specs.declared.stream_end.StreamEnd.TheVariants.{Cut}
-use Rattle.office_stream.specs.Delivering.{Delivers}
+use Rattle.office_replies.specs.Delivering.{Delivers}
 use Rattle.office_stream.specs.Fronts.{AppendsFront}
 use Rattle.office_stream.specs.Lines.{line, response_lines, worst_of_all}
 use Rattle.office_stream.specs.Streams.{CutsFrom, EndsAs, Answered}

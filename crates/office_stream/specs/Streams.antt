@@ -8,7 +8,7 @@ use Rattle.edi_cutter.specs.declared.cut_fault.CutFault.TheVariants.{TooLong, Se
 use Rattle.office_replies.specs.declared.response.Response.{Response}
 use Rattle.office_replies.specs.declared.worst.Worst.{Worst}
 use Rattle.office_replies.specs.Responses.{body_of, worse_of}
-use Rattle.office_stream.specs.Delivering.{AnswersEach, deliveries}
+use Rattle.office_replies.specs.Delivering.{AnswersEach, deliveries}
 use Rattle.office_stream.specs.Fronts.{IsFront}
 use Rattle.office_stream.specs.Lines.{line, end_text, end_worst, response_lines, worst_of_all}
 use Rattle.office_stream.specs.declared.stream_end.StreamEnd.{StreamEnd}

@@ -6,12 +6,11 @@ ghost use Rattle.office_stream.specs.Lines.{line};
 ghost use Rattle.office_stream.specs.Pieces.{AnsweredOne, DeliveredOne, EndsPiece, PieceAnswered};
 ghost use Rattle.office_stream.specs.Streams.{LineCutShort};
 
-use crate::deliver::Deliver;
 use crate::line::write_response;
 use crate::port::Port;
 use crate::stream_fault::StreamFault;
 use edi_cutter::{CutFault, Cutter};
-use office_replies::Worst;
+use office_replies::{Deliver, Worst};
 use std::alloc::Global;
 use std::io::Write;
 
@@ -23,14 +22,15 @@ fn answer_one<W: Write, D: Deliver>(
     desk: &mut D,
 ) -> Result<Worst, StreamFault>
     ensures ok { IfOk result
-        (λ worst. (opening : D) (ds : List (List ℕ)) → D.stands opening ds desk.old
+        (λ worst. D.clean desk.new → (opening : D) (ds : List (List ℕ)) → D.stands opening ds desk.old
         → AnsweredOne (D.stands opening) (D.answers opening) ds text.now desk.new worst
         (W.contents writer.old.inner) (W.contents writer.new.inner)) }
     ensures kept { OnOk result (writer.new.failed ≡ writer.old.failed) }
     ensures err { IfErr result
         (λ fault. (fault ≡ StreamFault.Write) × (writer.new.failed ≡ true)) }
+    ensures stays { D.clean desk.new → D.clean desk.old }
     ensures delivered { IfErr result
-        (λ fault. (opening : D) (ds : List (List ℕ)) → D.stands opening ds desk.old
+        (λ fault. D.clean desk.new → (opening : D) (ds : List (List ℕ)) → D.stands opening ds desk.old
         → DeliveredOne (D.stands opening) (D.answers opening) ds text.now desk.new
         (W.contents writer.old.inner) (W.contents writer.new.inner)) }
 {
@@ -53,7 +53,7 @@ pub(crate) fn answer_piece<W: Write, D: Deliver>(
 ) -> Result<(Worst, Option<CutFault>), StreamFault>
     requires { cutter.old.fault ≡ None }
     ensures ok { IfOk result
-        (λ done. (opening : D) (ds : List (List ℕ)) → D.stands opening ds desk.old
+        (λ done. D.clean desk.new → (opening : D) (ds : List (List ℕ)) → D.stands opening ds desk.old
         → PieceAnswered (D.stands opening) (D.answers opening) ds
         (EndsPiece done.1 (pending cutter.new)) (pending cutter.old ++ piece.now) desk.new before done.0
         (W.contents writer.old.inner) (W.contents writer.new.inner)) }
@@ -61,8 +61,9 @@ pub(crate) fn answer_piece<W: Write, D: Deliver>(
     ensures kept { OnOk result (writer.new.failed ≡ writer.old.failed) }
     ensures err { IfErr result
         (λ fault. (fault ≡ StreamFault.Write) × (writer.new.failed ≡ true)) }
+    ensures stays { D.clean desk.new → D.clean desk.old }
     ensures cut_short { IfErr result
-        (λ fault. (opening : D) (ds : List (List ℕ)) → D.stands opening ds desk.old
+        (λ fault. D.clean desk.new → (opening : D) (ds : List (List ℕ)) → D.stands opening ds desk.old
         → LineCutShort (D.stands opening) (D.answers opening) ds (pending cutter.old ++ piece.now)
         (W.contents writer.old.inner) (W.contents writer.new.inner) desk.new) }
 {

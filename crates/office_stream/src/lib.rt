@@ -3,7 +3,6 @@
 #![tactic(auto)]
 
 mod answer;
-mod deliver;
 pub mod laws;
 mod line;
 mod port;
@@ -11,7 +10,6 @@ mod stream;
 mod stream_end;
 mod stream_fault;
 
-pub use deliver::Deliver;
 pub use port::Port;
 pub use stream::run_stream;
 pub use stream_fault::StreamFault;

@@ -7,13 +7,12 @@ ghost use Rattle.office_stream.specs.Streams.{Streamed, Began, Delivered};
 ghost use Rattle.office_stream.specs.Faults.{MatchFault};
 
 use crate::answer::answer_piece;
-use crate::deliver::Deliver;
 use crate::line::{end_worst, write_end};
 use crate::port::Port;
 use crate::stream_end::StreamEnd;
 use crate::stream_fault::StreamFault;
 use edi_cutter::Cutter;
-use office_replies::Worst;
+use office_replies::{Deliver, Worst};
 use std::alloc::Global;
 use std::io::{Read, Write};
 
@@ -29,7 +28,7 @@ pub fn run_stream<R: Read, W: Write, D: Deliver>(
     turns: u64,
 ) -> Result<Worst, StreamFault>
     ensures ok { IfOk result
-        (λ worst. (opening : D) (ds : List (List ℕ)) → D.stands opening ds desk.old
+        (λ worst. D.clean desk.new → (opening : D) (ds : List (List ℕ)) → D.stands opening ds desk.old
         → Streamed (D.stands opening) (D.answers opening) ds
         (R.remaining reader.old.inner) (R.remaining reader.new.inner)
         (W.contents writer.old.inner) (W.contents writer.new.inner) desk.new worst) }
@@ -37,7 +36,7 @@ pub fn run_stream<R: Read, W: Write, D: Deliver>(
     // What was delivered before a fault stands. After a failed read, or too many reads, all interchanges of what was read are
     // answered by their lines. After a failed write the lines end where it failed, and nothing was delivered behind it.
     ensures err { IfErr result
-        (λ fault. (opening : D) (ds : List (List ℕ)) → D.stands opening ds desk.old → MatchFault fault
+        (λ fault. D.clean desk.new → (opening : D) (ds : List (List ℕ)) → D.stands opening ds desk.old → MatchFault fault
         (Began (D.stands opening) (D.answers opening) ds
         (R.remaining reader.old.inner) (R.remaining reader.new.inner)
         (W.contents writer.old.inner) (W.contents writer.new.inner) desk.new)
@@ -47,6 +46,9 @@ pub fn run_stream<R: Read, W: Write, D: Deliver>(
         (Began (D.stands opening) (D.answers opening) ds
         (R.remaining reader.old.inner) (R.remaining reader.new.inner)
         (W.contents writer.old.inner) (W.contents writer.new.inner) desk.new)) }
+
+    // Nothing is said of a desk whose records have not told the truth.
+    ensures stays { D.clean desk.new → D.clean desk.old }
 
     // No more reads are made than turns.
     ensures reads { reader.new.reads ≤ reader.old.reads + turns }

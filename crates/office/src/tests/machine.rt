@@ -1,7 +1,7 @@
 //! The machine by itself: it takes the interchanges that are admitted for the partner who hands them over, and no others.
 
 use crate::demo_setup::demo_setup;
-use office_machine::TerminalMachine;
+use office_taking::TerminalMachine;
 use partner_core::Machine;
 use std::alloc::Global;
 use std::process::Abort;

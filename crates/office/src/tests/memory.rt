@@ -3,7 +3,7 @@
 use super::assert_answers_from;
 use crate::demo_setup::demo_setup;
 use office_desk::Desk;
-use office_machine::TerminalMachine;
+use office_taking::TerminalMachine;
 use partner_core::Machine;
 use std::alloc::{AllocError, Global};
 use std::process::Abort;
@@ -21,7 +21,7 @@ struct ShortOfMemory {
 }
 
 impl Machine for ShortOfMemory {
-    ghost use Rattle.office_machine.specs.Taking.{interchange_taken};
+    ghost use Rattle.office_taking.specs.Taking.{interchange_taken};
 
     ghost taken = { λ short partner text. (record { machine = (interchange_taken short.machine partner text).0 }, (interchange_taken short.machine partner text).1) };
 

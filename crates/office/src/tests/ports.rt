@@ -7,7 +7,7 @@ use crate::command;
 use crate::demo_setup::demo_setup;
 use crate::open_desk::open_desk;
 use office_desk::Desk;
-use office_machine::TerminalMachine;
+use office_taking::TerminalMachine;
 use office_stream::{Port, StreamFault, run_stream};
 use std::alloc::Global;
 use std::io::Read;

@@ -8,7 +8,8 @@ abbrev pub invariant-pieces : goal.invariant-pieces
 invariant-pieces g l = record {
   running : l.cutter.fault ≡ None;
   kept : l.writer.failed ≡ l.fn.writer.failed;
-  done : (opening : g.row.D.Denot) (ds : List (List ℕ)) → g.D.Deliver.stands opening ds l.fn.desk →
+  stays : g.D.Deliver.clean l.desk → g.D.Deliver.clean l.fn.desk;
+  done : g.D.Deliver.clean l.desk → (opening : g.row.D.Denot) (ds : List (List ℕ)) → g.D.Deliver.stands opening ds l.fn.desk →
       PieceAnswered (g.D.Deliver.stands opening) (g.D.Deliver.answers opening) ds (IsLeft (pending l.cutter) l.rest) (pending l.fn.cutter ++ l.piece) l.desk
       l.fn.before l.worst (g.W.Write.contents l.fn.writer.inner) (g.W.Write.contents l.writer.inner);
 }

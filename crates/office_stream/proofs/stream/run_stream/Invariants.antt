@@ -10,7 +10,8 @@ invariant-reads g l = record {
   writer : l.writer.failed ≡ l.fn.writer.failed;
   most : l.reader.reads ≤ l.fn.reader.reads + l.counter;
   least : min (l.fn.reader.reads + l.counter) (2 ^ 64 - 1) ≤ l.reader.reads;
-  sofar : (opening : g.row.D.Denot) (ds : List (List ℕ)) → g.D.Deliver.stands opening ds l.fn.desk →
+  stays : g.D.Deliver.clean l.desk → g.D.Deliver.clean l.fn.desk;
+  sofar : g.D.Deliver.clean l.desk → (opening : g.row.D.Denot) (ds : List (List ℕ)) → g.D.Deliver.stands opening ds l.fn.desk →
       Sofar (g.D.Deliver.stands opening) (g.D.Deliver.answers opening) ds (g.R.Read.remaining l.fn.reader.inner) (g.R.Read.remaining l.reader.inner)
       (pending l.cutter) l.desk l.worst (g.W.Write.contents l.fn.writer.inner) (g.W.Write.contents l.writer.inner);
 }

@@ -1,0 +1,94 @@
+-- What the head of a text, and its body, tell of its admission.
+use Rattle.std.proofs.Common.{◌≡◌, ℕ, ◌+◌, Bool, true, false, cond, List, [], ◌∷◌, ◌++◌, Option, Some, None, Result, Ok, Err, inl, inr, ◌⊎◌, ◌&&◌, refl, sym, ap, subst, ◌∙◌}
+use Rattle.std.specs.Option.{unwrap_or, is_none}
+use Rattle.std.specs.List.{find, list_all}
+use Rattle.std.specs.Str.{bytes_eq}
+use Rattle.std.proofs.lemmas.List.{append-nil}
+use Rattle.edi_segments.specs.Text.{Content}
+use Rattle.edi_segments.specs.Interchange.{interchange_of, segments_in}
+use Rattle.edi_segments.specs.declared.syntax_fault.SyntaxFault.{SyntaxFault}
+use Rattle.edi_syntax.specs.Envelope.{header_of}
+use Rattle.edi_syntax.specs.Header.{sender, recipient, control_number}
+use Rattle.edi_syntax.proofs.FaultLemmas.{of_body}
+use Rattle.edi_syntax.specs.Faults.{applies, text_faults, header_faults, fault_of, head_fault_of, body_fault_of}
+use Rattle.edi_messages.specs.ErrorCodes.{interchange_error}
+use Rattle.office_replies.specs.Responses.{fault_status}
+use Rattle.office_replies.specs.Refusals.{refusal_text}
+use Rattle.office_replies.specs.declared.fault.Fault.{Fault}
+use Rattle.office_replies.specs.declared.fault.Fault.TheVariants.{Syntax, UnknownSender, WrongRecipient}
+use Rattle.office_replies.specs.declared.response.Response.{Response}
+use Rattle.office_replies.specs.declared.response.Response.TheVariants as response
+use Rattle.office_replies.specs.declared.worst.Worst.TheVariants as worst
+use Rattle.partner_core.specs.Numbered.{with_number}
+use Rattle.partner_core.proofs.Numbered.{with_number-at}
+use Rattle.std.specs.Prelude.{slice_get}
+use Rattle.std.proofs.lemmas.Option.{slice_get-map}
+use Rattle.edi_syntax.specs.Heads.{head_segments}
+use Rattle.edi_syntax.specs.declared.head.Head.{Head}
+use Rattle.office_setup.specs.declared.account.Account.{Account}
+use Rattle.office_setup.specs.Parties.{Parties, partner_from, partner_kinds}
+use Rattle.office_admission.specs.Outcomes.{IsOpened}
+use Rattle.office_admission.specs.Admission.{admission, admitted, addressed, sender_of, number_in}
+use Rattle.office_replies.specs.Contents.{GivesOrNotNow, content_of, answer_with}
+use Rattle.office_replies.specs.Kinds as kinds
+use Rattle.office_admission.specs.Refusals.{error_of, refusal_of, refusal_to, plain_refusal, rejection, HasNoContrl, RefusedSurely}
+
+pub syntax_refused : (P : Parties) (text : List ℕ) (fault : SyntaxFault) → fault_of text ≡ Some fault → admission P text ≡ Err (Syntax fault)
+syntax_refused P text fault e = ap (admitted P (header_of (segments_in text))) e
+
+pub stranger_refused : (P : Parties) (text : List ℕ) → fault_of text ≡ None → sender_of P (header_of (segments_in text)) ≡ None → admission P text ≡ Err UnknownSender
+stranger_refused P text e none = ap (admitted P (header_of (segments_in text))) e ∙ ap (addressed P (header_of (segments_in text))) none
+
+pub stray_refused : (P : Parties) (text : List ℕ) (partner : ℕ) → fault_of text ≡ None → sender_of P (header_of (segments_in text)) ≡ Some partner →
+    bytes_eq (recipient (header_of (segments_in text)) 1) P.terminal ≡ false → admission P text ≡ Err WrongRecipient
+stray_refused P text partner e some other =
+    ap (admitted P (header_of (segments_in text))) e ∙ ap (addressed P (header_of (segments_in text))) some
+    ∙ ap (λ ours. cond ours (Ok (partner, number_in (header_of (segments_in text)))) (Err WrongRecipient)) other
+
+pub sender_is : (P : Parties) (text : List ℕ) (segments : List Content) (code : List ℕ) (found : Option ℕ) → segments ≡ segments_in text → code ≡ sender (header_of segments) 1 →
+    found ≡ partner_from 1 code P.partners → sender_of P (header_of (segments_in text)) ≡ found
+sender_is P text segments code found same is search_is =
+    ap (λ others. partner_from 1 (sender (header_of others) 1) P.partners) (sym same) ∙ ap (λ other. partner_from 1 other P.partners) (sym is) ∙ sym search_is
+
+pub recipient_is : (P : Parties) (text : List ℕ) (segments : List Content) (code terminal : List ℕ) (found : Bool) → segments ≡ segments_in text → code ≡ recipient (header_of segments) 1 →
+    terminal ≡ P.terminal → found ≡ bytes_eq code terminal → bytes_eq (recipient (header_of (segments_in text)) 1) P.terminal ≡ found
+recipient_is P text segments code terminal found same is ours tested =
+    ap (λ others. bytes_eq (recipient (header_of others) 1) P.terminal) (sym same) ∙ ap (λ other. bytes_eq other P.terminal) (sym is)
+    ∙ ap (λ other. bytes_eq code other) (sym ours) ∙ sym tested
+
+pub whole_fault : (text : List ℕ) (segments : List Content) (found : Option SyntaxFault) → segments ≡ segments_in text → head_fault_of text ≡ None →
+    body_fault_of segments ≡ found → fault_of text ≡ found
+whole_fault text segments found same none is = of_body text none ∙ ap body_fault_of (sym same) ∙ is
+
+pub found_in : (p wanted : SyntaxFault → Bool) (faults : List SyntaxFault) (fault : SyntaxFault) → list_all wanted faults ≡ true → find p faults ≡ Some fault → wanted fault ≡ true
+found_in p wanted [] fault all e = absurd cc
+found_in p wanted (first ∷ faults) fault all e = by_case (p first) (wanted first) refl refl all e (found_in p wanted faults fault)
+  where
+    by_case : (passes good : Bool) → wanted first ≡ good → p first ≡ passes → (good && list_all wanted faults) ≡ true → cond passes (Some first) (find p faults) ≡ Some fault →
+        (list_all wanted faults ≡ true → find p faults ≡ Some fault → wanted fault ≡ true) → wanted fault ≡ true
+    by_case passes false is q all e later = absurd cc
+    by_case true true is q all e later = let same : first ≡ fault = cc in rw same at is
+    by_case false true is q all e later = later all e
+
+-- there is no CONTRL for a text whose header can't be read
+pub no_error : (text : List ℕ) (fault : SyntaxFault) → head_fault_of text ≡ Some fault → interchange_error fault ≡ None
+no_error text fault e = is_none_is (interchange_error fault) (found_in (applies text) (λ f. is_none (interchange_error f)) (text_faults ++ header_faults) fault refl e)
+  where
+    is_none_is : (o : Option ℕ) → is_none o ≡ true → o ≡ None
+    is_none_is None e = refl
+    is_none_is (Some x) e = absurd cc
+
+-- what a partner is that stands at a place
+pub kind_there : (accounts : List Account) (place : ℕ) (account : Account) → slice_get accounts place ≡ Some account →
+    with_number (partner_kinds accounts) (place + 1) ≡ Some account.kind
+kind_there accounts place account e = rw (with_number-at (partner_kinds accounts) place, slice_get-map (λ other. other.kind) accounts place, e) refl
+
+-- the fault of an opened text is that of its body
+pub body_fault_is : (text : List ℕ) (head : Head) (found : Option SyntaxFault) → IsOpened text head → body_fault_of (head_segments head) ≡ found → fault_of text ≡ found
+body_fault_is text head found opened is = whole_fault text (head_segments head) found opened.segments opened.faultless is
+
+pub text_admitted : (P : Parties) (text : List ℕ) (partner : ℕ) → fault_of text ≡ None → sender_of P (header_of (segments_in text)) ≡ Some partner →
+    bytes_eq (recipient (header_of (segments_in text)) 1) P.terminal ≡ true → admission P text ≡ Ok (partner, number_in (header_of (segments_in text)))
+text_admitted P text partner e some ours =
+    ap (admitted P (header_of (segments_in text))) e ∙ ap (addressed P (header_of (segments_in text))) some
+    ∙ ap (λ same. cond same (Ok (partner, number_in (header_of (segments_in text)))) (Err WrongRecipient)) ours

@@ -1,0 +1,3 @@
+pub mod Admitting
+pub mod Refusing
+pub mod Results

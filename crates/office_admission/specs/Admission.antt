@@ -1,0 +1,39 @@
+-- Which texts the office takes.
+use Rattle.std.specs.Prelude.{ℕ, List, ◌==◌, Bool, false, cond, Option, None, Some, Result, Ok, Err}
+use Rattle.std.specs.Option.{unwrap_or}
+use Rattle.std.specs.Str.{bytes_eq}
+use Rattle.edi_segments.specs.Text.{Content}
+use Rattle.edi_segments.specs.Interchange.{segments_in}
+use Rattle.edi_segments.specs.declared.syntax_fault.SyntaxFault.{SyntaxFault}
+use Rattle.edi_syntax.specs.Envelope.{header_of}
+use Rattle.edi_syntax.specs.Faults.{fault_of}
+use Rattle.edi_syntax.specs.Header.{sender, recipient, control_number}
+use Rattle.office_replies.specs.declared.fault.Fault.{Fault}
+use Rattle.office_replies.specs.declared.fault.Fault.TheVariants.{Syntax, UnknownSender, WrongRecipient}
+use Rattle.office_setup.specs.Parties.{Parties, partner_from}
+
+-- the partner that a header names as the sender, counted from 1
+abbrev pub sender_of : Parties → Content → Option ℕ
+sender_of parties header = partner_from 1 (sender header 1) parties.partners
+
+-- what the control reference writes. Where a text has no fault it is from 1 to 999,999,999.
+abbrev pub number_in : Content → ℕ
+number_in header = unwrap_or (control_number header) 0
+
+abbrev pub addressed : Parties → Content → Option ℕ → Result (ℕ × ℕ) Fault
+addressed parties header None = Err UnknownSender
+addressed parties header (Some partner) =
+    cond (bytes_eq (recipient header 1) parties.terminal) (Ok (partner, number_in header)) (Err WrongRecipient)
+
+abbrev pub admitted : Parties → Content → Option SyntaxFault → Result (ℕ × ℕ) Fault
+admitted parties header (Some fault) = Err (Syntax fault)
+admitted parties header None = addressed parties header (sender_of parties header)
+
+-- Admitted: the partner and the number of a text, or the first refusal: its syntax fault, UnknownSender, WrongRecipient
+abbrev pub admission : Parties → List ℕ → Result (ℕ × ℕ) Fault
+admission parties text = admitted parties (header_of (segments_in text)) (fault_of text)
+
+-- the text was admitted, and for this partner
+abbrev pub is_for : ℕ → Result (ℕ × ℕ) Fault → Bool
+is_for partner (Ok place) = place.0 == partner
+is_for partner (Err fault) = false

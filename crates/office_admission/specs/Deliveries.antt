@@ -1,0 +1,18 @@
+-- What was delivered, as the deliveries of partners.
+use Rattle.std.specs.Prelude.{ℕ, List, [], ◌∷◌, Result, Ok, Err}
+use Rattle.edi_segments.specs.Interchange.{interchange_of}
+use Rattle.partner_core.specs.Deliveries.{Delivery, delivery}
+use Rattle.office_replies.specs.declared.fault.Fault.{Fault}
+use Rattle.office_setup.specs.Parties.{Parties}
+use Rattle.office_admission.specs.Admission.{admission}
+
+-- a text that is admitted, as a delivery of its partner under its number; the others add nothing
+abbrev pub added : List ℕ → Result (ℕ × ℕ) Fault → List Delivery → List Delivery
+added text (Ok place) later = delivery place.0 place.1 text ∷ later
+added text (Err fault) later = later
+
+-- what was delivered, each text without the CR and LF at both ends
+abbrev pub deliveries_of : Parties → List (List ℕ) → List Delivery
+deliveries_of parties [] = []
+deliveries_of parties (delivered ∷ later) =
+    added (interchange_of delivered) (admission parties (interchange_of delivered)) (deliveries_of parties later)

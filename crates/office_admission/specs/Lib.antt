@@ -1,0 +1,4 @@
+pub mod Admission
+pub mod Deliveries
+pub mod Refusals
+pub mod Outcomes

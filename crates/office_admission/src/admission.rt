@@ -1,0 +1,96 @@
+ghost use Rattle.std.specs.Prelude.{◌≡◌, ℕ, List, ◌+◌, ◌<◌, ◌≤◌, IfOk, IfErr, length};
+ghost use Rattle.edi_segments.specs.Interchange.{segments_in};
+ghost use Rattle.edi_syntax.specs.Envelope.{header_of};
+ghost use Rattle.office_replies.specs.declared.fault.Fault.{Fault};
+ghost use Rattle.office_setup.specs.Parties.{parties_of};
+ghost use Rattle.office_setup.specs.declared.setup.Setup.{Setup};
+ghost use Rattle.office_admission.specs.Admission.{admission, sender_of};
+ghost use Rattle.office_admission.specs.Outcomes.{IsAdmitted, IsRefused, IsOpened};
+
+use crate::admitted::Admitted;
+use crate::refusal::Refusal;
+use edi_messages::{WRONG_RECIPIENT, interchange_error};
+use edi_segments::SyntaxFault;
+use edi_syntax::Head;
+use office_replies::Fault;
+use office_setup::Setup;
+
+/// Whose interchange a text is, or the first refusal: the lowest of its faults 1 to 15, a sender without an account (16),
+/// another recipient than the terminal (17). The text is what was delivered, without the CR and LF at both ends. Takes no
+/// memory.
+pub fn admit<'a>(setup: &Setup, text: &'a [u8]) -> Result<Admitted<'a>, Refusal<'a>>
+    requires { length setup.now.partners.items ≤ 999 }
+    ensures ok { IfOk result (IsAdmitted setup.now text.now) }
+    ensures err { IfErr result (IsRefused setup.now text.now) }
+{
+    let head = match Head::open(text) {
+        Ok(head) => head,
+        Err(fault) => return Err(Refusal::Plain(Fault::Syntax(fault))),
+    };
+    match setup.place_of(head.sender(1)) {
+        Some(place) => admit_from(setup, place, head),
+        None => Err(Refusal::Plain(stranger_fault(head))),
+    }
+}
+
+/// The fault of a text whose sender has no account.
+fn stranger_fault(head: Head<'_>) -> Fault
+    ensures { (setup : Setup) (text : List ℕ) → IsOpened text head.entry →
+        sender_of (parties_of setup) (header_of (segments_in text)) ≡ None →
+        admission (parties_of setup) text ≡ Err result }
+{
+    match head.body() {
+        Err(fault) => Fault::Syntax(fault),
+        Ok(_) => Fault::UnknownSender,
+    }
+}
+
+/// The same of an interchange whose sender is the partner at a place, from 0.
+fn admit_from<'a>(
+    setup: &Setup,
+    place: usize,
+    head: Head<'a>,
+) -> Result<Admitted<'a>, Refusal<'a>>
+    requires few { length setup.now.partners.items ≤ 999 }
+    requires place { place < length setup.now.partners.items }
+    ensures ok { IfOk result (λ admitted. (text : List ℕ) → IsOpened text head.entry →
+        sender_of (parties_of setup.now) (header_of (segments_in text)) ≡ Some (place + 1) →
+        IsAdmitted setup.now text admitted) }
+    ensures err { IfErr result (λ refusal. (text : List ℕ) → IsOpened text head.entry →
+        sender_of (parties_of setup.now) (header_of (segments_in text)) ≡ Some (place + 1) →
+        IsRefused setup.now text refusal) }
+{
+    let envelope = match head.body() {
+        Ok(envelope) => envelope,
+        Err(fault) => return Err(refused(head, fault)),
+    };
+    if !head.recipient(1).equals(setup.terminal.as_bytes()) {
+        return Err(Refusal::WithContrl {
+            fault: Fault::WrongRecipient,
+            error: WRONG_RECIPIENT,
+            head,
+        });
+    }
+    Ok(Admitted {
+        partner: place as u16 + 1,
+        kind: setup.partners[place].kind,
+        envelope,
+    })
+}
+
+/// The refusal of an interchange whose sender has an account, and whose body has a fault.
+fn refused<'a>(head: Head<'a>, fault: SyntaxFault) -> Refusal<'a>
+    ensures { (setup : Setup) (text : List ℕ) (partner : ℕ) → IsOpened text head.entry →
+        sender_of (parties_of setup) (header_of (segments_in text)) ≡ Some partner →
+        admission (parties_of setup) text ≡ Err (Fault.Syntax fault) →
+        IsRefused setup text result }
+{
+    match interchange_error(fault) {
+        Some(error) => Refusal::WithContrl {
+            fault: Fault::Syntax(fault),
+            error,
+            head,
+        },
+        None => Refusal::Plain(Fault::Syntax(fault)),
+    }
+}

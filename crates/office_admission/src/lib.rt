@@ -1,0 +1,10 @@
+//! Admission: whose interchange a text is, or why the office does not take it, and with which CONTRL it says so.
+#![tactic(auto)]
+
+mod admission;
+mod admitted;
+mod refusal;
+
+pub use admission::admit;
+pub use admitted::Admitted;
+pub use refusal::Refusal;

@@ -1,0 +1,192 @@
+-- What taking an interchange does to the terminal, and what is replied.
+use Rattle.std.specs.Prelude.{ℕ, cond, List, [], ◌∷◌, ◌++◌, map, Option, None, Some, Result, Ok, Err, encode_utf8_all}
+use Rattle.std.specs.Option.{unwrap_or}
+use Rattle.box6346.specs.declared.box_number.BoxNumber.{BoxNumber}
+use Rattle.edi_moments.specs.Moments.{CivilMoment}
+use Rattle.edi_segments.specs.Text.{Content}
+use Rattle.edi_segments.specs.Interchange.{segments_in}
+use Rattle.edi_syntax.specs.Envelope.{header_of, messages_of}
+use Rattle.edi_syntax.specs.Header.{control_number, preparation}
+use Rattle.edi_syntax.specs.Messages.{Message, message_reference}
+use Rattle.edi_messages.specs.Contrl.{contrl_text}
+use Rattle.edi_messages.specs.ErrorCodes.{message_error}
+use Rattle.edi_messages.specs.Message.{LineContent, ordered, refused, MessageContent, reading}
+use Rattle.edi_messages.specs.Orders.{OrderContent, gate_in, gate_out, move, list_discharge, list_load, discharge, load}
+use Rattle.edi_messages.specs.declared.code_table.CodeTable.{CodeTable}
+use Rattle.edi_messages.specs.declared.codes.Codes.{Codes}
+use Rattle.edi_messages.specs.declared.line_fault.LineFault.{LineFault}
+use Rattle.edi_messages.specs.declared.line_fault.LineFault.TheVariants as line
+use Rattle.edi_messages.specs.declared.message_fault.MessageFault.{MessageFault}
+use Rattle.edi_messages.specs.declared.partner_kind.PartnerKind.{PartnerKind}
+use Rattle.edi_messages.specs.declared.verdict.Verdict.{Verdict}
+use Rattle.edi_messages.specs.declared.verdict.Verdict.TheVariants.{Accepted, Rejected}
+use Rattle.partner_core.specs.Numbered.{with_number}
+use Rattle.terminal_core.specs.State.{TerminalState}
+use Rattle.terminal_core.specs.Rows.{ChangeContent}
+use Rattle.terminal_core.specs.Step.{step}
+use Rattle.terminal_core.specs.declared.outcome.Outcome.TheVariants.{Refused}
+use Rattle.terminal_core.specs.declared.reason.Reason.{Reason}
+use Rattle.terminal_core.specs.declared.reason.Reason.TheVariants.{Form, CheckDigit, Size, Moment, SlotText}
+use Rattle.terminal_core.specs.declared.source.Source.{Source}
+use Rattle.yard_core.specs.declared.block.Block.{Block}
+use Rattle.office_replies.specs.declared.line_report.LineReport.{LineReport}
+use Rattle.office_setup.specs.Parties.{Parties, partner_kinds, parties_of}
+use Rattle.office_setup.specs.declared.setup.Setup.{Setup}
+use Rattle.office_admission.specs.Admission.{admission, is_for}
+use Rattle.office_replies.specs.Messages.{VerdictContent, accepted, rejected, ReportContent, reply_content_text}
+
+-- what a terminal is set up with, and the terminal: who it and its partners are, the codes of document names, what each
+-- partner is, the blocks of its yard, how many visits it may record
+pub record MachineState : Type 0 where
+  pub parties : Parties
+  pub codes : CodeTable
+  pub kinds : List PartnerKind
+  pub blocks : List Block
+  pub visit_limit : ℕ
+  pub terminal : TerminalState
+
+-- those of a set-up, over a terminal
+abbrev pub machine_of : Setup → TerminalState → MachineState
+machine_of setup terminal = record {
+  parties = parties_of setup;
+  codes = setup.codes;
+  kinds = partner_kinds setup.partners.items;
+  blocks = setup.blocks.items;
+  visit_limit = setup.visit_limit;
+  terminal = terminal;
+}
+
+-- ---- a line
+
+abbrev pub number_ordered : OrderContent → BoxNumber
+number_ordered (gate_in entry) = entry.number
+number_ordered (gate_out number moment) = number
+number_ordered (move number slot) = number
+number_ordered (list_discharge call number) = number
+number_ordered (list_load call number port) = number
+number_ordered (discharge call entry) = entry.number
+number_ordered (load call number moment) = number
+
+-- a line's fault as the reason of its refusal
+abbrev pub reason_of : LineFault → Reason
+reason_of line.Form = Form
+reason_of line.CheckDigit = CheckDigit
+reason_of line.Size = Size
+reason_of line.Moment = Moment
+reason_of line.SlotText = SlotText
+
+-- what the line leaves of the terminal, and what is reported of it: an order is carried out, any other line changes nothing
+abbrev pub line_taken : TerminalState → Source → LineContent → TerminalState × LineReport
+line_taken state source (ordered order) =
+    ((step state source order).state, record { number = Some (number_ordered order); outcome = (step state source order).outcome })
+line_taken state source (refused fault number) = (state, record { number = number; outcome = Refused (reason_of fault) })
+
+-- its changes of the terminal's rows
+abbrev pub line_changes : TerminalState → Source → LineContent → List ChangeContent
+line_changes state source (ordered order) = (step state source order).changes
+line_changes state source (refused fault number) = []
+
+-- ---- a message
+
+abbrev pub before_report : TerminalState × List LineReport → LineReport → TerminalState × List LineReport
+before_report later report = (later.0, report ∷ later.1)
+
+-- the lines, one after the other
+abbrev pub lines_taken : TerminalState → Source → List LineContent → TerminalState × List LineReport
+lines_taken state source [] = (state, [])
+lines_taken state source (line ∷ lines) =
+    before_report (lines_taken (line_taken state source line).0 source lines) (line_taken state source line).1
+
+abbrev pub lines_changes : TerminalState → Source → List LineContent → List ChangeContent
+lines_changes state source [] = []
+lines_changes state source (line ∷ lines) =
+    line_changes state source line ++ lines_changes (line_taken state source line).0 source lines
+
+-- a message that is rejected gives no orders
+abbrev pub verdict_on : TerminalState → Source → Result MessageContent MessageFault → TerminalState × VerdictContent
+verdict_on state source (Ok content) = ((lines_taken state source content.lines).0, accepted (lines_taken state source content.lines).1)
+verdict_on state source (Err fault) = (state, rejected fault)
+
+abbrev pub verdict_changes : TerminalState → Source → Result MessageContent MessageFault → List ChangeContent
+verdict_changes state source (Ok content) = lines_changes state source content.lines
+verdict_changes state source (Err fault) = []
+
+abbrev pub reported : Message → VerdictContent → ReportContent
+reported message verdict = record { reference = encode_utf8_all (message_reference message); verdict = verdict }
+
+-- ---- an interchange
+
+abbrev pub before_message : TerminalState × List ReportContent → ReportContent → TerminalState × List ReportContent
+before_message later report = (later.0, report ∷ later.1)
+
+-- the messages of a partner with these codes, one after the other
+abbrev pub messages_taken : TerminalState → Codes → Source → CivilMoment → List Message → TerminalState × List ReportContent
+messages_taken state codes source opened [] = (state, [])
+messages_taken state codes source opened (message ∷ messages) =
+    before_message (messages_taken (verdict_on state source (reading codes opened message)).0 codes source opened messages)
+    (reported message (verdict_on state source (reading codes opened message)).1)
+
+abbrev pub messages_changes : TerminalState → Codes → Source → CivilMoment → List Message → List ChangeContent
+messages_changes state codes source opened [] = []
+messages_changes state codes source opened (message ∷ messages) =
+    verdict_changes state source (reading codes opened message)
+    ++ messages_changes (verdict_on state source (reading codes opened message)).0 codes source opened messages
+
+-- what the CONTRL says of a message
+abbrev pub verdict_of : VerdictContent → Verdict
+verdict_of (accepted lines) = Accepted
+verdict_of (rejected fault) = Rejected (unwrap_or (message_error fault) 0)
+
+abbrev pub verdicts_of : List ReportContent → List Verdict
+verdicts_of reports = map (λ report. verdict_of report.verdict) reports
+
+-- the reply: the CONTRL, and what became of each message
+abbrev pub reply_to : List Content → List ReportContent → List ℕ
+reply_to segments reports =
+    reply_content_text (encode_utf8_all (contrl_text (header_of segments) (messages_of segments) (verdicts_of reports))) reports
+
+abbrev pub nothing_taken : MachineState → MachineState × List ℕ
+nothing_taken machine = (machine, reply_content_text [] [])
+
+abbrev pub with_messages : MachineState → List Content → TerminalState × List ReportContent → MachineState × List ℕ
+with_messages machine segments taken = (record machine { terminal = taken.0 }, reply_to segments taken.1)
+
+abbrev pub codes_for : MachineState → PartnerKind → Codes
+codes_for machine kind = record { kind = kind; table = machine.codes }
+
+abbrev pub source_in : ℕ → Content → Source
+source_in partner header = record { partner = partner; number = unwrap_or (control_number header) 0 }
+
+-- where the header has a moment
+abbrev pub taken_at : MachineState → ℕ → PartnerKind → List Content → Option CivilMoment → MachineState × List ℕ
+taken_at machine partner kind segments None = nothing_taken machine
+taken_at machine partner kind segments (Some opened) =
+    with_messages machine segments
+    (messages_taken machine.terminal (codes_for machine kind) (source_in partner (header_of segments)) opened (messages_of segments))
+
+abbrev pub taken_of : MachineState → ℕ → List Content → Option PartnerKind → MachineState × List ℕ
+taken_of machine partner segments None = nothing_taken machine
+taken_of machine partner segments (Some kind) = taken_at machine partner kind segments (preparation (header_of segments))
+
+-- Take: the interchange of a partner, counted from 1. A text that is not admitted for that partner changes nothing.
+abbrev pub interchange_taken : MachineState → ℕ → List ℕ → MachineState × List ℕ
+interchange_taken machine partner text =
+    cond (is_for partner (admission machine.parties text))
+    (taken_of machine partner (segments_in text) (with_number machine.kinds partner))
+    (nothing_taken machine)
+
+-- ---- its changes
+
+abbrev pub changes_at : MachineState → ℕ → PartnerKind → List Content → Option CivilMoment → List ChangeContent
+changes_at machine partner kind segments None = []
+changes_at machine partner kind segments (Some opened) =
+    messages_changes machine.terminal (codes_for machine kind) (source_in partner (header_of segments)) opened (messages_of segments)
+
+abbrev pub changes_of : MachineState → ℕ → List Content → Option PartnerKind → List ChangeContent
+changes_of machine partner segments None = []
+changes_of machine partner segments (Some kind) = changes_at machine partner kind segments (preparation (header_of segments))
+
+-- what taking the interchange changes of the terminal's rows, order by order
+abbrev pub interchange_changes : MachineState → ℕ → List ℕ → List ChangeContent
+interchange_changes machine partner text =
+    cond (is_for partner (admission machine.parties text)) (changes_of machine partner (segments_in text) (with_number machine.kinds partner)) []

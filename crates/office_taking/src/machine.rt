@@ -1,0 +1,91 @@
+ghost use Rattle.std.specs.Prelude.{◌≡◌, ◌≤◌, length, IfSome, IfNone};
+ghost use Rattle.office_admission.specs.Outcomes.{IsAdmitted};
+ghost use Rattle.terminal_core.specs.State.{TerminalState};
+ghost use Rattle.office_taking.specs.Taking.{interchange_taken, machine_of, nothing_taken};
+
+use crate::taking::take;
+use office_admission::{Admitted, admit};
+use office_replies::reply;
+use office_setup::Setup;
+use partner_core::Machine;
+use std::alloc::{AllocError, Global};
+use std::marker::Model;
+use terminal_core::Terminal;
+
+/// The terminal, as what takes the interchanges of its partners.
+#[derive(Drop)]
+pub struct TerminalMachine {
+    setup: Setup,
+    terminal: Terminal,
+    ghost few: { length setup.partners.items ≤ 999 },
+}
+
+impl Model for TerminalMachine {
+    ghost use Rattle.office_taking.specs.Taking.{MachineState, machine_of};
+    ghost use Rattle.office_taking.specs.States.{machine_code};
+
+    ghost Value = { MachineState };
+
+    ghost coded = { machine_code };
+
+    ghost view = { λ m. machine_of m.setup m.terminal };
+}
+
+impl TerminalMachine {
+    /// A machine over a terminal, for the partners and the codes of document names of a set-up.
+    pub fn new(setup: Setup, terminal: Terminal) -> TerminalMachine
+        requires { length setup.partners.items ≤ 999 }
+        ensures { result ≡ machine_of setup terminal }
+    {
+        TerminalMachine { setup, terminal }
+    }
+
+    /// The terminal, as the interchanges that were taken have left it.
+    pub fn terminal(&self) -> &Terminal
+        ensures { result.now ≡ self.now.terminal }
+    {
+        &self.terminal
+    }
+}
+
+/// The interchange that a text is, where it is admitted for that partner.
+fn admitted_for<'a>(setup: &Setup, partner: u16, text: &'a [u8]) -> Option<Admitted<'a>>
+    requires { length setup.now.partners.items ≤ 999 }
+    ensures none { IfNone result ((terminal : TerminalState) →
+        interchange_taken (machine_of setup.now terminal) partner text.now
+        ≡ nothing_taken (machine_of setup.now terminal)) }
+    ensures admitted { IfSome result (IsAdmitted setup.now text.now) }
+    ensures partner { IfSome result (λ admitted. admitted.partner ≡ partner) }
+{
+    let admitted = match admit(setup, text) {
+        Ok(admitted) => admitted,
+        Err(_) => return None,
+    };
+    if admitted.partner != partner {
+        return None;
+    }
+    Some(admitted)
+}
+
+impl Machine for TerminalMachine {
+    ghost use Rattle.office_taking.specs.Taking.{interchange_taken};
+
+    ghost taken = { interchange_taken };
+
+    fn step(&mut self, alloc: Global, partner: u16, text: &[u8]) -> Result<String, AllocError> {
+        let Some(admitted) = admitted_for(&self.setup, partner, text) else {
+            return reply(alloc, "", &[]);
+        };
+        let mut terminal = self.terminal.copy(alloc)?;
+        let mut changes = Vec::new(alloc);
+        let reply = take(alloc, &self.setup, &mut terminal, &admitted, &mut changes)?;
+        self.terminal = terminal;
+        Ok(reply)
+    }
+
+    fn copy(&self, alloc: Global) -> Result<TerminalMachine, AllocError> {
+        let setup = self.setup.copy(alloc)?;
+        let terminal = self.terminal.copy(alloc)?;
+        Ok(TerminalMachine { setup, terminal })
+    }
+}
