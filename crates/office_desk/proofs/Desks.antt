@@ -1,5 +1,5 @@
 -- What is told of a delivery that is handed to the runs.
-use Rattle.std.proofs.Common.{◌≡◌, ℕ, Bool, true, false, if◌then◌else◌, ◌+◌, List, [], Option, Some, refl, sym, String, string_bytes, codes}
+use Rattle.std.proofs.Common.{◌≡◌, ℕ, Bool, true, false, if◌then◌else◌, ◌+◌, ◌-◌, ◌≤◌, List, [], Option, Some, refl, sym, String, string_bytes, codes}
 use Rattle.std.specs.Prelude.{slice_get}
 use Rattle.std.proofs.lemmas.Option.{slice_get-map}
 use Rattle.std.proofs.lemmas.List.{append-nil}
@@ -12,7 +12,7 @@ use Rattle.partner_core.specs.Answers.{Told, told, answer_of}
 use Rattle.partner_core.specs.Answers as answers
 use Rattle.partner_core.specs.declared.runs.Runs.{Runs}
 use Rattle.partner_core.specs.Numbered.{with_number}
-use Rattle.partner_core.proofs.Numbered.{with_number-at}
+use Rattle.partner_core.proofs.Numbered.{with_number-below}
 use Rattle.partner_core.specs.Runs.{Answers, StandsAt}
 use Rattle.partner_core.specs.Order as order
 use Rattle.office_replies.specs.Bodies.{head_text, waiting_text, clash_text}
@@ -21,10 +21,10 @@ use Rattle.office_setup.specs.declared.account.Account.{Account}
 use Rattle.office_setup.specs.Parties.{partner_codes}
 use Rattle.office_desk.specs.Desks.{Taken}
 
--- the code of the partner at a place
-pub code_at : (accounts : List Account) (place : ℕ) (account : Account) → slice_get accounts place ≡ Some account →
-    unwrap_or (with_number (partner_codes accounts) (place + 1)) [] ≡ string_bytes account.code
-code_at accounts place account e = rw (with_number-at (partner_codes accounts) place, slice_get-map (λ other. string_bytes other.code) accounts place, e) refl
+-- the code of a partner, counted from 1
+pub code_at : (accounts : List Account) (partner : ℕ) (account : Account) → 1 ≤ partner → slice_get accounts (partner - 1) ≡ Some account →
+    unwrap_or (with_number (partner_codes accounts) partner) [] ≡ string_bytes account.code
+code_at accounts partner account positive e = rw (with_number-below (partner_codes accounts) partner positive, slice_get-map (λ other. string_bytes other.code) accounts (partner - 1), e) refl
 
 -- before the first delivery the machine is in its opening state
 pub machine_is : {M : Type 0} (taken : Taking M) (machine : M) (runs : Runs M) → StandsAt taken machine [] runs → runs.machine ≡ machine

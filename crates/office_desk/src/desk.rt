@@ -4,16 +4,13 @@ ghost use Rattle.partner_core.specs.Order.{state};
 ghost use Rattle.partner_core.specs.Deliveries.{Delivery, delivery};
 ghost use Rattle.partner_core.specs.Runs.{StandsAt, partner_count};
 ghost use Rattle.office_replies.specs.Delivering.{Delivers};
-ghost use Rattle.office_desk.specs.Admission.{deliveries_of};
+ghost use Rattle.office_admission.specs.Deliveries.{deliveries_of};
 ghost use Rattle.office_desk.specs.Answers.{code_of};
 
-use crate::reject::{refuse, reject};
-use edi_messages::WRONG_RECIPIENT;
 use edi_segments::interchange_text;
-use edi_syntax::Head;
-use office_replies::{Fault, Response, answer_head, clash, waiting};
+use office_admission::admit;
+use office_replies::{Deliver, Response, answer_head, clash, waiting};
 use office_setup::Setup;
-use office_stream::Deliver;
 use partner_core::{Answer, Machine, Runs};
 use std::alloc::{AllocError, Global};
 
@@ -54,23 +51,23 @@ impl<M: Machine> Desk<M> {
     fn take(
         &mut self,
         alloc: Global,
-        place: usize,
+        partner: u16,
         number: u32,
         text: &[u8],
     ) -> Result<Response, AllocError>
-        requires place { place < length self.old.setup.partners.items }
+        requires from_one { 1 ≤ partner }
+        requires known { partner ≤ length self.old.setup.partners.items }
         requires positive { 1 ≤ number }
         requires limit { number ≤ 999999999 }
         ensures ok { IfOk result (λ response. (opening : M) (ds : List Delivery) →
             StandsAt M.taken opening ds self.old.runs →
-            Taken M.taken opening ds (delivery (place + 1) number text.now)
-            (code_of (parties self.old) (place + 1)) response self.new.runs) }
+            Taken M.taken opening ds (delivery partner number text.now)
+            (code_of (parties self.old) partner) response self.new.runs) }
         ensures err { OnErr result ((opening : M) (ds : List Delivery) →
             StandsAt M.taken opening ds self.old.runs → StandsAt M.taken opening ds self.new.runs) }
         ensures kept { parties self.new ≡ parties self.old }
     {
-        let partner = place as u16 + 1;
-        let code = self.setup.partners[place].code.as_str();
+        let code = self.setup.partners[partner as usize - 1].code.as_str();
         let taken = answer_head(alloc, "taken", number, code)?;
         let repeat = answer_head(alloc, "repeat", number, code)?;
         let waiting = waiting(alloc, self.runs.next_of(partner), number, code)?;
@@ -88,7 +85,10 @@ impl<M: Machine> Desk<M> {
 }
 
 impl<M: Machine> Deliver for Desk<M> {
-    ghost use Rattle.office_desk.specs.Desks.{parties, DeskStands, DeskAnswers, RefusedSurely};
+    ghost use Rattle.office_admission.specs.Refusals.{RefusedSurely};
+    ghost use Rattle.office_desk.specs.Desks.{parties, DeskStands, DeskAnswers};
+
+    ghost clean = { λ desk. Unit {0} };
 
     ghost stands = { DeskStands M.taken };
 
@@ -96,28 +96,18 @@ impl<M: Machine> Deliver for Desk<M> {
 
     /// A refusal without a CONTRL takes no memory, so it is never answered NotNow.
     fn deliver(&mut self, alloc: Global, delivered: &[u8]) -> Response
-        ensures delivers { (opening : Desk M) (ds : List (List ℕ)) → DeskStands M.taken opening ds self.old →
+        ensures delivers { Unit {0} → (opening : Desk M) (ds : List (List ℕ)) → DeskStands M.taken opening ds self.old →
             Delivers (DeskStands M.taken opening) (DeskAnswers M.taken opening) ds delivered.now result self.new }
+        ensures stays { Unit {0} → Unit {0} }
         ensures sure { RefusedSurely (parties self.old) (interchange_of delivered.now) result }
     {
         let text = interchange_text(delivered);
-        let head = match Head::open(text) {
-            Ok(head) => head,
-            Err(fault) => return Response::Refused(Fault::Syntax(fault)),
+        let admitted = match admit(&self.setup, text) {
+            Ok(admitted) => admitted,
+            Err(refusal) => return refusal.answer(alloc),
         };
-        let Some(place) = self.setup.place_of(head.sender(1)) else {
-            return match head.body() {
-                Err(fault) => Response::Refused(Fault::Syntax(fault)),
-                Ok(_) => Response::Refused(Fault::UnknownSender),
-            };
-        };
-        if let Err(fault) = head.body() {
-            return refuse(alloc, &head, fault);
-        }
-        if !head.recipient(1).equals(self.setup.terminal.as_bytes()) {
-            return reject(alloc, &head, Fault::WrongRecipient, WRONG_RECIPIENT);
-        }
-        match self.take(alloc, place, head.number(), text) {
+        let number = admitted.envelope.head().number();
+        match self.take(alloc, admitted.partner, number, text) {
             Ok(response) => response,
             Err(_) => Response::NotNow,
         }

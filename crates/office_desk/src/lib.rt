@@ -2,6 +2,5 @@
 #![tactic(auto)]
 
 mod desk;
-mod reject;
 
 pub use desk::Desk;
