@@ -1,16 +1,18 @@
-ghost use Rattle.std.specs.Prelude.{◌≡◌, ℕ, ◌+◌, ◌-◌, ◌^◌, min, true, false, OnOk, OnErr};
+ghost use Rattle.std.specs.Prelude.{◌≡◌, ℕ, ◌+◌, ◌-◌, ◌^◌, ◌==◌, min, true, false, IfOk, OnOk, OnErr};
 ghost use Rattle.std.specs.Io.{ReadsAtMost, WritesAtMost};
 ghost use Rattle.std.specs.Io.KnownBytes.{ReadConsumes, WriteAppends, Keeps, Appends};
 ghost use Rattle.office_stream.specs.Fronts.{AppendsFront};
 
 use std::io::{Error, ErrorKind, Read, Result, Write};
 
-/// A reader or a writer, whether a read or a write of it has failed, and how many reads were made.
+/// A reader or a writer, whether a read or a write of it has failed, how many reads were made, and whether the last of them
+/// found the end.
 #[derive(Drop)]
 pub struct Port<T> {
     inner: T,
     failed: bool,
     reads: u64,
+    ended: bool,
 }
 
 impl<T> Port<T> {
@@ -19,11 +21,13 @@ impl<T> Port<T> {
         ensures inner { result.inner ≡ inner }
         ensures fresh { result.failed ≡ false }
         ensures unread { result.reads ≡ 0 }
+        ensures going { result.ended ≡ false }
     {
         Port {
             inner,
             failed: false,
             reads: 0,
+            ended: false,
         }
     }
 
@@ -35,6 +39,7 @@ impl<T> Port<T> {
             inner,
             failed: _,
             reads: _,
+            ended: _,
         } = self;
         inner
     }
@@ -47,6 +52,7 @@ impl<T> Port<T> {
             inner: _,
             failed,
             reads: _,
+            ended: _,
         } = self;
         *failed
     }
@@ -56,6 +62,13 @@ impl<T> Port<T> {
         ensures { result ≡ self.now.reads }
     {
         self.reads
+    }
+
+    /// Whether the last read that succeeded gave nothing: the input had ended.
+    pub fn ended(&self) -> bool
+        ensures { result ≡ self.now.ended }
+    {
+        self.ended
     }
 }
 
@@ -68,10 +81,14 @@ impl<R: Read> Read for Port<R> {
         ensures succeeds { OnOk result (self.new.failed ≡ self.old.failed) }
         ensures fails { OnErr result (self.new.failed ≡ true) }
         ensures counted { self.new.reads ≡ min (self.old.reads + 1) (2 ^ 64 - 1) }
+        ensures ended { IfOk result (λ count. self.new.ended ≡ (count == 0)) }
     {
         self.reads = self.reads.saturating_add(1);
         match self.inner.read(buf) {
-            Ok(count) => Ok(count),
+            Ok(count) => {
+                self.ended = count == 0;
+                Ok(count)
+            }
             Err(error) => {
                 self.failed = true;
                 Err(error)

@@ -1,4 +1,4 @@
-ghost use Rattle.std.specs.Prelude.{◌≡◌, ℕ, ◌+◌, ◌-◌, ◌^◌, ◌≤◌, min, List, true, IfOk, IfErr, OnOk};
+ghost use Rattle.std.specs.Prelude.{◌≡◌, ℕ, ◌+◌, ◌-◌, ◌^◌, ◌≤◌, ◌<◌, min, List, true, false, IfOk, IfErr, OnOk};
 ghost use Rattle.std.specs.Io.KnownBytes.{Appends};
 ghost use Rattle.office_replies.specs.Responses.{worse_of};
 ghost use Rattle.office_stream.specs.Fronts.{AppendsFront};
@@ -53,13 +53,16 @@ pub fn run_stream<R: Read, W: Write, D: Deliver>(
     // No more reads are made than turns.
     ensures reads { reader.new.reads ≤ reader.old.reads + turns }
 
-    // A fault of the reader or the writer is answered only where it has failed, and Turns only where neither has and so many
-    // reads were made.
+    // A fault of the reader or the writer is answered only where it has failed and the other has not, and Turns only where
+    // neither has, so many reads were made, and the last of them had not found the end. At Ok neither has failed.
     ensures failed { IfErr result (λ fault. MatchFault fault
-        (reader.new.failed ≡ true)
-        (writer.new.failed ≡ true)
+        ((reader.new.failed ≡ true) × (writer.new.failed ≡ writer.old.failed))
+        ((writer.new.failed ≡ true) × (reader.new.failed ≡ reader.old.failed))
         ((reader.new.failed ≡ reader.old.failed) × (writer.new.failed ≡ writer.old.failed)
-        × (min (reader.old.reads + turns) (2 ^ 64 - 1) ≤ reader.new.reads))) }
+        × (min (reader.old.reads + turns) (2 ^ 64 - 1) ≤ reader.new.reads)
+        × (0 < turns → reader.new.ended ≡ false))) }
+    ensures sound { OnOk result ((reader.new.failed ≡ reader.old.failed)
+        × (writer.new.failed ≡ writer.old.failed)) }
 {
     let mut cutter = Cutter::new(alloc);
     let mut buffer = [0; 4096];
@@ -96,6 +99,7 @@ fn finish<W: Write>(
     ensures ok { IfOk result (λ all. all ≡ worse_of worst (end_worst end)) }
     ensures writes { OnOk result
         (Appends (W.contents writer.old.inner) (W.contents writer.new.inner) (end_text end)) }
+    ensures kept { OnOk result (writer.new.failed ≡ writer.old.failed) }
     ensures err { IfErr result
         (λ fault. (fault ≡ StreamFault.Write) × (writer.new.failed ≡ true)
         × AppendsFront (W.contents writer.old.inner) (W.contents writer.new.inner) (end_text end)) }

@@ -1,4 +1,5 @@
 use Rattle.std.proofs.Common.{◌≡◌, ◌≢◌, ◌⊎◌, [], None, Some, inl, inr, refl, sym, ◌∙◌, arith, take}
+use Rattle.std.proofs.lemmas.Bool.{ne_eqb}
 use Rattle.edi_cutter.specs.Cuts.{pending}
 use Rattle.office_stream.specs.declared.stream_end.StreamEnd.TheVariants.{Whole, Open, Cut}
 use Rattle.office_stream.proofs.StreamLemmas.{nothing_read, sofar_more, began, began_now, cut_short, piece_at, input_ends, stream_cut, streamed, end_cut_short, nil_is, nil_is_not, at_write, ok_with, err_weaker, is_err_and, starts_running, starts_empty, nothing_taken}
@@ -10,6 +11,7 @@ reads-init g c = record {
   running = starts_running c.new-cutter.result c.new-cutter.ensures;
   reader = refl;
   writer = refl;
+  going = λ less. absurd (omega arith);
   most = omega arith;
   least = omega arith;
   stays = λ clean. clean;
@@ -64,6 +66,7 @@ reads-preserved g c =
       running = c.in_ok-worst_now.ensures.running c.in_default.is;
       reader = c.in-Ok.ensures.succeeds ∙ c.reads.invariant.reader;
       writer = c.in_ok-worst_now.ensures.kept ∙ c.reads.invariant.writer;
+      going = λ less. c.in-Ok.ensures.ended ∙ ne_eqb c.in-Ok.count 0 c.if-count-eq0.false;
       most = omega (arith, c.in-Ok.ensures.counted, c.reads.invariant.most);
       least = omega (arith, c.in-Ok.ensures.counted, c.reads.invariant.least);
       stays = λ clean. c.reads.invariant.stays (c.in_ok-worst_now.ensures.stays clean);
