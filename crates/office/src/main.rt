@@ -2,15 +2,7 @@
 //! prints the answer to each.
 #![tactic(auto)]
 
-mod command;
-mod demo;
-mod demo_fault;
-mod demo_setup;
-mod open_desk;
-mod setup_fault;
-#[cfg(test)]
-mod tests;
-
+use office_commands::command;
 use office_stream::Port;
 use std::process::ExitCode;
 use std::{env, io};

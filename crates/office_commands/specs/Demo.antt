@@ -14,9 +14,9 @@ use Rattle.office_desk.specs.Desks.{DeskStands, DeskAnswers, parties}
 use Rattle.office_replies.specs.declared.worst.Worst.{Worst}
 use Rattle.office_stream.specs.Streams.{Streamed, Began, Delivered}
 use Rattle.office_stream.specs.declared.stream_fault.StreamFault.TheVariants.{Read, Write, Turns}
-use Rattle.office.specs.declared.demo_fault.DemoFault.{DemoFault}
-use Rattle.office.specs.declared.demo_fault.DemoFault.TheVariants.{Setup, Stream}
-use Rattle.office.specs.declared.setup_fault.SetupFault.TheVariants.{Memory}
+use Rattle.office_commands.specs.declared.demo_fault.DemoFault.{DemoFault}
+use Rattle.office_commands.specs.declared.demo_fault.DemoFault.TheVariants.{Setup, Stream}
+use Rattle.office_commands.specs.declared.setup_fault.SetupFault.TheVariants.{Memory}
 
 -- gate-in, gate-out, yard-move, discharge-list, load-list, discharge-report and load-report
 abbrev pub demo_codes : List (List ℕ)
@@ -42,6 +42,8 @@ demo_machine table = record {
   parties = demo_parties;
   codes = table;
   kinds = demo_kinds;
+  blocks = demo_blocks;
+  visit_limit = 999999999;
   terminal = empty_state (record { plan = demo_blocks; boxes = finite_map.empty }) 999999999;
 }
 
@@ -87,9 +89,9 @@ DemoLeft left left' written written' (Stream Read) = DemoBegan left left' writte
 DemoLeft left left' written written' (Stream Turns) = DemoBegan left left' written written'
 DemoLeft left left' written written' (Stream Write) = DemoDelivered left left' written written'
 
--- a fault of the reader or the writer comes only where it has failed, and any other only where neither has
+-- a fault of the reader or the writer comes only where it has failed and the other has not, and any other only where neither has
 abbrev pub IsOfPorts : (read_failed read_failed' write_failed write_failed' : Bool) → DemoFault → Type 0
 IsOfPorts read_failed read_failed' write_failed write_failed' (Setup fault) = (read_failed' ≡ read_failed) × (write_failed' ≡ write_failed)
-IsOfPorts read_failed read_failed' write_failed write_failed' (Stream Read) = read_failed' ≡ true
+IsOfPorts read_failed read_failed' write_failed write_failed' (Stream Read) = (read_failed' ≡ true) × (write_failed' ≡ write_failed)
 IsOfPorts read_failed read_failed' write_failed write_failed' (Stream Turns) = (read_failed' ≡ read_failed) × (write_failed' ≡ write_failed)
-IsOfPorts read_failed read_failed' write_failed write_failed' (Stream Write) = write_failed' ≡ true
+IsOfPorts read_failed read_failed' write_failed write_failed' (Stream Write) = (write_failed' ≡ true) × (read_failed' ≡ read_failed)

@@ -1,5 +1,5 @@
 ghost use Rattle.std.specs.Prelude.{◌≡◌, true, false, map, codes, string_bytes};
-ghost use Rattle.office.specs.Command.{is_demo, status_of, Tells, DemoEnds};
+ghost use Rattle.office_commands.specs.Command.{is_demo, status_of, Tells, DemoEnds};
 
 use crate::demo::run_demo;
 use office_replies::Worst;

@@ -2,7 +2,7 @@ ghost use Rattle.std.specs.Prelude.{◌≡◌, ◌≤◌, [], IfOk, IfErr, lengt
 ghost use Rattle.office_taking.specs.Taking.{interchange_taken};
 ghost use Rattle.office_setup.specs.Parties.{parties_of};
 ghost use Rattle.office_desk.specs.Desks.{DeskStands, parties};
-ghost use Rattle.office.specs.Opening.{opening_machine, IsSound, OpensNot};
+ghost use Rattle.office_commands.specs.Opening.{opening_machine, IsSound, OpensNot};
 
 use crate::setup_fault::SetupFault;
 use office_desk::Desk;

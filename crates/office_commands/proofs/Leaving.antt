@@ -8,11 +8,11 @@ use Rattle.office_stream.specs.Streams.{Began, Delivered}
 use Rattle.office_stream.specs.Faults.{MatchFault}
 use Rattle.office_stream.specs.declared.stream_fault.StreamFault.{StreamFault}
 use Rattle.office_stream.specs.declared.stream_fault.StreamFault.TheVariants.{Read, Write, Turns}
-use Rattle.office.specs.declared.demo_fault.DemoFault.TheVariants.{Stream}
+use Rattle.office_commands.specs.declared.demo_fault.DemoFault.TheVariants.{Stream}
 use Rattle.office_setup.specs.declared.setup.Setup.{Setup}
 use Rattle.office_setup.specs.Parties.{partner_codes, partner_kinds, parties_of}
-use Rattle.office.specs.Opening.{opening_machine}
-use Rattle.office.specs.Demo.{OpensDemo, DemoLeft, demo_codes, demo_partners, demo_kinds, demo_blocks}
+use Rattle.office_commands.specs.Opening.{opening_machine}
+use Rattle.office_commands.specs.Demo.{OpensDemo, DemoLeft, demo_codes, demo_partners, demo_kinds, demo_blocks}
 
 -- a desk that was opened from the demonstration's set-up
 pub opens_demo : (setup : Setup) (desk : Desk MachineState)

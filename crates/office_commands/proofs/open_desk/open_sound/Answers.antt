@@ -2,7 +2,7 @@ use Rattle.std.proofs.Common.{◌≡◌, IfOk, subst, ap, ◌∙◌}
 use Rattle.std.specs.FinMap as finite_map
 use Rattle.terminal_core.specs.State.{empty_state}
 use Rattle.office_taking.proofs.Takings.{copied_machine}
-use Rattle.office.proofs.open_desk.open_sound.Goals as goal
+use Rattle.office_commands.proofs.open_desk.open_sound.Goals as goal
 
 -- The copy of the set-up says the same, and the terminal is empty.
 pub returns-clause-machine : goal.returns-clause-machine

@@ -15,12 +15,13 @@ mod settings;
 mod slots;
 mod streams;
 
-use crate::command;
-use crate::demo_setup::demo_setup;
-use crate::open_desk::open_desk;
+use office_commands::command;
+use office_commands::demo_setup::demo_setup;
+use office_commands::open_desk::open_desk;
 use office_replies::Worst;
 use office_setup::Setup;
-use office_stream::{Deliver, Port, run_stream};
+use office_replies::Deliver;
+use office_stream::{Port, run_stream};
 use std::alloc::Global;
 use std::process::Abort;
 use std::test::Fail;

@@ -3,9 +3,9 @@
 use super::failing_reader::FailingReader;
 use super::failing_writer::FailingWriter;
 use super::pieces::Pieces;
-use crate::command;
-use crate::demo_setup::demo_setup;
-use crate::open_desk::open_desk;
+use office_commands::command;
+use office_commands::demo_setup::demo_setup;
+use office_commands::open_desk::open_desk;
 use office_desk::Desk;
 use office_taking::TerminalMachine;
 use office_stream::{Port, StreamFault, run_stream};

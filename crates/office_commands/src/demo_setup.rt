@@ -1,7 +1,7 @@
 ghost use Rattle.std.specs.Prelude.{◌≡◌, IfOk, IfErr, codes, string_bytes};
 ghost use Rattle.edi_messages.specs.Codes.{table_texts};
 ghost use Rattle.office_setup.specs.Parties.{partner_codes, partner_kinds};
-ghost use Rattle.office.specs.Demo.{demo_codes, demo_partners, demo_kinds, demo_blocks};
+ghost use Rattle.office_commands.specs.Demo.{demo_codes, demo_partners, demo_kinds, demo_blocks};
 
 use crate::setup_fault::SetupFault;
 use edi_messages::{CodeTable, PartnerKind};

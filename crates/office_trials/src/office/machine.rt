@@ -1,6 +1,6 @@
 //! The machine by itself: it takes the interchanges that are admitted for the partner who hands them over, and no others.
 
-use crate::demo_setup::demo_setup;
+use office_commands::demo_setup::demo_setup;
 use office_taking::TerminalMachine;
 use partner_core::Machine;
 use std::alloc::Global;
@@ -29,6 +29,7 @@ const TAKEN: &str =
 /// That of the demonstration: TERM1, where HAULA and HAULB are partners 1 and 2.
 fn machine(rt: &impl Abort, alloc: Global) -> Result<TerminalMachine, Fail> {
     let setup = demo_setup(alloc).expect(rt, "a set-up");
+    assert!(rt; setup.partners.len() <= 999);
     let plan = Plan::new(setup.blocks.as_slice()).expect(rt, "a plan");
     let terminal = Terminal::new(alloc, plan, setup.visit_limit)?;
     Ok(TerminalMachine::new(setup, terminal))

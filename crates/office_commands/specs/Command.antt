@@ -5,10 +5,10 @@ use Rattle.std.specs.Io.KnownBytes.{Appends}
 use Rattle.office_replies.specs.declared.worst.Worst.{Worst}
 use Rattle.office_replies.specs.declared.worst.Worst.TheVariants.{Fine, Refused, NotNow}
 use Rattle.office_stream.specs.declared.stream_fault.StreamFault.TheVariants.{Read, Write, Turns}
-use Rattle.office.specs.declared.demo_fault.DemoFault.{DemoFault}
-use Rattle.office.specs.declared.demo_fault.DemoFault.TheVariants.{Setup, Stream}
-use Rattle.office.specs.declared.setup_fault.SetupFault.TheVariants.{Codes, Partners, Blocks, Memory}
-use Rattle.office.specs.Demo.{DemoRuns, DemoLeft, IsOfPorts}
+use Rattle.office_commands.specs.declared.demo_fault.DemoFault.{DemoFault}
+use Rattle.office_commands.specs.declared.demo_fault.DemoFault.TheVariants.{Setup, Stream}
+use Rattle.office_commands.specs.declared.setup_fault.SetupFault.TheVariants.{Codes, Partners, Blocks, Memory}
+use Rattle.office_commands.specs.Demo.{DemoRuns, DemoLeft, IsOfPorts}
 
 -- the program's own name, and `demo`
 abbrev pub is_demo : List (List ℕ) → Bool
@@ -37,11 +37,12 @@ fault_text (Stream Write) = []
 abbrev pub Tells : (failed : Bool) (told told' : Option (List ℕ)) → List ℕ → Type 0
 Tells failed told told' text = failed ≡ false → Appends told told' text
 
--- The demonstration ends with the status of its stream, and tells nothing, or with 3 where it was left before the end, and
+-- The demonstration ends with the status of its stream, neither port having failed, and tells nothing, or with 3 where it was left before the end, and
 -- tells why.
 abbrev pub DemoEnds : (left left' written written' : Option (List ℕ)) (read_failed read_failed' write_failed write_failed' : Bool)
     (tells : List ℕ → Type 0) → ℕ → Type 0
 DemoEnds left left' written written' read_failed read_failed' write_failed write_failed' tells status =
-    ((worst : Worst) × (status ≡ status_of worst) × tells [] × DemoRuns left left' written written' worst)
+    ((worst : Worst) × (status ≡ status_of worst) × tells [] × (read_failed' ≡ read_failed) × (write_failed' ≡ write_failed)
+    × DemoRuns left left' written written' worst)
     ⊎ ((fault : DemoFault) × (status ≡ 3) × tells (fault_text fault) × DemoLeft left left' written written' fault
     × IsOfPorts read_failed read_failed' write_failed write_failed' fault)

@@ -1,6 +1,6 @@
-ghost use Rattle.std.specs.Prelude.{◌≡◌, ◌≤◌, ◌+◌, ◌-◌, ◌^◌, min, IfOk, IfErr};
-ghost use Rattle.office.specs.Demo.{DemoRuns, DemoLeft, IsOfPorts, demo_turns};
-ghost use Rattle.office.specs.declared.demo_fault.DemoFault.{DemoFault};
+ghost use Rattle.std.specs.Prelude.{◌≡◌, ◌≤◌, ◌+◌, ◌-◌, ◌^◌, min, IfOk, IfErr, OnOk, false};
+ghost use Rattle.office_commands.specs.Demo.{DemoRuns, DemoLeft, IsOfPorts, demo_turns};
+ghost use Rattle.office_commands.specs.declared.demo_fault.DemoFault.{DemoFault};
 ghost use Rattle.office_stream.specs.declared.stream_fault.StreamFault.{StreamFault};
 
 use crate::demo_fault::DemoFault;
@@ -27,13 +27,17 @@ pub fn run_demo<R: Read, W: Write>(
     // What was done before a fault stands.
     ensures err { IfErr result (DemoLeft (R.remaining reader.old.inner) (R.remaining reader.new.inner)
         (W.contents writer.old.inner) (W.contents writer.new.inner)) }
+    ensures sound { OnOk result ((reader.new.failed ≡ reader.old.failed)
+        × (writer.new.failed ≡ writer.old.failed)) }
     ensures failed { IfErr result (IsOfPorts reader.old.failed reader.new.failed
         writer.old.failed writer.new.failed) }
 
-    // No more reads are made than turns, and where the stream is left for their number, as many.
+    // No more reads are made than turns, and where the stream is left for their number, as many, of which the last had not
+    // found the end.
     ensures reads { reader.new.reads ≤ reader.old.reads + demo_turns }
     ensures turns { IfErr result (λ fault. fault ≡ DemoFault.Stream StreamFault.Turns →
-        min (reader.old.reads + demo_turns) (2 ^ 64 - 1) ≤ reader.new.reads) }
+        (min (reader.old.reads + demo_turns) (2 ^ 64 - 1) ≤ reader.new.reads)
+        × (reader.new.ended ≡ false)) }
 {
     let setup = match demo_setup(alloc) {
         Ok(setup) => setup,

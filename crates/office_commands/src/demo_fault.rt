@@ -13,7 +13,7 @@ pub enum DemoFault {
 }
 
 impl DemoFault {
-    ghost use Rattle.office.specs.Command.{fault_text};
+    ghost use Rattle.office_commands.specs.Command.{fault_text};
 
     /// What is told of it. A failed write is told by its status alone.
     pub fn text(self) -> &'static str

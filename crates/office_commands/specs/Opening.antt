@@ -5,8 +5,8 @@ use Rattle.yard_core.specs.Plan.{IsPlan, IsFaulty}
 use Rattle.terminal_core.specs.State.{empty_state}
 use Rattle.office_setup.specs.declared.setup.Setup.{Setup}
 use Rattle.office_taking.specs.Taking.{MachineState, machine_of}
-use Rattle.office.specs.declared.setup_fault.SetupFault.{SetupFault}
-use Rattle.office.specs.declared.setup_fault.SetupFault.TheVariants.{Codes, Partners, Blocks, Memory}
+use Rattle.office_commands.specs.declared.setup_fault.SetupFault.{SetupFault}
+use Rattle.office_commands.specs.declared.setup_fault.SetupFault.TheVariants.{Codes, Partners, Blocks, Memory}
 
 -- the machine of a set-up, over an empty yard of its blocks
 abbrev pub opening_machine : Setup → MachineState

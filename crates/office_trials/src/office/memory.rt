@@ -1,7 +1,7 @@
 //! A want of memory: what is answered `not now` changes nothing, and is no delivery.
 
 use super::assert_answers_from;
-use crate::demo_setup::demo_setup;
+use office_commands::demo_setup::demo_setup;
 use office_desk::Desk;
 use office_taking::TerminalMachine;
 use partner_core::Machine;
