@@ -1,4 +1,7 @@
+ghost use Rattle.std.proofs.Common.{rules};
+ghost use Rattle.std.specs.Cmp.Rules.{comparing};
 ghost use Rattle.std.specs.Prelude.{◌≡◌, ◌<◌, length};
+ghost use Rattle.std.specs.Str.{bytes_eq};
 ghost use Rattle.box6346.specs.SizeText.{has_form, has_length};
 
 use crate::characters::are_code_characters;
@@ -7,7 +10,7 @@ use crate::size_fault::SizeFault;
 use std::marker::Model;
 
 /// A size-type code of ISO 6346, as `22G1`. It is seen as its four characters.
-#[derive(Clone, Copy, PartialEq, Eq, Debug)]
+#[derive(Clone, Copy, Eq, Debug)]
 pub struct SizeType {
     text: [u8; 4],
 }
@@ -24,6 +27,17 @@ impl Model for SizeType {
     ghost invariant = { λ s. IsTrue (is_size s.text) };
 
     ghost inverse = { λ t. record { text = t } };
+}
+
+impl PartialEq for SizeType {
+    ghost eq = { bytes_eq };
+
+    ghost laws = { Prim.search (comparing, rules) };
+
+    /// The texts are the same.
+    fn eq(&self, other: &SizeType) -> bool {
+        self.text == other.text
+    }
 }
 
 impl SizeType {

@@ -1,11 +1,13 @@
-ghost use Rattle.std.specs.Prelude.{◌≡◌};
+ghost use Rattle.std.proofs.Common.{rules};
+ghost use Rattle.std.specs.Cmp.Rules.{comparing};
+ghost use Rattle.std.specs.Prelude.{◌≡◌, ◌==◌, ◌&&◌};
 ghost use Rattle.box6346.specs.SlotName.{are_six_digits, NamesAreReadAgain};
 
 use crate::characters::{are_digits, digit};
 
 /// A place of the yard, named by a block letter, a bay of three digits, a row of two and a tier of one:
 /// `A001011` is block A, bay 1, row 1, tier 1.
-#[derive(Clone, Copy, PartialEq, Eq, Debug)]
+#[derive(Clone, Copy, Eq, Debug)]
 pub struct Slot {
     /// The block's letter, a capital of ASCII.
     pub block: u8,
@@ -15,6 +17,20 @@ pub struct Slot {
     pub row: u8,
     /// The tier from the ground up, from 1.
     pub tier: u8,
+}
+
+impl PartialEq for Slot {
+    ghost eq = { λ a b. a.block == b.block && a.bay == b.bay && a.row == b.row && a.tier == b.tier };
+
+    ghost laws = { Prim.search (comparing, rules) };
+
+    /// The names are the same.
+    fn eq(&self, other: &Slot) -> bool {
+        self.block == other.block
+            && self.bay == other.bay
+            && self.row == other.row
+            && self.tier == other.tier
+    }
 }
 
 impl Slot {

@@ -1,20 +1,19 @@
 -- Bytes that come behind nine of an interchange: no advice can begin any more.
-use Rattle.std.proofs.Common.{◌≡◌, ℕ, zero, suc, ◌+◌, ◌-◌, ◌<◌, ◌≤◌, Bool, true, false, cond, ◌&&◌, nat_lt, min, List, [], ◌∷◌, ◌++◌, length, take, Option, Some, None, IfSome, refl, sym, ap, subst, ◌∙◌, inl, inr, append_assoc, arith}
-use Rattle.std.proofs.lemmas.Bool.{cases_Bool, true≢false, false≢true, ltb-true, ltb-false, lt-leb, lt-ltb, le-ltb}
-use Rattle.std.proofs.lemmas.List.{append-nil, take-append-le, take_all, take-take, length-append, length-take, length-take-le}
+use Rattle.std.proofs.Common.{◌≡◌, ℕ, zero, suc, ◌+◌, ◌-◌, ◌<◌, ◌≤◌, Bool, true, false, cond, ◌&&◌, nat_lt, min, List, [], ◌∷◌, ◌++◌, length, take, Some, None, refl, sym, ap, subst, ◌∙◌, inl, inr, append_assoc, arith}
+use Rattle.std.proofs.lemmas.Bool.{cases_Bool, true≢false, ltb-true, ltb-false, lt-leb, lt-ltb, le-ltb}
+use Rattle.std.proofs.lemmas.List.{append-nil, take-append-le, take-take, length-append, length-take, length-take-le}
 use Rattle.std.proofs.Math.Seq.{take-append-add}
 use Rattle.edi_segments.specs.Characters.{is_break, begins_with_advice}
 use Rattle.edi_segments.specs.Reading.{breaks_len}
-use Rattle.edi_segments.specs.Advice.{service_at, without_breaks}
+use Rattle.edi_segments.specs.Advice.{service_at}
 use Rattle.edi_segments.specs.declared.service.Service.{Service}
 use Rattle.edi_cutter.specs.Places as places
 use Rattle.edi_cutter.specs.Places.{place_after, is_refused, stops, Reads, ReadsTo}
-use Rattle.edi_cutter.specs.Cuts.{Cutting, is_in_advice, breaks_advice, place_of, is_closed, fault_of, is_whole, IsOpen, IsOpenBefore, IsPending, IsInterchange, Faults, Answers, Fails}
-use Rattle.edi_cutter.specs.Steps.{Holds}
+use Rattle.edi_cutter.specs.Cuts.{is_in_advice, breaks_advice, place_of, is_closed, fault_of, is_whole, IsOpen, IsOpenBefore, IsPending}
+use Rattle.edi_cutter.specs.Steps.{Holds, IsReadOn, IsRefusedBehind}
 use Rattle.edi_cutter.specs.declared.place.Place.{Place}
 use Rattle.edi_cutter.specs.declared.place.Place.TheVariants.{Between, First, Second, Tagged, Inside, Refused}
 use Rattle.edi_cutter.specs.declared.reading.Reading.{Reading}
-use Rattle.edi_cutter.specs.declared.cut_fault.CutFault.{CutFault}
 use Rattle.edi_cutter.specs.declared.cut_fault.CutFault.TheVariants.{TooLong, Service as ServiceFault, Segment}
 use Rattle.edi_cutter.proofs.CutLemmas.{no_fault, grows}
 
@@ -134,15 +133,6 @@ open_before text reading piece n h pends past within goes m less =
     difference (suc k) zero h = absurd (omega (arith, h))
     difference (suc k) (suc m) h = let (j, is) = difference k m (omega (arith, h)) in (j, omega (arith, is))
 
--- no line break stands at the front
-pub unstripped : (text bytes : List ℕ) → breaks_len text ≡ 0 → 9 ≤ length text → without_breaks (text ++ bytes) ≡ text ++ bytes
-unstripped [] bytes h past = absurd (omega (arith, past))
-unstripped (a ∷ text) bytes h past = rw (no_break (is_break a) (breaks_len text) h) refl
-  where
-    no_break : (b : Bool) (n : ℕ) → cond b (suc n) 0 ≡ 0 → b ≡ false
-    no_break true n h = absurd (omega (arith, h))
-    no_break false n h = refl
-
 -- ---- the ends of a piece
 
 used_within : (text : List ℕ) (reading : Reading) (piece : List ℕ) (room used : ℕ) (place : Place) → Scanned text reading piece room used place → (used ≤ length piece) × (used ≤ room)
@@ -197,58 +187,27 @@ holds_used text reading piece room used place s none =
     front [] bytes h past = absurd (omega (arith, past))
     front (a ∷ text) bytes h past = rw (no_break (is_break a) (breaks_len text) h) refl
 
--- the piece completes an interchange
-pub completes_behind : (text : List ℕ) (reading : Reading) (piece : List ℕ) (room used : ℕ) (place : Place) (new : Cutting) → Scanned text reading piece room used place → stops reading.place ≡ false → stops place ≡ true → is_refused place ≡ false
-    → new ≡ record { text = text ++ take used piece; fault = None } → Answers text piece new (Some used)
-unfolding places.place_after
-completes_behind text reading piece room zero place new s goes_on stopped none is =
-    absurd (false≢true (sym goes_on ∙ ap stops (sym s.reads.reads.leads) ∙ stopped))
-completes_behind text reading piece room (suc used) place new s goes_on stopped none is =
-    let n = suc used in
-    let (a, b) = used_within text reading piece room n place s in
-    let kept = unstripped text (take n piece) s.holds.front s.past in
-    let lead = leads text reading piece room n place s in
-    let whole : IsInterchange (text ++ take n piece) = (
-      none_at text reading (take n piece) s.holds s.past (short_enough text reading piece room n place s) (ap is_refused (sym lead) ∙ none),
-      ap is_closed (place_at text reading (take n piece) s.holds s.past ∙ sym lead) ∙ is_end place stopped none,
-      before_used text reading piece room n place s,
-    ) in
-    (omega arith, a, subst IsInterchange (sym kept) whole, is ∙ ap (λ (t : List ℕ). record { text = t; fault = None }) (sym kept))
-
--- the piece is used up
-pub goes_on_behind : (text : List ℕ) (reading : Reading) (piece : List ℕ) (room used : ℕ) (place : Place) (new : Cutting) → Scanned text reading piece room used place → stops place ≡ false → length piece ≤ room
-    → new ≡ record { text = text ++ take used piece; fault = None } → Answers text piece new None
-goes_on_behind text reading piece room used place new s goes_on all is =
-    let used_all : used ≡ length piece = s.reads.all goes_on ∙ length-take (min (length piece) room) piece ∙ omega (arith, all) in
-    let taken_all : take used piece ≡ piece = take_all used piece (omega (arith, used_all)) in
-    let lead = leads text reading piece room used place s in
-    let pends : IsPending (text ++ take used piece) = (
-      open_at text reading (take used piece) s.holds s.past (short_enough text reading piece room used place s) (ap stops (sym lead) ∙ goes_on),
-      before_used text reading piece room used place s,
-    ) in
-    let kept : without_breaks (text ++ piece) ≡ text ++ take used piece = unstripped text piece s.holds.front s.past ∙ ap (λ (t : List ℕ). text ++ t) (sym taken_all) in
-    (subst IsPending (sym kept) pends, is ∙ ap (λ (t : List ℕ). record { text = t; fault = None }) (sym kept))
-
 -- no segments go on so
-pub refuses_behind : (text : List ℕ) (reading : Reading) (piece : List ℕ) (room used : ℕ) (place : Place) (old new : Cutting) → Scanned text reading piece room used place → is_refused place ≡ true
-    → new ≡ record { text = []; fault = Some Segment } → Fails old text piece new Segment
-refuses_behind text reading piece room used place old new s refused is =
+pub refuses_behind : (text : List ℕ) (reading : Reading) (piece : List ℕ) (room used : ℕ) (place : Place) → Scanned text reading piece room used place → is_refused place ≡ true → IsRefusedBehind text piece Segment
+refuses_behind text reading piece room used place s refused =
     let (a, b) = used_within text reading piece room used place s in
     let lead = leads text reading piece room used place s in
     let bytes = take used piece in
     let faulty : fault_of (text ++ bytes) ≡ Some Segment =
     refused_fault (text ++ bytes) (omega (arith, short_enough text reading piece room used place s, length-append text bytes)) (breaks_at text reading bytes s.holds s.past)
     (ap is_refused (place_at text reading bytes s.holds s.past ∙ sym lead) ∙ refused) in
-    let kept = unstripped text bytes s.holds.front s.past in
-    (used, a, subst (λ (t : List ℕ). Faults t Segment) (sym kept) (faulty, before_used text reading piece room used place s), is)
+    (used, a, (faulty, before_used text reading piece room used place s))
   where
     refused_fault : (t : List ℕ) → length t ≤ 1048576 → breaks_advice t ≡ false → is_refused (place_of t) ≡ true → fault_of t ≡ Some Segment
     refused_fault t short unbroken refused = rw (le-ltb 1048576 (length t) short, unbroken, refused) refl
 
+-- all was read that may be
+used_up : (text : List ℕ) (reading : Reading) (piece : List ℕ) (room used : ℕ) (place : Place) → Scanned text reading piece room used place → stops place ≡ false → length piece ≤ room → used ≡ length piece
+used_up text reading piece room used place s goes_on all = s.reads.all goes_on ∙ length-take (min (length piece) room) piece ∙ omega (arith, all)
+
 -- one byte too many
-pub too_long_behind : (text : List ℕ) (reading : Reading) (piece : List ℕ) (room used : ℕ) (place : Place) (old new : Cutting) → Scanned text reading piece room used place → stops place ≡ false → room < length piece
-    → new ≡ record { text = []; fault = Some TooLong } → Fails old text piece new TooLong
-too_long_behind text reading piece room used place old new s goes_on more is =
+pub too_long_behind : (text : List ℕ) (reading : Reading) (piece : List ℕ) (room used : ℕ) (place : Place) → Scanned text reading piece room used place → stops place ≡ false → room < length piece → IsRefusedBehind text piece TooLong
+too_long_behind text reading piece room used place s goes_on more =
     let used_all : used ≡ room = s.reads.all goes_on ∙ length-take (min (length piece) room) piece ∙ omega (arith, more) in
     let n = used + 1 in
     let within : n ≤ length piece = omega (arith, used_all, more) in
@@ -256,7 +215,6 @@ too_long_behind text reading piece room used place old new s goes_on more is =
     let bytes = take n piece in
     let long : 1048576 < length (text ++ bytes) = omega (arith, used_all, s.left, s.short, length-append text bytes, length-take-le n piece within) in
     let faulty : fault_of (text ++ bytes) ≡ Some TooLong = rw (lt-ltb 1048576 (length (text ++ bytes)) long) refl in
-    let kept = unstripped text bytes s.holds.front s.past in
     let before : IsOpenBefore (text ++ bytes) = open_before text reading piece n s.holds s.pends s.past within
     (λ m h. elim (cases_Bool (nat_lt m used)) [
       | inl less ↦ goes text reading piece room used place s m (ltb-true m used less)
@@ -266,7 +224,18 @@ too_long_behind text reading piece room used place old new s goes_on more is =
             ap (λ (i : ℕ). stops (place_after reading.service reading.place (take i piece))) same ∙ ap stops (sym lead) ∙ goes_on,
           )
     ]) in
-    (n, within, subst (λ (t : List ℕ). Faults t TooLong) (sym kept) (faulty, before), is)
+    (n, within, (faulty, before))
+
+-- the piece was read as far as an end, or it is used up
+pub reads_on_behind : (text : List ℕ) (reading : Reading) (piece : List ℕ) (room used : ℕ) (place : Place) → Scanned text reading piece room used place → is_refused place ≡ false → (stops place ≡ false → length piece ≤ room)
+    → IsReadOn text piece used record { service = reading.service; place = place }
+reads_on_behind text reading piece room used place s none all =
+    let holds = holds_used text reading piece room used place s none in
+    record {
+      within = (used_within text reading piece room used place s).0;
+      holds = holds;
+      all = λ open_. let goes_on = going place none (ap is_closed holds.reads.1 ∙ open_) in used_up text reading piece room used place s goes_on (all goes_on);
+    }
 
 -- ---- what is known without a fault
 
@@ -279,25 +248,20 @@ sound_so_far text h = parts (nat_lt 1048576 (length text)) (breaks_advice text) 
     parts false false true e f = absurd cc
     parts false false false e f = (f refl, refl)
 
-pub scanned_of : (text : List ℕ) (reading : Reading) (old : Cutting) (slice piece : List ℕ) (count used : ℕ) (place : Place) → Holds text reading → text ≡ old.text → IsPending old.text → 9 ≤ length old.text
-    → slice ≡ text → count ≡ min (length piece) (1048576 - length slice) → ReadsTo reading.service reading.place (take count piece) used place
+pub pends_of : (text : List ℕ) (reading : Reading) → Holds text reading → is_whole text ≡ false → IsPending text
+pends_of text reading holds open_ = ((holds.none, open_), holds.before)
+
+pub scanned_of : (text : List ℕ) (reading : Reading) (piece : List ℕ) (count used : ℕ) (place : Place) → Holds text reading → is_whole text ≡ false → 9 ≤ length text
+    → count ≡ min (length piece) (1048576 - length text) → ReadsTo reading.service reading.place (take count piece) used place
     → Scanned text reading piece (1048576 - length text) used place
-scanned_of text reading old slice piece count used place holds seen pends past is count_is reads = record {
+scanned_of text reading piece count used place holds open_ past count_is reads = record {
   holds = holds;
-  pends = subst IsPending (sym seen) pends;
-  past = omega (arith, past, ap length seen);
+  pends = pends_of text reading holds open_;
+  past = past;
   left = refl;
   short = (sound_so_far text holds.none).0;
-  reads = subst (λ (n : ℕ). ReadsTo reading.service reading.place (take n piece) used place) (count_is ∙ ap (λ (t : List ℕ). min (length piece) (1048576 - length t)) is) reads;
+  reads = subst (λ (n : ℕ). ReadsTo reading.service reading.place (take n piece) used place) count_is reads;
 }
-
--- what is shown of a text holds of what is held
-pub held_text : (text : List ℕ) (fault : Option CutFault) (old : Cutting) (kept : List ℕ) → fault ≡ old.fault → old.fault ≡ None → text ≡ kept → (let c : Cutting = record { text = text; fault = fault } in c) ≡ record { text = kept; fault = None }
-held_text text fault old kept same none is = rw (is, same, none) refl
-
--- the bytes that were read of the piece
-pub kept_bytes : (text : List ℕ) (reading : Reading) (piece : List ℕ) (room used count : ℕ) (place : Place) → Scanned text reading piece room used place → count ≡ min (length piece) room → take used (take count piece) ≡ take used piece
-kept_bytes text reading piece room used count place s is = ap (λ (n : ℕ). take used (take n piece)) is ∙ taken text reading piece room used place s used (omega arith)
 
 pub room_lacks : (text : List ℕ) (reading : Reading) (piece : List ℕ) (room used count : ℕ) (place : Place) → Scanned text reading piece room used place → count ≡ min (length piece) room → length (take count piece) < length piece → room < length piece
 room_lacks text reading piece room used count place s is less = omega (arith, less, is, length-take count piece)
@@ -305,23 +269,6 @@ room_lacks text reading piece room used count place s is less = omega (arith, le
 pub room_is_there : (text : List ℕ) (reading : Reading) (piece : List ℕ) (room used count : ℕ) (place : Place) → Scanned text reading piece room used place → count ≡ min (length piece) room → length piece ≤ length (take count piece) → length piece ≤ room
 room_is_there text reading piece room used count place s is more = omega (arith, more, is, length-take count piece)
 
-pub reading_goes : (text : List ℕ) (reading : Reading) (old : Cutting) → Holds text reading → text ≡ old.text → IsPending old.text → stops reading.place ≡ false
-reading_goes text reading old holds seen pends =
-    going reading.place
-    (ap is_refused holds.reads.1 ∙ (sound_so_far text holds.none).1)
-    (ap is_closed holds.reads.1 ∙ ap is_whole seen ∙ pends.0.1)
-
-pub answers_either : (text : List ℕ) (reading : Reading) (piece : List ℕ) (room used : ℕ) (place : Place) (closed : Bool) (answer : Option ℕ) (new : Cutting) → Scanned text reading piece room used place → stops reading.place ≡ false
-    → closed ≡ stops place → is_refused place ≡ false → (stops place ≡ false → length piece ≤ room) → answer ≡ cond closed (Some used) None
-    → new ≡ record { text = text ++ take used piece; fault = None } → Answers text piece new answer
-answers_either text reading piece room used place closed answer new s goes_on closed_is none all answer_is is =
-    subst (Answers text piece new) (sym (answer_is ∙ ap (λ (b : Bool). cond b (Some used) None) closed_is))
-    (either (stops place) refl)
-  where
-    either : (b : Bool) → stops place ≡ b → Answers text piece new (cond b (Some used) None)
-    either true h = completes_behind text reading piece room used place new s goes_on h none is
-    either false h = goes_on_behind text reading piece room used place new s h (all h) is
-
-pub used_of : (q piece : List ℕ) (new : Cutting) (answer : Option ℕ) → Answers q piece new answer → IfSome answer (λ n. (0 < n) × (n ≤ length piece))
-used_of q piece new None h = tt
-used_of q piece new (Some n) (some, within, done, is) = (some, within)
+pub reading_goes : (text : List ℕ) (reading : Reading) → Holds text reading → is_whole text ≡ false → stops reading.place ≡ false
+reading_goes text reading holds open_ =
+    going reading.place (ap is_refused holds.reads.1 ∙ (sound_so_far text holds.none).1) (ap is_closed holds.reads.1 ∙ open_)

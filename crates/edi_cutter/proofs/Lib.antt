@@ -5,5 +5,6 @@ pub mod FeedLemmas
 pub mod FirstLemmas
 pub mod ReadLemmas
 pub mod BehindLemmas
-pub mod ShiftLemmas
+pub mod PieceLemmas
+pub mod FrontLemmas
 pub mod StreamLemmas

@@ -13,7 +13,7 @@ use Rattle.edi_cutter.proofs.FirstLemmas.{first_is_one}
 
 -- ---- line breaks at the front
 
-none_left : (bytes : List ℕ) → breaks_len (without_breaks bytes) ≡ 0
+pub none_left : (bytes : List ℕ) → breaks_len (without_breaks bytes) ≡ 0
 none_left [] = refl
 none_left (b ∷ bytes) =
     elim (cases_Bool (is_break b)) [

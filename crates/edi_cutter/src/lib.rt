@@ -4,6 +4,7 @@
 pub mod cut_fault;
 pub mod cutter;
 pub mod laws;
+mod piece;
 pub mod place;
 pub mod reading;
 

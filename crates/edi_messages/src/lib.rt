@@ -30,6 +30,7 @@ mod purpose;
 mod purpose_span;
 mod read;
 mod reading;
+pub mod rejection;
 mod texts;
 pub mod verdict;
 
@@ -49,4 +50,5 @@ pub use order::Order;
 pub use order_kind::OrderKind;
 pub use partner_kind::PartnerKind;
 pub use reading::read_message;
+pub use rejection::Rejection;
 pub use verdict::Verdict;

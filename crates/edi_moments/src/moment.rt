@@ -1,4 +1,6 @@
-ghost use Rattle.std.specs.Prelude.{◌≡◌, ◌+◌, ◌<◌, ◌≤◌, ◌-ℤ◌, length, pos, true, IsTrue, Some};
+ghost use Rattle.std.proofs.Common.{rules};
+ghost use Rattle.std.specs.Cmp.Rules.{comparing};
+ghost use Rattle.std.specs.Prelude.{◌≡◌, ◌==◌, ◌&&◌, ◌+◌, ◌<◌, ◌≤◌, ◌-ℤ◌, length, pos, true, IsTrue, Some};
 ghost use Rattle.std.specs.List.{list_all};
 ghost use Rattle.edi_moments.specs.Moments.{CivilMoment, is_moment, is_day, is_digit, number_at, are_moment_digits, moment_of, moment_text, moment_digits, two_digits, day_number, DaysAreTheCalendars};
 ghost use Rattle.jiff.specs.Words.{epoch_day};
@@ -7,7 +9,7 @@ use jiff::civil::{Date, date};
 use std::marker::Model;
 
 /// A day of the calendar from the year 0 to 9999, and an hour and a minute of that day.
-#[derive(Clone, Copy, PartialEq, Eq, Debug)]
+#[derive(Clone, Copy, Eq, Debug)]
 pub struct Moment {
     year: u16,
     month: u8,
@@ -24,6 +26,21 @@ impl Model for Moment {
     ghost invariant = { λ m. IsTrue (is_moment (record { year = m.year; month = m.month; day = m.day; hour = m.hour; minute = m.minute })) };
 
     ghost inverse = { λ m. record { year = m.year; month = m.month; day = m.day; hour = m.hour; minute = m.minute } };
+}
+
+impl PartialEq for Moment {
+    ghost eq = { λ a b. a.year == b.year && a.month == b.month && a.day == b.day && a.hour == b.hour && a.minute == b.minute };
+
+    ghost laws = { Prim.search (comparing, rules) };
+
+    /// Day, hour and minute are the same.
+    fn eq(&self, other: &Moment) -> bool {
+        self.year == other.year
+            && self.month == other.month
+            && self.day == other.day
+            && self.hour == other.hour
+            && self.minute == other.minute
+    }
 }
 
 impl Moment {

@@ -1,7 +1,9 @@
 -- An interchange by its parts: UNB, messages from UNH to UNT, UNZ (ISO 9735).
-use Rattle.std.specs.Prelude.{◌≡◌, true, false, List, [], ◌∷◌, ◌++◌, codes, IsTrue}
+use Rattle.std.specs.Prelude.{◌≡◌, ℕ, true, false, List, [], ◌∷◌, ◌++◌, codes, IsTrue}
 use Rattle.std.specs.List.{list_all, flat_map, AllByRecursion}
 use Rattle.edi_segments.specs.Text.{Content, has_tag}
+use Rattle.edi_segments.specs.Advice.{has_bad_advice}
+use Rattle.edi_segments.specs.Interchange.{InterchangeText, segments_in, is_segment_text}
 use Rattle.edi_syntax.specs.Messages.{Message, begins_message, ends_message, is_inner, messages_in, are_messages}
 
 -- a UNH, segments that neither begin nor end anything, a UNT
@@ -26,3 +28,12 @@ MessagesStand =
     (segments : List Content)
     → (are_messages false segments ≡ true → AreMessages segments (messages_in segments))
     × ((messages : List Message) → AreMessages segments messages → (are_messages false segments ≡ true) × (messages_in segments ≡ messages))
+
+-- Neither `Service` nor `Segment` applies to a text just where it is a text of the grammar, and the segments are those that it
+-- is a text of.
+abbrev pub ReadsTheGrammar : Type 0
+ReadsTheGrammar =
+    (text : List ℕ)
+    → (has_bad_advice text ≡ false → is_segment_text text ≡ true → InterchangeText (segments_in text) text)
+    × ((segments : List Content) → InterchangeText segments text
+    → (has_bad_advice text ≡ false) × (is_segment_text text ≡ true) × (segments_in text ≡ segments))

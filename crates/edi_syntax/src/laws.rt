@@ -1,6 +1,11 @@
-ghost use Rattle.edi_syntax.specs.Laws.{MessagesStand};
+ghost use Rattle.edi_syntax.specs.Laws.{MessagesStand, ReadsTheGrammar};
 
 /// Where there is no `SyntaxFault::MessageFrame`, what stands behind the header is messages from UNH to UNT, and a UNZ.
 pub fn messages_stand()
     ensures { MessagesStand }
+{}
+
+/// No text of the grammar is refused as `SyntaxFault::Service` or `SyntaxFault::Segment`, and every other is.
+pub fn reads_the_grammar()
+    ensures { ReadsTheGrammar }
 {}

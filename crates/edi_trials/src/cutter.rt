@@ -108,3 +108,42 @@ fn the_last_byte_that_may_stand_and_one_more(rt: HostRuntime) -> Result<(), Fail
     assert!(rt; cutter.feed(b"'") == Err(CutFault::TooLong));
     Ok(())
 }
+
+#[test]
+fn a_fault_behind_the_ninth_byte(rt: HostRuntime) -> Result<(), Fail> {
+    let mut cutter = Cutter::new(rt.alloc());
+    assert!(rt; cutter.feed(b"UNB+UNOA:3+HAULA\x01") == Err(CutFault::Segment));
+    let mut other = Cutter::new(rt.alloc());
+    assert!(rt; other.feed(b"UNB+UNOA:3+HAULA") == Ok(None));
+    assert!(rt; other.feed(b"\x01") == Err(CutFault::Segment));
+    Ok(())
+}
+
+/// Four bytes, so many `A`, and these.
+fn long_piece(alloc: Global, count: usize, behind: &[u8]) -> Result<Vec<u8>, Fail> {
+    let mut piece = Vec::new(alloc);
+    piece.extend_from_slice(b"FTX+")?;
+    let value = vec![in alloc; b'A'; count]?;
+    piece.extend_from_slice(&value)?;
+    piece.extend_from_slice(behind)?;
+    Ok(piece)
+}
+
+#[test]
+fn takes_a_long_piece_at_once(rt: HostRuntime) -> Result<(), Fail> {
+    let piece = long_piece(rt.alloc(), 10_000, b"'UNZ'")?;
+    let mut cutter = Cutter::new(rt.alloc());
+    assert!(rt; cutter.feed(&piece) == Ok(Some(10_009)));
+    assert_eq!(rt; cutter.interchange(), piece.as_slice());
+    Ok(())
+}
+
+#[test]
+fn a_piece_may_be_too_long(rt: HostRuntime) -> Result<(), Fail> {
+    for (count, expected) in [(1_048_572, Ok(None)), (1_048_573, Err(CutFault::TooLong))] {
+        let piece = long_piece(rt.alloc(), count, b"")?;
+        let mut cutter = Cutter::new(rt.alloc());
+        assert!(rt; cutter.feed(&piece) == expected);
+    }
+    Ok(())
+}

@@ -1,8 +1,6 @@
-ghost use Rattle.std.specs.Prelude.{◌<◌};
-
 use edi_segments::{
-    Segment, SegmentCheck, SegmentReader, SegmentWriter, Segments, SyntaxFault, interchange_text,
-    write_component,
+    Components, Segment, SegmentCheck, SegmentReader, SegmentWriter, Segments, SyntaxFault,
+    interchange_text, write_component,
 };
 use std::process::Abort;
 use std::test::Fail;
@@ -14,29 +12,22 @@ fn first<'a>(text: &'a [u8]) -> Option<Segment<'a>> {
 
 const RELEASED: &[u8] = b"RFF+BN:A?+B:??:?'?:?\x80+\xff'\r\n";
 
-/// Holds the value in that place to this one.
-fn assert_value(
-    rt: &impl Abort,
-    segment: &Segment<'_>,
-    element: usize,
-    component: usize,
-    value: &[u8],
-)
-    requires first_element { 0 < element }
-    requires first_component { 0 < component }
-{
-    assert!(rt; segment.component(element, component).equals(value));
-}
+/// Places of `RELEASED`, by element and component, and their values.
+const RELEASED_VALUES: [(usize, usize, &[u8]); 5] = [
+    (1, 2, b"A+B"),
+    (1, 3, b"?"),
+    (1, 4, b"':\x80"),
+    (2, 1, b"\xff"),
+    (2, 2, b""),
+];
 
 #[test]
 fn reads_values_that_are_released(rt: HostRuntime) -> Result<(), Fail> {
     let segment = first(RELEASED).ok_or("no segment")?;
     assert_eq!(rt; segment.tag(), b"RFF".as_slice());
-    assert_value(&rt, &segment, 1, 2, b"A+B");
-    assert_value(&rt, &segment, 1, 3, b"?");
-    assert_value(&rt, &segment, 1, 4, b"':\x80");
-    assert_value(&rt, &segment, 2, 1, b"\xff");
-    assert_value(&rt, &segment, 2, 2, b"");
+    for (element, component, value) in RELEASED_VALUES {
+        assert!(rt; segment.component(element, component).equals(value));
+    }
     Ok(())
 }
 
@@ -50,6 +41,16 @@ fn tells_what_a_value_is_like(rt: HostRuntime) -> Result<(), Fail> {
     Ok(())
 }
 
+/// Holds an element to these values.
+fn assert_values(rt: &impl Abort, element: Components<'_>, values: &[&[u8]]) -> Result<(), Fail> {
+    let mut found = element;
+    for value in values {
+        assert!(rt; found.next().ok_or("no value")?.equals(value));
+    }
+    assert!(rt; found.next().is_none());
+    Ok(())
+}
+
 /// The values of the first two elements, in turn.
 #[test]
 fn goes_over_elements_and_values(rt: HostRuntime) -> Result<(), Fail> {
@@ -58,9 +59,7 @@ fn goes_over_elements_and_values(rt: HostRuntime) -> Result<(), Fail> {
     let mut elements = segment.elements();
     for values in wanted {
         let found = elements.next().ok_or("no element")?;
-        for (value, want) in found.zip(values.iter()) {
-            assert!(rt; value.equals(want));
-        }
+        assert_values(&rt, found, values)?;
     }
     assert!(rt; elements.next().is_none());
     Ok(())

@@ -1,4 +1,8 @@
-use edi_syntax::{Head, Service, SyntaxFault, interchange_text, open_envelope};
+ghost use Rattle.std.specs.Prelude.{◌<◌};
+
+use edi_segments::{Component, Segment};
+use edi_syntax::{Frame, Head, Service, SyntaxFault, interchange_text, open_envelope};
+use std::process::Abort;
 use std::test::Fail;
 
 const GATE_IN: &[u8] =
@@ -9,35 +13,74 @@ fn fault(text: &[u8]) -> Option<SyntaxFault> {
 }
 
 #[test]
-fn reads_a_gate_in(rt: HostRuntime) -> Result<(), Fail> {
-    let envelope = open_envelope(GATE_IN)?;
-    let head = envelope.head();
-    assert!(rt; head.sender(1).equals(b"HAULA"));
-    assert!(rt; head.recipient(1).equals(b"TERM1"));
-    assert!(rt; head.preparation(1).equals(b"240305"));
-    assert!(rt; head.preparation(2).equals(b"0910"));
-    assert!(rt; head.reference().equals(b"000001"));
+fn reads_the_header_of_a_gate_in(rt: HostRuntime) -> Result<(), Fail> {
+    let head = Head::open(GATE_IN)?;
+    let values: [(Component<'_>, &[u8]); 5] = [
+        (head.sender(1), b"HAULA"),
+        (head.recipient(1), b"TERM1"),
+        (head.preparation(1), b"240305"),
+        (head.preparation(2), b"0910"),
+        (head.reference(), b"000001"),
+    ];
+    for (found, value) in values {
+        assert!(rt; found.equals(value));
+    }
+    Ok(())
+}
+
+#[test]
+fn reads_the_number_and_moment_of_a_gate_in(rt: HostRuntime) -> Result<(), Fail> {
+    let head = Head::open(GATE_IN)?;
     assert_eq!(rt; head.number(), 1);
     assert_eq!(rt; head.moment().text(), *b"2024-03-05 09:10");
-    let frame = envelope.frames().next().ok_or("no message")?;
+    Ok(())
+}
+
+/// The first message of an interchange.
+fn first_message<'a>(text: &'a [u8]) -> Result<Frame<'a>, Fail> {
+    Ok(open_envelope(text)?.frames().next().ok_or("no message")?)
+}
+
+#[test]
+fn reads_the_message_of_a_gate_in(rt: HostRuntime) -> Result<(), Fail> {
+    let frame = first_message(GATE_IN)?;
     assert!(rt; frame.reference().equals(b"1"));
     assert!(rt; frame.identity(5).equals(b"ITG14"));
     assert!(rt; frame.header().has_tag(b"UNH"));
-    let mut segments = frame.segments();
-    assert!(rt;
-        segments
-            .next()
-            .ok_or("no BGM")?
-            .component(3, 1)
-            .equals(b"9")
-    );
-    let equipment = segments.next().ok_or("no EQD")?;
-    assert_eq!(rt; equipment.tag(), b"EQD".as_slice());
+    Ok(())
+}
+
+/// Holds the next segment to this tag, and an element of it to this value.
+fn assert_segment(
+    rt: &impl Abort,
+    segment: Option<Segment<'_>>,
+    tag: &[u8],
+    element: usize,
+    value: &[u8],
+) -> Result<(), Fail>
+    requires { 0 < element }
+{
+    let segment = segment.ok_or("no segment")?;
+    assert!(rt; segment.has_tag(tag));
+    assert!(rt; segment.component(element, 1).equals(value));
+    Ok(())
+}
+
+#[test]
+fn reads_the_segments_of_a_gate_in(rt: HostRuntime) -> Result<(), Fail> {
+    let mut segments = first_message(GATE_IN)?.segments();
+    assert_segment(&rt, segments.next(), b"BGM", 3, b"9")?;
+    assert_segment(&rt, segments.next(), b"EQD", 6, b"5")?;
+    assert!(rt; segments.next().is_none());
+    Ok(())
+}
+
+#[test]
+fn goes_over_the_values_of_an_element(rt: HostRuntime) -> Result<(), Fail> {
+    let equipment = first_message(GATE_IN)?.segments().nth(1).ok_or("no EQD")?;
     let size_type = equipment.components(3).next().ok_or("no size-type")?;
     assert!(rt; size_type.equals(b"22G1"));
-    assert!(rt; equipment.component(6, 1).equals(b"5"));
     assert!(rt; equipment.component(7, 1).is_empty());
-    assert!(rt; segments.next().is_none());
     Ok(())
 }
 

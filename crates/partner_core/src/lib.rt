@@ -13,8 +13,6 @@ mod ledger;
 mod machine;
 mod runs;
 mod standing;
-#[cfg(test)]
-mod tests;
 
 pub use answer::Answer;
 pub use cascade::LAST_NUMBER;

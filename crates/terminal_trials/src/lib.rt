@@ -3,3 +3,5 @@
 
 #[cfg(test)]
 mod terminal;
+#[cfg(test)]
+mod yard;

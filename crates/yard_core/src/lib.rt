@@ -23,6 +23,3 @@ pub use plan::Plan;
 pub use plan_fault::PlanFault;
 pub use yard::Yard;
 pub use yard_fault::YardFault;
-
-#[cfg(test)]
-mod tests;

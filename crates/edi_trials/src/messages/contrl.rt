@@ -1,6 +1,7 @@
 //! Answers to interchanges under other service characters, and rejections.
 
 use super::assert_contrl;
+use super::shown::{joined, write_all};
 use edi_messages::{PartnerKind, WRONG_RECIPIENT, interchange_error, write_rejection};
 use edi_syntax::{Head, SyntaxFault};
 use std::alloc::Global;
@@ -48,4 +49,32 @@ fn rejects_interchanges_to_another(rt: HostRuntime) -> Result<(), Fail> {
     let contrl =
         b"UNB+UNOA:3+TERM2+HAULA+240305:0910+1'UNH+1+CONTRL:D:3:UN'UCI+1+HAULA+TERM2+4+7'UNT+3+1'UNZ+1+1'";
     assert_rejection(&rt, rt.alloc(), &head, WRONG_RECIPIENT, contrl)
+}
+
+/// An interchange of that many gate-ins, each of one container and with the reference `1`, and the CONTRL to it.
+fn assert_answers(
+    rt: &impl Abort,
+    alloc: Global,
+    count: usize,
+    messages: &[u8],
+    segments: &[u8],
+) -> Result<(), Fail> {
+    let mut text = joined(alloc, &[b"UNB+UNOA:3+HAULA+TERM1+240305:0910+1'"])?;
+    let mut contrl = joined(
+        alloc,
+        &[b"UNB+UNOA:3+TERM1+HAULA+240305:0910+1'UNH+1+CONTRL:D:3:UN'UCI+1+HAULA+TERM1+7'"],
+    )?;
+    for _ in 0..count {
+        text.extend_from_slice(b"UNH+1+CODECO:D:95B:UN'BGM+34'EQD+CN+ABCU0000017+22G1'UNT+4+1'")?;
+        contrl.extend_from_slice(b"UCM+1+CODECO:D:95B:UN+7'")?;
+    }
+    write_all(&[b"UNZ+", messages, b"+1'"], &mut text)?;
+    write_all(&[b"UNT+", segments, b"+1'UNZ+1+1'"], &mut contrl)?;
+    assert_contrl(rt, alloc, &text, PartnerKind::Gate, &contrl)
+}
+
+#[test]
+fn answers_three_messages_and_ten(rt: HostRuntime) -> Result<(), Fail> {
+    assert_answers(&rt, rt.alloc(), 3, b"3", b"6")?;
+    assert_answers(&rt, rt.alloc(), 10, b"10", b"13")
 }

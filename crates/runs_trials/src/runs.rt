@@ -5,8 +5,8 @@ mod refusals;
 ghost use Rattle.std.specs.Prelude.{◌≡◌, ◌≤◌};
 ghost use Rattle.partner_core.specs.Runs.{partner_count};
 
-use crate::diary::Diary;
-use crate::{Answer, LAST_NUMBER, Machine, Runs, Standing, judge, laws};
+use partner_core::diary::Diary;
+use partner_core::{Answer, LAST_NUMBER, Machine, Runs, Standing, judge, laws};
 use std::alloc::{AllocError, Global};
 use std::test::Fail;
 

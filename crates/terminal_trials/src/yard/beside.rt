@@ -1,11 +1,11 @@
 //! The columns beside a plain list of boxes, which goes through all of them at each call.
 
 use super::{number, plan};
-use crate::{Block, Yard, YardFault};
 use box6346::{BoxNumber, Length, Slot};
 use std::alloc::{AllocError, Global};
 use std::process::Abort;
 use std::test::Fail;
+use yard_core::{Block, Yard, YardFault};
 
 const BLOCKS: [Block; 2] = [
     Block {

@@ -4,9 +4,9 @@
 mod beside;
 mod rows;
 
-use crate::{Block, Plan};
 use box6346::{BoxNumber, Slot, check_digit};
 use std::process::Abort;
+use yard_core::{Block, Plan};
 
 /// The box of owner ABC with this serial number.
 fn number(rt: &impl Abort, serial: u32) -> BoxNumber {

@@ -2,9 +2,9 @@
 
 ghost use Rattle.std.specs.Prelude.{List, ℕ};
 
-use crate::diary::Diary;
-use crate::tests::said;
-use crate::{Machine, Runs};
+use super::said;
+use partner_core::diary::Diary;
+use partner_core::{Machine, Runs};
 use std::alloc::{AllocError, Global};
 use std::cell::Cell;
 use std::marker::Model;

@@ -1,10 +1,10 @@
 //! The worked rows, and each fault of a plan.
 
 use super::{A, number, plan, slot};
-use crate::{Block, Plan, PlanFault, Yard, YardFault};
 use box6346::Length::{Forty, Twenty};
 use std::process::Abort;
 use std::test::Fail;
+use yard_core::{Block, Plan, PlanFault, Yard, YardFault};
 
 /// Boxes one after the other, each with the answer that it gets.
 fn assert_places(rt: &impl Abort, yard: &mut Yard) {
