@@ -44,8 +44,10 @@ fn desk_short_of_memory(rt: &impl Abort, alloc: Global) -> Result<Desk<ShortOfMe
     assert!(rt; setup.partners.len() <= 999);
     let plan = Plan::new(setup.blocks.as_slice()).expect(rt, "a plan");
     let terminal = Terminal::new(alloc, plan, setup.visit_limit)?;
+    let copied = setup.copy(alloc)?;
+    assert!(rt; copied.partners.len() <= 999);
     let machine = ShortOfMemory {
-        machine: TerminalMachine::new(setup.copy(alloc)?, terminal),
+        machine: TerminalMachine::new(copied, terminal),
     };
     Ok(Desk::new(alloc, setup, machine)?)
 }
