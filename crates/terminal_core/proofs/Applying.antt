@@ -10,9 +10,8 @@ use Rattle.edi_moments.specs.Moments.{CivilMoment}
 use Rattle.edi_messages.specs.Purposes.{CallContent}
 use Rattle.edi_messages.specs.Orders.{EntryContent, OrderContent, gate_in, gate_out, move, list_discharge, list_load, discharge, load}
 use Rattle.yard_core.specs.YardMap.{YardMap, placement}
-use Rattle.yard_core.specs.Decisions.{removed, shifted}
+use Rattle.yard_core.specs.Decisions.{Refusal, removed, shifted}
 use Rattle.yard_core.specs.declared.placement.Placement.{Placement}
-use Rattle.yard_core.specs.declared.yard_fault.YardFault.{YardFault}
 use Rattle.terminal_core.specs.declared.departure.Departure.{Departure}
 use Rattle.terminal_core.specs.declared.line_state.LineState.{LineState}
 use Rattle.terminal_core.specs.declared.line_state.LineState.TheVariants.{Pending, Done as LineIsDone}
@@ -94,7 +93,7 @@ one_open_visit state b whole is =
 abbrev Applies : TerminalState → Stepped → Type 0
 Applies state after = AreApplicable (rows_of state) after.changes
 
-applies_entered_at : (state : TerminalState) (way : Way) (source : Source) (entry : EntryContent) (r : Result (YardMap × Slot) YardFault) → IsWhole state → settled state.yard entry ≡ r → Applies state (entered_at state way source entry r)
+applies_entered_at : (state : TerminalState) (way : Way) (source : Source) (entry : EntryContent) (r : Result (YardMap × Slot) Refusal) → IsWhole state → settled state.yard entry ≡ r → Applies state (entered_at state way source entry r)
 applies_entered_at state way source entry (Err f) whole e = tt
 applies_entered_at state way source entry (Ok (y, slot)) whole e =
     let came : Comes state.yard y entry.number (placement (length_of entry.size_type) slot) = comes state.yard y entry entry.slot slot e in (
@@ -106,7 +105,7 @@ applies_entered : (state : TerminalState) (way : Way) (source : Source) (entry :
 applies_entered state way source entry whole =
     either (Applies state) (is_full state) (refused state VisitLimit) (entered_at state way source entry (settled state.yard entry)) tt (applies_entered_at state way source entry (settled state.yard entry) whole refl)
 
-applies_departed_at : (state : TerminalState) (b : BoxNumber) (departure : Departure) (r : Result (YardMap × Placement) YardFault) → IsWhole state → removed state.yard b ≡ r → Applies state (departed_at state b departure r)
+applies_departed_at : (state : TerminalState) (b : BoxNumber) (departure : Departure) (r : Result (YardMap × Placement) Refusal) → IsWhole state → removed state.yard b ≡ r → Applies state (departed_at state b departure r)
 applies_departed_at state b departure (Err f) whole e = tt
 applies_departed_at state b departure (Ok (y, s)) whole e =
     let went = goes (finite_map.get state.yard.boxes b) state.yard y b s e in
@@ -115,7 +114,7 @@ applies_departed_at state b departure (Ok (y, s)) whole e =
 applies_departed : (state : TerminalState) (way : Way) (source : Source) (b : BoxNumber) (moment : CivilMoment) → IsWhole state → Applies state (departed state way source b moment)
 applies_departed state way source b moment whole = applies_departed_at state b (departure_by way source moment) (removed state.yard b) whole refl
 
-applies_moved_at : (state : TerminalState) (b : BoxNumber) (slot : Slot) (r : Result YardMap YardFault) → shifted state.yard b slot ≡ r → Applies state (moved_at state b slot r)
+applies_moved_at : (state : TerminalState) (b : BoxNumber) (slot : Slot) (r : Result YardMap Refusal) → shifted state.yard b slot ≡ r → Applies state (moved_at state b slot r)
 applies_moved_at state b slot (Err f) e = tt
 applies_moved_at state b slot (Ok y) e =
     let is = shifts (finite_map.get state.yard.boxes b) state.yard y b slot e in

@@ -17,24 +17,24 @@ use Rattle.terminal_core.specs.Step.{number_of_visit, step}
 -- ---- rows
 
 -- where a container stands, and the number of its visit
-pub record Place : Type 0 where
+pub record Standing : Type 0 where
   pub visit : ℕ
   pub slot : Slot
 
-abbrev pub place_in : ℕ → Slot → Place
-place_in visit slot = record { visit = visit; slot = slot }
+abbrev pub standing_in : ℕ → Slot → Standing
+standing_in visit slot = record { visit = visit; slot = slot }
 
 -- a row for each visit, for each container in the yard, and for each line of a vessel's list
 pub record TerminalRows : Type 0 where
   pub visits : List VisitContent
-  pub places : BoxNumber → Option Place
+  pub places : BoxNumber → Option Standing
   pub lines : Lines
 
-abbrev pub place_of : TerminalState → BoxNumber → Option Place
-place_of state container = option_map (λ s. place_in (number_of_visit (open_visit state container)) s.slot) (finite_map.get state.yard.boxes container)
+abbrev pub standing_of : TerminalState → BoxNumber → Option Standing
+standing_of state container = option_map (λ s. standing_in (number_of_visit (open_visit state container)) s.slot) (finite_map.get state.yard.boxes container)
 
 abbrev pub rows_of : TerminalState → TerminalRows
-rows_of state = record { visits = state.visits; places = place_of state; lines = state.lines }
+rows_of state = record { visits = state.visits; places = standing_of state; lines = state.lines }
 
 -- ---- changes
 
@@ -42,8 +42,8 @@ rows_of state = record { visits = state.visits; places = place_of state; lines =
 abbrev pub closed_as : ℕ → Departure → VisitContent → VisitContent
 closed_as number departure visit = cond (visit.number == number) (record visit { departure = Some departure }) visit
 
-abbrev pub moved_place : Slot → Place → Place
-moved_place slot place = record place { slot = slot }
+abbrev pub standing_elsewhere : Slot → Standing → Standing
+standing_elsewhere slot place = record place { slot = slot }
 
 abbrev pub with_line_done : Lines → LineKey → Option LineContent → Lines
 with_line_done lines key None = lines
@@ -53,8 +53,8 @@ with_line_done lines key (Some line) = finite_map.insert lines key (record line 
 abbrev pub changed : TerminalRows → ChangeContent → TerminalRows
 changed rows (visit_opened visit) = record rows { visits = rows.visits ++ visit ∷ [] }
 changed rows (visit_closed number departure) = record rows { visits = map (closed_as number departure) rows.visits }
-changed rows (placed_at container visit slot) = record rows { places = update bytes_eq rows.places container (Some (place_in visit slot)) }
-changed rows (moved_to container slot) = record rows { places = update bytes_eq rows.places container (option_map (moved_place slot) (rows.places container)) }
+changed rows (placed_at container visit slot) = record rows { places = update bytes_eq rows.places container (Some (standing_in visit slot)) }
+changed rows (moved_to container slot) = record rows { places = update bytes_eq rows.places container (option_map (standing_elsewhere slot) (rows.places container)) }
 changed rows (removed_from container) = record rows { places = update bytes_eq rows.places container None }
 changed rows (listed_on call side container port) = record rows { lines = finite_map.insert rows.lines (line_key call side container) (record { port = port; state = Pending }) }
 changed rows (line_done call side container) = record rows { lines = with_line_done rows.lines (line_key call side container) (finite_map.get rows.lines (line_key call side container)) }

@@ -14,6 +14,7 @@ use crate::lines::{line_done, line_listed, pending_line};
 use crate::listing::Listing;
 use crate::lists::Lists;
 use crate::outcome::Outcome;
+use crate::place::Place;
 use crate::reason::Reason;
 use crate::restore_fault::RestoreFault;
 use crate::restoring::restored_yard;
@@ -21,7 +22,6 @@ use crate::rows::append;
 use crate::settling::{reason_of, settle};
 use crate::side::Side;
 use crate::source::Source;
-use crate::stay::Stay;
 use crate::visit::Visit;
 use crate::visits::{close, copied_visits, opened_visit, visit_closed};
 use crate::way::Way;
@@ -80,7 +80,7 @@ impl Terminal {
         plan: Plan,
         visit_limit: u32,
         visits: Vec<Visit>,
-        places: Vec<Stay>,
+        places: Vec<Place>,
         lines: Vec<Listing>,
     ) -> Result<Terminal, RestoreFault>
         ensures ok { IfOk result (AreRowsOf plan visit_limit visits.items places.items lines.items) }

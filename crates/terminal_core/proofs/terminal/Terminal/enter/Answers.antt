@@ -19,7 +19,7 @@ invariant_of-self-in-Ok c =
     whole_with state c.settle.new.yard _ _
     (visits_after c.self.inside.visits c.reserve.new.self c.append.new.rows c.opened_visit.result c.args.way c.args.source (entry_content c.args.entry.now) c.in-Ok.slot (c.len-2.result + 1) c.reserve.ensures.items c.append.ensures.rows c.opened_visit.ensures
     (omega (arith, c.reserve.ensures.len)))
-    (whole_entered state c.settle.new.yard _ _ c.self.invariant settles.places c.in_ok-slot.ensures.sound refl refl (room_for_visits c.self.inside.visits c.self.inside.limit (omega arith)))
+    (whole_entered state c.settle.new.yard _ _ c.self.invariant settles.places c.in_ok-slot.ensures.sound refl refl refl (room_for_visits c.self.inside.visits c.self.inside.limit (omega arith)))
 
 pub returns-in-Ok-clause-ok : goal.returns-in-Ok-clause-ok
 returns-in-Ok-clause-ok c =
