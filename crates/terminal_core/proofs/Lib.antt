@@ -5,6 +5,7 @@ pub mod Whole
 pub mod Settled
 pub mod Appended
 pub mod Closing
+pub mod Indexed
 pub mod Steps
 pub mod Lined
 pub mod Numbered

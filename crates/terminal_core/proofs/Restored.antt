@@ -161,14 +161,16 @@ one_state plan limit visits places lines s t is also =
     let same_lines : s.lines ≡ t.lines = is.lines_are ∙ sym also.lines_are in
     λ i. record { yard = record { plan = same_plan i; boxes = boxes i }; limit = same_limit i; visits = same_visits i; lines = same_lines i }
 
-pub rows_of : (plan : List Block) (limit : ℕ) (visits : List Visit) (places : List Place) (lines : List Listing) (yard : YardMap) (listed : Lines) → listed ≡ lines_of lines → AreOnce lines
-    → IsYardOf plan limit (map visit_content visits) places yard → AreRowsOf plan limit visits places lines (record { yard = yard; limit = limit; visits = map visit_content visits; lines = listed })
-rows_of plan limit visits places lines yard listed same once is = record {
-  whole = whole_listed (without_lines yard limit (map visit_content visits)) listed is.whole;
-  plan_is = is.plan_is;
-  limit_is = refl;
-  visits_are = refl;
-  places_are = is.places_are;
-  lines_are = same;
-  lines_once = once;
-}
+pub rows_of : (plan : List Block) (limit : ℕ) (visits : List Visit) (held : List VisitContent) (places : List Place) (lines : List Listing) (yard : YardMap) (listed : Lines) → held ≡ map visit_content visits → listed ≡ lines_of lines
+    → AreOnce lines → IsYardOf plan limit (map visit_content visits) places yard → AreRowsOf plan limit visits places lines (record { yard = yard; limit = limit; visits = held; lines = listed })
+rows_of plan limit visits held places lines yard listed kept same once is =
+    let P : List VisitContent → Type 0 = λ v. AreRowsOf plan limit visits places lines (record { yard = yard; limit = limit; visits = v; lines = listed }) in
+    subst P (sym kept) (record {
+      whole = whole_listed (without_lines yard limit (map visit_content visits)) listed is.whole;
+      plan_is = is.plan_is;
+      limit_is = refl;
+      visits_are = refl;
+      places_are = is.places_are;
+      lines_are = same;
+      lines_once = once;
+    })

@@ -46,14 +46,6 @@ pub record HasOneVisit (container : BoxNumber) (visits : List VisitContent) : Ty
   pub one_visit : length (filter (is_open_visit container) visits) ≤ 1
   pub here : is_some (find (is_open_visit container) visits) ≡ true
 
--- no visit from that place on is the container's and open
-abbrev pub NoneOpenFrom : BoxNumber → List Visit → ℕ → Type 0
-NoneOpenFrom container visits first = (k : ℕ) (visit : Visit) → first ≤ k → slice_get visits k ≡ Some visit → is_open_visit container (visit_content visit) ≡ false
-
--- the visit at that place is
-abbrev pub IsOpenAt : BoxNumber → List Visit → ℕ → Type 0
-IsOpenAt container visits place = (visit : Visit) × (slice_get visits place ≡ Some visit) × (is_open_visit container (visit_content visit) ≡ true)
-
 -- the slot that an outcome tells is one of the plan's
 abbrev pub IsPlanned : List Block → Outcome → Type 0
 IsPlanned plan (Done slot) = InPlan plan slot
