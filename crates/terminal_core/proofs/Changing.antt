@@ -14,8 +14,9 @@ use Rattle.box6346.specs.declared.slot.Slot.{Slot}
 use Rattle.edi_moments.specs.Moments.{CivilMoment}
 use Rattle.edi_messages.specs.Purposes.{CallContent}
 use Rattle.edi_messages.specs.Orders.{EntryContent, OrderContent, gate_in, gate_out, move, list_discharge, list_load, discharge, load}
+use Rattle.yard_core.specs.declared.block.Block.{Block}
 use Rattle.yard_core.specs.YardMap.{Boxes, YardMap, yard_map, placement}
-use Rattle.yard_core.specs.Decisions.{Refusal, present, removed, removed_at, shifted, shifted_at, unless_buried, with_misfit, with_slot as with_first_slot, misfit_of, first_fit, blocker_of}
+use Rattle.yard_core.specs.Decisions.{Refusal, present, removed, removed_at, shifted, shifted_at, unless_buried, with_misfit, with_slot as with_first_slot, misfit_of, first_fit, every_slot, blocker_of}
 use Rattle.yard_core.specs.declared.placement.Placement.{Placement}
 use Rattle.terminal_core.specs.declared.departure.Departure.{Departure}
 use Rattle.terminal_core.specs.declared.line_state.LineState.{LineState}
@@ -34,35 +35,52 @@ use Rattle.terminal_core.specs.Step.{Stepped, refused, step, settled, settled_in
 use Rattle.terminal_core.specs.Changes.{Standing, TerminalRows, standing_in, standing_of, rows_of, closed_as, standing_elsewhere, with_line_done, changed, all_changed}
 use Rattle.terminal_core.proofs.Boxes.{same_bytes, in_placed_map, in_removed_map}
 use Rattle.terminal_core.proofs.Open.{and_true, closed_open, find_last, find_new}
+use Rattle.terminal_core.proofs.Counted.{found_is}
 use Rattle.terminal_core.proofs.Counting.{count_keeps, count_skips, find_skips, find_meets}
 
 -- ---- what the yard decides
 
-slotted : (there : Bool) (o : Option Refusal) (y new : YardMap) (slot named : Slot) → with_slot named (cond there (Err present) (with_misfit o y)) ≡ Ok (new, slot) → (there ≡ false) × (new ≡ y) × (named ≡ slot)
+slotted : (there : Bool) (o : Option Refusal) (y new : YardMap) (slot named : Slot) → with_slot named (cond there (Err present) (with_misfit o y)) ≡ Ok (new, slot) → (there ≡ false) × (new ≡ y) × (named ≡ slot) × (o ≡ None)
 slotted true o y new slot named e = cc
 slotted false (Some f) y new slot named e = cc
-slotted false None y new slot named e = let p : (y, named) ≡ (new, slot) = cc in (refl, sym (ap (λ (q : YardMap × Slot). q.0) p), ap (λ (q : YardMap × Slot). q.1) p)
+slotted false None y new slot named e = let p : (y, named) ≡ (new, slot) = cc in (refl, sym (ap (λ (q : YardMap × Slot). q.0) p), ap (λ (q : YardMap × Slot). q.1) p, refl)
 
 first_slotted : (there : Bool) (o : Option Slot) (y new : YardMap) (b : BoxNumber) (length : Length) (slot : Slot) → cond there (Err present) (with_first_slot o y b length) ≡ Ok (new, slot)
-    → (there ≡ false) × (new ≡ yard_map y.plan (finite_map.insert y.boxes b (placement length slot)))
+    → (there ≡ false) × (new ≡ yard_map y.plan (finite_map.insert y.boxes b (placement length slot))) × (o ≡ Some slot)
 first_slotted true o y new b length slot e = cc
 first_slotted false None y new b length slot e = cc
 first_slotted false (Some first) y new b length slot e =
-    let p : (yard_map y.plan (finite_map.insert y.boxes b (placement length first)), first) ≡ (new, slot) = cc in
-    (refl, sym (ap (λ (q : YardMap × Slot). q.0) p) ∙ ap (λ (s : Slot). yard_map y.plan (finite_map.insert y.boxes b (placement length s))) (ap (λ (q : YardMap × Slot). q.1) p))
+    let p : (yard_map y.plan (finite_map.insert y.boxes b (placement length first)), first) ≡ (new, slot) = cc in (
+      refl,
+      sym (ap (λ (q : YardMap × Slot). q.0) p) ∙ ap (λ (s : Slot). yard_map y.plan (finite_map.insert y.boxes b (placement length s))) (ap (λ (q : YardMap × Slot). q.1) p),
+      ap Some (ap (λ (q : YardMap × Slot). q.1) p),
+    )
+
+no_misfit : (o : Option Refusal) → is_none o ≡ true → o ≡ None
+no_misfit None e = refl
+no_misfit (Some f) e = cc
+
+first_fits : (plan : List Block) (boxes : Boxes) (length : Length) (slot : Slot) → first_fit plan boxes length ≡ Some slot → misfit_of plan boxes (placement length slot) ≡ None
+unfolding first_fit
+first_fits plan boxes length slot e = no_misfit (misfit_of plan boxes (placement length slot)) (found_is (λ other. is_none (misfit_of plan boxes (placement length other))) every_slot slot e).2
 
 -- one container more
 pub record Comes (old new : YardMap) (b : BoxNumber) (s : Placement) : Type 0 where
   pub absent : is_some (finite_map.get old.boxes b) ≡ false
   pub boxes : new.boxes ≡ finite_map.insert old.boxes b s
+  pub fits : misfit_of old.plan old.boxes s ≡ None
 
 pub comes : (y new : YardMap) (entry : EntryContent) (o : Option Slot) (slot : Slot) → settled_in y entry o ≡ Ok (new, slot) → Comes y new entry.number (placement (length_of entry.size_type) slot)
 comes y new entry (Some named) slot e =
     let is = slotted (is_some (finite_map.get y.boxes entry.number)) (misfit_of y.plan y.boxes (placement (length_of entry.size_type) named)) (yard_map y.plan (finite_map.insert y.boxes entry.number (placement (length_of entry.size_type) named))) new slot named e in
-    record { absent = is.0; boxes = ap (λ (v : YardMap). v.boxes) is.1 ∙ ap (λ s. finite_map.insert y.boxes entry.number (placement (length_of entry.size_type) s)) is.2 }
+    record {
+      absent = is.0;
+      boxes = ap (λ (v : YardMap). v.boxes) is.1 ∙ ap (λ s. finite_map.insert y.boxes entry.number (placement (length_of entry.size_type) s)) is.2;
+      fits = ap (λ s. misfit_of y.plan y.boxes (placement (length_of entry.size_type) s)) (sym is.2) ∙ is.3;
+    }
 comes y new entry None slot e =
     let is = first_slotted (is_some (finite_map.get y.boxes entry.number)) (first_fit y.plan y.boxes (length_of entry.size_type)) y new entry.number (length_of entry.size_type) slot e in
-    record { absent = is.0; boxes = ap (λ (v : YardMap). v.boxes) is.1 }
+    record { absent = is.0; boxes = ap (λ (v : YardMap). v.boxes) is.1; fits = first_fits y.plan y.boxes (length_of entry.size_type) slot is.2 }
 
 -- one container less
 pub record Goes (old new : YardMap) (b : BoxNumber) (s : Placement) : Type 0 where
@@ -80,20 +98,17 @@ goes (Some t) y new b s e =
     (ap Some is.0, ap (λ (v : YardMap). v.boxes) is.1)
 
 -- a container elsewhere
-shifts_free : (o : Option BoxNumber) (m : Option Refusal) (y new : YardMap) → unless_buried o (with_misfit m y) ≡ Ok new → new ≡ y
+shifts_free : (o : Option BoxNumber) (m : Option Refusal) (y new : YardMap) → unless_buried o (with_misfit m y) ≡ Ok new → (new ≡ y) × (m ≡ None)
 shifts_free (Some b) m y new e = cc
 shifts_free None (Some f) y new e = cc
-shifts_free None None y new e = cc
+shifts_free None None y new e = let p : y ≡ new = cc in (sym p, refl)
 
 pub shifts : (o : Option Placement) (y new : YardMap) (b : BoxNumber) (slot : Slot) → shifted_at o y b slot ≡ Ok new
-    → (s : Placement) × (o ≡ Some s) × (new.boxes ≡ finite_map.insert y.boxes b (placement s.length slot))
+    → (s : Placement) × (o ≡ Some s) × (new.boxes ≡ finite_map.insert y.boxes b (placement s.length slot)) × (misfit_of y.plan (finite_map.remove y.boxes b) (placement s.length slot) ≡ None)
 shifts None y new b slot e = cc
-shifts (Some s) y new b slot e = (
-  s,
-  refl,
-  ap (λ (v : YardMap). v.boxes)
-      (shifts_free (blocker_of y.boxes s) (misfit_of y.plan (finite_map.remove y.boxes b) (placement s.length slot)) (yard_map y.plan (finite_map.insert y.boxes b (placement s.length slot))) new e),
-)
+shifts (Some s) y new b slot e =
+    let is = shifts_free (blocker_of y.boxes s) (misfit_of y.plan (finite_map.remove y.boxes b) (placement s.length slot)) (yard_map y.plan (finite_map.insert y.boxes b (placement s.length slot))) new e in
+    (s, refl, ap (λ (v : YardMap). v.boxes) is.0, is.1)
 
 -- ---- places
 

@@ -16,4 +16,6 @@ pub mod Once
 pub mod Restored
 pub mod Counting
 pub mod Changing
+pub mod Shared
 pub mod Applying
+pub mod Formed

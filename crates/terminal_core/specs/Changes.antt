@@ -1,5 +1,5 @@
 -- The rows of a terminal's three lists, and what a change does to them.
-use Rattle.std.specs.Prelude.{◌≡◌, ℕ, ◌+◌, Bool, true, cond, ◌==◌, List, [], ◌∷◌, ◌++◌, length, map, filter, Option, None, Some, is_some}
+use Rattle.std.specs.Prelude.{◌≡◌, ◌≢◌, ℕ, ◌+◌, Bool, true, cond, ◌==◌, List, [], ◌∷◌, ◌++◌, length, map, filter, Option, None, Some, is_some, ◌↔◌}
 use Rattle.std.specs.Option.{option_map}
 use Rattle.std.specs.Str.{bytes_eq}
 use Rattle.std.specs.Map.{update}
@@ -81,18 +81,29 @@ pub record IsOneOpenVisit (number : ℕ) (visits : List VisitContent) : Type 0 w
   pub only : filter (is_numbered number) visits ≡ visit ∷ []
   pub stays : visit.departure ≡ None
 
+-- the container stands nowhere yet, and no other has the slot or the visit
+pub record IsNewPlace (container : BoxNumber) (visit : ℕ) (slot : Slot) (places : BoxNumber → Option Standing) : Type 0 where
+  pub absent : places container ≡ None
+  pub slot_free : (other : BoxNumber) (standing : Standing) → places other ≡ Some standing → standing.slot ≢ slot
+  pub visit_free : (other : BoxNumber) (standing : Standing) → places other ≡ Some standing → standing.visit ≢ visit
+
+-- the container stands somewhere, and no other has the slot
+pub record IsNewSlot (container : BoxNumber) (slot : Slot) (places : BoxNumber → Option Standing) : Type 0 where
+  pub there : is_some (places container) ≡ true
+  pub slot_free : (other : BoxNumber) (standing : Standing) → other ≢ container → places other ≡ Some standing → standing.slot ≢ slot
+
 -- the line is there, and not done
 pub record IsPendingLine (key : LineKey) (lines : Lines) : Type 0 where
   pub line : LineContent
   pub there : finite_map.get lines key ≡ Some line
   pub pending : line.state ≡ Pending
 
--- the row that a change adds is absent, and the one that it alters or removes is there
+-- the row that a change adds is absent, the one that it alters or removes is there, and what no two rows may share no other has
 abbrev pub IsApplicable : TerminalRows → ChangeContent → Type 0
 IsApplicable rows (visit_opened visit) = IsNextVisit visit rows.visits
 IsApplicable rows (visit_closed number departure) = IsOneOpenVisit number rows.visits
-IsApplicable rows (placed_at container visit slot) = rows.places container ≡ None
-IsApplicable rows (moved_to container slot) = is_some (rows.places container) ≡ true
+IsApplicable rows (placed_at container visit slot) = IsNewPlace container visit slot rows.places
+IsApplicable rows (moved_to container slot) = IsNewSlot container slot rows.places
 IsApplicable rows (removed_from container) = is_some (rows.places container) ≡ true
 IsApplicable rows (listed_on call side container port) = finite_map.get rows.lines (line_key call side container) ≡ None
 IsApplicable rows (line_done call side container) = IsPendingLine (line_key call side container) rows.lines
@@ -103,6 +114,16 @@ AreApplicable rows [] = Unit {0}
 AreApplicable rows (change ∷ changes) = IsApplicable rows change × AreApplicable (changed rows change) changes
 
 -- ---- the laws
+
+-- changes that are appended come after those before
+abbrev pub ChangesAreAppended : Type 0
+ChangesAreAppended =
+    (rows : TerminalRows) (before after : List ChangeContent) → all_changed rows (before ++ after) ≡ all_changed (all_changed rows before) after
+
+-- they are applicable exactly if those before are, and they are to what those leave
+abbrev pub AreApplicableAppended : Type 0
+AreApplicableAppended =
+    (rows : TerminalRows) (before after : List ChangeContent) → AreApplicable rows (before ++ after) ↔ (AreApplicable rows before × AreApplicable (all_changed rows before) after)
 
 -- the changes of a step turn the rows of the old state into those of the new
 abbrev pub ChangesTurnRows : Type 0

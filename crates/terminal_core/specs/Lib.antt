@@ -8,3 +8,4 @@ pub mod Calls
 pub mod Restoring
 pub mod Counts
 pub mod Changes
+pub mod RowForms
