@@ -1,9 +1,11 @@
 pub mod Boxes
 pub mod Open
+pub mod Lengths
 pub mod Whole
 pub mod Settled
 pub mod Appended
 pub mod Closing
+pub mod Indexed
 pub mod Steps
 pub mod Lined
 pub mod Numbered
@@ -14,4 +16,6 @@ pub mod Once
 pub mod Restored
 pub mod Counting
 pub mod Changing
+pub mod Shared
 pub mod Applying
+pub mod Formed

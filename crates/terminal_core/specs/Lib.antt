@@ -3,7 +3,9 @@ pub mod State
 pub mod Listings
 pub mod Step
 pub mod Codes
+pub mod Index
 pub mod Calls
 pub mod Restoring
 pub mod Counts
 pub mod Changes
+pub mod RowForms
