@@ -1,17 +1,24 @@
-.PHONY: demo test build strength refusals beside bench
+.PHONY: demo test build check strength refusals beside bench
 
 # The main job on a real interchange, by a build that proves nothing (`make build` leaves the proved program).
 demo:
 	@echo "(an unproved build: 'make build' leaves the proved one)"
 	@cd crates/office && rt try -- demo < ../../examples/gate-in.edi
 
-# The gate: every proof from nothing, the edits that must fail, every test, and the program as two compilers build it.
+# The gate: every proof from nothing, the edits that must fail, every test, the program as two compilers build it, and that
+# program beside a plain slow model.
 test:
-	rt ci
+	scripts/gate
 
-# The proved program, as crates/office/out/office, which then answers the example.
+# The proved program, as crates/office/out/office, which then answers the example. Proofs are kept, so that the next build
+# proves what has changed.
 build:
+	rt all check --jobs $$(nproc)
 	cd crates/office && rt run -- demo < ../../examples/gate-in.edi
+
+# One crate, and those above it that its change reaches, over the proofs that are kept: `make check NAME=yard_core`.
+check:
+	@scripts/check $(NAME)
 
 # The planted edits, which the gate does not try: `make strength` or `make strength NAME=yard_core`.
 strength:
@@ -19,7 +26,7 @@ strength:
 
 # The orders of a terminal with each allocation refused in turn: some twenty minutes.
 refusals:
-	scripts/refusals terminal_core
+	scripts/refusals terminal_trials
 
 # The program beside a plain slow model, on the worked rows and on random streams: about a minute, once it is built.
 beside:
