@@ -1,5 +1,5 @@
 -- A body that stands ready as text is the JSON of its value.
-use Rattle.std.proofs.Common.{◌≡◌, ◌∙◌, ◌++◌, [], refl, append-nil}
+use Rattle.std.proofs.Common.{◌≡◌, ◌≢◌, ℕ, List, ◌∷◌, ◌∙◌, ◌++◌, [], refl, append-nil}
 use Rattle.serde_json.specs.Written.{compact_text}
 use Rattle.serde_json.proofs.OnLiterals.{serde_json_on_literals}
 use Rattle.edi_segments.specs.declared.syntax_fault.SyntaxFault.TheVariants as syntax
@@ -9,6 +9,7 @@ use Rattle.office_replies.specs.declared.response.Response.TheVariants.{Refused,
 use Rattle.office_replies.specs.Bodies.{not_now_data}
 use Rattle.office_replies.specs.Refusals.{refusal_text, refusal_data}
 use Rattle.office_replies.specs.Responses.{body_of}
+use Rattle.office_replies.specs.Messages.{ReportContent, reply_content_text}
 
 pub refusal_text-data : (fault : Fault) → refusal_text fault ≡ compact_text (refusal_data fault)
 unfolding serde_json_on_literals
@@ -36,3 +37,11 @@ refused_body-data fault = append-nil (refusal_text fault ++ []) ∙ append-nil (
 pub not_now_body-data : body_of NotNow ≡ compact_text not_now_data
 unfolding serde_json_on_literals
 not_now_body-data = refl
+
+some_not_empty : (first : ℕ) (rest : List ℕ) → first ∷ rest ≢ []
+some_not_empty first rest e = absurd cc
+
+-- a reply is an object, which begins with its brace
+pub reply_is_some : (contrl : List ℕ) (reports : List ReportContent) → reply_content_text contrl reports ≢ []
+unfolding reply_content_text serde_json_on_literals
+reply_is_some contrl reports = some_not_empty _ _

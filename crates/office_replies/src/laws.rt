@@ -1,13 +1,14 @@
 //! Laws of the definitions. Each function has an empty body, and its contract is the law: a call
 //! brings it into the caller's proof.
 //!
-//! They speak of the bodies that stand ready as texts: each is the JSON of a value too.
+//! They speak of the bodies that stand ready as texts: each is the JSON of a value too; and of the replies that are kept.
 
-ghost use Rattle.std.specs.Prelude.{◌≡◌};
+ghost use Rattle.std.specs.Prelude.{◌≡◌, ◌≢◌, ℕ, List, []};
 ghost use Rattle.serde_json.specs.Written.{compact_text};
 ghost use Rattle.office_replies.specs.declared.fault.Fault.{Fault};
 ghost use Rattle.office_replies.specs.declared.response.Response.TheVariants.{Refused, NotNow};
 ghost use Rattle.office_replies.specs.Bodies.{not_now_data};
+ghost use Rattle.office_replies.specs.Messages.{ReportContent, reply_content_text};
 ghost use Rattle.office_replies.specs.Refusals.{refusal_text, refusal_data};
 ghost use Rattle.office_replies.specs.Responses.{body_of};
 
@@ -21,4 +22,9 @@ pub fn refusal_is_json()
 /// NotNow is an object: its `answer` is "not now".
 pub fn not_now_is_json()
     ensures { body_of NotNow ≡ compact_text not_now_data }
+{}
+
+/// A reply that is kept is never empty, so an empty one can stand for an interchange that waits.
+pub fn replies_are_not_empty()
+    ensures { (contrl : List ℕ) (reports : List ReportContent) → reply_content_text contrl reports ≢ [] }
 {}

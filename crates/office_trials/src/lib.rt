@@ -1,5 +1,7 @@
-//! Trials of the office: the demonstration's desk and the program on it, by the bytes that come in and those that are answered.
+//! Trials of the office: the demonstration's desk and the program on it, by the bytes that come in and those that are answered;
+//! and a second desk, which stands on records that may cease to tell the truth.
 #![tactic(auto)]
 
+pub mod logbook;
 #[cfg(test)]
 mod office;

@@ -1,18 +1,15 @@
 //! The demonstration's desk and the program on it, by the bytes that come in and those that are answered.
 
 mod advice;
+mod books;
 mod failing_reader;
 mod failing_writer;
-mod interchanges;
-mod lists;
 mod machine;
 mod memory;
-mod messages;
 mod pieces;
 mod ports;
 mod refusals;
 mod settings;
-mod slots;
 mod streams;
 
 use office_commands::command;

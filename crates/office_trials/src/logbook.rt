@@ -1,0 +1,43 @@
+ghost use Rattle.std.specs.Prelude.{◌≡◌, ◌++◌, ℕ, List, false, flat_map};
+ghost use Rattle.std.specs.Io.KnownBytes.{Appends};
+ghost use Rattle.office_replies.specs.Delivering.{Delivers};
+ghost use Rattle.office_replies.specs.declared.fault.Fault.TheVariants.{UnknownSender};
+ghost use Rattle.office_replies.specs.declared.response.Response.TheVariants.{Refused};
+
+use office_replies::{Deliver, Fault, Response};
+use office_stream::Port;
+use std::alloc::Global;
+use std::io::Write;
+
+/// The plainest desk that keeps records: it writes each text into a book, and knows no sender. Once a write has failed, what
+/// the book holds isn't known any more.
+#[derive(Drop)]
+pub struct Logbook<W> {
+    pages: Port<W>,
+}
+
+impl<W: Write> Logbook<W> {
+    /// A book that texts are written into.
+    pub fn new(pages: Port<W>) -> Logbook<W>
+        ensures { result.pages ≡ pages }
+    {
+        Logbook { pages }
+    }
+}
+
+impl<W: Write + Drop> Deliver for Logbook<W> {
+    ghost clean = { λ book. book.pages.failed ≡ false };
+
+    // the texts stand behind what the book held
+    ghost stands = { λ opening ds book. Appends (W.contents opening.pages.inner)
+        (W.contents book.pages.inner) (flat_map (λ text. text) ds) };
+
+    ghost answers = { λ opening ds text response. response ≡ Refused UnknownSender };
+
+    fn deliver(&mut self, _alloc: Global, delivered: &[u8]) -> Response {
+        match self.pages.write_all(delivered) {
+            Ok(()) => Response::Refused(Fault::UnknownSender),
+            Err(_) => Response::NotNow,
+        }
+    }
+}
