@@ -1,6 +1,7 @@
 pub mod Rows
 pub mod State
 pub mod Listings
+pub mod LinePlaces
 pub mod Step
 pub mod Codes
 pub mod Index
