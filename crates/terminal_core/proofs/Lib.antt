@@ -20,3 +20,4 @@ pub mod Changing
 pub mod Shared
 pub mod Applying
 pub mod Formed
+pub mod Forming

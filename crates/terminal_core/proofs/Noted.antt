@@ -98,6 +98,11 @@ first_of_list : List ℕ → ℕ
 first_of_list [] = 0
 first_of_list (n ∷ ns) = n
 
+-- a key tells its call, side and container
+pub key_parts : (call c : CallContent) (side s : Side) (container b : BoxNumber) → line_key call side container ≡ line_key c s b → (call ≡ c) × (side ≡ s) × (container ≡ b)
+unfolding call_in side_in container_in first_of_list
+key_parts call c side s container b key = (ap call_in key, same_side side s (ap (λ k. first_of_list (side_in k)) key), ap container_in key)
+
 -- lines of one key are said to stand at one place
 pub place_by_key : (places : AllPlaces) (call : CallContent) (side : Side) (container : BoxNumber) (row : Listing) → line_key call side container ≡ key_of row
     → place_in places call side container ≡ place_in places (call_content row.call) row.side row.container

@@ -10,3 +10,4 @@ pub mod Restoring
 pub mod Counts
 pub mod Changes
 pub mod RowForms
+pub mod Forms
