@@ -288,11 +288,9 @@ fn no_line_is_given_twice(rt: HostRuntime) -> Result<(), Fail> {
     Ok(())
 }
 
-const ALL_GO: [Row; 4] = [
+const ALL_GO: [Row; 2] = [
     (HAULIER, SECOND, Ask::Goes, Answer::Gone, 2),
     (QUAY, FIRST, Ask::Loads, Answer::Gone, 3),
-    (HAULIER, SECOND, Ask::Comes, Answer::Done("A001011"), 2),
-    (HAULIER, SECOND, Ask::Goes, Answer::Gone, 2),
 ];
 
 /// How many visits are open.
