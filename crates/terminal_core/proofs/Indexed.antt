@@ -30,13 +30,13 @@ at_ok (Err e) is fact = let bad : false ≡ true = is in cc
 
 -- ---- lists
 
-pushed_at : {A : Type 0} (xs : List A) (x : A) (k : ℕ) (w : A) → slice_get (xs ++ x ∷ []) k ≡ Some w → (slice_get xs k ≡ Some w) ⊎ ((k ≡ length xs) × (x ≡ w))
+pub pushed_at : {A : Type 0} (xs : List A) (x : A) (k : ℕ) (w : A) → slice_get (xs ++ x ∷ []) k ≡ Some w → (slice_get xs k ≡ Some w) ⊎ ((k ≡ length xs) × (x ≡ w))
 pushed_at [] x zero w at = inr (refl, same_Some x w at)
 pushed_at [] x (suc k) w at = absurd (none-some w at)
 pushed_at (y ∷ xs) x zero w at = inl at
 pushed_at (y ∷ xs) x (suc k) w at = elim (pushed_at xs x k w at) [ inl before ↦ inl before | inr last ↦ inr (omega (arith, last.0), last.1) ]
 
-mapped_at : {A B : Type 0} (f : A → B) (xs : List A) (k : ℕ) (w : B) → slice_get (map f xs) k ≡ Some w → (x : A) × (slice_get xs k ≡ Some x) × (f x ≡ w)
+pub mapped_at : {A B : Type 0} (f : A → B) (xs : List A) (k : ℕ) (w : B) → slice_get (map f xs) k ≡ Some w → (x : A) × (slice_get xs k ≡ Some x) × (f x ≡ w)
 mapped_at f [] k w at = absurd (none-some w at)
 mapped_at f (x ∷ xs) zero w at = (x, refl, same_Some (f x) w at)
 mapped_at f (x ∷ xs) (suc k) w at = mapped_at f xs k w at

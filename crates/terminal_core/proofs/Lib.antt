@@ -12,6 +12,7 @@ pub mod Numbered
 pub mod Counted
 pub mod Marked
 pub mod Placing
+pub mod Noted
 pub mod Once
 pub mod Restored
 pub mod Counting
@@ -19,3 +20,4 @@ pub mod Changing
 pub mod Shared
 pub mod Applying
 pub mod Formed
+pub mod Forming

@@ -1,6 +1,7 @@
 pub mod Rows
 pub mod State
 pub mod Listings
+pub mod LinePlaces
 pub mod Step
 pub mod Codes
 pub mod Index
@@ -9,3 +10,4 @@ pub mod Restoring
 pub mod Counts
 pub mod Changes
 pub mod RowForms
+pub mod Forms

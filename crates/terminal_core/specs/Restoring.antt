@@ -44,6 +44,11 @@ pub record ArePlacesOf (visits : List VisitContent) (boxes : Boxes) (places : Li
 abbrev pub AreOnce : List Listing → Type 0
 AreOnce lines = (call : CallContent) (side : Side) (container : BoxNumber) → count_by (is_line call side container) lines ≤ 1
 
+-- why lines are not restored: one stands twice, or memory was refused
+abbrev pub RefusesLines : List Listing → RestoreFault → Type 0
+RefusesLines lines Unsound = ¬ AreOnce lines
+RefusesLines lines Memory = Unit {0}
+
 -- these are the rows of that whole state
 pub record AreRowsOf (plan : List Block) (limit : ℕ) (visits : List Visit) (places : List Place) (lines : List Listing) (state : TerminalState) : Type 0 where
   pub whole : IsWhole state

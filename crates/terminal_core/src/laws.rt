@@ -2,6 +2,7 @@
 
 ghost use Rattle.terminal_core.specs.Counts.{EntriesLessExitsStand};
 ghost use Rattle.terminal_core.specs.Changes.{ChangesTurnRows, ChangesAreApplicable, ChangesAreAppended, AreApplicableAppended};
+ghost use Rattle.terminal_core.specs.Forms.{EmptyIsWellFormed, StepsKeepForms};
 ghost use Rattle.terminal_core.specs.RowForms.{ListsAreRowsByKey, RowsByKeyAreLists, RowsGiveState, ListsGiveState};
 
 /// As many containers stand in the yard as came and did not go.
@@ -48,4 +49,14 @@ pub fn rows_give_state()
 /// Lists are the rows of one state at most.
 pub fn lists_give_state()
     ensures { ListsGiveState }
+{}
+
+/// A state with nothing in it is well formed.
+pub fn empty_is_well_formed()
+    ensures { EmptyIsWellFormed }
+{}
+
+/// An order that is well formed leaves a well-formed state: each value has its form and range.
+pub fn steps_keep_forms()
+    ensures { StepsKeepForms }
 {}

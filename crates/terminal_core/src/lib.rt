@@ -5,6 +5,7 @@ pub mod arrival;
 pub mod change;
 pub mod departure;
 pub mod laws;
+mod line_places;
 pub mod line_state;
 mod lines;
 pub mod listing;

@@ -90,9 +90,7 @@ impl Terminal {
         ensures unsound { IfErr result (RefusesRows plan visit_limit visits.items places.items lines.items) }
     {
         let yard = restored_yard(alloc, plan, visit_limit, &visits, places)?;
-        let Some(lists) = Lists::restore(lines) else {
-            return Err(RestoreFault::Unsound);
-        };
+        let lists = Lists::restore(alloc, lines)?;
         let visits = Visits::restore(alloc, visits)?;
         Ok(Terminal {
             yard,
@@ -306,7 +304,7 @@ impl Terminal {
         }
         let line = pending_line(alloc, call, side, container, port)?;
         let change = line_listed(alloc, call, side, container, port)?;
-        self.lists.add(line)?;
+        self.lists.add(alloc, line)?;
         append(changes, change);
         Ok(Outcome::Listed)
     }

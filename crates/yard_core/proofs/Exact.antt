@@ -93,7 +93,7 @@ refused_of_unfit plan boxes b s sound absent unfit = elim (some_or_none (misfit_
   | inr none ↦ absurd (unfit (decided_fits plan boxes b s sound absent none))
 ]
 
-numbered : (plan : List Block) (slot : Slot) → IsPlan plan → InPlan plan slot → IsNumbered slot
+pub numbered : (plan : List Block) (slot : Slot) → IsPlan plan → InPlan plan slot → IsNumbered slot
 numbered plan slot valid inside =
     let (b, stands) = block_at plan slot valid.sized inside in
     let k = place plan slot.block in

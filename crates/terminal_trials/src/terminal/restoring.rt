@@ -1,7 +1,7 @@
 //! Rows that are a state's, and rows that are none.
 
 use super::{
-    A, Answer, Ask, FIRST, HAULIER, Row, SECOND, assert_answers, assert_lines, assert_stands,
+    A, Answer, Ask, FIRST, HAULIER, QUAY, Row, SECOND, assert_answers, assert_lines, assert_stands,
     assert_visits, call, moment, number, size_type, slot,
 };
 use std::alloc::{AllocError, Global};
@@ -285,5 +285,36 @@ fn no_line_is_given_twice(rt: HostRuntime) -> Result<(), Fail> {
     let lines = three_lines(&rt, alloc)?;
     let terminal = restored(&rt, alloc, 3, Vec::new(alloc), Vec::new(alloc), lines);
     assert_eq!(rt; terminal.err(), Some(RestoreFault::Unsound));
+    Ok(())
+}
+
+const ALL_GO: [Row; 2] = [
+    (HAULIER, SECOND, Ask::Goes, Answer::Gone, 2),
+    (QUAY, FIRST, Ask::Loads, Answer::Gone, 3),
+];
+
+/// How many visits are open.
+fn assert_open(rt: &impl Abort, terminal: &Terminal, count: usize) {
+    let open = terminal
+        .visits()
+        .iter()
+        .filter(|visit| visit.departure.is_none())
+        .count();
+    assert_eq!(rt; open, count);
+}
+
+#[test]
+fn a_restored_terminal_closes_its_visits(rt: HostRuntime) -> Result<(), Fail> {
+    let alloc = rt.alloc();
+    let mut terminal = whole_terminal(&rt, alloc)?;
+    assert_open(&rt, &terminal, 2);
+    assert_answers(&rt, alloc, &mut terminal, &ALL_GO)?;
+    assert_open(&rt, &terminal, 0);
+    assert_lines(
+        &rt,
+        alloc,
+        &terminal,
+        &[(Side::Load, FIRST, Some(LineState::Done))],
+    )?;
     Ok(())
 }
