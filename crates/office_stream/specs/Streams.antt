@@ -2,7 +2,7 @@
 use Rattle.std.specs.Prelude.{◌≡◌, ◌≢◌, ◌⊎◌, ℕ, List, [], ◌∷◌, ◌++◌, Option}
 use Rattle.std.specs.Io.KnownBytes.{Consumes, Appends, IsAtEnd}
 use Rattle.edi_segments.specs.Advice.{without_breaks}
-use Rattle.edi_cutter.specs.Cuts.{IsInterchange, IsPending, Faults}
+use Rattle.edi_cutter.specs.Cuts.{IsInterchange, IsPending, Faults, HasNoFault}
 use Rattle.edi_cutter.specs.declared.cut_fault.CutFault.{CutFault}
 use Rattle.edi_cutter.specs.declared.cut_fault.CutFault.TheVariants.{TooLong, Service, Segment, Memory}
 use Rattle.office_replies.specs.declared.response.Response.{Response}
@@ -31,14 +31,14 @@ IsCutBy fault rest = (front behind : List ℕ) × Faults front fault × (rest �
 abbrev pub GoesOnAnyhow : List ℕ → Type 0
 GoesOnAnyhow rest = Unit {0}
 
--- how a stream ends, by what is left over. A cut for want of memory may stand anywhere.
+-- How a stream ends, by what is left over. Where memory is wanting it has no fault before an interchange would end.
 abbrev pub EndsAs : StreamEnd → List ℕ → Type 0
 EndsAs Whole rest = rest ≡ []
 EndsAs Open rest = IsPending rest × (rest ≢ [])
 EndsAs (Cut TooLong) rest = IsCutBy TooLong rest
 EndsAs (Cut Service) rest = IsCutBy Service rest
 EndsAs (Cut Segment) rest = IsCutBy Segment rest
-EndsAs (Cut Memory) rest = GoesOnAnyhow rest
+EndsAs (Cut Memory) rest = HasNoFault rest
 
 -- these are the interchanges of a stream, and so it ends
 abbrev pub Cuts : List ℕ → List (List ℕ) → StreamEnd → Type 0
