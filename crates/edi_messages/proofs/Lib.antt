@@ -4,3 +4,4 @@ pub mod Meanings
 pub mod SlotTexts
 pub mod PurposeLemmas
 pub mod LineLemmas
+pub mod ContrlLemmas

@@ -1,3 +1,4 @@
+ghost use Rattle.edi_messages.specs.ContrlSegments.{ContrlsAreSegments};
 ghost use Rattle.edi_messages.specs.Laws.{FaultlessAreRead, LinesAnswerTheirFirstFault};
 
 /// A message to which no fault applies is read for a purpose: as a list of lines of one kind of order.
@@ -8,4 +9,9 @@ pub fn faultless_are_read()
 /// What a line is refused for is the first of its faults in their order, and a line without fault is an order.
 pub fn lines_answer_their_first_fault()
     ensures { LinesAnswerTheirFirstFault }
+{}
+
+/// A CONTRL is an interchange of one message: UNB, UNH, UCI, a UCM for each message that is answered, UNT and UNZ.
+pub fn contrls_are_segments()
+    ensures { ContrlsAreSegments }
 {}

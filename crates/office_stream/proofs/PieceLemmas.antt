@@ -5,7 +5,7 @@ use Rattle.std.proofs.KnownBytes.{Appends-trans, Appends-nil}
 use Rattle.std.proofs.lemmas.Grind.{flat_map-append}
 use Rattle.std.proofs.lemmas.List.{append-nil}
 use Rattle.edi_segments.specs.Advice.{without_breaks}
-use Rattle.edi_cutter.specs.Cuts.{Cutting, is_whole, IsInterchange, IsPending, Answers, Fails, Faults, HasNoFault, pending, interchange}
+use Rattle.edi_cutter.specs.Cuts.{Cutting, is_whole, IsInterchange, IsPending, Answers, Fails, Faults, pending, interchange, HasNoFault}
 use Rattle.edi_cutter.specs.declared.cut_fault.CutFault.{CutFault}
 use Rattle.edi_cutter.specs.declared.cut_fault.CutFault.TheVariants.{TooLong, Service, Segment, Memory}
 use Rattle.office_replies.specs.declared.response.Response.{Response}
@@ -144,7 +144,7 @@ pub ends_cut : (q rest : List ℕ) (old new : Cutting) (fault : CutFault) → Fa
 ends_cut q rest old new TooLong (n, within, faults, then) held left is = cut_by q rest n TooLong faults left is
 ends_cut q rest old new Service (n, within, faults, then) held left is = cut_by q rest n Service faults left is
 ends_cut q rest old new Segment (n, within, faults, then) held left is = cut_by q rest n Segment faults left is
-ends_cut q rest old new Memory fails held left is = subst HasNoFault (sym is) fails.1
+ends_cut q rest old new Memory (same, none) held left is = subst HasNoFault (sym is) none
 
 pub used_some : (q rest : List ℕ) (new : Cutting) (n : ℕ) → Answers q rest new (Some n) → Used q rest n (interchange new) × (pending new ≡ []) × (new.fault ≡ None)
 used_some q rest new n answer =

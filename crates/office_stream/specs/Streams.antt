@@ -31,8 +31,7 @@ IsCutBy fault rest = (front behind : List ℕ) × Faults front fault × (rest �
 abbrev pub GoesOnAnyhow : List ℕ → Type 0
 GoesOnAnyhow rest = Unit {0}
 
--- How a stream ends, by what is left over. Where memory is wanting, no fault stands in it: the bytes are read before memory is
--- asked for.
+-- How a stream ends, by what is left over. Where memory is wanting it has no fault before an interchange would end.
 abbrev pub EndsAs : StreamEnd → List ℕ → Type 0
 EndsAs Whole rest = rest ≡ []
 EndsAs Open rest = IsPending rest × (rest ≢ [])

@@ -3,4 +3,4 @@ use Rattle.partner_core.specs.Runs.{partner_count}
 use Rattle.runs_trials.proofs.runs.early_texts_come_in_number_order.Given as goal
 
 abbrev pub invariant-loop-number : goal.invariant-loop-number
-invariant-loop-number l = partner_count l.runs ≡ 2
+invariant-loop-number g l = partner_count l.runs ≡ 2

@@ -3,4 +3,4 @@ use Rattle.partner_core.specs.Runs.{partner_count}
 use Rattle.runs_trials.proofs.runs.the_delivery_that_closes_a_gap_decides.Given as goal
 
 abbrev pub invariant-loop-partner : goal.invariant-loop-partner
-invariant-loop-partner l = partner_count l.runs ≡ 2
+invariant-loop-partner g l = partner_count l.runs ≡ 2

@@ -1,0 +1,94 @@
+-- CONTRL as an interchange of its own: UNB, one message from UNH to UNT, UNZ (ISO 9735).
+use Rattle.std.specs.Prelude.{◌≡◌, ℕ, ◌+◌, ◌<◌, false, List, [], ◌∷◌, ◌++◌, length, map, zip, codes, decimal}
+use Rattle.std.specs.List.{AllByRecursion}
+use Rattle.edi_segments.specs.Text.{Content}
+use Rattle.edi_segments.specs.Spelling.{is_empty_value, segments_text}
+use Rattle.edi_syntax.specs.Header.{sender, recipient, preparation_date, preparation_time, control_reference}
+use Rattle.edi_syntax.specs.Messages.{Message, message_reference, message_identity}
+use Rattle.edi_messages.specs.Contrl.{contrl_text, rejection_text}
+use Rattle.edi_messages.specs.declared.verdict.Verdict.{Verdict}
+use Rattle.edi_messages.specs.declared.verdict.Verdict.TheVariants.{Accepted, Rejected}
+
+-- ---- its segments, by their elements
+
+-- S002 of the interchange that is answered
+abbrev pub sender_of : Content → List (List ℕ)
+sender_of header = sender header 1 ∷ sender header 2 ∷ sender header 3 ∷ []
+
+-- S003
+abbrev pub recipient_of : Content → List (List ℕ)
+recipient_of header = recipient header 1 ∷ recipient header 2 ∷ recipient header 3 ∷ []
+
+-- UNB goes the other way, with the same moment and the same control reference.
+abbrev pub unb : Content → Content
+unb header = record {
+  tag = codes "UNB";
+  elements = (codes "UNOA" ∷ codes "3" ∷ []) ∷ recipient_of header ∷ sender_of header
+      ∷ (preparation_date header ∷ preparation_time header ∷ []) ∷ (control_reference header ∷ []) ∷ [];
+}
+
+-- UNH: the message 1, a CONTRL of version D, release 3, agency UN
+abbrev pub unh : Content
+unh = record {
+  tag = codes "UNH";
+  elements = (codes "1" ∷ []) ∷ (codes "CONTRL" ∷ codes "D" ∷ codes "3" ∷ codes "UN" ∷ []) ∷ [];
+}
+
+-- 0083 action, and 0085 error where it is rejected
+abbrev pub verdict_elements : Verdict → List (List (List ℕ))
+verdict_elements Accepted = (codes "7" ∷ []) ∷ []
+verdict_elements (Rejected code) = (codes "4" ∷ []) ∷ (decimal code ∷ []) ∷ []
+
+-- UCI: 0020, S002, S003 of the interchange, and the verdict on it
+abbrev pub uci : Content → Verdict → Content
+uci header verdict = record {
+  tag = codes "UCI";
+  elements = (control_reference header ∷ []) ∷ sender_of header ∷ recipient_of header ∷ verdict_elements verdict;
+}
+
+-- S009 of a message
+abbrev pub identity_of : Message → List (List ℕ)
+identity_of message =
+    message_identity message 1 ∷ message_identity message 2 ∷ message_identity message 3 ∷ message_identity message 4 ∷ message_identity message 5 ∷ []
+
+-- UCM: 0062 and S009 of a message, and the verdict on it
+abbrev pub ucm : Verdict × Message → Content
+ucm (verdict, message) = record {
+  tag = codes "UCM";
+  elements = (message_reference message ∷ []) ∷ identity_of message ∷ verdict_elements verdict;
+}
+
+-- UNT: 0074 the number of the message's segments, 0062
+abbrev pub unt : ℕ → Content
+unt count = record { tag = codes "UNT"; elements = (decimal count ∷ []) ∷ (codes "1" ∷ []) ∷ [] }
+
+-- UNZ: 0036 one message, 0020
+abbrev pub unz : Content → Content
+unz header = record { tag = codes "UNZ"; elements = (codes "1" ∷ []) ∷ (control_reference header ∷ []) ∷ [] }
+
+-- An interchange of one message with these segments between its UNH and its UNT, which counts these two as well.
+abbrev pub answer_segments : Content → List Content → List Content
+answer_segments header between = unb header ∷ unh ∷ between ++ unt (length between + 2) ∷ unz header ∷ []
+
+-- UCI acknowledges, and a UCM for each message
+abbrev pub contrl_segments : Content → List Message → List Verdict → List Content
+contrl_segments header messages verdicts = answer_segments header (uci header Accepted ∷ map ucm (zip verdicts messages))
+
+-- UCI rejects
+abbrev pub rejection_segments : Content → ℕ → List Content
+rejection_segments header code = answer_segments header (uci header (Rejected code) ∷ [])
+
+-- ---- laws
+
+-- the error's code (0085) fits its byte
+abbrev pub HasCode : Verdict → Type 0
+HasCode Accepted = Unit {0}
+HasCode (Rejected code) = code < 256
+
+-- A CONTRL is the text of its segments. An interchange has a control reference, and fewer messages than it may have bytes.
+abbrev pub ContrlsAreSegments : Type 0
+ContrlsAreSegments =
+    (header : Content) → is_empty_value (control_reference header) ≡ false
+    → ((messages : List Message) (verdicts : List Verdict) → length verdicts ≡ length messages → length verdicts < 1048576
+    → AllByRecursion HasCode verdicts → contrl_text header messages verdicts ≡ segments_text (contrl_segments header messages verdicts))
+    × ((code : ℕ) → code < 256 → rejection_text header code ≡ segments_text (rejection_segments header code))
