@@ -190,7 +190,7 @@ whole header verdict more responses count some fits counted is count_is =
     regroup : (a b c d e f : List ℕ) → a ++ (b ++ (c ++ (d ++ (e ++ (f ++ []))))) ≡ a ++ (b ++ c) ++ d ++ (e ++ f)
     regroup a b c d e f = simp (append_assoc, append-nil)
 
-length_ucms : (messages : List Message) (verdicts : List Verdict) → length verdicts ≡ length messages → length (map ucm (zip verdicts messages)) ≡ length verdicts
+pub length_ucms : (messages : List Message) (verdicts : List Verdict) → length verdicts ≡ length messages → length (map ucm (zip verdicts messages)) ≡ length verdicts
 length_ucms messages [] same = refl
 length_ucms [] (verdict ∷ verdicts) same = absurd (omega (arith, same))
 length_ucms (message ∷ messages) (verdict ∷ verdicts) same = let rest = length_ucms messages verdicts (omega (arith, same)) in omega (arith, rest)

@@ -5,3 +5,4 @@ pub mod SlotTexts
 pub mod PurposeLemmas
 pub mod LineLemmas
 pub mod ContrlLemmas
+pub mod ContrlCounts

@@ -1,10 +1,11 @@
 -- CONTRL as an interchange of its own: UNB, one message from UNH to UNT, UNZ (ISO 9735).
-use Rattle.std.specs.Prelude.{◌≡◌, ℕ, ◌+◌, ◌<◌, false, List, [], ◌∷◌, ◌++◌, length, map, zip, codes, decimal}
+use Rattle.std.specs.Prelude.{◌≡◌, ℕ, ◌+◌, ◌<◌, false, None, List, [], ◌∷◌, ◌++◌, length, map, zip, codes, decimal}
 use Rattle.std.specs.List.{AllByRecursion}
 use Rattle.edi_segments.specs.Text.{Content}
 use Rattle.edi_segments.specs.Spelling.{is_empty_value, segments_text}
 use Rattle.edi_syntax.specs.Header.{sender, recipient, preparation_date, preparation_time, control_reference}
 use Rattle.edi_syntax.specs.Messages.{Message, message_reference, message_identity}
+use Rattle.edi_syntax.specs.Faults.{body_fault_of}
 use Rattle.edi_messages.specs.Contrl.{contrl_text, rejection_text}
 use Rattle.edi_messages.specs.declared.verdict.Verdict.{Verdict}
 use Rattle.edi_messages.specs.declared.verdict.Verdict.TheVariants.{Accepted, Rejected}
@@ -92,3 +93,12 @@ ContrlsAreSegments =
     → ((messages : List Message) (verdicts : List Verdict) → length verdicts ≡ length messages → length verdicts < 1048576
     → AllByRecursion HasCode verdicts → contrl_text header messages verdicts ≡ segments_text (contrl_segments header messages verdicts))
     × ((code : ℕ) → code < 256 → rejection_text header code ≡ segments_text (rejection_segments header code))
+
+-- Its segments have none of the faults of what a header announces: there is one message, from UNH to UNT, with as many segments
+-- as it says and its reference in both, and UNZ counts it and repeats the control reference.
+abbrev pub ContrlsAreCounted : Type 0
+ContrlsAreCounted =
+    (header : Content)
+    → ((messages : List Message) (verdicts : List Verdict) → length verdicts ≡ length messages → length verdicts < 999997
+    → body_fault_of (contrl_segments header messages verdicts) ≡ None)
+    × ((code : ℕ) → body_fault_of (rejection_segments header code) ≡ None)

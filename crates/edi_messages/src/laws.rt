@@ -1,4 +1,4 @@
-ghost use Rattle.edi_messages.specs.ContrlSegments.{ContrlsAreSegments};
+ghost use Rattle.edi_messages.specs.ContrlSegments.{ContrlsAreSegments, ContrlsAreCounted};
 ghost use Rattle.edi_messages.specs.Laws.{FaultlessAreRead, LinesAnswerTheirFirstFault};
 
 /// A message to which no fault applies is read for a purpose: as a list of lines of one kind of order.
@@ -14,4 +14,9 @@ pub fn lines_answer_their_first_fault()
 /// A CONTRL is an interchange of one message: UNB, UNH, UCI, a UCM for each message that is answered, UNT and UNZ.
 pub fn contrls_are_segments()
     ensures { ContrlsAreSegments }
+{}
+
+/// The segments of a CONTRL have none of faults 9 to 15: they are one message, and their counts and references are right.
+pub fn contrls_are_counted()
+    ensures { ContrlsAreCounted }
 {}
