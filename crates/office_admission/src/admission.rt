@@ -46,11 +46,7 @@ fn stranger_fault(head: Head<'_>) -> Fault
 }
 
 /// The same of an interchange whose sender is the partner at a place, from 0.
-fn admit_from<'a>(
-    setup: &Setup,
-    place: usize,
-    head: Head<'a>,
-) -> Result<Admitted<'a>, Refusal<'a>>
+fn admit_from<'a>(setup: &Setup, place: usize, head: Head<'a>) -> Result<Admitted<'a>, Refusal<'a>>
     requires few { length setup.now.partners.items ≤ 999 }
     requires place { place < length setup.now.partners.items }
     ensures ok { IfOk result (λ admitted. (text : List ℕ) → IsOpened text head.entry →

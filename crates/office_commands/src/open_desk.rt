@@ -6,8 +6,8 @@ ghost use Rattle.office_commands.specs.Opening.{opening_machine, IsSound, OpensN
 
 use crate::setup_fault::SetupFault;
 use office_desk::Desk;
-use office_taking::TerminalMachine;
 use office_setup::Setup;
+use office_taking::TerminalMachine;
 use std::alloc::{AllocError, Global};
 use terminal_core::Terminal;
 use yard_core::Plan;
