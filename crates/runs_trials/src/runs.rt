@@ -8,6 +8,7 @@ ghost use Rattle.partner_core.specs.Runs.{partner_count};
 use partner_core::diary::Diary;
 use partner_core::{Answer, LAST_NUMBER, Machine, Runs, Standing, judge, laws};
 use std::alloc::{AllocError, Global};
+use std::process::Abort;
 use std::test::Fail;
 
 /// What an answer says, in a line.
@@ -45,61 +46,94 @@ fn said<M: Machine>(
     }
 }
 
+/// A delivery of a partner, and what its answer says.
+type Row = (u16, u32, &'static str, &'static str);
+
+/// Delivers each text, and holds what its answer says to the words beside it.
+fn assert_said<M: Machine>(
+    rt: &impl Abort,
+    alloc: Global,
+    runs: &mut Runs<M>,
+    rows: &[Row],
+) -> Result<(), Fail>
+    requires { 3 ≤ partner_count runs.old }
+    ensures { partner_count runs.new ≡ partner_count runs.old }
+{
+    for (partner, number, text, want) in rows {
+        assert!(rt; 1 <= *partner && *partner <= 3);
+        assert!(rt; 1 <= *number && *number <= LAST_NUMBER);
+        let line = said(alloc, runs, *partner, *number, text)?;
+        assert_eq!(rt; line.as_str(), *want);
+    }
+    Ok(())
+}
+
+/// Delivers them to runs over an empty diary, and holds the diary to those texts, in that order.
+fn assert_written(
+    rt: &impl Abort,
+    alloc: Global,
+    rows: &[Row],
+    texts: &[&str],
+) -> Result<(), Fail> {
+    let mut runs = Runs::new(alloc, Diary::new(alloc), 3)?;
+    assert_said(rt, alloc, &mut runs, rows)?;
+    assert!(rt; has_texts(runs.machine(), texts));
+    assert_eq!(rt; runs.machine().text(texts.len()), None);
+    Ok(())
+}
+
+/// The diary begins with those texts.
+fn has_texts(diary: &Diary, texts: &[&str]) -> bool {
+    for (place, text) in texts.iter().enumerate() {
+        match diary.text(place) {
+            Some(found) if found == text.as_bytes() => {}
+            _ => return false,
+        }
+    }
+    true
+}
+
 #[test]
 fn early_texts_come_in_number_order(rt: HostRuntime) -> Result<(), Fail> {
+    let rows = [
+        (1, 3, "in 38", "waiting 1"),
+        (1, 2, "in 22", "waiting 1"),
+        (1, 3, "in 38", "waiting 1"),
+        (1, 1, "in 17", "taken 1"),
+        (1, 3, "in 38", "repeat 3"),
+    ];
+    assert_written(&rt, rt.alloc(), &rows, &["in 17", "in 22", "in 38"])
+}
+
+#[test]
+fn numbers_and_replies_are_told(rt: HostRuntime) -> Result<(), Fail> {
     let alloc = rt.alloc();
-    let mut runs = Runs::new(alloc, Diary::new(alloc), 2)?;
-    for (number, text, want) in [
-        (3, "in 38", "waiting 1"),
-        (2, "in 22", "waiting 1"),
-        (3, "in 38", "waiting 1"),
-        (1, "in 17", "taken 1"),
-        (3, "in 38", "repeat 3"),
-    ] {
-        assert_eq!(rt;
-            said(alloc, &mut runs, 1, number, text)?.as_str(),
-            want,
-            "{text}"
-        );
-    }
-    for (place, want) in [(0, "in 17"), (1, "in 22"), (2, "in 38")] {
-        assert_eq!(rt; runs.machine().text(place), Some(want.as_bytes()));
-    }
-    assert_eq!(rt; runs.next_of(1), 4);
+    let mut runs = Runs::new(alloc, Diary::new(alloc), 3)?;
+    let rows = [(1, 2, "b", "waiting 1"), (1, 1, "a", "taken 1")];
+    assert_said(&rt, alloc, &mut runs, &rows)?;
+    assert_eq!(rt; runs.next_of(1), 3);
     assert_eq!(rt; runs.next_of(2), 1);
     assert_eq!(rt; runs.reply_of(1, 2), Some("2"));
-    assert_eq!(rt; runs.reply_of(1, 4), None);
+    assert_eq!(rt; runs.reply_of(1, 3), None);
     Ok(())
 }
 
 #[test]
 fn the_delivery_that_closes_a_gap_decides(rt: HostRuntime) -> Result<(), Fail> {
-    let alloc = rt.alloc();
-    let mut runs = Runs::new(alloc, Diary::new(alloc), 2)?;
-    for (partner, number, text, want) in [
+    let rows = [
         (2, 1, "in 17", "taken 1"),
         (1, 2, "in 38", "waiting 1"),
         (2, 2, "in 22", "taken 2"),
         (1, 1, "out 17", "taken 3"),
         (1, 2, "in 38", "repeat 4"),
-    ] {
-        assert_eq!(rt;
-            said(alloc, &mut runs, partner, number, text)?.as_str(),
-            want,
-            "{text}"
-        );
-    }
-    for (place, want) in [(0, "in 17"), (1, "in 22"), (2, "out 17"), (3, "in 38")] {
-        assert_eq!(rt; runs.machine().text(place), Some(want.as_bytes()));
-    }
-    Ok(())
+    ];
+    let texts = ["in 17", "in 22", "out 17", "in 38"];
+    assert_written(&rt, rt.alloc(), &rows, &texts)
 }
 
 #[test]
 fn nothing_is_taken_before_its_time(rt: HostRuntime) -> Result<(), Fail> {
-    let alloc = rt.alloc();
-    let mut runs = Runs::new(alloc, Diary::new(alloc), 3)?;
-    for (partner, number, text, want) in [
+    let rows = [
         (1, 1, "in 17", "taken 1"),
         (2, 2, "list 17", "waiting 1"),
         (3, 1, "load 17", "taken 2"),
@@ -107,66 +141,37 @@ fn nothing_is_taken_before_its_time(rt: HostRuntime) -> Result<(), Fail> {
         (3, 2, "load 17", "taken 5"),
         (3, 3, "load 17", "taken 6"),
         (2, 3, "list 22", "taken 7"),
-    ] {
-        assert_eq!(rt;
-            said(alloc, &mut runs, partner, number, text)?.as_str(),
-            want,
-            "{text}"
-        );
-    }
-    for (place, want) in [
-        (1, "load 17"),
-        (2, "list 22"),
-        (3, "list 17"),
-        (4, "load 17"),
-    ] {
-        assert_eq!(rt; runs.machine().text(place), Some(want.as_bytes()));
-    }
-    Ok(())
+    ];
+    let texts = [
+        "in 17", "load 17", "list 22", "list 17", "load 17", "load 17", "list 22",
+    ];
+    assert_written(&rt, rt.alloc(), &rows, &texts)
 }
 
 #[test]
 fn the_first_text_under_a_number_stays(rt: HostRuntime) -> Result<(), Fail> {
-    let alloc = rt.alloc();
-    let mut runs = Runs::new(alloc, Diary::new(alloc), 1)?;
-    for (number, text, want) in [
-        (5, "x", "waiting 1"),
-        (5, "y", "clash"),
-        (1, "a", "taken 1"),
-        (2, "b", "taken 2"),
-        (3, "c", "taken 3"),
-        (4, "d", "taken 4"),
-        (5, "y", "clash"),
-        (5, "x", "repeat 5"),
-    ] {
-        assert_eq!(rt;
-            said(alloc, &mut runs, 1, number, text)?.as_str(),
-            want,
-            "{number}"
-        );
-    }
-    assert_eq!(rt; runs.machine().text(4), Some(b"x".as_slice()));
-    assert_eq!(rt; runs.machine().text(5), None);
-    Ok(())
+    let rows = [
+        (1, 5, "x", "waiting 1"),
+        (1, 5, "y", "clash"),
+        (1, 1, "a", "taken 1"),
+        (1, 2, "b", "taken 2"),
+        (1, 3, "c", "taken 3"),
+        (1, 4, "d", "taken 4"),
+        (1, 5, "y", "clash"),
+        (1, 5, "x", "repeat 5"),
+    ];
+    assert_written(&rt, rt.alloc(), &rows, &["a", "b", "c", "d", "x"])
 }
 
 #[test]
 fn the_last_number_waits(rt: HostRuntime) -> Result<(), Fail> {
-    let alloc = rt.alloc();
-    let mut runs = Runs::new(alloc, Diary::new(alloc), 1)?;
-    for (number, text, want) in [
-        (LAST_NUMBER, "last", "waiting 1"),
-        (1, "first", "taken 1"),
-        (999_999_999, "last", "waiting 2"),
-        (999_999_999, "other", "clash"),
-    ] {
-        assert_eq!(rt;
-            said(alloc, &mut runs, 1, number, text)?.as_str(),
-            want,
-            "{number}"
-        );
-    }
-    Ok(())
+    let rows = [
+        (1, LAST_NUMBER, "last", "waiting 1"),
+        (1, 1, "first", "taken 1"),
+        (1, 999_999_999, "last", "waiting 2"),
+        (1, 999_999_999, "other", "clash"),
+    ];
+    assert_written(&rt, rt.alloc(), &rows, &["first"])
 }
 
 #[test]

@@ -1,8 +1,9 @@
 //! A step that is refused memory, within a cascade.
 
-ghost use Rattle.std.specs.Prelude.{List, ℕ};
+ghost use Rattle.std.specs.Prelude.{List, ℕ, ◌≤◌};
+ghost use Rattle.partner_core.specs.Runs.{partner_count};
 
-use super::said;
+use super::assert_said;
 use partner_core::diary::Diary;
 use partner_core::{Machine, Runs};
 use std::alloc::{AllocError, Global};
@@ -55,25 +56,31 @@ fn is_refused_at(rt: &impl Abort, alloc: Global, step: u32) -> Result<(), Fail> 
         diary: Diary::new(alloc),
         steps: &steps,
     };
-    let mut runs = Runs::new(alloc, machine, 1)?;
-    assert_eq!(rt; said(alloc, &mut runs, 1, 3, "c")?.as_str(), "waiting 1");
-    assert_eq!(rt; said(alloc, &mut runs, 1, 2, "b")?.as_str(), "waiting 1");
+    let mut runs = Runs::new(alloc, machine, 3)?;
+    let early = [(1, 3, "c", "waiting 1"), (1, 2, "b", "waiting 1")];
+    assert_said(rt, alloc, &mut runs, &early)?;
     steps.set(step);
     let refused = runs.deliver(alloc, 1, 1, b"a");
-    assert!(rt; matches!(&refused, Err(AllocError)), "at step {step}");
+    assert!(rt; matches!(&refused, Err(AllocError)));
+    assert_unmoved(rt, &runs)?;
+    let again = [
+        (1, 3, "c", "waiting 1"),
+        (1, 1, "a", "taken 1"),
+        (1, 3, "c", "repeat 3"),
+    ];
+    assert_said(rt, alloc, &mut runs, &again)?;
+    assert_eq!(rt; runs.machine().diary.text(2), Some(b"c".as_slice()));
+    assert_eq!(rt; runs.machine().diary.text(3), None);
+    Ok(())
+}
+
+/// Nothing of the first partner was taken.
+fn assert_unmoved(rt: &impl Abort, runs: &Runs<Faltering<'_>>) -> Result<(), Fail>
+    requires { 1 ≤ partner_count runs.now }
+{
     assert_eq!(rt; runs.next_of(1), 1);
     assert_eq!(rt; runs.reply_of(1, 1), None);
     assert_eq!(rt; runs.machine().diary.text(0), None);
-    assert_eq!(rt; said(alloc, &mut runs, 1, 3, "c")?.as_str(), "waiting 1");
-    assert_eq!(rt; said(alloc, &mut runs, 1, 1, "a")?.as_str(), "taken 1");
-    assert_eq!(rt; said(alloc, &mut runs, 1, 3, "c")?.as_str(), "repeat 3");
-    assert_eq!(rt; runs.next_of(1), 4);
-    for (place, want) in [(0, Some("a")), (1, Some("b")), (2, Some("c")), (3, None)] {
-        assert_eq!(rt;
-            runs.machine().diary.text(place),
-            want.map(|text| text.as_bytes())
-        );
-    }
     Ok(())
 }
 
