@@ -1,5 +1,5 @@
--- A step leaves a whole state.
-use Rattle.std.proofs.Common.{◌≡◌, ℕ, ◌+◌, ◌≤◌, ◌<◌, List, length, Bool, true, false, cond, [], Option, None, Some, is_some, Result, Ok, Err, refl, sym, ap, ◌∙◌, arith, subst, nat_le}
+-- A state with nothing in it is whole, and a step leaves a whole state.
+use Rattle.std.proofs.Common.{◌≡◌, ℕ, ◌+◌, ◌≤◌, ◌<◌, List, length, replicate, ◌*◌, Bool, true, false, cond, [], Option, None, Some, is_some, Result, Ok, Err, refl, sym, ap, ◌∙◌, arith, subst, nat_le}
 use Rattle.std.proofs.lemmas.Bool.{le-leb}
 use Rattle.std.specs.FinMap as finite_map
 use Rattle.box6346.specs.SizeCode.{length_of}
@@ -19,7 +19,7 @@ use Rattle.yard_core.specs.SoundYard.{IsSound}
 use Rattle.yard_core.specs.YardMap.{Boxes, YardMap, yard_map, placement, placement_of}
 use Rattle.yard_core.proofs.Boxes.{Drops-remove, insert-remove}
 use Rattle.yard_core.proofs.Fitting.{Judges, misfit_judges, Blocks, blocker_tells}
-use Rattle.yard_core.proofs.Placings.{fits_open}
+use Rattle.yard_core.proofs.Placings.{fits_open, kept_empty}
 use Rattle.yard_core.proofs.Sounds.{IsSound-dropped}
 use Rattle.terminal_core.specs.declared.departure.Departure.{Departure}
 use Rattle.terminal_core.specs.declared.line_state.LineState.{LineState}
@@ -32,11 +32,17 @@ use Rattle.terminal_core.specs.declared.side.Side.TheVariants.{Load, Discharge}
 use Rattle.terminal_core.specs.declared.source.Source.{Source}
 use Rattle.terminal_core.specs.declared.way.Way.{Way}
 use Rattle.terminal_core.specs.declared.way.Way.TheVariants.{Gate, Ship}
-use Rattle.terminal_core.specs.State.{TerminalState, LineContent, line_key, line_of, is_in, IsWhole}
+use Rattle.terminal_core.specs.State.{TerminalState, LineContent, line_of, is_in, empty_state, IsWhole}
 use Rattle.terminal_core.specs.Step.{Stepped, refused, step, settled, settled_in, with_slot, is_full, visit_of, entered, entered_at, departed, departed_at, departure_by, moved_at, listed_at, then_line_done_at, by_line, by_state}
 use Rattle.terminal_core.proofs.Changing.{Comes, comes, goes, shifts, either}
 use Rattle.terminal_core.proofs.Counting.{none_there}
-use Rattle.terminal_core.proofs.Whole.{whole_listed, whole_entered, whole_departed, whole_moved}
+use Rattle.terminal_core.proofs.Whole.{whole_empty, whole_listed, whole_entered, whole_departed, whole_moved}
+
+-- ---- nothing
+
+pub empty_whole : (yard : YardMap) (limit : ℕ) → IsPlan yard.plan → yard.boxes ≡ finite_map.empty → IsWhole (empty_state yard limit)
+empty_whole yard limit valid none =
+    whole_empty yard.plan yard limit [] finite_map.empty valid refl none (kept_empty yard.plan (replicate (480 * length yard.plan) []) yard.boxes valid refl none).sound refl
 
 -- ---- the plan stays
 
