@@ -6,3 +6,4 @@ pub mod PurposeLemmas
 pub mod LineLemmas
 pub mod ContrlLemmas
 pub mod ContrlCounts
+pub mod OrderForms

@@ -14,3 +14,4 @@ pub mod Owned
 pub mod Contrl
 pub mod ContrlSegments
 pub mod ErrorCodes
+pub mod Forms

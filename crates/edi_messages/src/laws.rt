@@ -1,4 +1,5 @@
 ghost use Rattle.edi_messages.specs.ContrlSegments.{ContrlsAreSegments, ContrlsAreCounted};
+ghost use Rattle.edi_messages.specs.Forms.{OrdersAreFormed};
 ghost use Rattle.edi_messages.specs.Laws.{FaultlessAreRead, LinesAnswerTheirFirstFault};
 
 /// A message to which no fault applies is read for a purpose: as a list of lines of one kind of order.
@@ -19,4 +20,9 @@ pub fn contrls_are_segments()
 /// The segments of a CONTRL have none of faults 9 to 15: they are one message, and their counts and references are right.
 pub fn contrls_are_counted()
     ensures { ContrlsAreCounted }
+{}
+
+/// What a message orders has its form: the container's number, its size-type, the moment, the call, the booking and the port.
+pub fn orders_are_formed()
+    ensures { OrdersAreFormed }
 {}

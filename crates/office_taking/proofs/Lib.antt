@@ -1,1 +1,3 @@
 pub mod Takings
+pub mod Turning
+pub mod Forming

@@ -1,2 +1,3 @@
 pub mod Taking
 pub mod States
+pub mod Laws

@@ -2,6 +2,7 @@
 //! terminal's rows is told, and a reply says what became of each line.
 #![tactic(auto)]
 
+pub mod laws;
 mod line;
 mod machine;
 mod message;

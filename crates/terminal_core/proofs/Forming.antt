@@ -14,6 +14,7 @@ use Rattle.box6346.specs.declared.box_number.BoxNumber.{BoxNumber}
 use Rattle.box6346.specs.declared.slot.Slot.{Slot}
 use Rattle.edi_moments.specs.Moments.{CivilMoment}
 use Rattle.edi_messages.specs.Purposes.{CallContent}
+use Rattle.edi_messages.specs.Forms.{IsFormedEntry, IsFormedListing, IsFormedOrder}
 use Rattle.edi_messages.specs.Orders.{EntryContent, OrderContent, gate_in, gate_out, move, list_discharge, list_load, discharge, load}
 use Rattle.yard_core.specs.declared.block.Block.{Block}
 use Rattle.yard_core.specs.declared.placement.Placement.{Placement}
@@ -37,7 +38,7 @@ use Rattle.terminal_core.specs.declared.way.Way.TheVariants.{Gate, Ship}
 use Rattle.terminal_core.specs.Rows.{VisitContent}
 use Rattle.terminal_core.specs.State.{TerminalState, LineContent, LineKey, Lines, line_key, line_of, is_in, is_open_visit, empty_state, IsWhole}
 use Rattle.terminal_core.specs.Step.{Stepped, refused, step, settled, is_full, visit_of, entered, entered_at, closed, departed, departed_at, departure_by, moved_at, listed_at, then_line_done_at, by_line, by_state}
-use Rattle.terminal_core.specs.Forms.{IsSource, IsFormedCall, IsFormedDeparture, IsFormedExit, IsFormedVisit, IsFormedPort, IsFormedLine, IsWellFormed, IsFormedEntry, IsFormedListing, IsFormedOrder}
+use Rattle.terminal_core.specs.Forms.{IsSource, IsFormedDeparture, IsFormedExit, IsFormedVisit, IsFormedPort, IsFormedLine, IsWellFormed}
 use Rattle.terminal_core.proofs.Boxes.{in_placed_map, in_removed_map}
 use Rattle.terminal_core.proofs.Lined.{order, keys_total, same_key}
 use Rattle.terminal_core.proofs.Numbered.{contained, found_at}

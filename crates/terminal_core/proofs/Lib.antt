@@ -21,3 +21,4 @@ pub mod Shared
 pub mod Applying
 pub mod Formed
 pub mod Forming
+pub mod Keeping

@@ -3,6 +3,7 @@ pub mod State
 pub mod Listings
 pub mod LinePlaces
 pub mod Step
+pub mod Wholeness
 pub mod Codes
 pub mod Index
 pub mod Calls

@@ -4,6 +4,7 @@ ghost use Rattle.terminal_core.specs.Counts.{EntriesLessExitsStand};
 ghost use Rattle.terminal_core.specs.Changes.{ChangesTurnRows, ChangesAreApplicable, ChangesAreAppended, AreApplicableAppended};
 ghost use Rattle.terminal_core.specs.Forms.{EmptyIsWellFormed, StepsKeepForms};
 ghost use Rattle.terminal_core.specs.RowForms.{ListsAreRowsByKey, RowsByKeyAreLists, RowsGiveState, ListsGiveState};
+ghost use Rattle.terminal_core.specs.Wholeness.{EmptyIsWhole, StepsKeepWhole};
 
 /// As many containers stand in the yard as came and did not go.
 pub fn entries_less_exits()
@@ -59,4 +60,14 @@ pub fn empty_is_well_formed()
 /// An order that is well formed leaves a well-formed state: each value has its form and range.
 pub fn steps_keep_forms()
     ensures { StepsKeepForms }
+{}
+
+/// A terminal with nothing in it is whole, over any yard plan.
+pub fn empty_is_whole()
+    ensures { EmptyIsWhole }
+{}
+
+/// What an order leaves of a whole terminal is whole, whatever the order says.
+pub fn steps_keep_whole()
+    ensures { StepsKeepWhole }
 {}

@@ -1,0 +1,134 @@
+-- What an interchange leaves is well formed.
+use Rattle.std.proofs.Common.{◌≡◌, ℕ, zero, suc, ◌+◌, ◌<◌, ◌≤◌, nat_le, List, [], ◌∷◌, length, Bool, true, false, cond, ◌&&◌, Option, None, Some, is_none, Result, Ok, Err, IsTrue, All, refl, sym, ap, ◌∙◌, arith, subst}
+use Rattle.std.specs.Prelude.{codes, ◌++◌, ◌==◌}
+use Rattle.std.specs.Option.{option_and_then, unwrap_or}
+use Rattle.std.proofs.lemmas.Bool.{and_parts, leb-true}
+use Rattle.std.proofs.lemmas.List.Elements.{All-head, All-tail}
+use Rattle.std.proofs.lemmas.Option.{slice_get_within}
+use Rattle.edi_moments.specs.Moments.{CivilMoment, moment_of}
+use Rattle.edi_segments.specs.Text.{Content}
+use Rattle.edi_segments.specs.Interchange.{segments_in}
+use Rattle.edi_syntax.specs.Envelope.{header_of, messages_of}
+use Rattle.edi_syntax.specs.Faults.{applies, fault_of}
+use Rattle.edi_syntax.specs.Header.{control_reference, control_number, preparation, preparation_date, preparation_time}
+use Rattle.edi_syntax.specs.Messages.{Message}
+use Rattle.edi_syntax.specs.Numbers.{number_of, as_control_number}
+use Rattle.edi_segments.specs.declared.syntax_fault.SyntaxFault.{SyntaxFault}
+use Rattle.edi_segments.specs.declared.syntax_fault.SyntaxFault.TheVariants.{TooLong, Service, Segment, NoEnvelope, Group, Version, Number}
+use Rattle.edi_messages.specs.Forms.{OrdersWell}
+use Rattle.edi_messages.specs.Message.{LineContent, ordered, refused, MessageContent, reading}
+use Rattle.edi_messages.specs.declared.codes.Codes.{Codes}
+use Rattle.edi_messages.specs.declared.message_fault.MessageFault.{MessageFault}
+use Rattle.edi_messages.specs.declared.partner_kind.PartnerKind.{PartnerKind}
+use Rattle.edi_messages.proofs.OrderForms.{IfThere, IsCivil, text_civil, if_civil, orders_are_formed}
+use Rattle.partner_core.specs.Numbered.{with_number}
+use Rattle.terminal_core.specs.declared.source.Source.{Source}
+use Rattle.terminal_core.specs.Forms.{IsSource, IsWellFormed}
+use Rattle.terminal_core.specs.State.{TerminalState, IsWhole}
+use Rattle.terminal_core.proofs.Forming.{formed_step}
+use Rattle.office_setup.specs.Parties.{Parties}
+use Rattle.office_admission.specs.Admission.{admission, admitted, is_for}
+use Rattle.office_taking.specs.Taking.{MachineState, line_taken, lines_taken, verdict_on, messages_taken, codes_for, source_in, nothing_taken, taken_at, taken_of, interchange_taken}
+use Rattle.office_taking.proofs.Turning.{line_leads, verdict_leads}
+
+-- ---- the header
+
+abbrev IsControl : ℕ → Type 0
+IsControl number = (1 ≤ number) × (number ≤ 999999999)
+
+in_range : (n : ℕ) (is : Bool) → (nat_le 1 n && nat_le n 999999999) ≡ is → IfThere IsControl (cond is (Some n) None)
+in_range n true e = let parts = and_parts (nat_le 1 n) (nat_le n 999999999) e in (leb-true 1 n parts.0, leb-true n 999999999 parts.1)
+in_range n false e = tt
+
+as_control : (o : Option ℕ) → IfThere IsControl (option_and_then as_control_number o)
+as_control None = tt
+as_control (Some n) = in_range n (nat_le 1 n && nat_le n 999999999) refl
+
+control_in_range : (header : Content) → IfThere IsControl (control_number header)
+control_in_range header = as_control (number_of 14 (control_reference header))
+
+unwrapped : (o : Option ℕ) → is_none o ≡ false → IfThere IsControl o → IsControl (unwrap_or o 0)
+unwrapped None there its = cc
+unwrapped (Some n) there its = its
+
+preparation_civil : (header : Content) → IfThere IsCivil (preparation header)
+preparation_civil header =
+    if_civil (length (preparation_date header) == 6 && length (preparation_time header) == 4) (moment_of (codes "20" ++ preparation_date header ++ preparation_time header))
+    (text_civil (codes "20" ++ preparation_date header ++ preparation_time header))
+
+past_first : (b : Bool) (fault : SyntaxFault) (o : Option SyntaxFault) → cond b (Some fault) o ≡ None → (b ≡ false) × (o ≡ None)
+past_first true fault o e = absurd cc
+past_first false fault o e = (refl, e)
+
+-- a text without fault has a number
+has_number : (text : List ℕ) → fault_of text ≡ None → is_none (control_number (header_of (segments_in text))) ≡ false
+has_number text none =
+    let one = past_first (applies text TooLong) TooLong _ none in
+    let two = past_first (applies text Service) Service _ one.1 in
+    let three = past_first (applies text Segment) Segment _ two.1 in
+    let four = past_first (applies text NoEnvelope) NoEnvelope _ three.1 in
+    let five = past_first (applies text Group) Group _ four.1 in
+    let six = past_first (applies text Version) Version _ five.1 in
+    (past_first (applies text Number) Number _ six.1).0
+
+-- what is admitted has no fault
+faultless : (parties : Parties) (header : Content) (o : Option SyntaxFault) (partner : ℕ) → is_for partner (admitted parties header o) ≡ true → o ≡ None
+faultless parties header None partner e = refl
+faultless parties header (Some fault) partner e = cc
+
+partner_in : (kinds : List PartnerKind) (partner : ℕ) (kind : PartnerKind) → with_number kinds partner ≡ Some kind → (1 ≤ partner) × (partner ≤ length kinds)
+partner_in kinds zero kind e = cc
+partner_in kinds (suc i) kind e = let within : i < length kinds = slice_get_within kinds i kind e in (omega arith, omega arith)
+
+-- ---- lines and messages
+
+line_formed : (state : TerminalState) (source : Source) (line : LineContent) → IsWhole state → IsWellFormed state → IsSource source → OrdersWell line → IsWellFormed (line_taken state source line).0
+line_formed state source (ordered order) whole formed from its = formed_step state source order whole formed from its
+line_formed state source (refused fault number) whole formed from its = formed
+
+lines_formed : (state : TerminalState) (source : Source) (lines : List LineContent) → IsWhole state → IsWellFormed state → IsSource source → All OrdersWell lines → IsWellFormed (lines_taken state source lines).0
+lines_formed state source [] whole formed from its = formed
+lines_formed state source (line ∷ lines) whole formed from its =
+    lines_formed (line_taken state source line).0 source lines (line_leads state source line whole).whole (line_formed state source line whole formed from (All-head OrdersWell line lines its)) from
+    (All-tail OrdersWell line lines its)
+
+verdict_formed : (state : TerminalState) (codes : Codes) (source : Source) (opened : CivilMoment) (message : Message) (read : Result MessageContent MessageFault) → reading codes opened message ≡ read → IsWhole state → IsWellFormed state → IsSource source
+    → IsCivil opened → IsWellFormed (verdict_on state source read).0
+verdict_formed state codes source opened message (Ok content) e whole formed from civil = lines_formed state source content.lines whole formed from (orders_are_formed codes opened message content civil e)
+verdict_formed state codes source opened message (Err fault) e whole formed from civil = formed
+
+messages_formed : (state : TerminalState) (codes : Codes) (source : Source) (opened : CivilMoment) (messages : List Message) → IsWhole state → IsWellFormed state → IsSource source → IsCivil opened
+    → IsWellFormed (messages_taken state codes source opened messages).0
+messages_formed state codes source opened [] whole formed from civil = formed
+messages_formed state codes source opened (message ∷ messages) whole formed from civil =
+    messages_formed (verdict_on state source (reading codes opened message)).0 codes source opened messages (verdict_leads state source (reading codes opened message) whole).whole
+    (verdict_formed state codes source opened message (reading codes opened message) refl whole formed from civil) from civil
+
+-- ---- an interchange
+
+formed_at : (machine : MachineState) (partner : ℕ) (kind : PartnerKind) (segments : List Content) (opened : Option CivilMoment) → IfThere IsCivil opened → IsWhole machine.terminal → IsWellFormed machine.terminal
+    → IsSource (source_in partner (header_of segments)) → IsWellFormed (taken_at machine partner kind segments opened).0.terminal
+formed_at machine partner kind segments None civil whole formed from = formed
+formed_at machine partner kind segments (Some opened) civil whole formed from =
+    messages_formed machine.terminal (codes_for machine kind) (source_in partner (header_of segments)) opened (messages_of segments) whole formed from civil
+
+formed_of : (machine : MachineState) (partner : ℕ) (text : List ℕ) (kind : Option PartnerKind) → length machine.kinds ≤ 999 → IsWhole machine.terminal → IsWellFormed machine.terminal → fault_of text ≡ None
+    → with_number machine.kinds partner ≡ kind → IsWellFormed (taken_of machine partner (segments_in text) kind).0.terminal
+formed_of machine partner text None few whole formed none e = formed
+formed_of machine partner text (Some kind) few whole formed none e =
+    let header : Content = header_of (segments_in text) in
+    let number : IsControl (unwrap_or (control_number header) 0) = unwrapped (control_number header) (has_number text none) (control_in_range header) in
+    let within = partner_in machine.kinds partner kind e in
+    let low : 1 ≤ partner = within.0 in
+    let high : partner ≤ length machine.kinds = within.1 in
+    formed_at machine partner kind (segments_in text) (preparation header) (preparation_civil header) whole formed
+    (record { partner_low = low; partner_high = omega arith; number_low = number.0; number_high = number.1 })
+
+formed_if : (machine : MachineState) (is : Bool) (taken : MachineState × List ℕ) → IsWellFormed machine.terminal → (is ≡ true → IsWellFormed taken.0.terminal) → IsWellFormed (cond is taken (nothing_taken machine)).0.terminal
+formed_if machine true taken formed then = then refl
+formed_if machine false taken formed then = formed
+
+pub interchange_formed : (machine : MachineState) (partner : ℕ) (text : List ℕ) → length machine.kinds ≤ 999 → IsWhole machine.terminal → IsWellFormed machine.terminal → IsWellFormed (interchange_taken machine partner text).0.terminal
+interchange_formed machine partner text few whole formed =
+    formed_if machine (is_for partner (admission machine.parties text)) (taken_of machine partner (segments_in text) (with_number machine.kinds partner)) formed
+    (λ is. formed_of machine partner text (with_number machine.kinds partner) few whole formed (faultless machine.parties (header_of (segments_in text)) (fault_of text) partner is) refl)

@@ -1,0 +1,90 @@
+-- What the changes of an interchange make of the rows.
+use Rattle.std.proofs.Common.{◌≡◌, ℕ, List, [], ◌∷◌, ◌++◌, Bool, true, false, cond, Option, None, Some, Result, Ok, Err, refl, sym, ap, ◌∙◌, subst}
+use Rattle.edi_moments.specs.Moments.{CivilMoment}
+use Rattle.edi_segments.specs.Text.{Content}
+use Rattle.edi_segments.specs.Interchange.{segments_in}
+use Rattle.edi_syntax.specs.Envelope.{header_of, messages_of}
+use Rattle.edi_syntax.specs.Header.{preparation}
+use Rattle.edi_syntax.specs.Messages.{Message}
+use Rattle.edi_messages.specs.Message.{LineContent, ordered, refused, MessageContent, reading}
+use Rattle.edi_messages.specs.declared.codes.Codes.{Codes}
+use Rattle.edi_messages.specs.declared.message_fault.MessageFault.{MessageFault}
+use Rattle.edi_messages.specs.declared.partner_kind.PartnerKind.{PartnerKind}
+use Rattle.partner_core.specs.Numbered.{with_number}
+use Rattle.terminal_core.specs.declared.source.Source.{Source}
+use Rattle.terminal_core.specs.Rows.{ChangeContent}
+use Rattle.terminal_core.specs.State.{TerminalState, IsWhole}
+use Rattle.terminal_core.specs.Changes.{TerminalRows, rows_of, all_changed, AreApplicable}
+use Rattle.terminal_core.proofs.Applying.{all_appended, applicable_joined, applicable_step}
+use Rattle.terminal_core.proofs.Changing.{turned_step}
+use Rattle.terminal_core.proofs.Keeping.{whole_step}
+use Rattle.office_admission.specs.Admission.{admission, is_for}
+use Rattle.office_taking.specs.Taking.{MachineState, line_taken, line_changes, lines_taken, lines_changes, verdict_on, verdict_changes, messages_taken, messages_changes, codes_for, source_in, nothing_taken, taken_at, taken_of, interchange_taken, changes_at, changes_of, interchange_changes}
+
+-- the terminal that is left is whole, and the changes lead to it, each finding its row
+pub record Leads (before : TerminalState) (changes : List ChangeContent) (after : TerminalState) : Type 0 where
+  pub whole : IsWhole after
+  pub turned : all_changed (rows_of before) changes ≡ rows_of after
+  pub applicable : AreApplicable (rows_of before) changes
+
+stays : (state : TerminalState) → IsWhole state → Leads state [] state
+stays state whole = record { whole = whole; turned = refl; applicable = tt }
+
+leads_on : (a b c : TerminalState) (first second : List ChangeContent) → Leads a first b → Leads b second c → Leads a (first ++ second) c
+leads_on a b c first second one two = record {
+  whole = two.whole;
+  turned = all_appended (rows_of a) first second ∙ ap (λ (rows : TerminalRows). all_changed rows second) one.turned ∙ two.turned;
+  applicable = (let P : TerminalRows → Type 0 = λ rows. AreApplicable rows second in applicable_joined (rows_of a) first second one.applicable (subst P (sym one.turned) two.applicable));
+}
+
+-- ---- a line, a message
+
+pub line_leads : (state : TerminalState) (source : Source) (line : LineContent) → IsWhole state → Leads state (line_changes state source line) (line_taken state source line).0
+line_leads state source (ordered order) whole = record { whole = whole_step state source order whole; turned = turned_step state source order whole; applicable = applicable_step state source order whole }
+line_leads state source (refused fault number) whole = stays state whole
+
+lines_lead : (state : TerminalState) (source : Source) (lines : List LineContent) → IsWhole state → Leads state (lines_changes state source lines) (lines_taken state source lines).0
+lines_lead state source [] whole = stays state whole
+lines_lead state source (line ∷ lines) whole =
+    let next : TerminalState = (line_taken state source line).0 in
+    let one = line_leads state source line whole in
+    leads_on state next (lines_taken next source lines).0 (line_changes state source line) (lines_changes next source lines) one (lines_lead next source lines one.whole)
+
+pub verdict_leads : (state : TerminalState) (source : Source) (read : Result MessageContent MessageFault) → IsWhole state → Leads state (verdict_changes state source read) (verdict_on state source read).0
+verdict_leads state source (Ok content) whole = lines_lead state source content.lines whole
+verdict_leads state source (Err fault) whole = stays state whole
+
+-- ---- an interchange
+
+messages_lead : (state : TerminalState) (codes : Codes) (source : Source) (opened : CivilMoment) (messages : List Message) → IsWhole state
+    → Leads state (messages_changes state codes source opened messages) (messages_taken state codes source opened messages).0
+messages_lead state codes source opened [] whole = stays state whole
+messages_lead state codes source opened (message ∷ messages) whole =
+    let next : TerminalState = (verdict_on state source (reading codes opened message)).0 in
+    let one = verdict_leads state source (reading codes opened message) whole in
+    leads_on state next (messages_taken next codes source opened messages).0 (verdict_changes state source (reading codes opened message)) (messages_changes next codes source opened messages) one
+    (messages_lead next codes source opened messages one.whole)
+
+abbrev LeadsTo : MachineState → List ChangeContent → MachineState × List ℕ → Type 0
+LeadsTo machine changes taken = Leads machine.terminal changes taken.0.terminal
+
+leads_at : (machine : MachineState) (partner : ℕ) (kind : PartnerKind) (segments : List Content) (opened : Option CivilMoment) → IsWhole machine.terminal
+    → LeadsTo machine (changes_at machine partner kind segments opened) (taken_at machine partner kind segments opened)
+leads_at machine partner kind segments None whole = stays machine.terminal whole
+leads_at machine partner kind segments (Some opened) whole =
+    messages_lead machine.terminal (codes_for machine kind) (source_in partner (header_of segments)) opened (messages_of segments) whole
+
+leads_of : (machine : MachineState) (partner : ℕ) (segments : List Content) (kind : Option PartnerKind) → IsWhole machine.terminal
+    → LeadsTo machine (changes_of machine partner segments kind) (taken_of machine partner segments kind)
+leads_of machine partner segments None whole = stays machine.terminal whole
+leads_of machine partner segments (Some kind) whole = leads_at machine partner kind segments (preparation (header_of segments)) whole
+
+leads_if : (machine : MachineState) (is : Bool) (changes : List ChangeContent) (taken : MachineState × List ℕ) → IsWhole machine.terminal → LeadsTo machine changes taken
+    → LeadsTo machine (cond is changes []) (cond is taken (nothing_taken machine))
+leads_if machine true changes taken whole leads = leads
+leads_if machine false changes taken whole leads = stays machine.terminal whole
+
+pub interchange_leads : (machine : MachineState) (partner : ℕ) (text : List ℕ) → IsWhole machine.terminal → LeadsTo machine (interchange_changes machine partner text) (interchange_taken machine partner text)
+interchange_leads machine partner text whole =
+    leads_if machine (is_for partner (admission machine.parties text)) (changes_of machine partner (segments_in text) (with_number machine.kinds partner))
+    (taken_of machine partner (segments_in text) (with_number machine.kinds partner)) whole (leads_of machine partner (segments_in text) (with_number machine.kinds partner) whole)

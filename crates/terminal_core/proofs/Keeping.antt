@@ -1,0 +1,195 @@
+-- A state with nothing in it is whole, and a step leaves a whole state.
+use Rattle.std.proofs.Common.{◌≡◌, ℕ, ◌+◌, ◌≤◌, ◌<◌, List, length, replicate, ◌*◌, Bool, true, false, cond, [], Option, None, Some, is_some, Result, Ok, Err, refl, sym, ap, ◌∙◌, arith, subst, nat_le}
+use Rattle.std.proofs.lemmas.Bool.{le-leb}
+use Rattle.std.specs.FinMap as finite_map
+use Rattle.box6346.specs.SizeCode.{length_of}
+use Rattle.box6346.specs.declared.box_number.BoxNumber.{BoxNumber}
+use Rattle.box6346.specs.declared.length.Length.{Length}
+use Rattle.box6346.specs.declared.slot.Slot.{Slot}
+use Rattle.edi_moments.specs.Moments.{CivilMoment}
+use Rattle.edi_messages.specs.Purposes.{CallContent}
+use Rattle.edi_messages.specs.Orders.{EntryContent, OrderContent, gate_in, gate_out, move, list_discharge, list_load, discharge, load}
+use Rattle.yard_core.specs.declared.block.Block.{Block}
+use Rattle.yard_core.specs.declared.placement.Placement.{Placement}
+use Rattle.yard_core.specs.Calls.{Places, Removes, Shifts}
+use Rattle.yard_core.specs.Decisions.{Refusal, present, misfit_of, first_fit, blocker_of, unless_buried, with_misfit, with_slot as with_first_slot, removed, removed_at, shifted, shifted_at}
+use Rattle.yard_core.specs.FitsAndFree.{Fits, IsFree, IsOpen}
+use Rattle.yard_core.specs.Plan.{IsPlan}
+use Rattle.yard_core.specs.SoundYard.{IsSound}
+use Rattle.yard_core.specs.YardMap.{Boxes, YardMap, yard_map, placement, placement_of}
+use Rattle.yard_core.proofs.Boxes.{Drops-remove, insert-remove}
+use Rattle.yard_core.proofs.Fitting.{Judges, misfit_judges, Blocks, blocker_tells}
+use Rattle.yard_core.proofs.Placings.{fits_open, kept_empty}
+use Rattle.yard_core.proofs.Sounds.{IsSound-dropped}
+use Rattle.terminal_core.specs.declared.departure.Departure.{Departure}
+use Rattle.terminal_core.specs.declared.line_state.LineState.{LineState}
+use Rattle.terminal_core.specs.declared.line_state.LineState.TheVariants.{Pending, Done as LineIsDone}
+use Rattle.terminal_core.specs.declared.outcome.Outcome.{Outcome}
+use Rattle.terminal_core.specs.declared.outcome.Outcome.TheVariants.{Done, Gone, Listed, Refused}
+use Rattle.terminal_core.specs.declared.reason.Reason.TheVariants.{AlreadyIn, NotIn, VisitLimit}
+use Rattle.terminal_core.specs.declared.side.Side.{Side}
+use Rattle.terminal_core.specs.declared.side.Side.TheVariants.{Load, Discharge}
+use Rattle.terminal_core.specs.declared.source.Source.{Source}
+use Rattle.terminal_core.specs.declared.way.Way.{Way}
+use Rattle.terminal_core.specs.declared.way.Way.TheVariants.{Gate, Ship}
+use Rattle.terminal_core.specs.State.{TerminalState, LineContent, line_of, is_in, empty_state, IsWhole}
+use Rattle.terminal_core.specs.Step.{Stepped, refused, step, settled, settled_in, with_slot, is_full, visit_of, entered, entered_at, departed, departed_at, departure_by, moved_at, listed_at, then_line_done_at, by_line, by_state}
+use Rattle.terminal_core.proofs.Changing.{Comes, comes, goes, shifts, either}
+use Rattle.terminal_core.proofs.Counting.{none_there}
+use Rattle.terminal_core.proofs.Whole.{whole_empty, whole_listed, whole_entered, whole_departed, whole_moved}
+
+-- ---- nothing
+
+pub empty_whole : (yard : YardMap) (limit : ℕ) → IsPlan yard.plan → yard.boxes ≡ finite_map.empty → IsWhole (empty_state yard limit)
+empty_whole yard limit valid none =
+    whole_empty yard.plan yard limit [] finite_map.empty valid refl none (kept_empty yard.plan (replicate (480 * length yard.plan) []) yard.boxes valid refl none).sound refl
+
+-- ---- the plan stays
+
+slotted_plan : (there : Bool) (o : Option Refusal) (y new : YardMap) (slot named : Slot) → with_slot named (cond there (Err present) (with_misfit o y)) ≡ Ok (new, slot) → new.plan ≡ y.plan
+slotted_plan true o y new slot named e = cc
+slotted_plan false (Some f) y new slot named e = cc
+slotted_plan false None y new slot named e = let p : (y, named) ≡ (new, slot) = cc in sym (ap (λ (q : YardMap × Slot). q.0.plan) p)
+
+first_plan : (there : Bool) (o : Option Slot) (y new : YardMap) (b : BoxNumber) (length : Length) (slot : Slot) → cond there (Err present) (with_first_slot o y b length) ≡ Ok (new, slot) → new.plan ≡ y.plan
+first_plan true o y new b length slot e = cc
+first_plan false None y new b length slot e = cc
+first_plan false (Some first) y new b length slot e =
+    let p : (yard_map y.plan (finite_map.insert y.boxes b (placement length first)), first) ≡ (new, slot) = cc in sym (ap (λ (q : YardMap × Slot). q.0.plan) p)
+
+settled_plan : (y new : YardMap) (entry : EntryContent) (o : Option Slot) (slot : Slot) → settled_in y entry o ≡ Ok (new, slot) → new.plan ≡ y.plan
+settled_plan y new entry (Some named) slot e =
+    slotted_plan (is_some (finite_map.get y.boxes entry.number)) (misfit_of y.plan y.boxes (placement (length_of entry.size_type) named)) (yard_map y.plan (finite_map.insert y.boxes entry.number (placement (length_of entry.size_type) named))) new slot named e
+settled_plan y new entry None slot e =
+    first_plan (is_some (finite_map.get y.boxes entry.number)) (first_fit y.plan y.boxes (length_of entry.size_type)) y new entry.number (length_of entry.size_type) slot e
+
+-- ---- what the yard decides, as what its calls do
+
+-- a sound yard over the plan, with these boxes
+sound_with : (old new : YardMap) (boxes : Boxes) → IsSound old.plan (finite_map.get boxes) → new.plan ≡ old.plan → new.boxes ≡ boxes → IsSound new.plan (finite_map.get new.boxes)
+sound_with old new boxes sound plan same =
+    let P : List Block → Type 0 = λ p. IsSound p (finite_map.get boxes) in
+    let Q : Boxes → Type 0 = λ m. IsSound new.plan (finite_map.get m) in
+    subst Q (sym same) (subst P (sym plan) sound)
+
+open_of : (plan : List Block) (boxes : Boxes) (s : Placement) → misfit_of plan boxes s ≡ None → IsOpen plan (placement_of boxes) s
+open_of plan boxes s none = let P : Option Refusal → Type 0 = Judges plan boxes s in subst P none (misfit_judges plan boxes s)
+
+free_of : (boxes : Boxes) (s : Placement) → blocker_of boxes s ≡ None → IsFree (placement_of boxes) s
+free_of boxes s none = let P : Option BoxNumber → Type 0 = Blocks boxes s in subst P none (blocker_tells boxes s.length s.slot)
+
+came_places : (old new : YardMap) (b : BoxNumber) (s : Placement) → IsSound old.plan (finite_map.get old.boxes) → Comes old new b s → new.plan ≡ old.plan → Places old new b s
+came_places old new b s sound came plan =
+    let absent : finite_map.get old.boxes b ≡ None = none_there (finite_map.get old.boxes b) came.absent in
+    record { absent = absent; fits = fits_open old.plan old.boxes b s sound absent (open_of old.plan old.boxes s came.fits); plan = plan; boxes = came.boxes }
+
+unburied : (o : Option BoxNumber) (y new : YardMap) (t s : Placement) → unless_buried {A = YardMap × Placement} o (Ok (y, t)) ≡ Ok (new, s) → (o ≡ None) × (new.plan ≡ y.plan) × (t ≡ s)
+unburied (Some b) y new t s e = cc
+unburied None y new t s e = let p : (y, t) ≡ (new, s) = cc in (refl, sym (ap (λ (q : YardMap × Placement). q.0.plan) p), ap (λ (q : YardMap × Placement). q.1) p)
+
+went_free : (o : Option Placement) (y new : YardMap) (b : BoxNumber) (s : Placement) → removed_at o y b ≡ Ok (new, s) → IsFree (placement_of y.boxes) s × (new.plan ≡ y.plan)
+went_free None y new b s e = cc
+went_free (Some t) y new b s e =
+    let is = unburied (blocker_of y.boxes t) (yard_map y.plan (finite_map.remove y.boxes b)) new t s e in
+    let P : Placement → Type 0 = IsFree (placement_of y.boxes) in
+    (subst P is.2 (free_of y.boxes t is.0), is.1)
+
+sound_without : (y : YardMap) (b : BoxNumber) (s : Placement) → IsPlan y.plan → IsSound y.plan (finite_map.get y.boxes) → finite_map.get y.boxes b ≡ Some s → IsFree (placement_of y.boxes) s → IsSound y.plan (finite_map.get (finite_map.remove y.boxes b))
+sound_without y b s valid sound stood free =
+    IsSound-dropped y.plan (placement_of y.boxes) (placement_of (finite_map.remove y.boxes b)) b s (Drops-remove y.boxes b) stood free valid.sized sound
+
+unburied_there : (o : Option BoxNumber) (m : Option Refusal) (y new : YardMap) → unless_buried o (with_misfit m y) ≡ Ok new → (o ≡ None) × (new.plan ≡ y.plan)
+unburied_there (Some b) m y new e = cc
+unburied_there None (Some f) y new e = cc
+unburied_there None None y new e = let p : y ≡ new = cc in (refl, sym (ap (λ (q : YardMap). q.plan) p))
+
+moves_free : (o : Option Placement) (y new : YardMap) (b : BoxNumber) (slot : Slot) (s : Placement) → o ≡ Some s → shifted_at o y b slot ≡ Ok new → IsFree (placement_of y.boxes) s × (new.plan ≡ y.plan)
+moves_free None y new b slot s at e = cc
+moves_free (Some t) y new b slot s at e =
+    let is = unburied_there (blocker_of y.boxes t) (misfit_of y.plan (finite_map.remove y.boxes b) (placement t.length slot)) (yard_map y.plan (finite_map.insert y.boxes b (placement t.length slot))) new e in
+    let same : t ≡ s = cc in
+    let P : Placement → Type 0 = IsFree (placement_of y.boxes) in
+    (subst P same (free_of y.boxes t is.0), is.1)
+
+-- ---- steps
+
+abbrev Keeps : Stepped → Type 0
+Keeps after = IsWhole after.state
+
+room_left : (limit n : ℕ) → nat_le limit n ≡ false → n < limit
+room_left limit n e = grind (arith, le-leb)
+
+whole_entered_at : (state : TerminalState) (way : Way) (source : Source) (entry : EntryContent) (r : Result (YardMap × Slot) Refusal) → IsWhole state → length state.visits < state.limit → settled state.yard entry ≡ r
+    → Keeps (entered_at state way source entry r)
+whole_entered_at state way source entry (Err f) whole room e = whole
+whole_entered_at state way source entry (Ok (y, slot)) whole room e =
+    let s : Placement = placement (length_of entry.size_type) slot in
+    let plan : y.plan ≡ state.yard.plan = settled_plan state.yard y entry entry.slot slot e in
+    let places : Places state.yard y entry.number s = came_places state.yard y entry.number s whole.sound (comes state.yard y entry entry.slot slot e) plan in
+    whole_entered state y (visit_of state way source entry slot) s whole places (sound_with state.yard y (finite_map.insert state.yard.boxes entry.number s) places.fits plan places.boxes) refl refl refl room
+
+full_or : (state : TerminalState) (full : Bool) (other : Stepped) → IsWhole state → (full ≡ false → Keeps other) → Keeps (cond full (refused state VisitLimit) other)
+full_or state true other whole then = whole
+full_or state false other whole then = then refl
+
+whole_enters : (state : TerminalState) (way : Way) (source : Source) (entry : EntryContent) → IsWhole state → Keeps (entered state way source entry)
+whole_enters state way source entry whole =
+    full_or state (is_full state) (entered_at state way source entry (settled state.yard entry)) whole (λ room. whole_entered_at state way source entry (settled state.yard entry) whole (room_left state.limit (length state.visits) room) refl)
+
+whole_departed_at : (state : TerminalState) (b : BoxNumber) (departure : Departure) (r : Result (YardMap × Placement) Refusal) → IsWhole state → removed state.yard b ≡ r → Keeps (departed_at state b departure r)
+whole_departed_at state b departure (Err f) whole e = whole
+whole_departed_at state b departure (Ok (y, s)) whole e =
+    let went = goes (finite_map.get state.yard.boxes b) state.yard y b s e in
+    let free = went_free (finite_map.get state.yard.boxes b) state.yard y b s e in
+    let sound = sound_without state.yard b s whole.plan whole.sound went.0 free.0 in
+    whole_departed state y b departure s whole (record { stood = went.0; free = free.0; plan = free.1; boxes = went.1 }) (sound_with state.yard y (finite_map.remove state.yard.boxes b) sound free.1 went.1)
+
+whole_departs : (state : TerminalState) (way : Way) (source : Source) (b : BoxNumber) (moment : CivilMoment) → IsWhole state → Keeps (departed state way source b moment)
+whole_departs state way source b moment whole = whole_departed_at state b (departure_by way source moment) (removed state.yard b) whole refl
+
+whole_moved_at : (state : TerminalState) (b : BoxNumber) (slot : Slot) (r : Result YardMap Refusal) → IsWhole state → shifted state.yard b slot ≡ r → Keeps (moved_at state b slot r)
+whole_moved_at state b slot (Err f) whole e = whole
+whole_moved_at state b slot (Ok y) whole e =
+    let is = shifts (finite_map.get state.yard.boxes b) state.yard y b slot e in
+    let free = moves_free (finite_map.get state.yard.boxes b) state.yard y b slot is.0 is.1 e in
+    let s : Placement = placement is.0.length slot in
+    let without = sound_without state.yard b is.0 whole.plan whole.sound is.1 free.0 in
+    let fits : Fits state.yard.plan (finite_map.remove state.yard.boxes b) b s =
+    fits_open state.yard.plan (finite_map.remove state.yard.boxes b) b s without (Drops-remove state.yard.boxes b).gone (open_of state.yard.plan (finite_map.remove state.yard.boxes b) s is.3) in
+    whole_moved state y b slot is.0 whole (record { stood = is.1; free = free.0; fits = fits; plan = free.1; boxes = is.2 })
+    (sound_with state.yard y (finite_map.insert (finite_map.remove state.yard.boxes b) b s) fits free.1 (is.2 ∙ sym (insert-remove state.yard.boxes b s)))
+
+-- ---- lists
+
+whole_listed_at : (state : TerminalState) (call : CallContent) (side : Side) (b : BoxNumber) (port : List ℕ) (o : Option LineContent) → IsWhole state → Keeps (listed_at state call side b port o)
+whole_listed_at state call side b port (Some line) whole = whole
+whole_listed_at state call side b port None whole = whole_listed state _ whole
+
+whole_then : (call : CallContent) (side : Side) (b : BoxNumber) (line : LineContent) (after : Stepped) (o : Outcome) → Keeps after → Keeps (then_line_done_at call side b line after o)
+whole_then call side b line after (Refused reason) whole = whole
+whole_then call side b line after (Done slot) whole = whole_listed after.state _ whole
+whole_then call side b line after Gone whole = whole_listed after.state _ whole
+whole_then call side b line after Listed whole = whole_listed after.state _ whole
+
+whole_by_state : (state : TerminalState) (call : CallContent) (side : Side) (b : BoxNumber) (line : LineContent) (after : Stepped) (s : LineState) → IsWhole state → Keeps after → Keeps (by_state state call side b line after s)
+whole_by_state state call side b line after LineIsDone whole then = whole
+whole_by_state state call side b line after Pending whole then = whole_then call side b line after after.outcome then
+
+whole_by_line : (state : TerminalState) (call : CallContent) (side : Side) (b : BoxNumber) (o : Option LineContent) (after : Stepped) → IsWhole state → Keeps after → Keeps (by_line state call side b o after)
+whole_by_line state call side b None after whole then = whole
+whole_by_line state call side b (Some line) after whole then = whole_by_state state call side b line after line.state whole then
+
+-- ---- orders
+
+pub whole_step : (state : TerminalState) (source : Source) (order : OrderContent) → IsWhole state → Keeps (step state source order)
+whole_step state source (gate_in entry) whole = either Keeps (is_in state entry.number) (refused state AlreadyIn) (entered state Gate source entry) whole (whole_enters state Gate source entry whole)
+whole_step state source (gate_out b moment) whole = whole_departs state Gate source b moment whole
+whole_step state source (move b slot) whole = whole_moved_at state b slot (shifted state.yard b slot) whole refl
+whole_step state source (list_discharge call b) whole = whole_listed_at state call Discharge b [] (line_of state call Discharge b) whole
+whole_step state source (list_load call b port) whole = whole_listed_at state call Load b port (line_of state call Load b) whole
+whole_step state source (discharge call entry) whole =
+    either Keeps (is_in state entry.number) (refused state AlreadyIn) (by_line state call Discharge entry.number (line_of state call Discharge entry.number) (entered state Ship source entry)) whole
+    (whole_by_line state call Discharge entry.number (line_of state call Discharge entry.number) (entered state Ship source entry) whole (whole_enters state Ship source entry whole))
+whole_step state source (load call b moment) whole =
+    either Keeps (is_in state b) (by_line state call Load b (line_of state call Load b) (departed state Ship source b moment)) (refused state NotIn)
+    (whole_by_line state call Load b (line_of state call Load b) (departed state Ship source b moment) whole (whole_departs state Ship source b moment whole)) whole
