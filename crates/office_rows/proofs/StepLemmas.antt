@@ -1,0 +1,35 @@
+-- Calls in a transaction, one after the other.
+use Rattle.std.proofs.Common.{◌≡◌, ◌⊎◌, inl, inr, IsTrue, Result, Ok, Err, true, OnOk, IfOk, refl, sym, ap, ◌∙◌}
+use Rattle.sqlite.specs.State.{State, Shows, IsUnchanged, IsRolledBack, KeepsCommit, Survives}
+use Rattle.office_rows.specs.Stored.{HasRows}
+use Rattle.sqlite.proofs.StateLemmas.{survives_then}
+use Rattle.office_rows.specs.Rows.{Rows}
+use Rattle.office_rows.specs.Steps.{Steps}
+
+-- a statement that was made inside goes on
+pub steps_on : (change : Rows → Rows) (old new : State) → Shows old new new.now old.committed true → ((rows : Rows) → HasRows rows old.now → HasRows (change rows) new.now) → Steps change old new
+steps_on change old new shows rows = record { rows = rows; inside = shows.mode; committed = shows.committed_is; is_open = shows.is_open }
+
+pub steps_then : (f g : Rows → Rows) (a b c : State) → Steps f a b → Steps g b c → Steps (λ rows. g (f rows)) a c
+steps_then f g a b c p q = record { rows = λ rows has. q.rows (f rows) (p.rows rows has); inside = q.inside; committed = q.committed ∙ p.committed; is_open = q.is_open }
+
+pub stops_keep : (old new : State) → IsUnchanged old new ⊎ IsRolledBack old new → KeepsCommit old new
+stops_keep old new (inl same) = record { was_open = λ _. same.0.was_open; committed = λ _. same.0.committed_is }
+stops_keep old new (inr undone) = record { was_open = undone.was_open; committed = λ open_now. (undone.undone open_now).1 }
+
+pub steps_keep : (f : Rows → Rows) (a b c : State) → IsTrue a.is_open → Steps f a b → KeepsCommit b c → KeepsCommit a c
+steps_keep f a b c was p q = record { was_open = λ _. was; committed = λ open_now. q.committed open_now ∙ p.committed }
+
+pub keep_then : (a b c : State) → KeepsCommit a b → KeepsCommit b c → KeepsCommit a c
+keep_then a b c p q = record { was_open = λ h. p.was_open (q.was_open h); committed = λ h. q.committed h ∙ p.committed (q.was_open h) }
+
+pub on_ok : {X E : Type 0} {P Q : Type 0} (r : Result X E) → (P → Q) → OnOk r P → OnOk r Q
+on_ok (Ok x) f h = f h
+on_ok (Err e) f h = h
+
+pub quiet_then : (a b c : State) → Survives a b (λ _. ⊥) → Survives b c (λ _. ⊥) → Survives a c (λ _. ⊥)
+quiet_then a b c = survives_then a b c _ _ (λ _. ⊥) (λ _ db none. none) (λ _ db none. none)
+
+pub if_ok : {X E : Type 0} {P Q : X → Type 0} (r : Result X E) → ((x : X) → P x → Q x) → IfOk r P → IfOk r Q
+if_ok (Ok x) f h = f x h
+if_ok (Err e) f h = h
