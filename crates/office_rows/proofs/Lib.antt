@@ -8,3 +8,4 @@ pub mod Creating
 pub mod Writing
 pub mod Reading
 pub mod Written
+pub mod Created

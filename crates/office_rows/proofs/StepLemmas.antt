@@ -4,7 +4,8 @@ use Rattle.sqlite.specs.State.{State, Shows, IsUnchanged, IsRolledBack, KeepsCom
 use Rattle.office_rows.specs.Stored.{HasRows}
 use Rattle.sqlite.proofs.StateLemmas.{survives_then}
 use Rattle.office_rows.specs.Rows.{Rows}
-use Rattle.office_rows.specs.Steps.{Steps}
+use Rattle.sqlite.specs.Effect.{Database}
+use Rattle.office_rows.specs.Steps.{Steps, Turns}
 
 -- a statement that was made inside goes on
 pub steps_on : (change : Rows → Rows) (old new : State) → Shows old new new.now old.committed true → ((rows : Rows) → HasRows rows old.now → HasRows (change rows) new.now) → Steps change old new
@@ -33,3 +34,14 @@ quiet_then a b c = survives_then a b c _ _ (λ _. ⊥) (λ _ db none. none) (λ 
 pub if_ok : {X E : Type 0} {P Q : X → Type 0} (r : Result X E) → ((x : X) → P x → Q x) → IfOk r P → IfOk r Q
 if_ok (Ok x) f h = f x h
 if_ok (Err e) f h = h
+
+-- ---- a database that becomes another
+
+pub turns_on : (P Q : Database → Type 0) (old new : State) → Shows old new new.now old.committed true → (P old.now → Q new.now) → Turns P Q old new
+turns_on P Q old new shows turn = record { now = turn; inside = shows.mode; committed = shows.committed_is; is_open = shows.is_open }
+
+pub turns_then : (P Q R : Database → Type 0) (a b c : State) → Turns P Q a b → Turns Q R b c → Turns P R a c
+turns_then P Q R a b c p q = record { now = λ h. q.now (p.now h); inside = q.inside; committed = q.committed ∙ p.committed; is_open = q.is_open }
+
+pub steps_turn : (P : Database → Type 0) (rows : Rows) (change : Rows → Rows) (a b c : State) → Turns P (HasRows rows) a b → Steps change b c → Turns P (HasRows (change rows)) a c
+steps_turn P rows change a b c p q = record { now = λ h. q.rows rows (p.now h); inside = q.inside; committed = q.committed ∙ p.committed; is_open = q.is_open }
