@@ -9,3 +9,4 @@ pub mod Writing
 pub mod Reading
 pub mod Written
 pub mod Created
+pub mod OpeningLemmas

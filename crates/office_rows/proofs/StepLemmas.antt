@@ -1,5 +1,5 @@
 -- Calls in a transaction, one after the other.
-use Rattle.std.proofs.Common.{◌≡◌, ◌⊎◌, inl, inr, IsTrue, Result, Ok, Err, true, OnOk, IfOk, refl, sym, ap, ◌∙◌}
+use Rattle.std.proofs.Common.{◌≡◌, ◌⊎◌, inl, inr, IsTrue, Result, Ok, Err, true, OnOk, IfOk, refl, sym, ap, subst, ◌∙◌}
 use Rattle.sqlite.specs.State.{State, Shows, IsUnchanged, IsRolledBack, KeepsCommit, Survives}
 use Rattle.office_rows.specs.Stored.{HasRows}
 use Rattle.sqlite.proofs.StateLemmas.{survives_then}
@@ -10,6 +10,13 @@ use Rattle.office_rows.specs.Steps.{Steps, Turns}
 -- a statement that was made inside goes on
 pub steps_on : (change : Rows → Rows) (old new : State) → Shows old new new.now old.committed true → ((rows : Rows) → HasRows rows old.now → HasRows (change rows) new.now) → Steps change old new
 steps_on change old new shows rows = record { rows = rows; inside = shows.mode; committed = shows.committed_is; is_open = shows.is_open }
+
+-- where nothing is done the rows stay
+pub steps_here : (change : Rows → Rows) (now : State) → IsTrue now.in_transaction → IsTrue now.is_open → ((rows : Rows) → change rows ≡ rows) → Steps change now now
+steps_here change now inside is_open same = record { rows = λ rows has. rw same has; inside = inside; committed = refl; is_open = is_open }
+
+pub steps_same : (f g : Rows → Rows) (a b : State) → ((rows : Rows) → f rows ≡ g rows) → Steps f a b → Steps g a b
+steps_same f g a b same p = record { rows = λ rows has. subst (λ r. HasRows r b.now) (same rows) (p.rows rows has); inside = p.inside; committed = p.committed; is_open = p.is_open }
 
 pub steps_then : (f g : Rows → Rows) (a b c : State) → Steps f a b → Steps g b c → Steps (λ rows. g (f rows)) a c
 steps_then f g a b c p q = record { rows = λ rows has. q.rows (f rows) (p.rows rows has); inside = q.inside; committed = q.committed ∙ p.committed; is_open = q.is_open }

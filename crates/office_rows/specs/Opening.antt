@@ -3,6 +3,7 @@ use Rattle.std.specs.Prelude.{ℕ, ◌+◌, List, [], ◌∷◌, ◌++◌, codes
 use Rattle.edi_messages.specs.declared.partner_kind.PartnerKind.{PartnerKind}
 use Rattle.edi_messages.specs.declared.code_table.CodeTable.{CodeTable}
 use Rattle.edi_messages.specs.Codes.{table_texts}
+use Rattle.yard_core.specs.declared.block.Block.{Block}
 use Rattle.office_setup.specs.Setups.{SetupContent}
 use Rattle.office_rows.specs.Rows.{Partner, Setting, Rows, no_rows}
 
@@ -32,6 +33,19 @@ code_settings table = settings_named code_names (table_texts table)
 abbrev pub settings_of : SetupContent → List Setting
 settings_of content =
     setting (codes "version") (codes "1") ∷ setting (codes "terminal") content.terminal ∷ setting (codes "visits") (decimal content.visit_limit) ∷ code_settings content.codes
+
+-- ---- rows that are added
+
+abbrev pub with_partners : List Partner → Rows → Rows
+with_partners partners rows = record rows { partners = rows.partners ++ partners }
+
+abbrev pub with_settings : List Setting → Rows → Rows
+with_settings settings rows = record rows { settings = rows.settings ++ settings }
+
+abbrev pub with_blocks : List Block → Rows → Rows
+with_blocks blocks rows = record rows { blocks = rows.blocks ++ blocks }
+
+-- ---- all of them
 
 -- the accounts, the settings and the blocks, and no row else
 abbrev pub opening_rows : SetupContent → Rows

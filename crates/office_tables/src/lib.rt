@@ -2,11 +2,15 @@
 #![tactic(auto)]
 
 mod applying;
+mod blocks;
 mod codes;
+mod creating;
 mod interchanges;
 mod lines;
+mod opening;
 mod partners;
 mod places;
+mod settings;
 mod table_fault;
 mod taking;
 mod values;
@@ -14,5 +18,6 @@ mod visits;
 
 pub use applying::apply;
 pub use interchanges::keep;
+pub use opening::create;
 pub use table_fault::TableFault;
 pub use taking::mark_taken;
