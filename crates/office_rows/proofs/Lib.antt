@@ -10,3 +10,4 @@ pub mod Reading
 pub mod Written
 pub mod Created
 pub mod OpeningLemmas
+pub mod Found

@@ -84,3 +84,12 @@ setting_values s = Text s.name ∷ Text s.value ∷ []
 
 abbrev pub block_values : Block → Row
 block_values b = Text (b.letter ∷ []) ∷ number b.bays ∷ number b.rows ∷ number b.tiers ∷ []
+
+-- ---- columns of a part of the rows
+
+-- what a query of one interchange shows, and one of a next number
+abbrev pub kept_values : Interchange → Row
+kept_values i = Blob i.body ∷ Text i.reply ∷ []
+
+abbrev pub next_values : Partner → Row
+next_values p = number p.next ∷ []

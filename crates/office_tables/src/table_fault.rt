@@ -32,6 +32,9 @@ impl From<Error> for TableFault {
     fn from(error: Error) -> TableFault {
         match error {
             Error::SqliteFailure(ErrorCode::OutOfMemory) => TableFault::Memory,
+            Error::InvalidColumnType(_, _)
+            | Error::IntegralValueOutOfRange(_)
+            | Error::Utf8Error(_) => TableFault::Damaged,
             other => TableFault::Store(other),
         }
     }
