@@ -1,5 +1,5 @@
 /// A vessel's call at the terminal.
-#[derive(Debug, Drop)]
+#[derive(PartialEq, Eq, Hash, Debug, Drop)]
 pub struct Call {
     /// The vessel (8213), 1 to 35 bytes from 0x20 to 0x7E.
     pub vessel: String,

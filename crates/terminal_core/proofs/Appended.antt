@@ -1,6 +1,6 @@
 -- Rows that were appended.
-use Rattle.std.proofs.Common.{◌≡◌, ℕ, ◌+◌, ◌<◌, List, [], ◌∷◌, ◌++◌, map, length, ap, ◌∙◌, append_assoc, Vec, vec_len, Global, arith, rules}
-use Rattle.std.proofs.lemmas.List.{map-append, length-map}
+use Rattle.std.proofs.Common.{◌≡◌, ℕ, ◌+◌, ◌<◌, List, [], ◌∷◌, ◌++◌, map, length, ap, ◌∙◌, append_assoc, arith}
+use Rattle.std.proofs.lemmas.List.{map-append}
 use Rattle.box6346.specs.declared.slot.Slot.{Slot}
 use Rattle.edi_messages.specs.Orders.{EntryContent}
 use Rattle.terminal_core.specs.declared.change.Change.{Change}
@@ -8,7 +8,7 @@ use Rattle.terminal_core.specs.declared.change.Change.TheVariants as change
 use Rattle.terminal_core.specs.declared.source.Source.{Source}
 use Rattle.terminal_core.specs.declared.visit.Visit.{Visit}
 use Rattle.terminal_core.specs.declared.way.Way.{Way}
-use Rattle.terminal_core.specs.Rows.{visit_content, change_content, visit_opened, placed_at}
+use Rattle.terminal_core.specs.Rows.{VisitContent, visit_content, change_content, visit_opened, placed_at}
 use Rattle.terminal_core.specs.Step.{opened_by}
 
 pub one_more : {A B : Type 0} (f : A → B) (xs ys : List A) (a : A) (u : B) → ys ≡ xs ++ a ∷ [] → f a ≡ u → map f ys ≡ map f xs ++ u ∷ []
@@ -18,28 +18,19 @@ pub two_more : {A B : Type 0} (f : A → B) (xs ys zs : List A) (a b : A) (u v :
 two_more f xs ys zs a b u v e g is also =
     one_more f ys zs b v g also ∙ ap (λ l. l ++ v ∷ []) (one_more f xs ys a u e is) ∙ append_assoc (map f xs) (u ∷ []) (v ∷ [])
 
-numbered : (visits : Vec Visit Global) (number : ℕ) → number ≡ vec_len visits + 1 → number ≡ length (map visit_content visits.items) + 1
-numbered visits number e =
-    let same : length (map visit_content visits.items) ≡ length visits.items = length-map visits.items visit_content in
-    let long : length visits.items ≡ vec_len visits = search rules in
-    omega arith
-
-pub visits_after : (old kept new : Vec Visit Global) (row : Visit) (way : Way) (source : Source) (entry : EntryContent) (slot : Slot) (number : ℕ) → kept.items ≡ old.items → new.items ≡ kept.items ++ row ∷ []
-    → visit_content row ≡ opened_by number way source entry slot → number ≡ vec_len old + 1
-    → map visit_content new.items ≡ map visit_content old.items ++ opened_by (length (map visit_content old.items) + 1) way source entry slot ∷ []
+pub visits_after : (old kept new : List VisitContent) (row : VisitContent) (way : Way) (source : Source) (entry : EntryContent) (slot : Slot) (number : ℕ) → kept ≡ old → new ≡ kept ++ row ∷ []
+    → row ≡ opened_by number way source entry slot → number ≡ length old + 1 → new ≡ old ++ opened_by (length old + 1) way source entry slot ∷ []
 visits_after old kept new row way source entry slot number e f is n =
-    one_more visit_content old.items new.items row _ (f ∙ ap (λ (l : List Visit). l ++ row ∷ []) e) (is ∙ ap (λ k. opened_by k way source entry slot) (numbered old number n))
+    f ∙ ap (λ (l : List VisitContent). l ++ row ∷ []) e ∙ ap (λ (v : VisitContent). old ++ v ∷ []) (is ∙ ap (λ k. opened_by k way source entry slot) n)
 
-pub changes_after : (visits : Vec Visit Global) (old mid new : List Change) (row : Visit) (way : Way) (source : Source) (entry : EntryContent) (slot : Slot) (number : ℕ)
+pub changes_after : (visits : List VisitContent) (old mid new : List Change) (row : Visit) (way : Way) (source : Source) (entry : EntryContent) (slot : Slot) (number : ℕ)
     → mid ≡ old ++ change.VisitOpened row ∷ [] → new ≡ mid ++ change.Placed entry.number number slot ∷ []
-    → visit_content row ≡ opened_by number way source entry slot → number ≡ vec_len visits + 1
-    → map change_content new ≡ map change_content old ++ visit_opened (opened_by (length (map visit_content visits.items) + 1) way source entry slot) ∷ placed_at entry.number (length (map visit_content visits.items) + 1) slot ∷ []
+    → visit_content row ≡ opened_by number way source entry slot → number ≡ length visits + 1
+    → map change_content new ≡ map change_content old ++ visit_opened (opened_by (length visits + 1) way source entry slot) ∷ placed_at entry.number (length visits + 1) slot ∷ []
 changes_after visits old mid new row way source entry slot number e f is n =
     two_more change_content old mid new (change.VisitOpened row) (change.Placed entry.number number slot) _ _ e f
-    (ap visit_opened (is ∙ ap (λ k. opened_by k way source entry slot) (numbered visits number n))) (ap (λ k. placed_at entry.number k slot) (numbered visits number n))
+    (ap visit_opened (is ∙ ap (λ k. opened_by k way source entry slot) n)) (ap (λ k. placed_at entry.number k slot) n)
 
-pub room_for_visits : (visits : Vec Visit Global) (limit : ℕ) → vec_len visits < limit → length (map visit_content visits.items) < limit
-room_for_visits visits limit e =
-    let same : length (map visit_content visits.items) ≡ length visits.items = length-map visits.items visit_content in
-    let long : length visits.items ≡ vec_len visits = search rules in
-    omega arith
+-- fewer than the limit
+pub room : (count : ℕ) (visits : List VisitContent) (limit : ℕ) → count ≡ length visits → count < limit → length visits < limit
+room count visits limit is few = omega arith

@@ -43,6 +43,12 @@ pub in_removed : (m : Boxes) (b q : Box) → is_some (map.get (map.remove m b) q
 in_removed m b q =
     ap is_some (map.get-remove nat_list_cmp_total m b q ∙ ap (λ v. cond v None (map.get m q)) (tied b q)) ∙ there_and (bytes_eq b q) (map.get m q)
 
+pub in_placed_map : (m n : Boxes) (b q : Box) (s : Placement) → n ≡ map.insert m b s → map.get n q ≡ cond (bytes_eq b q) (Some s) (map.get m q)
+in_placed_map m n b q s e = ap (λ (boxes : Boxes). map.get boxes q) e ∙ map.get-insert nat_list_cmp_total m b s q ∙ ap (λ v. cond v (Some s) (map.get m q)) (tied b q)
+
+pub in_removed_map : (m n : Boxes) (b q : Box) → n ≡ map.remove m b → map.get n q ≡ cond (bytes_eq b q) None (map.get m q)
+in_removed_map m n b q e = ap (λ (boxes : Boxes). map.get boxes q) e ∙ map.get-remove nat_list_cmp_total m b q ∙ ap (λ v. cond v None (map.get m q)) (tied b q)
+
 -- a container stands in a slot of the plan
 pub planned : (plan : List Block) (m : Boxes) (b : Box) (s : Placement) → IsSound plan (map.get (map.insert m b s)) → InPlan plan s.slot
 planned plan m b s sound = sound.in_plan b s (map.get-insert nat_list_cmp_total m b s b ∙ ap (λ v. cond v (Some s) (map.get m b)) ((eq_by_cmp_equiv nat_list_cmp_total).refl b))

@@ -14,11 +14,10 @@ use Rattle.box6346.specs.declared.slot.Slot.{Slot}
 use Rattle.edi_moments.specs.Moments.{CivilMoment}
 use Rattle.edi_messages.specs.Purposes.{CallContent}
 use Rattle.edi_messages.specs.Orders.{EntryContent, OrderContent, gate_in, gate_out, move, list_discharge, list_load, discharge, load}
+use Rattle.yard_core.specs.declared.block.Block.{Block}
 use Rattle.yard_core.specs.YardMap.{Boxes, YardMap, yard_map, placement}
-use Rattle.yard_core.specs.Decisions.{removed, removed_at, shifted, shifted_at, unless_buried, with_misfit, with_slot as with_first_slot, misfit_of, first_fit, blocker_of}
+use Rattle.yard_core.specs.Decisions.{Refusal, present, removed, removed_at, shifted, shifted_at, unless_buried, with_misfit, with_slot as with_first_slot, misfit_of, first_fit, every_slot, blocker_of}
 use Rattle.yard_core.specs.declared.placement.Placement.{Placement}
-use Rattle.yard_core.specs.declared.yard_fault.YardFault.{YardFault}
-use Rattle.yard_core.specs.declared.yard_fault.YardFault.TheVariants.{Present}
 use Rattle.terminal_core.specs.declared.departure.Departure.{Departure}
 use Rattle.terminal_core.specs.declared.line_state.LineState.{LineState}
 use Rattle.terminal_core.specs.declared.line_state.LineState.TheVariants.{Pending, Done as LineIsDone}
@@ -33,38 +32,55 @@ use Rattle.terminal_core.specs.declared.way.Way.TheVariants.{Gate, Ship}
 use Rattle.terminal_core.specs.Rows.{VisitContent, ChangeContent, line_done}
 use Rattle.terminal_core.specs.State.{TerminalState, LineContent, Lines, line_key, line_of, is_in, is_open_visit, open_visit, AreNumbered, IsWhole}
 use Rattle.terminal_core.specs.Step.{Stepped, refused, step, settled, settled_in, with_slot, is_full, visit_of, entered, entered_at, closed, close_visit, number_of_visit, departed, departed_at, departure_by, moved_at, listed_at, then_line_done_at, by_line, by_state}
-use Rattle.terminal_core.specs.Changes.{Place, TerminalRows, place_in, place_of, rows_of, closed_as, moved_place, with_line_done, changed, all_changed}
-use Rattle.terminal_core.proofs.Boxes.{tied, same_bytes}
-use Rattle.terminal_core.proofs.Open.{and_true, closed_open}
+use Rattle.terminal_core.specs.Changes.{Standing, TerminalRows, standing_in, standing_of, rows_of, closed_as, standing_elsewhere, with_line_done, changed, all_changed}
+use Rattle.terminal_core.proofs.Boxes.{same_bytes, in_placed_map, in_removed_map}
+use Rattle.terminal_core.proofs.Open.{and_true, closed_open, find_last, find_new}
+use Rattle.terminal_core.proofs.Counted.{found_is}
 use Rattle.terminal_core.proofs.Counting.{count_keeps, count_skips, find_skips, find_meets}
 
 -- ---- what the yard decides
 
-slotted : (there : Bool) (o : Option YardFault) (y new : YardMap) (slot named : Slot) → with_slot named (cond there (Err Present) (with_misfit o y)) ≡ Ok (new, slot) → (there ≡ false) × (new ≡ y) × (named ≡ slot)
+slotted : (there : Bool) (o : Option Refusal) (y new : YardMap) (slot named : Slot) → with_slot named (cond there (Err present) (with_misfit o y)) ≡ Ok (new, slot) → (there ≡ false) × (new ≡ y) × (named ≡ slot) × (o ≡ None)
 slotted true o y new slot named e = cc
 slotted false (Some f) y new slot named e = cc
-slotted false None y new slot named e = let p : (y, named) ≡ (new, slot) = cc in (refl, sym (ap (λ (q : YardMap × Slot). q.0) p), ap (λ (q : YardMap × Slot). q.1) p)
+slotted false None y new slot named e = let p : (y, named) ≡ (new, slot) = cc in (refl, sym (ap (λ (q : YardMap × Slot). q.0) p), ap (λ (q : YardMap × Slot). q.1) p, refl)
 
-first_slotted : (there : Bool) (o : Option Slot) (y new : YardMap) (b : BoxNumber) (length : Length) (slot : Slot) → cond there (Err Present) (with_first_slot o y b length) ≡ Ok (new, slot)
-    → (there ≡ false) × (new ≡ yard_map y.plan (finite_map.insert y.boxes b (placement length slot)))
+first_slotted : (there : Bool) (o : Option Slot) (y new : YardMap) (b : BoxNumber) (length : Length) (slot : Slot) → cond there (Err present) (with_first_slot o y b length) ≡ Ok (new, slot)
+    → (there ≡ false) × (new ≡ yard_map y.plan (finite_map.insert y.boxes b (placement length slot))) × (o ≡ Some slot)
 first_slotted true o y new b length slot e = cc
 first_slotted false None y new b length slot e = cc
 first_slotted false (Some first) y new b length slot e =
-    let p : (yard_map y.plan (finite_map.insert y.boxes b (placement length first)), first) ≡ (new, slot) = cc in
-    (refl, sym (ap (λ (q : YardMap × Slot). q.0) p) ∙ ap (λ (s : Slot). yard_map y.plan (finite_map.insert y.boxes b (placement length s))) (ap (λ (q : YardMap × Slot). q.1) p))
+    let p : (yard_map y.plan (finite_map.insert y.boxes b (placement length first)), first) ≡ (new, slot) = cc in (
+      refl,
+      sym (ap (λ (q : YardMap × Slot). q.0) p) ∙ ap (λ (s : Slot). yard_map y.plan (finite_map.insert y.boxes b (placement length s))) (ap (λ (q : YardMap × Slot). q.1) p),
+      ap Some (ap (λ (q : YardMap × Slot). q.1) p),
+    )
+
+no_misfit : (o : Option Refusal) → is_none o ≡ true → o ≡ None
+no_misfit None e = refl
+no_misfit (Some f) e = cc
+
+first_fits : (plan : List Block) (boxes : Boxes) (length : Length) (slot : Slot) → first_fit plan boxes length ≡ Some slot → misfit_of plan boxes (placement length slot) ≡ None
+unfolding first_fit
+first_fits plan boxes length slot e = no_misfit (misfit_of plan boxes (placement length slot)) (found_is (λ other. is_none (misfit_of plan boxes (placement length other))) every_slot slot e).2
 
 -- one container more
 pub record Comes (old new : YardMap) (b : BoxNumber) (s : Placement) : Type 0 where
   pub absent : is_some (finite_map.get old.boxes b) ≡ false
   pub boxes : new.boxes ≡ finite_map.insert old.boxes b s
+  pub fits : misfit_of old.plan old.boxes s ≡ None
 
 pub comes : (y new : YardMap) (entry : EntryContent) (o : Option Slot) (slot : Slot) → settled_in y entry o ≡ Ok (new, slot) → Comes y new entry.number (placement (length_of entry.size_type) slot)
 comes y new entry (Some named) slot e =
     let is = slotted (is_some (finite_map.get y.boxes entry.number)) (misfit_of y.plan y.boxes (placement (length_of entry.size_type) named)) (yard_map y.plan (finite_map.insert y.boxes entry.number (placement (length_of entry.size_type) named))) new slot named e in
-    record { absent = is.0; boxes = ap (λ (v : YardMap). v.boxes) is.1 ∙ ap (λ s. finite_map.insert y.boxes entry.number (placement (length_of entry.size_type) s)) is.2 }
+    record {
+      absent = is.0;
+      boxes = ap (λ (v : YardMap). v.boxes) is.1 ∙ ap (λ s. finite_map.insert y.boxes entry.number (placement (length_of entry.size_type) s)) is.2;
+      fits = ap (λ s. misfit_of y.plan y.boxes (placement (length_of entry.size_type) s)) (sym is.2) ∙ is.3;
+    }
 comes y new entry None slot e =
     let is = first_slotted (is_some (finite_map.get y.boxes entry.number)) (first_fit y.plan y.boxes (length_of entry.size_type)) y new entry.number (length_of entry.size_type) slot e in
-    record { absent = is.0; boxes = ap (λ (v : YardMap). v.boxes) is.1 }
+    record { absent = is.0; boxes = ap (λ (v : YardMap). v.boxes) is.1; fits = first_fits y.plan y.boxes (length_of entry.size_type) slot is.2 }
 
 -- one container less
 pub record Goes (old new : YardMap) (b : BoxNumber) (s : Placement) : Type 0 where
@@ -82,48 +98,27 @@ goes (Some t) y new b s e =
     (ap Some is.0, ap (λ (v : YardMap). v.boxes) is.1)
 
 -- a container elsewhere
-shifts_free : (o : Option BoxNumber) (m : Option YardFault) (y new : YardMap) → unless_buried o (with_misfit m y) ≡ Ok new → new ≡ y
+shifts_free : (o : Option BoxNumber) (m : Option Refusal) (y new : YardMap) → unless_buried o (with_misfit m y) ≡ Ok new → (new ≡ y) × (m ≡ None)
 shifts_free (Some b) m y new e = cc
 shifts_free None (Some f) y new e = cc
-shifts_free None None y new e = cc
+shifts_free None None y new e = let p : y ≡ new = cc in (sym p, refl)
 
 pub shifts : (o : Option Placement) (y new : YardMap) (b : BoxNumber) (slot : Slot) → shifted_at o y b slot ≡ Ok new
-    → (s : Placement) × (o ≡ Some s) × (new.boxes ≡ finite_map.insert y.boxes b (placement s.length slot))
+    → (s : Placement) × (o ≡ Some s) × (new.boxes ≡ finite_map.insert y.boxes b (placement s.length slot)) × (misfit_of y.plan (finite_map.remove y.boxes b) (placement s.length slot) ≡ None)
 shifts None y new b slot e = cc
-shifts (Some s) y new b slot e = (
-  s,
-  refl,
-  ap (λ (v : YardMap). v.boxes)
-      (shifts_free (blocker_of y.boxes s) (misfit_of y.plan (finite_map.remove y.boxes b) (placement s.length slot)) (yard_map y.plan (finite_map.insert y.boxes b (placement s.length slot))) new e),
-)
+shifts (Some s) y new b slot e =
+    let is = shifts_free (blocker_of y.boxes s) (misfit_of y.plan (finite_map.remove y.boxes b) (placement s.length slot)) (yard_map y.plan (finite_map.insert y.boxes b (placement s.length slot))) new e in
+    (s, refl, ap (λ (v : YardMap). v.boxes) is.0, is.1)
 
 -- ---- places
 
-in_placed_map : (m n : Boxes) (b q : BoxNumber) (s : Placement) → n ≡ finite_map.insert m b s → finite_map.get n q ≡ cond (bytes_eq b q) (Some s) (finite_map.get m q)
-in_placed_map m n b q s e = ap (λ (boxes : Boxes). finite_map.get boxes q) e ∙ finite_map.get-insert nat_list_cmp_total m b s q ∙ ap (λ v. cond v (Some s) (finite_map.get m q)) (tied b q)
-
-in_removed_map : (m n : Boxes) (b q : BoxNumber) → n ≡ finite_map.remove m b → finite_map.get n q ≡ cond (bytes_eq b q) None (finite_map.get m q)
-in_removed_map m n b q e = ap (λ (boxes : Boxes). finite_map.get boxes q) e ∙ finite_map.get-remove nat_list_cmp_total m b q ∙ ap (λ v. cond v None (finite_map.get m q)) (tied b q)
-
-abbrev pub placed_by : Option VisitContent → Option Placement → Option Place
-placed_by visit o = option_map (λ s. place_in (number_of_visit visit) s.slot) o
+abbrev pub placed_by : Option VisitContent → Option Placement → Option Standing
+placed_by visit o = option_map (λ s. standing_in (number_of_visit visit) s.slot) o
 
 -- ---- visits, one more
 
-find_last : {A : Type 0} (p : A → Bool) (xs : List A) (x : A) → p x ≡ false → find p (xs ++ x ∷ []) ≡ find p xs
-find_last p [] x e = ap (λ v. cond v (Some x) None) e
-find_last p (y ∷ xs) x e = ap (cond (p y) (Some y)) (find_last p xs x e)
-
-past : {A : Type 0} (v : Bool) (y x : A) (o after : Option A) → is_some (cond v (Some y) o) ≡ false → (is_some o ≡ false → after ≡ Some x) → cond v (Some y) after ≡ Some x
-past true y x o after e h = cc
-past false y x o after e h = h e
-
-find_new : {A : Type 0} (p : A → Bool) (xs : List A) (x : A) → p x ≡ true → is_some (find p xs) ≡ false → find p (xs ++ x ∷ []) ≡ Some x
-find_new p [] x e none = ap (λ v. cond v (Some x) None) e
-find_new p (y ∷ xs) x e none = past (p y) y x (find p xs) (find p (xs ++ x ∷ [])) none (find_new p xs x e)
-
 came_place : (state : TerminalState) (y : YardMap) (v : VisitContent) (s : Placement) (q : BoxNumber) (is : Bool) → IsWhole state → Comes state.yard y v.container s → v.departure ≡ None → bytes_eq v.container q ≡ is
-    → cond is (Some (place_in v.number s.slot)) (place_of state q) ≡ placed_by (find (is_open_visit q) (state.visits ++ v ∷ [])) (cond is (Some s) (finite_map.get state.yard.boxes q))
+    → cond is (Some (standing_in v.number s.slot)) (standing_of state q) ≡ placed_by (find (is_open_visit q) (state.visits ++ v ∷ [])) (cond is (Some s) (finite_map.get state.yard.boxes q))
 came_place state y v s q true whole came still e =
     let open_ : is_open_visit q v ≡ true = ap (λ d. bytes_eq v.container q && is_none d) still ∙ and_true _ ∙ e in
     let none : is_some (open_visit state q) ≡ false = sym (whole.here q) ∙ ap (is_in state) (same_bytes v.container q e) ∙ came.absent in
@@ -202,17 +197,17 @@ other_number departure b q (v ∷ visits) e =
     (closed_open departure b q v ∙ ap (λ t. is_open_visit q v && not t) e ∙ and_true _) (kept_number departure v (is_open_visit b v)) (other_number departure b q visits e)
 
 went_place : (state : TerminalState) (departure : Departure) (b q : BoxNumber) (is : Bool) → bytes_eq b q ≡ is
-    → cond is None (place_of state q) ≡ placed_by (find (is_open_visit q) (map (closed departure b) state.visits)) (cond is None (finite_map.get state.yard.boxes q))
+    → cond is None (standing_of state q) ≡ placed_by (find (is_open_visit q) (map (closed departure b) state.visits)) (cond is None (finite_map.get state.yard.boxes q))
 went_place state departure b q true e = refl
 went_place state departure b q false e =
-    sym (ap (λ n. option_map (λ s. place_in n s.slot) (finite_map.get state.yard.boxes q)) (other_number departure b q state.visits e))
+    sym (ap (λ n. option_map (λ s. standing_in n s.slot) (finite_map.get state.yard.boxes q)) (other_number departure b q state.visits e))
 
 -- ---- moving
 
 moved_place_is : (state : TerminalState) (b q : BoxNumber) (slot : Slot) (s : Placement) (is : Bool) → finite_map.get state.yard.boxes b ≡ Some s → bytes_eq b q ≡ is
-    → cond is (option_map (moved_place slot) (place_of state b)) (place_of state q) ≡ placed_by (open_visit state q) (cond is (Some (placement s.length slot)) (finite_map.get state.yard.boxes q))
+    → cond is (option_map (standing_elsewhere slot) (standing_of state b)) (standing_of state q) ≡ placed_by (open_visit state q) (cond is (Some (placement s.length slot)) (finite_map.get state.yard.boxes q))
 moved_place_is state b q slot s true stood e =
-    ap (λ o. option_map (moved_place slot) (placed_by (open_visit state b) o)) stood ∙ ap (λ c. Some (place_in (number_of_visit (open_visit state c)) slot)) (sym (same_bytes b q e))
+    ap (λ o. option_map (standing_elsewhere slot) (placed_by (open_visit state b) o)) stood ∙ ap (λ c. Some (standing_in (number_of_visit (open_visit state c)) slot)) (sym (same_bytes b q e))
 moved_place_is state b q slot s false stood e = refl
 
 -- ---- steps
@@ -225,13 +220,13 @@ pub either : {A : Type 0} (P : A → Type 0) (v : Bool) (a b : A) → P a → P 
 either P true a b one other = one
 either P false a b one other = other
 
-turned_entered_at : (state : TerminalState) (way : Way) (source : Source) (entry : EntryContent) (r : Result (YardMap × Slot) YardFault) → IsWhole state → settled state.yard entry ≡ r → Turns state (entered_at state way source entry r)
+turned_entered_at : (state : TerminalState) (way : Way) (source : Source) (entry : EntryContent) (r : Result (YardMap × Slot) Refusal) → IsWhole state → settled state.yard entry ≡ r → Turns state (entered_at state way source entry r)
 turned_entered_at state way source entry (Err f) whole e = refl
 turned_entered_at state way source entry (Ok (y, slot)) whole e =
     let v : VisitContent = visit_of state way source entry slot in
     let s : Placement = placement (length_of entry.size_type) slot in
     let came : Comes state.yard y entry.number s = comes state.yard y entry entry.slot slot e in
-    let places : (q : BoxNumber) → update bytes_eq (place_of state) entry.number (Some (place_in (length state.visits + 1) slot)) q ≡ place_of (record state { yard = y; visits = state.visits ++ v ∷ [] }) q =
+    let places : (q : BoxNumber) → update bytes_eq (standing_of state) entry.number (Some (standing_in (length state.visits + 1) slot)) q ≡ standing_of (record state { yard = y; visits = state.visits ++ v ∷ [] }) q =
     λ q. came_place state y v s q (bytes_eq entry.number q) whole came refl refl ∙ ap (placed_by (find (is_open_visit q) (state.visits ++ v ∷ []))) (sym (in_placed_map state.yard.boxes y.boxes entry.number q s came.boxes)) in
     λ i. record { visits = state.visits ++ v ∷ []; places = λ q. places q i; lines = state.lines }
 
@@ -243,25 +238,25 @@ pub found : {A : Type 0} (o : Option A) → is_some o ≡ true → (x : A) × (o
 found None e = cc
 found (Some x) e = (x, refl)
 
-turned_departed_at : (state : TerminalState) (b : BoxNumber) (departure : Departure) (r : Result (YardMap × Placement) YardFault) → IsWhole state → removed state.yard b ≡ r → Turns state (departed_at state b departure r)
+turned_departed_at : (state : TerminalState) (b : BoxNumber) (departure : Departure) (r : Result (YardMap × Placement) Refusal) → IsWhole state → removed state.yard b ≡ r → Turns state (departed_at state b departure r)
 turned_departed_at state b departure (Err f) whole e = refl
 turned_departed_at state b departure (Ok (y, s)) whole e =
     let went = goes (finite_map.get state.yard.boxes b) state.yard y b s e in
     let visit = found (open_visit state b) (sym (whole.here b) ∙ ap is_some went.0) in
     let visits : map (closed_as (number_of_visit (open_visit state b)) departure) state.visits ≡ close_visit state b departure =
     ap (λ o. map (closed_as (number_of_visit o) departure) state.visits) visit.1 ∙ closed_by_number departure b 1 state.visits visit.0 whole.numbered (whole.one_visit b) visit.1 in
-    let places : (q : BoxNumber) → update bytes_eq (place_of state) b None q ≡ place_of (record state { yard = y; visits = close_visit state b departure }) q =
+    let places : (q : BoxNumber) → update bytes_eq (standing_of state) b None q ≡ standing_of (record state { yard = y; visits = close_visit state b departure }) q =
     λ q. went_place state departure b q (bytes_eq b q) refl ∙ ap (placed_by (find (is_open_visit q) (close_visit state b departure))) (sym (in_removed_map state.yard.boxes y.boxes b q went.1)) in
     λ i. record { visits = visits i; places = λ q. places q i; lines = state.lines }
 
 pub turned_departed : (state : TerminalState) (way : Way) (source : Source) (b : BoxNumber) (moment : CivilMoment) → IsWhole state → Turns state (departed state way source b moment)
 turned_departed state way source b moment whole = turned_departed_at state b (departure_by way source moment) (removed state.yard b) whole refl
 
-turned_moved_at : (state : TerminalState) (b : BoxNumber) (slot : Slot) (r : Result YardMap YardFault) → shifted state.yard b slot ≡ r → Turns state (moved_at state b slot r)
+turned_moved_at : (state : TerminalState) (b : BoxNumber) (slot : Slot) (r : Result YardMap Refusal) → shifted state.yard b slot ≡ r → Turns state (moved_at state b slot r)
 turned_moved_at state b slot (Err f) e = refl
 turned_moved_at state b slot (Ok y) e =
     let is = shifts (finite_map.get state.yard.boxes b) state.yard y b slot e in
-    let places : (q : BoxNumber) → update bytes_eq (place_of state) b (option_map (moved_place slot) (place_of state b)) q ≡ place_of (record state { yard = y }) q =
+    let places : (q : BoxNumber) → update bytes_eq (standing_of state) b (option_map (standing_elsewhere slot) (standing_of state b)) q ≡ standing_of (record state { yard = y }) q =
     λ q. moved_place_is state b q slot is.0 (bytes_eq b q) is.1 refl ∙ ap (placed_by (open_visit state q)) (sym (in_placed_map state.yard.boxes y.boxes b q (placement is.0.length slot) is.2)) in
     λ i. record { visits = state.visits; places = λ q. places q i; lines = state.lines }
 
@@ -279,11 +274,11 @@ one_after rows (c ∷ changes) change = one_after (changed rows c) changes chang
 abbrev pub KeepsLines : TerminalState → Stepped → Type 0
 KeepsLines state after = after.state.lines ≡ state.lines
 
-pub entered_keeps : (state : TerminalState) (way : Way) (source : Source) (entry : EntryContent) (r : Result (YardMap × Slot) YardFault) → KeepsLines state (entered_at state way source entry r)
+pub entered_keeps : (state : TerminalState) (way : Way) (source : Source) (entry : EntryContent) (r : Result (YardMap × Slot) Refusal) → KeepsLines state (entered_at state way source entry r)
 entered_keeps state way source entry (Err f) = refl
 entered_keeps state way source entry (Ok (y, slot)) = refl
 
-pub departed_keeps : (state : TerminalState) (b : BoxNumber) (departure : Departure) (r : Result (YardMap × Placement) YardFault) → KeepsLines state (departed_at state b departure r)
+pub departed_keeps : (state : TerminalState) (b : BoxNumber) (departure : Departure) (r : Result (YardMap × Placement) Refusal) → KeepsLines state (departed_at state b departure r)
 departed_keeps state b departure (Err f) = refl
 departed_keeps state b departure (Ok (y, s)) = refl
 

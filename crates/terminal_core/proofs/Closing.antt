@@ -8,7 +8,6 @@ use Rattle.terminal_core.specs.declared.departure.Departure.{Departure}
 use Rattle.terminal_core.specs.Rows.{VisitContent, visit_content}
 use Rattle.terminal_core.specs.State.{is_open_visit}
 use Rattle.terminal_core.specs.Step.{closed}
-use Rattle.terminal_core.specs.Calls.{HasOneVisit, NoneOpenFrom}
 
 module _ (b : BoxNumber) where
   counted : (v : Bool) (x : VisitContent) (xs : List VisitContent) → length (cond v (x ∷ xs) xs) ≡ cond v 1 0 + length xs
@@ -89,29 +88,4 @@ module _ (b : BoxNumber) where
             counted_in (is_open_visit b (visit_content v)) (visit_content v) (filter (is_open_visit b) (map visit_content visits)) other in
             absurd (omega arith)
         | false ↦ λ other. let rest : length (filter (is_open_visit b) (map visit_content visits)) ≤ 1 = omega arith in finds visits place visit rest at is
-      ] refl
-
-  none_found : (visits : List Visit) (is : Bool) (v : Visit) → is ≡ false → is_some (find (is_open_visit b) (map visit_content visits)) ≡ false → is_some (cond is (Some (visit_content v)) (find (is_open_visit b) (map visit_content visits))) ≡ false
-  none_found visits is v e h = ap (λ w. is_some (cond w (Some (visit_content v)) (find (is_open_visit b) (map visit_content visits)))) e ∙ h
-
-  pub finds_none : (visits : List Visit) → ((k : ℕ) (visit : Visit) → slice_get visits k ≡ Some visit → is_open_visit b (visit_content visit) ≡ false) → is_some (find (is_open_visit b) (map visit_content visits)) ≡ false
-  finds_none [] none = refl
-  finds_none (v ∷ visits) none = none_found visits (is_open_visit b (visit_content v)) v (none 0 v refl) (finds_none visits (λ k visit at. none (suc k) visit at))
-
-  -- one that has an open visit has one that is found
-  pub is_found : (P : Type 0) (visits : List Visit) → HasOneVisit b (map visit_content visits) → NoneOpenFrom b visits 0 → P
-  is_found P visits has none = let a : is_some (find (is_open_visit b) (map visit_content visits)) ≡ false = finds_none visits (λ k visit at. none k visit (omega arith) at) in let t : is_some (find (is_open_visit b) (map visit_content visits)) ≡ true = has.here in absurd (let bad : true ≡ false = sym t ∙ a in cc)
-
-  -- one place further back
-  pub none_from : (visits : List Visit) (place : ℕ) (visit : Visit) → 0 < place → slice_get visits (place - 1) ≡ Some visit → is_open_visit b (visit_content visit) ≡ false
-      → NoneOpenFrom b visits place → NoneOpenFrom b visits (place - 1)
-  none_from visits place visit some at shut none k v from there =
-      elim (nat_le place k) as (λ w. nat_le place k ≡ w → is_open_visit b (visit_content v) ≡ false) [
-        | true ↦ λ e. none k v (leb-true place k e) there
-        | false ↦ λ e.
-            let low : k < place = leb-false place k e in
-            let same : place - 1 ≡ k = omega arith in
-            let met : Some visit ≡ Some v = sym at ∙ ap (slice_get visits) same ∙ there in
-            let is : visit ≡ v = cc in
-            sym (ap (λ (u : Visit). is_open_visit b (visit_content u)) is) ∙ shut
       ] refl

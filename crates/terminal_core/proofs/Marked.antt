@@ -7,7 +7,7 @@ use Rattle.std.proofs.lemmas.Option.{slice_get_within}
 use Rattle.std.proofs.lemmas.List.{get_or-set_same, get_or-set_other}
 use Rattle.std.proofs.lemmas.List.Folds.{list_any_more, Any-from_list_any, list_any-from_Any}
 use Rattle.std.proofs.Math.Bool.{or-true}
-use Rattle.terminal_core.specs.declared.stay.Stay.{Stay}
+use Rattle.terminal_core.specs.declared.place.Place.{Place}
 use Rattle.terminal_core.specs.declared.visit.Visit.{Visit}
 use Rattle.terminal_core.specs.Rows.{VisitContent, visit_content}
 use Rattle.terminal_core.specs.State.{AreNumbered}
@@ -19,15 +19,15 @@ or_false true = refl
 or_false false = refl
 
 -- the place names the visit at k
-abbrev pub names_number : ℕ → Stay → Bool
+abbrev pub names_number : ℕ → Place → Bool
 names_number k place = eqb place.visit (k + 1)
 
-pub marked_more : (marks : List Bool) (count : ℕ) (places : List Stay) (i : ℕ) (place : Stay) → length marks ≡ count → i < length places → place ≡ get_or places i place → 1 ≤ place.visit → place.visit ≤ count
+pub marked_more : (marks : List Bool) (count : ℕ) (places : List Place) (i : ℕ) (place : Place) → length marks ≡ count → i < length places → place ≡ get_or places i place → 1 ≤ place.visit → place.visit ≤ count
     → ((k : ℕ) → k < count → get_or marks k false ≡ list_any (names_number k) (take i places))
     → (k : ℕ) → k < count → get_or (set marks (place.visit - 1) true) k false ≡ list_any (names_number k) (take (i + 1) places)
 marked_more marks count places i place long low at high within before k short =
     let more : list_any (names_number k) (take (i + 1) places) ≡ (list_any (names_number k) (take i places) || names_number k place) =
-    list_any_more (names_number k) places i place low ∙ ap (λ (p : Stay). list_any (names_number k) (take i places) || names_number k p) (sym at) in
+    list_any_more (names_number k) places i place low ∙ ap (λ (p : Place). list_any (names_number k) (take i places) || names_number k p) (sym at) in
     elim (cases_eq k (place.visit - 1)) [
       | inl same ↦ (let is : names_number k place ≡ true = eq-eqb place.visit (k + 1) (omega arith) in
           ap (λ j. get_or (set marks (place.visit - 1) true) j false) same ∙ get_or-set_same marks (place.visit - 1) true false (omega arith)
@@ -37,7 +37,7 @@ marked_more marks count places i place long low at high within before k short =
           ∙ sym (more ∙ ap (λ v. list_any (names_number k) (take i places) || v) isnt ∙ or_false (list_any (names_number k) (take i places))))
     ]
 
-module _ (visits : List Visit) (places : List Stay) (marks : List Bool) (are : AreNumbered 1 (map visit_content visits))
+module _ (visits : List Visit) (places : List Place) (marks : List Bool) (are : AreNumbered 1 (map visit_content visits))
     (told : (k : ℕ) → k < length visits → get_or marks k false ≡ list_any (names_number k) places) where
   pub named_where_marked : ((k : ℕ) (visit : Visit) → slice_get visits k ≡ Some visit → is_none visit.departure ≡ true → get_or marks k false ≡ true) → AreNamed (map visit_content visits) places
   named_where_marked marked visit inside open_ =

@@ -2,7 +2,7 @@
 use Rattle.std.proofs.Common.{◌≡◌, ℕ, ◌+◌, ◌-◌, ◌<◌, ◌≤◌, zero, suc, List, [], ◌∷◌, length, map, true, Some, refl, sym, ap, ◌∙◌, arith}
 use Rattle.std.specs.Prelude.{slice_get, Contains}
 use Rattle.std.proofs.lemmas.Option.{slice_get-get_or, slice_get_within, get_or_from_slice_get, same_Some}
-use Rattle.terminal_core.specs.declared.stay.Stay.{Stay}
+use Rattle.terminal_core.specs.declared.place.Place.{Place}
 use Rattle.terminal_core.specs.declared.visit.Visit.{Visit}
 use Rattle.terminal_core.specs.Rows.{VisitContent, visit_content}
 use Rattle.terminal_core.specs.State.{is_open_visit, AreNumbered}
@@ -45,7 +45,7 @@ row_number visits k visit are at = number_at 1 (map visit_content visits) k (vis
 
 -- ---- the visit that a place names
 
-module _ (visits : List VisitContent) (are : AreNumbered 1 visits) (place : Stay) where
+module _ (visits : List VisitContent) (are : AreNumbered 1 visits) (place : Place) where
   pub named_at : (visit : VisitContent) → Names visits place visit → slice_get visits (place.visit - 1) ≡ Some visit
   named_at visit names =
       let at : slice_get visits names.listed.0 ≡ Some visit = found_at visits visit names.listed in

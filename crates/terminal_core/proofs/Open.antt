@@ -101,6 +101,20 @@ count_mapped p q f k h (x ∷ xs) =
     let g : cond (p x && k) 1 0 ≤ cond (p x) 1 0 = fewer (p x) k in
     omega arith
 
+-- ---- one test more
+
+pub find_last : {A : Type 0} (p : A → Bool) (xs : List A) (x : A) → p x ≡ false → find p (xs ++ x ∷ []) ≡ find p xs
+find_last p [] x e = ap (λ v. cond v (Some x) None) e
+find_last p (y ∷ xs) x e = ap (cond (p y) (Some y)) (find_last p xs x e)
+
+past : {A : Type 0} (v : Bool) (y x : A) (o after : Option A) → is_some (cond v (Some y) o) ≡ false → (is_some o ≡ false → after ≡ Some x) → cond v (Some y) after ≡ Some x
+past true y x o after e h = cc
+past false y x o after e h = h e
+
+pub find_new : {A : Type 0} (p : A → Bool) (xs : List A) (x : A) → p x ≡ true → is_some (find p xs) ≡ false → find p (xs ++ x ∷ []) ≡ Some x
+find_new p [] x e none = ap (λ v. cond v (Some x) None) e
+find_new p (y ∷ xs) x e none = past (p y) y x (find p xs) (find p (xs ++ x ∷ [])) none (find_new p xs x e)
+
 -- ---- closing
 
 shut : (e n : Bool) → (e && false) ≡ ((e && n) && not e)

@@ -29,7 +29,7 @@ use Rattle.yard_core.proofs.Refusals.{misfits_not_open}
 use Rattle.yard_core.proofs.Sounds.{still}
 use Rattle.terminal_core.specs.declared.restore_fault.RestoreFault.{RestoreFault}
 use Rattle.terminal_core.specs.declared.restore_fault.RestoreFault.TheVariants.{Unsound, Memory}
-use Rattle.terminal_core.specs.declared.stay.Stay.{Stay}
+use Rattle.terminal_core.specs.declared.place.Place.{Place}
 use Rattle.terminal_core.specs.Rows.{VisitContent}
 use Rattle.terminal_core.specs.State.{AreNumbered}
 use Rattle.terminal_core.specs.Restoring.{Names, Stands, ArePlacesOf, IsPut, RefusesPut, RefusesPlaces, cause_of}
@@ -72,7 +72,7 @@ not_refused y b s yard.Taken other absent open_ h = misfits_not_open y.plan (fin
 not_refused y b s yard.OnAir other absent open_ h = misfits_not_open y.plan (finite_map.get y.boxes) s yard.OnAir h.1 open_
 not_refused y b s yard.NoRoom other absent open_ h = misfits_not_open y.plan (finite_map.get y.boxes) s yard.NoRoom h.1 open_
 
-module _ (visits : List VisitContent) (are : AreNumbered 1 visits) (y : YardMap) (place : Stay) (visit : VisitContent) (names : Names visits place visit) where
+module _ (visits : List VisitContent) (are : AreNumbered 1 visits) (y : YardMap) (place : Place) (visit : VisitContent) (names : Names visits place visit) where
   refused_for : (f : YardFault) → f ≢ yard.Memory → RefusesPlace y place.container (placement (length_of visit.size_type) place.slot) f → RefusesPut visits y place Unsound
   refused_for f other h = λ also named. (
     f,
@@ -94,12 +94,12 @@ module _ (visits : List VisitContent) (are : AreNumbered 1 visits) (y : YardMap)
 -- ---- the places one after another
 
 module _ (visits : List VisitContent) (are : AreNumbered 1 visits) where
-  pub same_stand : (one two : Boxes) (place : Stay) → Stands visits one place → Stands visits two place → finite_map.get one place.container ≡ finite_map.get two place.container
+  pub same_stand : (one two : Boxes) (place : Place) → Stands visits one place → Stands visits two place → finite_map.get one place.container ≡ finite_map.get two place.container
   same_stand one two place is also =
       is.stands ∙ ap (λ (v : VisitContent). Some (placement (length_of v.size_type) place.slot)) (one_named visits are place is.visit also.visit is.names also.names) ∙ sym also.stands
 
 -- a place more
-module _ (visits : List VisitContent) (old new : YardMap) (places : List Stay) (place : Stay) (before : ArePlacesOf visits old.boxes places) (put : IsPut visits old new place) where
+module _ (visits : List VisitContent) (old new : YardMap) (places : List Place) (place : Place) (before : ArePlacesOf visits old.boxes places) (put : IsPut visits old new place) where
   stood : Placement
   stood = placement (length_of put.visit.size_type) place.slot
 
@@ -110,12 +110,12 @@ module _ (visits : List VisitContent) (old new : YardMap) (places : List Stay) (
   stays : (q : Box) (t : Placement) → finite_map.get old.boxes q ≡ Some t → finite_map.get new.boxes q ≡ Some t
   stays q t e = still old.plan (placement_of old.boxes) (placement_of new.boxes) place.container stood adds put.places.absent q t e
 
-  not_there : (other : Stay) → Contains places other → bytes_eq other.container place.container ≡ true → ⊥
+  not_there : (other : Place) → Contains places other → bytes_eq other.container place.container ≡ true → ⊥
   not_there other inside same =
       let stand = before.each other inside in
       none-some (placement (length_of stand.visit.size_type) other.slot) (sym put.places.absent ∙ ap (finite_map.get old.boxes) (same_bytes other.container place.container same) ∙ stand.stands)
 
-  stands_now : (other : Stay) → Contains places other → Stands visits new.boxes other
+  stands_now : (other : Place) → Contains places other → Stands visits new.boxes other
   stands_now other inside = let stand = before.each other inside in record { visit = stand.visit; names = stand.names; stands = stays other.container _ stand.stands }
 
   stands_here : Stands visits new.boxes place
@@ -135,7 +135,7 @@ module _ (visits : List VisitContent) (old new : YardMap) (places : List Stay) (
   one_place_more = record {
     each = λ other inside. elim (Contains-push_cases places place other inside) [
       | inl old_one ↦ stands_now other old_one
-      | inr same ↦ (let P : Stay → Type 0 = Stands visits new.boxes in subst P same stands_here)
+      | inr same ↦ (let P : Place → Type 0 = Stands visits new.boxes in subst P same stands_here)
     ];
     every = λ container s e. elim (box_cases container place.container) [
       | inl same ↦ (place, Contains-push places place, sym same)
@@ -152,11 +152,11 @@ module _ (visits : List VisitContent) (old new : YardMap) (places : List Stay) (
         ] refl);
   }
 
-pub one_more_taken : (visits : List VisitContent) (old new : YardMap) (places : List Stay) (i : ℕ) (place : Stay) → i < length places → place ≡ get_or places i place → ArePlacesOf visits old.boxes (take i places) → IsPut visits old new place
+pub one_more_taken : (visits : List VisitContent) (old new : YardMap) (places : List Place) (i : ℕ) (place : Place) → i < length places → place ≡ get_or places i place → ArePlacesOf visits old.boxes (take i places) → IsPut visits old new place
     → ArePlacesOf visits new.boxes (take (i + 1) places)
 one_more_taken visits old new places i place low at before put =
-    let more : take (i + 1) places ≡ take i places ++ place ∷ [] = take_more places i place low ∙ ap (λ (p : Stay). take i places ++ p ∷ []) (sym at) in
-    let P : List Stay → Type 0 = ArePlacesOf visits new.boxes in
+    let more : take (i + 1) places ≡ take i places ++ place ∷ [] = take_more places i place low ∙ ap (λ (p : Place). take i places ++ p ∷ []) (sym at) in
+    let P : List Place → Type 0 = ArePlacesOf visits new.boxes in
     subst P (sym more) (one_place_more visits old new (take i places) place before put)
 
 -- no place yet
@@ -168,7 +168,7 @@ none_taken visits boxes e = record {
 }
 
 -- in another order
-pub places_moved : (visits : List VisitContent) (boxes : Boxes) (places moved : List Stay) → IsPermutation places moved → ArePlacesOf visits boxes places → ArePlacesOf visits boxes moved
+pub places_moved : (visits : List VisitContent) (boxes : Boxes) (places moved : List Place) → IsPermutation places moved → ArePlacesOf visits boxes places → ArePlacesOf visits boxes moved
 places_moved visits boxes places moved perm all = record {
   each = λ other inside. all.each other (Contains-permutation moved places other (IsPermutation-sym places moved perm) inside);
   every = λ container s there. (let stand = all.every container s there in (stand.0, Contains-permutation places moved stand.0 perm stand.1, stand.2));
@@ -180,10 +180,10 @@ places_moved visits boxes places moved perm all = record {
 
 -- ---- where a sound yard has these places, the next is never refused
 
-module _ (plan : List Block) (valid : IsPlan plan) (visits : List VisitContent) (are : AreNumbered 1 visits) (places : List Stay) (rising : IsNonDecreasingBy (λ (p : Stay). p.slot.tier) places)
+module _ (plan : List Block) (valid : IsPlan plan) (visits : List VisitContent) (are : AreNumbered 1 visits) (places : List Place) (rising : IsNonDecreasingBy (λ (p : Place). p.slot.tier) places)
     (boxes : Boxes) (sound : IsSound plan (finite_map.get boxes)) (all : ArePlacesOf visits boxes places)
-    (y : YardMap) (same_plan : y.plan ≡ plan) (i : ℕ) (place : Stay) (low : i < length places) (at : place ≡ get_or places i place) (so_far : ArePlacesOf visits y.boxes (take i places)) where
-  inside_all : (other : Stay) → Contains (take i places) other → Contains places other
+    (y : YardMap) (same_plan : y.plan ≡ plan) (i : ℕ) (place : Place) (low : i < length places) (at : place ≡ get_or places i place) (so_far : ArePlacesOf visits y.boxes (take i places)) where
+  inside_all : (other : Place) → Contains (take i places) other → Contains places other
   inside_all other (k, short, is) =
       let long : length (take i places) ≡ i = length-take-le i places (omega arith) in
       (k, omega arith, sym (get_or-take i places k other (omega arith)) ∙ is)
@@ -197,12 +197,12 @@ module _ (plan : List Block) (valid : IsPlan plan) (visits : List VisitContent) 
   place_inside : Contains places place
   place_inside = (i, low, sym at)
 
-  taken_first : (other : Stay) → Contains places other → other.slot.tier < place.slot.tier → Contains (take i places) other
+  taken_first : (other : Place) → Contains places other → other.slot.tier < place.slot.tier → Contains (take i places) other
   taken_first other (k, short, is) under = elim (cases_lt k i) [
     | inl first ↦ (let long : length (take i places) ≡ i = length-take-le i places (omega arith) in (k, omega arith, get_or-take i places k other first ∙ is))
     | inr later ↦ (let up : (get_or places i place).slot.tier ≤ (get_or places k place).slot.tier = rising i k place later short in
-        let here : (get_or places i place).slot.tier ≡ place.slot.tier = ap (λ (p : Stay). p.slot.tier) (sym at) in
-        let there : (get_or places k place).slot.tier ≡ other.slot.tier = ap (λ (p : Stay). p.slot.tier) (get_or_default places k place other short ∙ is) in
+        let here : (get_or places i place).slot.tier ≡ place.slot.tier = ap (λ (p : Place). p.slot.tier) (sym at) in
+        let there : (get_or places k place).slot.tier ≡ other.slot.tier = ap (λ (p : Place). p.slot.tier) (get_or_default places k place other short ∙ is) in
         absurd (omega arith))
   ]
 
@@ -233,7 +233,7 @@ module _ (plan : List Block) (valid : IsPlan plan) (visits : List VisitContent) 
       let open_ : P plan = still_open plan (finite_map.get boxes) (finite_map.get y.boxes) (placement (length_of stand.visit.size_type) place.slot) kept lower place.container valid.sized sound stand.stands absent in
       not_refused y place.container (placement (length_of stand.visit.size_type) place.slot) why.0 why.1 absent (subst P (sym same_plan) open_) why.2
 
-pub refuses_places : (plan : List Block) (visits : List VisitContent) (places : List Stay) (y : YardMap) (i : ℕ) (place : Stay) (f : RestoreFault) → IsPlan plan → AreNumbered 1 visits → IsNonDecreasingBy (λ (p : Stay). p.slot.tier) places → y.plan ≡ plan
+pub refuses_places : (plan : List Block) (visits : List VisitContent) (places : List Place) (y : YardMap) (i : ℕ) (place : Place) (f : RestoreFault) → IsPlan plan → AreNumbered 1 visits → IsNonDecreasingBy (λ (p : Place). p.slot.tier) places → y.plan ≡ plan
     → i < length places → place ≡ get_or places i place → ArePlacesOf visits y.boxes (take i places) → RefusesPut visits y place f → RefusesPlaces plan visits places f
 refuses_places plan visits places y i place Memory valid are rising same low at so_far refuses = tt
 refuses_places plan visits places y i place Unsound valid are rising same low at so_far refuses = λ boxes sound all.

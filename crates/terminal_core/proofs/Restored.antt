@@ -13,12 +13,13 @@ use Rattle.box6346.specs.declared.box_number.BoxNumber.{BoxNumber}
 use Rattle.yard_core.specs.declared.block.Block.{Block}
 use Rattle.yard_core.specs.declared.placement.Placement.{Placement}
 use Rattle.yard_core.specs.Plan.{IsPlan}
-use Rattle.yard_core.specs.YardMap.{Boxes, YardMap}
+use Rattle.box6346.specs.SizeCode.{length_of}
+use Rattle.yard_core.specs.YardMap.{Boxes, YardMap, placement}
 use Rattle.yard_core.specs.SoundYard.{IsSound}
 use Rattle.terminal_core.specs.declared.restore_fault.RestoreFault.{RestoreFault}
 use Rattle.terminal_core.specs.declared.restore_fault.RestoreFault.TheVariants.{Unsound, Memory}
 use Rattle.terminal_core.specs.declared.listing.Listing.{Listing}
-use Rattle.terminal_core.specs.declared.stay.Stay.{Stay}
+use Rattle.terminal_core.specs.declared.place.Place.{Place}
 use Rattle.terminal_core.specs.declared.visit.Visit.{Visit}
 use Rattle.terminal_core.specs.Rows.{VisitContent, visit_content}
 use Rattle.terminal_core.specs.State.{TerminalState, Lines, is_open_visit, AreNumbered, IsWhole}
@@ -32,9 +33,9 @@ use Rattle.terminal_core.proofs.Whole.{whole_listed}
 
 -- ---- the rows are those of a whole state
 
-module _ (visits : List VisitContent) (are : AreNumbered 1 visits) (boxes : Boxes) (places : List Stay) (all : ArePlacesOf visits boxes places) (named : AreNamed visits places) where
+module _ (visits : List VisitContent) (are : AreNumbered 1 visits) (boxes : Boxes) (places : List Place) (all : ArePlacesOf visits boxes places) (named : AreNamed visits places) where
   -- the place of an open visit has its container
-  place_of_open : (container : BoxNumber) (k : ℕ) (visit : VisitContent) → slice_get visits k ≡ Some visit → is_open_visit container visit ≡ true → (place : Stay) × Contains places place × (place.visit ≡ k + 1) × (place.container ≡ container)
+  place_of_open : (container : BoxNumber) (k : ℕ) (visit : VisitContent) → slice_get visits k ≡ Some visit → is_open_visit container visit ≡ true → (place : Place) × Contains places place × (place.visit ≡ k + 1) × (place.container ≡ container)
   place_of_open container k visit at is =
       let parts = and_parts (bytes_eq visit.container container) (is_none visit.departure) is in
       let place = named visit (contained visits k visit at) parts.1 in
@@ -59,7 +60,7 @@ module _ (visits : List VisitContent) (are : AreNumbered 1 visits) (boxes : Boxe
       let q = place_of_open container k w also too in
       let same : p.0 ≡ q.0 = one_passes (λ place. bytes_eq place.container container) places p.0 q.0 (all.once container) p.1 q.1
       (ap (λ b. bytes_eq b container) p.3 ∙ same_self container) (ap (λ b. bytes_eq b container) q.3 ∙ same_self container) in
-      let said : p.0.visit ≡ q.0.visit = ap (λ (s : Stay). s.visit) same in
+      let said : p.0.visit ≡ q.0.visit = ap (λ (s : Place). s.visit) same in
       let first : p.0.visit ≡ j + 1 = p.2 in
       let second : q.0.visit ≡ k + 1 = q.2 in
       omega arith)
@@ -76,7 +77,17 @@ module _ (visits : List VisitContent) (are : AreNumbered 1 visits) (boxes : Boxe
       let stand = all.each place.0 place.1 in
       ap (λ b. is_some (finite_map.get boxes b)) (sym place.3) ∙ ap is_some stand.stands)
 
-pub whole_of : (plan : List Block) (limit : ℕ) (visits : List VisitContent) (places moved : List Stay) (yard : YardMap) → IsPlan plan → yard.plan ≡ plan → IsSound yard.plan (finite_map.get yard.boxes) → AreNumbered 1 visits → length visits ≤ limit
+  length_of_open : (container : BoxNumber) (s : Placement) (visit : VisitContent) → finite_map.get boxes container ≡ Some s → find (is_open_visit container) visits ≡ Some visit → s.length ≡ length_of visit.size_type
+  length_of_open container s visit at open_ =
+      let place = all.every container s at in
+      let stand = all.each place.0 place.1 in
+      let found = found_is (is_open_visit container) visits visit open_ in
+      let its : is_open_visit container stand.visit ≡ true = ap (λ b. is_open_visit b stand.visit) (sym place.2) ∙ stand.names.is_open in
+      let same : stand.visit ≡ visit = one_passes (is_open_visit container) visits stand.visit visit (one_open container) stand.names.listed (contained visits found.0 visit found.1) its found.2 in
+      let is : s ≡ placement (length_of stand.visit.size_type) place.0.slot = same_Some s _ (sym at ∙ ap (finite_map.get boxes) (sym place.2) ∙ stand.stands) in
+      ap (λ (p : Placement). p.length) is ∙ ap (λ (v : VisitContent). length_of v.size_type) same
+
+pub whole_of : (plan : List Block) (limit : ℕ) (visits : List VisitContent) (places moved : List Place) (yard : YardMap) → IsPlan plan → yard.plan ≡ plan → IsSound yard.plan (finite_map.get yard.boxes) → AreNumbered 1 visits → length visits ≤ limit
     → IsPermutation places moved → ArePlacesOf visits yard.boxes moved → AreNamed visits moved → IsYardOf plan limit visits places yard
 whole_of plan limit visits places moved yard valid same sound are few perm all named = record {
   whole = record {
@@ -88,6 +99,7 @@ whole_of plan limit visits places moved yard valid same sound are few perm all n
         let f : count_by (is_open_visit container) visits ≤ 1 = one_open visits are yard.boxes moved all named container in
         omega arith);
     here = here_and_open visits are yard.boxes moved all named;
+    as_long = length_of_open visits are yard.boxes moved all named;
   };
   plan_is = same;
   places_are = places_moved visits yard.boxes moved places (IsPermutation-sym places moved perm) all;
@@ -95,7 +107,7 @@ whole_of plan limit visits places moved yard valid same sound are few perm all n
 
 -- ---- whole states have such rows
 
-pub named_of_whole : (limit : ℕ) (visits : List VisitContent) (places : List Stay) (yard : YardMap) → IsWhole (without_lines yard limit visits) → ArePlacesOf visits yard.boxes places → AreNamed visits places
+pub named_of_whole : (limit : ℕ) (visits : List VisitContent) (places : List Place) (yard : YardMap) → IsWhole (without_lines yard limit visits) → ArePlacesOf visits yard.boxes places → AreNamed visits places
 named_of_whole limit visits places yard whole all visit inside open_ =
     let container : BoxNumber = visit.container in
     let is : is_open_visit container visit ≡ true = ap (λ v. v && is_none visit.departure) (same_self container) ∙ open_ in
@@ -110,18 +122,18 @@ named_of_whole limit visits places yard whole all visit inside open_ =
     let same : stand.visit ≡ visit = one_passes (is_open_visit container) visits stand.visit visit few stand.names.listed inside also is in
     (place.0, place.1, sym stand.names.number ∙ ap (λ (v : VisitContent). v.number) same)
 
-pub unsound_yard : (plan : List Block) (limit : ℕ) (visits : List VisitContent) (places moved : List Stay) (f : RestoreFault) → IsPermutation places moved → RefusesPlaces plan visits moved f → RefusesYard plan limit visits places f
+pub unsound_yard : (plan : List Block) (limit : ℕ) (visits : List VisitContent) (places moved : List Place) (f : RestoreFault) → IsPermutation places moved → RefusesPlaces plan visits moved f → RefusesYard plan limit visits places f
 unsound_yard plan limit visits places moved Memory perm refuses = tt
 unsound_yard plan limit visits places moved Unsound perm refuses = λ yard is.
     let P : List Block → Type 0 = λ p. IsSound p (finite_map.get yard.boxes) in
     refuses yard.boxes (subst P is.plan_is is.whole.sound) (places_moved visits yard.boxes places moved perm is.places_are)
 
-pub not_all_named : (plan : List Block) (limit : ℕ) (visits : List VisitContent) (places moved : List Stay) → IsPermutation places moved → ¬ AreNamed visits moved → RefusesYard plan limit visits places Unsound
+pub not_all_named : (plan : List Block) (limit : ℕ) (visits : List VisitContent) (places moved : List Place) → IsPermutation places moved → ¬ AreNamed visits moved → RefusesYard plan limit visits places Unsound
 not_all_named plan limit visits places moved perm unnamed = λ yard is. unnamed (named_of_whole limit visits moved yard is.whole (places_moved visits yard.boxes places moved perm is.places_are))
 
 -- ---- rows have one state
 
-module _ (visits : List VisitContent) (are : AreNumbered 1 visits) (places : List Stay) where
+module _ (visits : List VisitContent) (are : AreNumbered 1 visits) (places : List Place) where
   stands_alike : (one two : Boxes) → ArePlacesOf visits one places → ArePlacesOf visits two places → (container : BoxNumber) (s : Placement) → finite_map.get one container ≡ Some s → finite_map.get two container ≡ Some s
   stands_alike one two is also container s e =
       let place = is.every container s e in
@@ -136,7 +148,7 @@ module _ (visits : List VisitContent) (are : AreNumbered 1 visits) (places : Lis
   one_yard one two is also = finite_map.same_map nat_list_cmp_total (finite_map.slice_cmp-IsAntisymmetric finite_map.nat_cmp-IsAntisymmetric) one two
       (λ container. alike (finite_map.get one container) (finite_map.get two container) (stands_alike one two is also container) (stands_alike two one also is container))
 
-pub one_state : (plan : List Block) (limit : ℕ) (visits : List Visit) (places : List Stay) (lines : List Listing) (s t : TerminalState) → AreRowsOf plan limit visits places lines s → AreRowsOf plan limit visits places lines t → s ≡ t
+pub one_state : (plan : List Block) (limit : ℕ) (visits : List Visit) (places : List Place) (lines : List Listing) (s t : TerminalState) → AreRowsOf plan limit visits places lines s → AreRowsOf plan limit visits places lines t → s ≡ t
 one_state plan limit visits places lines s t is also =
     let P : List VisitContent → Type 0 = λ vs. ArePlacesOf vs s.yard.boxes places in
     let Q : List VisitContent → Type 0 = λ vs. ArePlacesOf vs t.yard.boxes places in
@@ -149,14 +161,16 @@ one_state plan limit visits places lines s t is also =
     let same_lines : s.lines ≡ t.lines = is.lines_are ∙ sym also.lines_are in
     λ i. record { yard = record { plan = same_plan i; boxes = boxes i }; limit = same_limit i; visits = same_visits i; lines = same_lines i }
 
-pub rows_of : (plan : List Block) (limit : ℕ) (visits : List Visit) (places : List Stay) (lines : List Listing) (yard : YardMap) (listed : Lines) → listed ≡ lines_of lines → AreOnce lines
-    → IsYardOf plan limit (map visit_content visits) places yard → AreRowsOf plan limit visits places lines (record { yard = yard; limit = limit; visits = map visit_content visits; lines = listed })
-rows_of plan limit visits places lines yard listed same once is = record {
-  whole = whole_listed (without_lines yard limit (map visit_content visits)) listed is.whole;
-  plan_is = is.plan_is;
-  limit_is = refl;
-  visits_are = refl;
-  places_are = is.places_are;
-  lines_are = same;
-  lines_once = once;
-}
+pub rows_of : (plan : List Block) (limit : ℕ) (visits : List Visit) (held : List VisitContent) (places : List Place) (lines : List Listing) (yard : YardMap) (listed : Lines) → held ≡ map visit_content visits → listed ≡ lines_of lines
+    → AreOnce lines → IsYardOf plan limit (map visit_content visits) places yard → AreRowsOf plan limit visits places lines (record { yard = yard; limit = limit; visits = held; lines = listed })
+rows_of plan limit visits held places lines yard listed kept same once is =
+    let P : List VisitContent → Type 0 = λ v. AreRowsOf plan limit visits places lines (record { yard = yard; limit = limit; visits = v; lines = listed }) in
+    subst P (sym kept) (record {
+      whole = whole_listed (without_lines yard limit (map visit_content visits)) listed is.whole;
+      plan_is = is.plan_is;
+      limit_is = refl;
+      visits_are = refl;
+      places_are = is.places_are;
+      lines_are = same;
+      lines_once = once;
+    })

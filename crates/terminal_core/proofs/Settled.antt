@@ -1,5 +1,5 @@
 -- The yard's calls as what an order decides.
-use Rattle.std.proofs.Common.{◌≡◌, ◌≢◌, None, Some, sym, ap, subst, ◌∙◌}
+use Rattle.std.proofs.Common.{◌≡◌, None, Some, sym, ap, subst, ◌∙◌}
 use Rattle.box6346.specs.SizeCode.{length_of}
 use Rattle.box6346.specs.declared.length.Length.{Length}
 use Rattle.box6346.specs.declared.slot.Slot.{Slot}
@@ -9,11 +9,10 @@ use Rattle.yard_core.specs.Calls.{Places, PlacesFirst, RefusesPlace, RefusesFirs
 use Rattle.yard_core.specs.Decisions.{placed, placed_first}
 use Rattle.yard_core.specs.Exact.{IsYard}
 use Rattle.yard_core.specs.declared.yard_fault.YardFault.{YardFault}
-use Rattle.yard_core.specs.declared.yard_fault.YardFault.TheVariants.{Memory}
 use Rattle.yard_core.proofs.Exact.{place_is_decided_lem, place_first_is_decided_lem}
 use Rattle.terminal_core.specs.declared.reason.Reason.{Reason}
-use Rattle.terminal_core.specs.Step.{settled_in, with_slot, reason_of}
-use Rattle.terminal_core.specs.Calls.{Settles, Unsettled}
+use Rattle.terminal_core.specs.Step.{settled_in, with_slot}
+use Rattle.terminal_core.specs.Calls.{IsReasonFor, Settles, Unsettled}
 
 pub settled_there : (y new : YardMap) (entry : EntryContent) (length : Length) (slot : Slot) → IsYard y → length ≡ length_of entry.size_type → entry.slot ≡ Some slot
     → Places y new entry.number (placement length slot) → Settles y new entry slot
@@ -23,11 +22,11 @@ settled_there y new entry length slot yard long named places = record {
 }
 
 pub unsettled_there : (y : YardMap) (entry : EntryContent) (length : Length) (slot : Slot) (f : YardFault) (reason : Reason) → IsYard y → length ≡ length_of entry.size_type → entry.slot ≡ Some slot
-    → f ≢ Memory → RefusesPlace y entry.number (placement length slot) f → reason ≡ reason_of f → Unsettled y entry reason
-unsettled_there y entry length slot f reason yard long named other refuses is = record {
-  fault = f;
-  settled = ap (settled_in y entry) named ∙ ap (λ l. with_slot slot (placed y entry.number l slot)) (sym long) ∙ ap (with_slot slot) ((place_is_decided_lem y entry.number length slot yard).1 f other refuses);
-  reason = is;
+    → RefusesPlace y entry.number (placement length slot) f → IsReasonFor f reason → Unsettled y entry reason
+unsettled_there y entry length slot f reason yard long named refuses is = record {
+  refusal = is.refusal;
+  settled = ap (settled_in y entry) named ∙ ap (λ l. with_slot slot (placed y entry.number l slot)) (sym long) ∙ ap (with_slot slot) ((place_is_decided_lem y entry.number length slot yard).1 is.refusal (let P : YardFault → Type 0 = RefusesPlace y entry.number (placement length slot) in subst P is.fault_is refuses));
+  reason = is.reason_is;
 }
 
 pub settled_first : (y new : YardMap) (entry : EntryContent) (length : Length) (slot : Slot) → IsYard y → length ≡ length_of entry.size_type → entry.slot ≡ None
@@ -38,9 +37,9 @@ settled_first y new entry length slot yard long named first = record {
 }
 
 pub unsettled_first : (y : YardMap) (entry : EntryContent) (length : Length) (f : YardFault) (reason : Reason) → IsYard y → length ≡ length_of entry.size_type → entry.slot ≡ None
-    → f ≢ Memory → RefusesFirst y entry.number length f → reason ≡ reason_of f → Unsettled y entry reason
-unsettled_first y entry length f reason yard long named other refuses is = record {
-  fault = f;
-  settled = ap (settled_in y entry) named ∙ ap (placed_first y entry.number) (sym long) ∙ (place_first_is_decided_lem y entry.number length yard).1 f other refuses;
-  reason = is;
+    → RefusesFirst y entry.number length f → IsReasonFor f reason → Unsettled y entry reason
+unsettled_first y entry length f reason yard long named refuses is = record {
+  refusal = is.refusal;
+  settled = ap (settled_in y entry) named ∙ ap (placed_first y entry.number) (sym long) ∙ (place_first_is_decided_lem y entry.number length yard).1 is.refusal (let P : YardFault → Type 0 = RefusesFirst y entry.number length in subst P is.fault_is refuses);
+  reason = is.reason_is;
 }

@@ -1,5 +1,5 @@
 -- What was done is what the order does.
-use Rattle.std.proofs.Common.{◌≡◌, ℕ, ◌+◌, ◌≤◌, ◌<◌, List, [], ◌∷◌, ◌++◌, length, true, false, cond, Option, None, Some, Result, Ok, Err, refl, sym, ap, ◌∙◌, append-nil, append_assoc}
+use Rattle.std.proofs.Common.{◌≡◌, ℕ, ◌+◌, ◌≤◌, ◌<◌, List, [], ◌∷◌, ◌++◌, length, true, false, cond, Option, None, Some, Result, Ok, Err, refl, sym, ap, subst, ◌∙◌, append-nil, append_assoc}
 use Rattle.std.specs.Option.{option_map}
 use Rattle.std.specs.FinMap as finite_map
 use Rattle.std.proofs.lemmas.Bool.{lt-leb, le-leb}
@@ -9,6 +9,7 @@ use Rattle.edi_moments.specs.Moments.{CivilMoment}
 use Rattle.edi_messages.specs.Purposes.{CallContent}
 use Rattle.edi_messages.specs.Orders.{EntryContent}
 use Rattle.yard_core.specs.YardMap.{YardMap}
+use Rattle.yard_core.specs.Decisions.{Refusal}
 use Rattle.yard_core.specs.Calls.{Removes, Shifts, RefusesRemove, RefusesShift}
 use Rattle.yard_core.specs.Exact.{IsYard}
 use Rattle.yard_core.specs.declared.placement.Placement.{Placement}
@@ -27,8 +28,8 @@ use Rattle.terminal_core.specs.declared.way.Way.{Way}
 use Rattle.terminal_core.specs.declared.way.Way.TheVariants.{Ship}
 use Rattle.terminal_core.specs.Rows.{VisitContent, ChangeContent, visit_opened, visit_closed, placed_at, moved_to, removed_from, line_done}
 use Rattle.terminal_core.specs.State.{TerminalState, LineContent, Lines, is_in, line_key, line_of, IsWhole, open_visit}
-use Rattle.terminal_core.specs.Step.{Stepped, stepped, refused, reason_of, is_full, entered, entered_at, visit_of, settled, departed, departed_at, departure_by, close_visit, number_of_visit, moved, moved_at, with_line, step_discharge, step_load, then_line_done, then_line_done_at, by_line, by_state}
-use Rattle.terminal_core.specs.Calls.{Follows, Settles, Unsettled, is_refused}
+use Rattle.terminal_core.specs.Step.{Stepped, stepped, refused, is_full, entered, entered_at, visit_of, settled, departed, departed_at, departure_by, close_visit, number_of_visit, moved, moved_at, with_line, step_discharge, step_load, then_line_done, then_line_done_at, by_line, by_state}
+use Rattle.terminal_core.specs.Calls.{Follows, IsReasonFor, Settles, Unsettled, is_refused}
 
 pub follows : (a b : Stepped) (now : TerminalState) (answer : Outcome) (old new : List ChangeContent) → a ≡ b → Follows b now answer old new → Follows a now answer old new
 follows a b now answer old new e f = record { state = f.state ∙ sym (ap (λ s. s.state) e); outcome = f.outcome ∙ sym (ap (λ s. s.outcome) e); changes = f.changes ∙ sym (ap (λ s. old ++ s.changes) e) }
@@ -53,7 +54,7 @@ pub refused_full : (state : TerminalState) (way : Way) (source : Source) (entry 
 refused_full state way source entry changes none =
     follows (entered state way source entry) (refused state VisitLimit) state _ changes changes (ap (λ v. cond v (refused state VisitLimit) (entered_at state way source entry (settled state.yard entry))) (full state none)) (nothing_done state VisitLimit changes)
 
-entered_is : (state : TerminalState) (way : Way) (source : Source) (entry : EntryContent) (r : Result (YardMap × Slot) YardFault) → length state.visits < state.limit → settled state.yard entry ≡ r
+entered_is : (state : TerminalState) (way : Way) (source : Source) (entry : EntryContent) (r : Result (YardMap × Slot) Refusal) → length state.visits < state.limit → settled state.yard entry ≡ r
     → entered state way source entry ≡ entered_at state way source entry r
 entered_is state way source entry r room e =
     ap (λ v. cond v (refused state VisitLimit) (entered_at state way source entry (settled state.yard entry))) (not_full state room) ∙ ap (entered_at state way source entry) e
@@ -70,7 +71,7 @@ pub has_not_entered : (state : TerminalState) (way : Way) (source : Source) (ent
     → length state.visits < state.limit → Unsettled state.yard entry reason → Follows (entered state way source entry) state (Refused reason) changes changes
 has_not_entered state way source entry reason changes room unsettled =
     follows (entered state way source entry) (refused state reason) _ _ changes changes
-    (entered_is state way source entry (Err unsettled.fault) room unsettled.settled ∙ ap (refused state) (sym unsettled.reason)) (nothing_done state reason changes)
+    (entered_is state way source entry (Err unsettled.refusal) room unsettled.settled ∙ ap (refused state) (sym unsettled.reason)) (nothing_done state reason changes)
 
 -- ---- going
 
@@ -91,10 +92,10 @@ has_departed state way source b moment y s visits number old new whole removes s
     })
 
 pub has_not_departed : (state : TerminalState) (way : Way) (source : Source) (b : BoxNumber) (moment : CivilMoment) (f : YardFault) (reason : Reason) (y : YardMap) (changes : List ChangeContent)
-    → IsWhole state → RefusesRemove state.yard b f → reason ≡ reason_of f → y ≡ state.yard → Follows (departed state way source b moment) (record state { yard = y }) (Refused reason) changes changes
+    → IsWhole state → RefusesRemove state.yard b f → IsReasonFor f reason → y ≡ state.yard → Follows (departed state way source b moment) (record state { yard = y }) (Refused reason) changes changes
 has_not_departed state way source b moment f reason y changes whole refuses is stays =
     follows (departed state way source b moment) (refused state reason) _ _ changes changes
-    (ap (departed_at state b (departure_by way source moment)) ((remove_is_decided_lem state.yard b (yard_of state whole)).1 f refuses) ∙ ap (refused state) (sym is)) (yard_stays state y reason changes stays)
+    (ap (departed_at state b (departure_by way source moment)) ((remove_is_decided_lem state.yard b (yard_of state whole)).1 is.refusal (let P : YardFault → Type 0 = RefusesRemove state.yard b in subst P is.fault_is refuses)) ∙ ap (refused state) (sym is.reason_is)) (yard_stays state y reason changes stays)
 
 -- ---- moving
 
@@ -105,10 +106,10 @@ has_moved state b slot y s old new whole shifts made =
     (record { state = refl; outcome = refl; changes = made })
 
 pub has_not_moved : (state : TerminalState) (b : BoxNumber) (slot : Slot) (f : YardFault) (reason : Reason) (y : YardMap) (changes : List ChangeContent)
-    → IsWhole state → RefusesShift state.yard b slot f → reason ≡ reason_of f → y ≡ state.yard → Follows (moved state b slot) (record state { yard = y }) (Refused reason) changes changes
+    → IsWhole state → RefusesShift state.yard b slot f → IsReasonFor f reason → y ≡ state.yard → Follows (moved state b slot) (record state { yard = y }) (Refused reason) changes changes
 has_not_moved state b slot f reason y changes whole refuses is stays =
     follows (moved state b slot) (refused state reason) _ _ changes changes
-    (ap (moved_at state b slot) ((shift_is_decided_lem state.yard b slot (yard_of state whole)).1 f refuses) ∙ ap (refused state) (sym is)) (yard_stays state y reason changes stays)
+    (ap (moved_at state b slot) ((shift_is_decided_lem state.yard b slot (yard_of state whole)).1 is.refusal (let P : YardFault → Type 0 = RefusesShift state.yard b slot in subst P is.fault_is refuses)) ∙ ap (refused state) (sym is.reason_is)) (yard_stays state y reason changes stays)
 
 -- ---- lines
 

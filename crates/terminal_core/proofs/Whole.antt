@@ -16,6 +16,9 @@ use Rattle.terminal_core.specs.declared.departure.Departure.{Departure}
 use Rattle.terminal_core.specs.Rows.{VisitContent}
 use Rattle.terminal_core.specs.State.{TerminalState, Lines, is_in, open_visit, is_open_visit, IsWhole}
 use Rattle.terminal_core.specs.Step.{closed}
+use Rattle.std.proofs.lemmas.Option.{none-some}
+use Rattle.box6346.specs.SizeCode.{length_of}
+use Rattle.terminal_core.proofs.Lengths.{long_entered, long_departed, long_moved}
 use Rattle.terminal_core.proofs.Boxes.{in_placed, in_removed, same_bytes, planned}
 use Rattle.terminal_core.proofs.Open.{find_one_more, count_one_more, none_counted, find_mapped, count_mapped, closed_open, numbered_one_more, numbered_closed, or_turned, and_true}
 
@@ -30,11 +33,12 @@ whole_empty plan yard limit visits lines is same none sound nothing =
       within = omega arith;
       one_visit = λ container. omega arith;
       here = λ container. ap (λ (boxes : Boxes). is_some (finite_map.get boxes container)) none ∙ ap is_some (finite_map.get-empty _ container);
+      as_long = λ container s visit at open_. absurd (none-some visit open_);
     })
 
 -- lists have no part in it
 pub whole_listed : (state : TerminalState) (lines : Lines) → IsWhole state → IsWhole (record state { lines = lines })
-whole_listed state lines whole = record { plan = whole.plan; sound = whole.sound; numbered = whole.numbered; within = whole.within; one_visit = whole.one_visit; here = whole.here }
+whole_listed state lines whole = record { plan = whole.plan; sound = whole.sound; numbered = whole.numbered; within = whole.within; one_visit = whole.one_visit; here = whole.here; as_long = whole.as_long }
 
 -- the yard stayed
 pub whole_stays : (state : TerminalState) (y : YardMap) → IsWhole state → y ≡ state.yard → IsWhole (record state { yard = y })
@@ -59,9 +63,9 @@ one_open state visit q true whole absent e =
 one_open state visit q false whole absent e = let one : length (filter (is_open_visit q) state.visits) ≤ 1 = whole.one_visit q in omega arith
 
 pub whole_entered : (state : TerminalState) (y : YardMap) (visit : VisitContent) (s : Placement) → IsWhole state → Places state.yard y visit.container s → IsSound y.plan (finite_map.get y.boxes)
-    → visit.number ≡ length state.visits + 1 → visit.departure ≡ None → length state.visits < state.limit
+    → visit.number ≡ length state.visits + 1 → visit.departure ≡ None → s.length ≡ length_of visit.size_type → length state.visits < state.limit
     → IsWhole (record state { yard = y; visits = state.visits ++ visit ∷ [] })
-whole_entered state y visit s whole places sound number still room =
+whole_entered state y visit s whole places sound number still long room =
     let open_ : (q : BoxNumber) → is_open_visit q visit ≡ bytes_eq visit.container q = λ q. ap (λ d. bytes_eq visit.container q && is_none d) still ∙ and_true _ in
     record {
       plan = let P : List Block → Type 0 = IsPlan in subst P (sym places.plan) whole.plan;
@@ -76,6 +80,7 @@ whole_entered state y visit s whole places sound number still room =
       here = λ q.
           in_after state y visit.container q s places.boxes ∙ ap (λ v. bytes_eq visit.container q || v) (whole.here q) ∙ or_turned (bytes_eq visit.container q) (is_some (open_visit state q))
           ∙ ap (λ v. is_some (open_visit state q) || v) (sym (open_ q)) ∙ sym (find_one_more (is_open_visit q) state.visits visit);
+      as_long = long_entered state y visit s whole places.absent places.boxes still long;
     }
 
 -- ---- going
@@ -95,6 +100,7 @@ whole_departed state y b departure s whole removes sound = record {
   here = λ q.
       ap (λ (boxes : Boxes). is_some (finite_map.get boxes q)) removes.boxes ∙ in_removed state.yard.boxes b q ∙ ap (λ v. v && not (bytes_eq b q)) (whole.here q)
       ∙ sym (find_mapped (is_open_visit q) (is_open_visit q) (closed departure b) (not (bytes_eq b q)) (closed_open departure b q) state.visits);
+  as_long = long_departed state y b departure whole removes.boxes;
 }
 
 -- ---- moving
@@ -112,6 +118,7 @@ whole_moved state y b slot s whole shifts sound = record {
   within = whole.within;
   one_visit = whole.one_visit;
   here = λ q. in_after state y b q _ shifts.boxes ∙ still_in state b q s (bytes_eq b q) shifts.stood refl ∙ whole.here q;
+  as_long = long_moved state y b slot s whole shifts.stood shifts.boxes;
 }
 
 -- ---- slots of the plan

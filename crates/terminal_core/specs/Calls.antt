@@ -9,6 +9,7 @@ use Rattle.yard_core.specs.Plan.{InPlan}
 use Rattle.yard_core.specs.YardMap.{YardMap, placement}
 use Rattle.yard_core.specs.Calls.{Places}
 use Rattle.yard_core.specs.declared.yard_fault.YardFault.{YardFault}
+use Rattle.yard_core.specs.Decisions.{Refusal, fault_of}
 use Rattle.terminal_core.specs.declared.outcome.Outcome.{Outcome}
 use Rattle.terminal_core.specs.declared.outcome.Outcome.TheVariants.{Done, Gone, Listed, Refused}
 use Rattle.terminal_core.specs.declared.reason.Reason.{Reason}
@@ -23,6 +24,12 @@ pub record Follows (step : Stepped) (now : TerminalState) (answer : Outcome) (ol
   pub outcome : answer ≡ step.outcome
   pub changes : new ≡ old ++ step.changes
 
+-- the fault says what a refusal says, and that is the reason
+pub record IsReasonFor (fault : YardFault) (reason : Reason) : Type 0 where
+  pub refusal : Refusal
+  pub fault_is : fault ≡ fault_of refusal
+  pub reason_is : reason ≡ reason_of refusal
+
 -- the container of an entry was placed
 pub record Settles (old new : YardMap) (entry : EntryContent) (slot : Slot) : Type 0 where
   pub settled : settled old entry ≡ Ok (new, slot)
@@ -30,22 +37,14 @@ pub record Settles (old new : YardMap) (entry : EntryContent) (slot : Slot) : Ty
 
 -- the container of an entry was not placed
 pub record Unsettled (old : YardMap) (entry : EntryContent) (given : Reason) : Type 0 where
-  pub fault : YardFault
-  pub settled : settled old entry ≡ Err fault
-  pub reason : given ≡ reason_of fault
+  pub refusal : Refusal
+  pub settled : settled old entry ≡ Err refusal
+  pub reason : given ≡ reason_of refusal
 
 -- the container has one open visit
 pub record HasOneVisit (container : BoxNumber) (visits : List VisitContent) : Type 0 where
   pub one_visit : length (filter (is_open_visit container) visits) ≤ 1
   pub here : is_some (find (is_open_visit container) visits) ≡ true
-
--- no visit from that place on is the container's and open
-abbrev pub NoneOpenFrom : BoxNumber → List Visit → ℕ → Type 0
-NoneOpenFrom container visits first = (k : ℕ) (visit : Visit) → first ≤ k → slice_get visits k ≡ Some visit → is_open_visit container (visit_content visit) ≡ false
-
--- the visit at that place is
-abbrev pub IsOpenAt : BoxNumber → List Visit → ℕ → Type 0
-IsOpenAt container visits place = (visit : Visit) × (slice_get visits place ≡ Some visit) × (is_open_visit container (visit_content visit) ≡ true)
 
 -- the slot that an outcome tells is one of the plan's
 abbrev pub IsPlanned : List Block → Outcome → Type 0

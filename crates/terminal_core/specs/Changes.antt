@@ -1,5 +1,5 @@
 -- The rows of a terminal's three lists, and what a change does to them.
-use Rattle.std.specs.Prelude.{◌≡◌, ℕ, ◌+◌, Bool, true, cond, ◌==◌, List, [], ◌∷◌, ◌++◌, length, map, filter, Option, None, Some, is_some}
+use Rattle.std.specs.Prelude.{◌≡◌, ◌≢◌, ℕ, ◌+◌, Bool, true, cond, ◌==◌, List, [], ◌∷◌, ◌++◌, length, map, filter, Option, None, Some, is_some, ◌↔◌}
 use Rattle.std.specs.Option.{option_map}
 use Rattle.std.specs.Str.{bytes_eq}
 use Rattle.std.specs.Map.{update}
@@ -17,24 +17,24 @@ use Rattle.terminal_core.specs.Step.{number_of_visit, step}
 -- ---- rows
 
 -- where a container stands, and the number of its visit
-pub record Place : Type 0 where
+pub record Standing : Type 0 where
   pub visit : ℕ
   pub slot : Slot
 
-abbrev pub place_in : ℕ → Slot → Place
-place_in visit slot = record { visit = visit; slot = slot }
+abbrev pub standing_in : ℕ → Slot → Standing
+standing_in visit slot = record { visit = visit; slot = slot }
 
 -- a row for each visit, for each container in the yard, and for each line of a vessel's list
 pub record TerminalRows : Type 0 where
   pub visits : List VisitContent
-  pub places : BoxNumber → Option Place
+  pub places : BoxNumber → Option Standing
   pub lines : Lines
 
-abbrev pub place_of : TerminalState → BoxNumber → Option Place
-place_of state container = option_map (λ s. place_in (number_of_visit (open_visit state container)) s.slot) (finite_map.get state.yard.boxes container)
+abbrev pub standing_of : TerminalState → BoxNumber → Option Standing
+standing_of state container = option_map (λ s. standing_in (number_of_visit (open_visit state container)) s.slot) (finite_map.get state.yard.boxes container)
 
 abbrev pub rows_of : TerminalState → TerminalRows
-rows_of state = record { visits = state.visits; places = place_of state; lines = state.lines }
+rows_of state = record { visits = state.visits; places = standing_of state; lines = state.lines }
 
 -- ---- changes
 
@@ -42,8 +42,8 @@ rows_of state = record { visits = state.visits; places = place_of state; lines =
 abbrev pub closed_as : ℕ → Departure → VisitContent → VisitContent
 closed_as number departure visit = cond (visit.number == number) (record visit { departure = Some departure }) visit
 
-abbrev pub moved_place : Slot → Place → Place
-moved_place slot place = record place { slot = slot }
+abbrev pub standing_elsewhere : Slot → Standing → Standing
+standing_elsewhere slot place = record place { slot = slot }
 
 abbrev pub with_line_done : Lines → LineKey → Option LineContent → Lines
 with_line_done lines key None = lines
@@ -53,8 +53,8 @@ with_line_done lines key (Some line) = finite_map.insert lines key (record line 
 abbrev pub changed : TerminalRows → ChangeContent → TerminalRows
 changed rows (visit_opened visit) = record rows { visits = rows.visits ++ visit ∷ [] }
 changed rows (visit_closed number departure) = record rows { visits = map (closed_as number departure) rows.visits }
-changed rows (placed_at container visit slot) = record rows { places = update bytes_eq rows.places container (Some (place_in visit slot)) }
-changed rows (moved_to container slot) = record rows { places = update bytes_eq rows.places container (option_map (moved_place slot) (rows.places container)) }
+changed rows (placed_at container visit slot) = record rows { places = update bytes_eq rows.places container (Some (standing_in visit slot)) }
+changed rows (moved_to container slot) = record rows { places = update bytes_eq rows.places container (option_map (standing_elsewhere slot) (rows.places container)) }
 changed rows (removed_from container) = record rows { places = update bytes_eq rows.places container None }
 changed rows (listed_on call side container port) = record rows { lines = finite_map.insert rows.lines (line_key call side container) (record { port = port; state = Pending }) }
 changed rows (line_done call side container) = record rows { lines = with_line_done rows.lines (line_key call side container) (finite_map.get rows.lines (line_key call side container)) }
@@ -81,18 +81,29 @@ pub record IsOneOpenVisit (number : ℕ) (visits : List VisitContent) : Type 0 w
   pub only : filter (is_numbered number) visits ≡ visit ∷ []
   pub stays : visit.departure ≡ None
 
+-- the container stands nowhere yet, and no other has the slot or the visit
+pub record IsNewPlace (container : BoxNumber) (visit : ℕ) (slot : Slot) (places : BoxNumber → Option Standing) : Type 0 where
+  pub absent : places container ≡ None
+  pub slot_free : (other : BoxNumber) (standing : Standing) → places other ≡ Some standing → standing.slot ≢ slot
+  pub visit_free : (other : BoxNumber) (standing : Standing) → places other ≡ Some standing → standing.visit ≢ visit
+
+-- the container stands somewhere, and no other has the slot
+pub record IsNewSlot (container : BoxNumber) (slot : Slot) (places : BoxNumber → Option Standing) : Type 0 where
+  pub there : is_some (places container) ≡ true
+  pub slot_free : (other : BoxNumber) (standing : Standing) → other ≢ container → places other ≡ Some standing → standing.slot ≢ slot
+
 -- the line is there, and not done
 pub record IsPendingLine (key : LineKey) (lines : Lines) : Type 0 where
   pub line : LineContent
   pub there : finite_map.get lines key ≡ Some line
   pub pending : line.state ≡ Pending
 
--- the row that a change adds is absent, and the one that it alters or removes is there
+-- the row that a change adds is absent, the one that it alters or removes is there, and what no two rows may share no other has
 abbrev pub IsApplicable : TerminalRows → ChangeContent → Type 0
 IsApplicable rows (visit_opened visit) = IsNextVisit visit rows.visits
 IsApplicable rows (visit_closed number departure) = IsOneOpenVisit number rows.visits
-IsApplicable rows (placed_at container visit slot) = rows.places container ≡ None
-IsApplicable rows (moved_to container slot) = is_some (rows.places container) ≡ true
+IsApplicable rows (placed_at container visit slot) = IsNewPlace container visit slot rows.places
+IsApplicable rows (moved_to container slot) = IsNewSlot container slot rows.places
 IsApplicable rows (removed_from container) = is_some (rows.places container) ≡ true
 IsApplicable rows (listed_on call side container port) = finite_map.get rows.lines (line_key call side container) ≡ None
 IsApplicable rows (line_done call side container) = IsPendingLine (line_key call side container) rows.lines
@@ -103,6 +114,16 @@ AreApplicable rows [] = Unit {0}
 AreApplicable rows (change ∷ changes) = IsApplicable rows change × AreApplicable (changed rows change) changes
 
 -- ---- the laws
+
+-- changes that are appended come after those before
+abbrev pub ChangesAreAppended : Type 0
+ChangesAreAppended =
+    (rows : TerminalRows) (before after : List ChangeContent) → all_changed rows (before ++ after) ≡ all_changed (all_changed rows before) after
+
+-- they are applicable exactly if those before are, and they are to what those leave
+abbrev pub AreApplicableAppended : Type 0
+AreApplicableAppended =
+    (rows : TerminalRows) (before after : List ChangeContent) → AreApplicable rows (before ++ after) ↔ (AreApplicable rows before × AreApplicable (all_changed rows before) after)
 
 -- the changes of a step turn the rows of the old state into those of the new
 abbrev pub ChangesTurnRows : Type 0

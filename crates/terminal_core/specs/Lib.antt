@@ -1,9 +1,13 @@
 pub mod Rows
 pub mod State
 pub mod Listings
+pub mod LinePlaces
 pub mod Step
 pub mod Codes
+pub mod Index
 pub mod Calls
 pub mod Restoring
 pub mod Counts
 pub mod Changes
+pub mod RowForms
+pub mod Forms

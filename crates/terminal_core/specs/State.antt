@@ -1,12 +1,14 @@
 -- What a terminal holds: its yard, every visit, and the lines of the vessels' lists.
-use Rattle.std.specs.Prelude.{◌≡◌, ℕ, ◌+◌, ◌≤◌, Bool, List, [], ◌∷◌, length, filter, find, Option, is_none, is_some, ◌&&◌}
+use Rattle.std.specs.Prelude.{◌≡◌, ℕ, ◌+◌, ◌≤◌, Bool, List, [], ◌∷◌, length, filter, find, Option, Some, is_none, is_some, ◌&&◌}
 use Rattle.std.specs.Str.{bytes_eq}
 use Rattle.std.specs.Ordering.{nat_cmp}
 use Rattle.std.specs.Cmp.Lexicographic.{slice_cmp}
 use Rattle.std.specs.FinMap as finite_map
+use Rattle.box6346.specs.SizeCode.{length_of}
 use Rattle.box6346.specs.declared.box_number.BoxNumber.{BoxNumber}
 use Rattle.edi_messages.specs.Purposes.{CallContent}
 use Rattle.yard_core.specs.YardMap.{YardMap}
+use Rattle.yard_core.specs.declared.placement.Placement.{Placement}
 use Rattle.yard_core.specs.SoundYard.{IsSound}
 use Rattle.yard_core.specs.Plan.{IsPlan}
 use Rattle.terminal_core.specs.declared.line_state.LineState.{LineState}
@@ -68,8 +70,12 @@ abbrev pub AreNumbered : ℕ → List VisitContent → Type 0
 AreNumbered next [] = Unit {0}
 AreNumbered next (visit ∷ visits) = (visit.number ≡ next) × AreNumbered (next + 1) visits
 
+-- the container in the yard is as long as its open visit's size-type tells
+abbrev pub IsAsLong : TerminalState → BoxNumber → Type 0
+IsAsLong state container = (s : Placement) (visit : VisitContent) → finite_map.get state.yard.boxes container ≡ Some s → open_visit state container ≡ Some visit → s.length ≡ length_of visit.size_type
+
 -- The yard is sound, the visits are numbered within the limit, and the containers of the yard are exactly those with an open
--- visit, each having one.
+-- visit, each having one and standing in its length.
 pub record IsWhole (state : TerminalState) : Type 0 where
   pub plan : IsPlan state.yard.plan
   pub sound : IsSound state.yard.plan (finite_map.get state.yard.boxes)
@@ -77,3 +83,4 @@ pub record IsWhole (state : TerminalState) : Type 0 where
   pub within : length state.visits ≤ state.limit
   pub one_visit : (container : BoxNumber) → length (filter (is_open_visit container) state.visits) ≤ 1
   pub here : (container : BoxNumber) → is_in state container ≡ is_some (open_visit state container)
+  pub as_long : (container : BoxNumber) → IsAsLong state container

@@ -8,10 +8,8 @@ use Rattle.edi_moments.specs.Moments.{CivilMoment}
 use Rattle.edi_messages.specs.Purposes.{CallContent}
 use Rattle.edi_messages.specs.Orders.{EntryContent, OrderContent, gate_in, gate_out, move, list_discharge, list_load, discharge, load}
 use Rattle.yard_core.specs.YardMap.{YardMap}
-use Rattle.yard_core.specs.Decisions.{placed, placed_first, removed, shifted}
+use Rattle.yard_core.specs.Decisions.{Refusal, present, absent, buried, no_slot, slot_kind, taken, on_air, no_room, placed, placed_first, removed, shifted}
 use Rattle.yard_core.specs.declared.placement.Placement.{Placement}
-use Rattle.yard_core.specs.declared.yard_fault.YardFault.{YardFault}
-use Rattle.yard_core.specs.declared.yard_fault.YardFault.TheVariants as yard
 use Rattle.terminal_core.specs.declared.departure.Departure.{Departure}
 use Rattle.terminal_core.specs.declared.line_state.LineState.{LineState}
 use Rattle.terminal_core.specs.declared.line_state.LineState.TheVariants.{Pending, Done as LineIsDone}
@@ -40,30 +38,29 @@ stepped state outcome changes = record { state = state; outcome = outcome; chang
 abbrev pub refused : TerminalState → Reason → Stepped
 refused state reason = stepped state (Refused reason) []
 
--- the yard's faults as reasons
-abbrev pub reason_of : YardFault → Reason
-reason_of yard.Present = AlreadyIn
-reason_of yard.Absent = NotIn
-reason_of (yard.Buried blocker) = Buried blocker
-reason_of yard.NoSlot = NoSlot
-reason_of yard.SlotKind = SlotKind
-reason_of yard.Taken = Taken
-reason_of yard.OnAir = OnAir
-reason_of yard.NoRoom = NoRoom
-reason_of yard.Memory = NoRoom
+-- the yard's refusals as reasons
+abbrev pub reason_of : Refusal → Reason
+reason_of present = AlreadyIn
+reason_of absent = NotIn
+reason_of (buried blocker) = Buried blocker
+reason_of no_slot = NoSlot
+reason_of slot_kind = SlotKind
+reason_of taken = Taken
+reason_of on_air = OnAir
+reason_of no_room = NoRoom
 
 -- ---- coming
 
-abbrev pub with_slot : Slot → Result YardMap YardFault → Result (YardMap × Slot) YardFault
+abbrev pub with_slot : Slot → Result YardMap Refusal → Result (YardMap × Slot) Refusal
 with_slot slot (Ok y) = Ok (y, slot)
-with_slot slot (Err fault) = Err fault
+with_slot slot (Err refusal) = Err refusal
 
-abbrev pub settled_in : YardMap → EntryContent → Option Slot → Result (YardMap × Slot) YardFault
+abbrev pub settled_in : YardMap → EntryContent → Option Slot → Result (YardMap × Slot) Refusal
 settled_in y entry (Some slot) = with_slot slot (placed y entry.number (length_of entry.size_type) slot)
 settled_in y entry None = placed_first y entry.number (length_of entry.size_type)
 
 -- the yard with the container in the slot that it names, or in the first that fits where it names none
-abbrev pub settled : YardMap → EntryContent → Result (YardMap × Slot) YardFault
+abbrev pub settled : YardMap → EntryContent → Result (YardMap × Slot) Refusal
 settled y entry = settled_in y entry entry.slot
 
 -- as many visits stand as the set-up allows
@@ -86,8 +83,8 @@ abbrev pub visit_of : TerminalState → Way → Source → EntryContent → Slot
 visit_of state way source entry slot = opened_by (length state.visits + 1) way source entry slot
 
 -- the container stands, and its visit is opened
-abbrev pub entered_at : TerminalState → Way → Source → EntryContent → Result (YardMap × Slot) YardFault → Stepped
-entered_at state way source entry (Err fault) = refused state (reason_of fault)
+abbrev pub entered_at : TerminalState → Way → Source → EntryContent → Result (YardMap × Slot) Refusal → Stepped
+entered_at state way source entry (Err refusal) = refused state (reason_of refusal)
 entered_at state way source entry (Ok (y, slot)) =
     stepped (record state { yard = y; visits = state.visits ++ visit_of state way source entry slot ∷ [] }) (Done slot)
     (visit_opened (visit_of state way source entry slot) ∷ placed_at entry.number (length state.visits + 1) slot ∷ [])
@@ -108,8 +105,8 @@ abbrev pub number_of_visit : Option VisitContent → ℕ
 number_of_visit None = 0
 number_of_visit (Some visit) = visit.number
 
-abbrev pub departed_at : TerminalState → BoxNumber → Departure → Result (YardMap × Placement) YardFault → Stepped
-departed_at state container departure (Err fault) = refused state (reason_of fault)
+abbrev pub departed_at : TerminalState → BoxNumber → Departure → Result (YardMap × Placement) Refusal → Stepped
+departed_at state container departure (Err refusal) = refused state (reason_of refusal)
 departed_at state container departure (Ok (y, stood)) =
     stepped (record state { yard = y; visits = close_visit state container departure }) Gone
     (removed_from container ∷ visit_closed (number_of_visit (open_visit state container)) departure ∷ [])
@@ -122,8 +119,8 @@ departed state way source container moment = departed_at state container (depart
 
 -- ---- moving
 
-abbrev pub moved_at : TerminalState → BoxNumber → Slot → Result YardMap YardFault → Stepped
-moved_at state container slot (Err fault) = refused state (reason_of fault)
+abbrev pub moved_at : TerminalState → BoxNumber → Slot → Result YardMap Refusal → Stepped
+moved_at state container slot (Err refusal) = refused state (reason_of refusal)
 moved_at state container slot (Ok y) = stepped (record state { yard = y }) (Done slot) (moved_to container slot ∷ [])
 
 abbrev pub moved : TerminalState → BoxNumber → Slot → Stepped

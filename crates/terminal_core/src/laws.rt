@@ -1,7 +1,9 @@
 //! What follows from the definitions of a terminal's states and steps alone.
 
 ghost use Rattle.terminal_core.specs.Counts.{EntriesLessExitsStand};
-ghost use Rattle.terminal_core.specs.Changes.{ChangesTurnRows, ChangesAreApplicable};
+ghost use Rattle.terminal_core.specs.Changes.{ChangesTurnRows, ChangesAreApplicable, ChangesAreAppended, AreApplicableAppended};
+ghost use Rattle.terminal_core.specs.Forms.{EmptyIsWellFormed, StepsKeepForms};
+ghost use Rattle.terminal_core.specs.RowForms.{ListsAreRowsByKey, RowsByKeyAreLists, RowsGiveState, ListsGiveState};
 
 /// As many containers stand in the yard as came and did not go.
 pub fn entries_less_exits()
@@ -13,7 +15,48 @@ pub fn changes_turn_rows()
     ensures { ChangesTurnRows }
 {}
 
-/// Each change of a step finds the row that it alters or removes, and adds one that is not there.
+/// Each change of a step finds the row that it alters or removes, and adds one that is not there. No other row has its
+/// slot or its visit.
 pub fn changes_are_applicable()
     ensures { ChangesAreApplicable }
+{}
+
+/// Changes that are appended turn what those before leave.
+pub fn changes_are_appended()
+    ensures { ChangesAreAppended }
+{}
+
+/// Changes are applicable one after the other exactly if the first are, and the rest are to what these leave.
+pub fn are_applicable_appended()
+    ensures { AreApplicableAppended }
+{}
+
+/// The lists that are a state's rows are by key the rows of that state.
+pub fn lists_are_rows_by_key()
+    ensures { ListsAreRowsByKey }
+{}
+
+/// Lists with no key twice that are by key the rows of a whole state are its rows.
+pub fn rows_by_key_are_lists()
+    ensures { RowsByKeyAreLists }
+{}
+
+/// A whole state is given by its plan, its limit and its rows.
+pub fn rows_give_state()
+    ensures { RowsGiveState }
+{}
+
+/// Lists are the rows of one state at most.
+pub fn lists_give_state()
+    ensures { ListsGiveState }
+{}
+
+/// A state with nothing in it is well formed.
+pub fn empty_is_well_formed()
+    ensures { EmptyIsWellFormed }
+{}
+
+/// An order that is well formed leaves a well-formed state: each value has its form and range.
+pub fn steps_keep_forms()
+    ensures { StepsKeepForms }
 {}

@@ -13,7 +13,7 @@ use edi_messages::Call;
 use std::alloc::{AllocError, Global};
 
 // The same call once more.
-fn copied_call(alloc: Global, call: &Call) -> Result<Call, AllocError>
+pub(crate) fn copied_call(alloc: Global, call: &Call) -> Result<Call, AllocError>
     ensures { IfOk result (λ copy. call_content copy ≡ call_content call.now) }
 {
     let vessel = String::from_str(alloc, call.vessel.as_str())?;

@@ -1,24 +1,30 @@
-ghost use Rattle.std.specs.Prelude.{◌≡◌, ◌↔◌, length, IsTrue, IfOk, OnOk, OnErr, MatchOption, None, Some};
+ghost use Rattle.std.specs.Prelude.{◌≡◌, length, IfOk, OnOk, OnErr, MatchOption, MatchResult, None, Some};
 ghost use Rattle.std.specs.Option.{option_map};
 ghost use Rattle.std.specs.FinMap as finite_map;
 ghost use Rattle.edi_messages.specs.Owned.{call_content};
 ghost use Rattle.terminal_core.specs.State.{LineContent, line_key};
 ghost use Rattle.terminal_core.specs.Listings.{key_of, line_content, lines_of, is_line, is_side, NoneBefore, IsFirstAt};
-ghost use Rattle.terminal_core.specs.Restoring.{AreOnce};
+ghost use Rattle.terminal_core.specs.LinePlaces.{AreNoted};
+ghost use Rattle.terminal_core.specs.Restoring.{AreOnce, RefusesLines};
 
+use crate::line_places::{LinePlaces, note, noted};
 use crate::line_state::LineState;
 use crate::lines::copied_lines;
 use crate::listing::Listing;
+use crate::restore_fault::RestoreFault;
+use crate::rows::append;
 use crate::side::Side;
 use box6346::BoxNumber;
 use edi_messages::Call;
 use std::alloc::{AllocError, Global};
+use std::collections::HashMap;
 use std::marker::Model;
 
 /// The vessels' lists, seen as the map from each line's call, side and container to its port and state.
 #[derive(Drop)]
 pub(crate) struct Lists {
     rows: Vec<Listing>,
+    places: LinePlaces,
 }
 
 impl Model for Lists {
@@ -30,8 +36,11 @@ impl Model for Lists {
     ghost coded = { lines_code };
 
     ghost use Rattle.terminal_core.specs.Listings.{lines_of};
+    ghost use Rattle.terminal_core.specs.LinePlaces.{AreNoted};
 
     ghost view = { λ l. lines_of l.rows.items };
+
+    ghost invariant = { λ l. AreNoted l.rows.items l.places };
 }
 
 impl Lists {
@@ -40,24 +49,27 @@ impl Lists {
     {
         Lists {
             rows: Vec::new(alloc),
+            places: HashMap::new(alloc),
         }
     }
 
-    /// The lists of rows, if no line stands twice.
-    pub(crate) fn restore(rows: Vec<Listing>) -> Option<Lists>
-        ensures { MatchOption result (¬ AreOnce rows.items) (λ l. AreOnce rows.items × (l ≡ lines_of rows.items)) }
+    /// The lists of rows: Unsound where a line stands twice, and Memory.
+    pub(crate) fn restore(alloc: Global, rows: Vec<Listing>) -> Result<Lists, RestoreFault>
+        ensures { MatchResult result (λ l. AreOnce rows.items × (l ≡ lines_of rows.items)) (RefusesLines rows.items) }
     {
-        if !are_once(&rows) {
-            return None;
-        }
-        Some(Lists { rows })
+        let places = noted_lines(alloc, &rows)?;
+        Ok(Lists { rows, places })
     }
 
     pub(crate) fn copy(&self, alloc: Global) -> Result<Lists, AllocError>
         ensures { IfOk result (λ l. l ≡ self.now) }
     {
         let rows = copied_lines(alloc, &self.rows)?;
-        Ok(Lists { rows })
+        match noted_lines(alloc, &rows) {
+            Ok(places) => Ok(Lists { rows, places }),
+            Err(RestoreFault::Memory) => Err(AllocError),
+            Err(RestoreFault::Unsound) => unreachable!(),
+        }
     }
 
     /// How far a line is, if there is one.
@@ -65,19 +77,29 @@ impl Lists {
         ensures { result ≡ option_map (λ l. l.state)
             (finite_map.get self.now (line_key (call_content call.now) side container)) }
     {
-        match place_of(&self.rows, call, side, container) {
+        match place_of(&self.rows, &self.places, call, side, container) {
             Some(place) => Some(self.rows[place].state),
             None => None,
         }
     }
 
     /// Adds a line that isn't there.
-    pub(crate) fn add(&mut self, line: Listing) -> Result<(), AllocError>
+    pub(crate) fn add(&mut self, alloc: Global, line: Listing) -> Result<(), AllocError>
         requires { finite_map.get self.old (key_of line) ≡ None }
         ensures ok { OnOk result (self.new ≡ finite_map.insert self.old (key_of line) (line_content line)) }
         ensures err { OnErr result (self.new ≡ self.old) }
     {
-        self.rows.push(line)?;
+        self.rows.reserve(1)?;
+        let place = self.rows.len();
+        note(
+            alloc,
+            &mut self.places,
+            &line.call,
+            line.side,
+            line.container,
+            place,
+        )?;
+        append(&mut self.rows, line);
         Ok(())
     }
 
@@ -88,37 +110,58 @@ impl Lists {
             self.new ≡ finite_map.insert self.old (line_key (call_content call.now) side container)
             (record line { state = LineState.Done }) }
     {
-        if let Some(place) = place_of(&self.rows, call, side, container) {
+        if let Some(place) = place_of(&self.rows, &self.places, call, side, container) {
             let row = &mut self.rows[place];
             row.state = LineState::Done;
         }
     }
 }
 
-// Whether no line stands twice.
-fn are_once(rows: &[Listing]) -> bool
-    ensures { IsTrue result ↔ AreOnce rows.now }
+// Where each line stands: Unsound where one stands twice, and Memory.
+fn noted_lines(alloc: Global, rows: &[Listing]) -> Result<LinePlaces, RestoreFault>
+    ensures { MatchResult result (λ places. AreOnce rows.now × AreNoted rows.now places) (RefusesLines rows.now) }
 {
+    let mut places = HashMap::new(alloc);
     for (place, row) in rows.iter().enumerate() {
-        if place_of(&rows[..place], &row.call, row.side, row.container).is_some() {
-            return false;
+        if place_of(&rows[..place], &places, &row.call, row.side, row.container).is_some() {
+            return Err(RestoreFault::Unsound);
         }
+        note(
+            alloc,
+            &mut places,
+            &row.call,
+            row.side,
+            row.container,
+            place,
+        )?;
     }
-    true
+    Ok(places)
 }
 
-// Where the line stands.
-fn place_of(rows: &[Listing], call: &Call, side: Side, container: BoxNumber) -> Option<usize>
+// Where the line stands: where it is said to, if that row is the line.
+fn place_of(
+    rows: &[Listing],
+    places: &LinePlaces,
+    call: &Call,
+    side: Side,
+    container: BoxNumber,
+) -> Option<usize>
+    requires { AreNoted rows.now places.now }
     ensures { MatchOption result
         (NoneBefore (call_content call.now) side container rows.now (length rows.now))
         (IsFirstAt (call_content call.now) side container rows.now) }
 {
-    for (place, row) in rows.iter().enumerate() {
-        if is_line(row, call, side, container) {
-            return Some(place);
-        }
+    let Some(place) = noted(places, call, side, container) else {
+        return None;
+    };
+    let Some(row) = rows.get(place) else {
+        return None;
+    };
+    if is_line(row, call, side, container) {
+        Some(place)
+    } else {
+        None
     }
-    None
 }
 
 fn is_line(row: &Listing, call: &Call, side: Side, container: BoxNumber) -> bool

@@ -10,8 +10,8 @@ ghost use Rattle.terminal_core.specs.Rows.{VisitContent, visit_content};
 ghost use Rattle.terminal_core.specs.State.{AreNumbered};
 ghost use Rattle.terminal_core.specs.Restoring.{cause_of, Names, AreNamed, IsPut, RefusesPut, IsYardOf, RefusesYard, RefusesPlaces, ArePlacesOf};
 
+use crate::place::Place;
 use crate::restore_fault::RestoreFault;
-use crate::stay::Stay;
 use crate::visit::Visit;
 use crate::visits::is_open;
 use box6346::Length;
@@ -25,7 +25,7 @@ pub(crate) fn restored_yard(
     plan: Plan,
     visit_limit: u32,
     visits: &[Visit],
-    mut places: Vec<Stay>,
+    mut places: Vec<Place>,
 ) -> Result<Yard, RestoreFault>
     ensures ok { IfOk result (IsYardOf plan visit_limit (map visit_content visits.now) places.items) }
     ensures unsound { IfErr result (RefusesYard plan visit_limit (map visit_content visits.now) places.items) }
@@ -54,7 +54,7 @@ fn are_numbered(visits: &[Visit]) -> bool
 }
 
 // So each container comes after those that carry it.
-fn sort_by_tier(places: &mut Vec<Stay>) -> Result<(), AllocError>
+fn sort_by_tier(places: &mut Vec<Place>) -> Result<(), AllocError>
     ensures moved { IsPermutation places.old.items places.new.items }
     ensures sorted { OnOk result (IsNonDecreasingBy (λ place. place.slot.tier) places.new.items) }
 {
@@ -66,7 +66,7 @@ fn settled_yard(
     alloc: Global,
     plan: Plan,
     visits: &[Visit],
-    places: &[Stay],
+    places: &[Place],
 ) -> Result<Yard, RestoreFault>
     requires numbered { AreNumbered 1 (map visit_content visits.now) }
     requires sorted { IsNonDecreasingBy (λ place. place.slot.tier) places.now }
@@ -83,7 +83,7 @@ fn settled_yard(
 }
 
 // One container more, with the length of the visit that its place names.
-fn put(yard: &mut Yard, visits: &[Visit], place: &Stay) -> Result<(), RestoreFault>
+fn put(yard: &mut Yard, visits: &[Visit], place: &Place) -> Result<(), RestoreFault>
     requires numbered { AreNumbered 1 (map visit_content visits.now) }
     requires sound { IsSound yard.old.plan (finite_map.get yard.old.boxes) }
     ensures answer { MatchResult result
@@ -111,7 +111,7 @@ fn cause(fault: YardFault) -> RestoreFault
 }
 
 // The length of the container, by the open visit that its place names.
-fn named_length(visits: &[Visit], place: &Stay) -> Option<Length>
+fn named_length(visits: &[Visit], place: &Place) -> Option<Length>
     requires { AreNumbered 1 (map visit_content visits.now) }
     ensures { MatchOption result
         ((visit : VisitContent) → ¬ Names (map visit_content visits.now) place.now visit)
@@ -132,9 +132,9 @@ fn named_length(visits: &[Visit], place: &Stay) -> Option<Length>
 }
 
 // Whether each open visit is named by a place.
-fn are_all_named(alloc: Global, visits: &[Visit], places: &[Stay]) -> Result<bool, AllocError>
+fn are_all_named(alloc: Global, visits: &[Visit], places: &[Place]) -> Result<bool, AllocError>
     requires numbered { AreNumbered 1 (map visit_content visits.now) }
-    requires named { (place : Stay) → Contains places.now place → (1 ≤ place.visit) ×
+    requires named { (place : Place) → Contains places.now place → (1 ≤ place.visit) ×
         (place.visit ≤ length visits.now) }
     ensures { IfOk result (λ b. IsTrue b ↔ AreNamed (map visit_content visits.now) places.now) }
 {
@@ -143,8 +143,8 @@ fn are_all_named(alloc: Global, visits: &[Visit], places: &[Stay]) -> Result<boo
 }
 
 // Which visits are named by a place, in their order.
-fn named(alloc: Global, count: usize, places: &[Stay]) -> Result<Vec<bool>, AllocError>
-    requires { (place : Stay) → Contains places.now place → (1 ≤ place.visit) × (place.visit ≤ count) }
+fn named(alloc: Global, count: usize, places: &[Place]) -> Result<Vec<bool>, AllocError>
+    requires { (place : Place) → Contains places.now place → (1 ≤ place.visit) × (place.visit ≤ count) }
     ensures len { IfOk result (λ marks. length marks.items ≡ count) }
     ensures marks { IfOk result
         (λ marks. (k : ℕ) → k < count →

@@ -1,10 +1,9 @@
-ghost use Rattle.std.specs.Prelude.{◌≡◌, ◌≢◌, IfOk, OnErr, OnOk, MatchResult};
+ghost use Rattle.std.specs.Prelude.{◌≡◌, ◌≢◌, IfOk, OnErr, MatchResult};
 ghost use Rattle.std.specs.FinMap as finite_map;
 ghost use Rattle.yard_core.specs.Plan.{IsPlan};
 ghost use Rattle.yard_core.specs.SoundYard.{IsSound};
 ghost use Rattle.edi_messages.specs.Owned.{entry_content};
-ghost use Rattle.terminal_core.specs.Step.{reason_of};
-ghost use Rattle.terminal_core.specs.Calls.{Settles, Unsettled};
+ghost use Rattle.terminal_core.specs.Calls.{IsReasonFor, Settles, Unsettled};
 
 use crate::reason::Reason;
 use box6346::Slot;
@@ -38,8 +37,8 @@ pub(crate) fn settle(yard: &mut Yard, entry: &Entry) -> Result<Result<Slot, Reas
 
 // A fault that is not want of memory, as a reason.
 fn refusal(fault: YardFault) -> Result<Reason, AllocError>
-    ensures ok { IfOk result (λ reason. reason ≡ reason_of fault) }
-    ensures not_memory { OnOk result (fault ≢ YardFault.Memory) }
+    ensures ok { IfOk result (IsReasonFor fault) }
+    ensures err { OnErr result (fault ≡ YardFault.Memory) }
 {
     match fault {
         YardFault::Memory => Err(AllocError),
@@ -47,8 +46,10 @@ fn refusal(fault: YardFault) -> Result<Reason, AllocError>
     }
 }
 
+// Such a fault as a reason, where the call that it answers takes no memory.
 pub(crate) fn reason_of(fault: YardFault) -> Reason
-    ensures { result ≡ reason_of fault }
+    requires { fault ≢ YardFault.Memory }
+    ensures { IsReasonFor fault result }
 {
     match fault {
         YardFault::Present => Reason::AlreadyIn,
@@ -59,6 +60,6 @@ pub(crate) fn reason_of(fault: YardFault) -> Reason
         YardFault::Taken => Reason::Taken,
         YardFault::OnAir => Reason::OnAir,
         YardFault::NoRoom => Reason::NoRoom,
-        YardFault::Memory => Reason::NoRoom,
+        YardFault::Memory => unreachable!(),
     }
 }

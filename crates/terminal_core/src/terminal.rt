@@ -14,6 +14,7 @@ use crate::lines::{line_done, line_listed, pending_line};
 use crate::listing::Listing;
 use crate::lists::Lists;
 use crate::outcome::Outcome;
+use crate::place::Place;
 use crate::reason::Reason;
 use crate::restore_fault::RestoreFault;
 use crate::restoring::restored_yard;
@@ -21,9 +22,8 @@ use crate::rows::append;
 use crate::settling::{reason_of, settle};
 use crate::side::Side;
 use crate::source::Source;
-use crate::stay::Stay;
 use crate::visit::Visit;
-use crate::visits::{close, copied_visits, opened_visit, visit_closed};
+use crate::visits::{Visits, opened_visit, visit_closed};
 use crate::way::Way;
 use box6346::{BoxNumber, Slot};
 use edi_messages::{Call, Entry, Order};
@@ -37,12 +37,11 @@ use yard_core::{Plan, Yard};
 pub struct Terminal {
     yard: Yard,
     limit: u32,
-    visits: Vec<Visit>,
+    visits: Visits,
     lists: Lists,
 }
 
 impl Model for Terminal {
-    ghost use Rattle.std.specs.Prelude.{map};
     ghost use Rattle.terminal_core.specs.State.{TerminalState, IsWhole};
     ghost use Rattle.terminal_core.specs.Codes.{terminal_code};
 
@@ -50,11 +49,9 @@ impl Model for Terminal {
 
     ghost coded = { terminal_code };
 
-    ghost use Rattle.terminal_core.specs.Rows.{visit_content};
+    ghost view = { λ t. record { yard = t.yard; limit = t.limit; visits = t.visits.visits; lines = t.lists } };
 
-    ghost view = { λ t. record { yard = t.yard; limit = t.limit; visits = map visit_content t.visits.items; lines = t.lists } };
-
-    ghost invariant = { λ t. IsWhole (record { yard = t.yard; limit = t.limit; visits = map visit_content t.visits.items; lines = t.lists }) };
+    ghost invariant = { λ t. IsWhole (record { yard = t.yard; limit = t.limit; visits = t.visits.visits; lines = t.lists }) };
 }
 
 impl Terminal {
@@ -68,7 +65,7 @@ impl Terminal {
         Ok(Terminal {
             yard,
             limit: visit_limit,
-            visits: Vec::new(alloc),
+            visits: Visits::new(alloc),
             lists: Lists::new(alloc),
         })
     }
@@ -80,7 +77,7 @@ impl Terminal {
         plan: Plan,
         visit_limit: u32,
         visits: Vec<Visit>,
-        places: Vec<Stay>,
+        places: Vec<Place>,
         lines: Vec<Listing>,
     ) -> Result<Terminal, RestoreFault>
         ensures ok { IfOk result (AreRowsOf plan visit_limit visits.items places.items lines.items) }
@@ -93,9 +90,8 @@ impl Terminal {
         ensures unsound { IfErr result (RefusesRows plan visit_limit visits.items places.items lines.items) }
     {
         let yard = restored_yard(alloc, plan, visit_limit, &visits, places)?;
-        let Some(lists) = Lists::restore(lines) else {
-            return Err(RestoreFault::Unsound);
-        };
+        let lists = Lists::restore(alloc, lines)?;
+        let visits = Visits::restore(alloc, visits)?;
         Ok(Terminal {
             yard,
             limit: visit_limit,
@@ -117,7 +113,7 @@ impl Terminal {
         ensures told { map visit_content result.now ≡ self.now.visits }
         ensures whole { IsWhole self.now }
     {
-        &self.visits
+        self.visits.rows()
     }
 
     /// How far a line of a call's list is, if there is one.
@@ -308,7 +304,7 @@ impl Terminal {
         }
         let line = pending_line(alloc, call, side, container, port)?;
         let change = line_listed(alloc, call, side, container, port)?;
-        self.lists.add(line)?;
+        self.lists.add(alloc, line)?;
         append(changes, change);
         Ok(Outcome::Listed)
     }
@@ -342,7 +338,7 @@ impl Terminal {
         ensures whole { IfOk result IsWhole }
     {
         let yard = self.yard.copy(alloc)?;
-        let visits = copied_visits(alloc, &self.visits)?;
+        let visits = self.visits.copy(alloc)?;
         let lists = self.lists.copy(alloc)?;
         Ok(Terminal {
             yard,
@@ -378,19 +374,17 @@ impl Terminal {
         ensures planned { IfOk result (IsPlanned self.new.yard.plan) }
         ensures lines { self.new.lines ≡ self.old.lines }
     {
-        if self.visits.len() >= self.limit as usize {
+        if self.visits.count() >= self.limit as usize {
             return Ok(Outcome::Refused(Reason::VisitLimit));
         }
         let booking = String::from_str(alloc, entry.booking.as_str())?;
         let told_booking = String::from_str(alloc, entry.booking.as_str())?;
-        self.visits.reserve(1)?;
-        let number = self.visits.len() as u32 + 1;
+        self.visits.reserve()?;
+        let number = self.visits.count() as u32 + 1;
         match settle(&mut self.yard, entry)? {
             Ok(slot) => {
-                append(
-                    &mut self.visits,
-                    opened_visit(number, entry, booking, way, source, slot),
-                );
+                self.visits
+                    .open(opened_visit(number, entry, booking, way, source, slot));
                 append(
                     changes,
                     Change::VisitOpened(opened_visit(
@@ -435,7 +429,7 @@ impl Terminal {
     {
         match self.yard.remove(container) {
             Ok(_) => {
-                let visit = close(&mut self.visits, container, way, source, moment);
+                let visit = self.visits.close(container, way, source, moment);
                 append(changes, Change::Removed { container });
                 append(changes, visit_closed(visit, way, source, moment));
                 Outcome::Gone

@@ -1,13 +1,16 @@
-ghost use Rattle.std.specs.Prelude.{◌≡◌, map, find, IfOk, MatchOption, string_bytes};
+ghost use Rattle.std.specs.Prelude.{◌≡◌, ◌++◌, ◌∷◌, [], ◌≤◌, ◌-◌, map, find, filter, length, is_some, IfOk, OnOk, OnErr, None, true, false, string_bytes, vec_len, vec_capacity};
+ghost use Rattle.box6346.specs.declared.box_number.BoxNumber.{BoxNumber};
 ghost use Rattle.edi_messages.specs.Owned.{entry_content};
 ghost use Rattle.terminal_core.specs.Rows.{visit_content, change_content, visit_closed};
 ghost use Rattle.terminal_core.specs.State.{is_open_visit};
 ghost use Rattle.terminal_core.specs.Step.{closed, number_of_visit, opened_by, departure_by};
-ghost use Rattle.terminal_core.specs.Calls.{HasOneVisit, NoneOpenFrom, IsOpenAt};
+ghost use Rattle.terminal_core.specs.Calls.{HasOneVisit};
+ghost use Rattle.terminal_core.specs.Index.{AreIndexed, HasRoom};
 
 use crate::arrival::Arrival;
 use crate::change::Change;
 use crate::departure::Departure;
+use crate::rows::append;
 use crate::source::Source;
 use crate::visit::Visit;
 use crate::way::Way;
@@ -15,6 +18,139 @@ use box6346::{BoxNumber, Slot};
 use edi_messages::Entry;
 use edi_moments::Moment;
 use std::alloc::{AllocError, Global};
+use std::collections::HashMap;
+use std::marker::Model;
+
+/// Every visit, as they were opened. A container's open visit is found at once, however many there were.
+#[derive(Drop)]
+pub(crate) struct Visits {
+    rows: Vec<Visit>,
+    open_places: HashMap<[u8; 11], usize>,
+}
+
+impl Model for Visits {
+    ghost use Rattle.terminal_core.specs.Index.{VisitBook, book_code, AreIndexed};
+
+    ghost Value = { VisitBook };
+
+    ghost coded = { book_code };
+
+    ghost use Rattle.std.specs.Prelude.{map, ◌-◌, vec_len, vec_capacity};
+    ghost use Rattle.std.specs.HashMap.{spare};
+    ghost use Rattle.terminal_core.specs.Rows.{visit_content};
+
+    ghost view = { λ v. record {
+      visits = map visit_content v.rows.items;
+      spare_visits = vec_capacity v.rows - vec_len v.rows;
+      spare_places = spare v.open_places;
+    } };
+
+    ghost invariant = { λ v. AreIndexed (map visit_content v.rows.items) v.open_places.entries };
+}
+
+impl Visits {
+    pub(crate) fn new(alloc: Global) -> Visits
+        ensures { result.visits ≡ [] }
+    {
+        Visits {
+            rows: Vec::new(alloc),
+            open_places: HashMap::new(alloc),
+        }
+    }
+
+    /// The visits of rows, of which no two are one container's and open.
+    pub(crate) fn restore(alloc: Global, rows: Vec<Visit>) -> Result<Visits, AllocError>
+        requires { (container : BoxNumber) →
+            length (filter (is_open_visit container) (map visit_content rows.items)) ≤ 1 }
+        ensures { IfOk result (λ v. v.visits ≡ map visit_content rows.items) }
+    {
+        let open_places = indexed(alloc, &rows)?;
+        Ok(Visits { rows, open_places })
+    }
+
+    pub(crate) fn copy(&self, alloc: Global) -> Result<Visits, AllocError>
+        ensures { IfOk result (λ v. v.visits ≡ self.now.visits) }
+    {
+        let rows = copied_visits(alloc, &self.rows)?;
+        let open_places = self.open_places.clone()?;
+        Ok(Visits { rows, open_places })
+    }
+
+    pub(crate) fn rows(&self) -> &[Visit]
+        ensures { map visit_content result.now ≡ self.now.visits }
+    {
+        &self.rows
+    }
+
+    /// How many there were.
+    pub(crate) fn count(&self) -> usize
+        ensures { result ≡ length self.now.visits }
+    {
+        self.rows.len()
+    }
+
+    /// Makes room for one more.
+    pub(crate) fn reserve(&mut self) -> Result<(), AllocError>
+        ensures kept { self.new.visits ≡ self.old.visits }
+        ensures ok { OnOk result (HasRoom self.new) }
+    {
+        self.rows.reserve(1)?;
+        self.open_places.reserve(1)?;
+        Ok(())
+    }
+
+    /// Adds a container's visit where it has none that is open.
+    pub(crate) fn open(&mut self, visit: Visit)
+        requires room { HasRoom self.old }
+        requires stays { visit.departure ≡ None }
+        requires none_open { is_some (find (is_open_visit visit.container) self.old.visits) ≡ false }
+        ensures { self.new.visits ≡ self.old.visits ++ visit_content visit ∷ [] }
+    {
+        let _ = self
+            .open_places
+            .insert(visit.container.text(), self.rows.len());
+        append(&mut self.rows, visit);
+    }
+
+    /// Closes the container's open visit, and tells its number.
+    pub(crate) fn close(
+        &mut self,
+        container: BoxNumber,
+        way: Way,
+        source: Source,
+        moment: Moment,
+    ) -> u32
+        requires { HasOneVisit container self.old.visits }
+        ensures closed { self.new.visits ≡ map (closed (departure_by way source moment) container) self.old.visits }
+        ensures number { result ≡ number_of_visit (find (is_open_visit container) self.old.visits) }
+    {
+        let Some(place) = self.open_places.remove(&container.text()) else {
+            unreachable!()
+        };
+        let visit = &mut self.rows[place];
+        visit.departure = Some(Departure {
+            way,
+            source,
+            moment,
+        });
+        visit.number
+    }
+}
+
+// Where each open visit stands, by its container.
+fn indexed(alloc: Global, rows: &[Visit]) -> Result<HashMap<[u8; 11], usize>, AllocError>
+    requires { (container : BoxNumber) →
+        length (filter (is_open_visit container) (map visit_content rows.now)) ≤ 1 }
+    ensures { IfOk result (λ open_places. AreIndexed (map visit_content rows.now) open_places.entries) }
+{
+    let mut open_places = HashMap::new(alloc);
+    for (place, visit) in rows.iter().enumerate() {
+        if visit.departure.is_none() {
+            open_places.insert(visit.container.text(), place)?;
+        }
+    }
+    Ok(open_places)
+}
 
 pub(crate) fn opened_visit(
     number: u32,
@@ -54,46 +190,6 @@ pub(crate) fn visit_closed(visit: u32, way: Way, source: Source, moment: Moment)
             moment,
         },
     }
-}
-
-// Closes the container's open visit, and tells its number. It looks from the latest visit back.
-pub(crate) fn close(
-    visits: &mut Vec<Visit>,
-    container: BoxNumber,
-    way: Way,
-    source: Source,
-    moment: Moment,
-) -> u32
-    requires { HasOneVisit container (map visit_content visits.old.items) }
-    ensures closed { map visit_content visits.new.items ≡ map
-        (closed (departure_by way source moment) container) (map visit_content visits.old.items) }
-    ensures number { result ≡ number_of_visit
-        (find (is_open_visit container) (map visit_content visits.old.items)) }
-{
-    let Some(place) = open_place(visits, container) else {
-        return 0;
-    };
-    let visit = &mut visits[place];
-    visit.departure = Some(Departure {
-        way,
-        source,
-        moment,
-    });
-    visit.number
-}
-
-// Where the container's open visit stands.
-fn open_place(visits: &[Visit], container: BoxNumber) -> Option<usize>
-    ensures { MatchOption result (NoneOpenFrom container visits.now 0) (IsOpenAt container visits.now) }
-{
-    let mut place = visits.len();
-    while place > 0 {
-        place -= 1;
-        if is_open(&visits[place], container) {
-            return Some(place);
-        }
-    }
-    None
 }
 
 pub(crate) fn is_open(visit: &Visit, container: BoxNumber) -> bool

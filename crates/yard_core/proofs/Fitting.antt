@@ -9,13 +9,11 @@ use Rattle.box6346.specs.declared.length.Length.TheVariants.{Twenty, Forty}
 use Rattle.box6346.specs.declared.slot.Slot.{Slot}
 use Rattle.yard_core.specs.declared.block.Block.{Block}
 use Rattle.yard_core.specs.declared.placement.Placement.{Placement}
-use Rattle.yard_core.specs.declared.yard_fault.YardFault.{YardFault}
-use Rattle.yard_core.specs.declared.yard_fault.YardFault.TheVariants.{NoSlot, SlotKind, Taken, OnAir}
 use Rattle.yard_core.specs.Plan.{InPlan}
 use Rattle.yard_core.specs.YardMap.{Box, Boxes, placement, above, below, in_bay, Covers, CoversAt, IsKind}
 use Rattle.yard_core.specs.SoundYard.{Has, IsSupported, IsCarried}
 use Rattle.yard_core.specs.FitsAndFree.{IsTaken, IsAbove, IsFree, IsOpen, Misfits}
-use Rattle.yard_core.specs.Decisions.{in_plan, is_kind, is_same_slot, cells, covers, standing, box_at, is_taken, is_same_length, is_placement, has, is_supported, is_carried, first_there, blocker_of, misfit_of}
+use Rattle.yard_core.specs.Decisions.{Refusal, fault_of, in_plan, is_kind, is_same_slot, cells, covers, standing, box_at, is_taken, is_same_length, is_placement, has, is_supported, is_carried, first_there, blocker_of, misfit_of}
 use Rattle.yard_core.proofs.Deciding.{Tells, fails, both, either, same_number, plan_tells, kind_tells, slot_tells, covers_tells, standing_some, standing_none, standing_tells, or_nothing, some_or_none}
 
 -- ---- taken
@@ -87,9 +85,9 @@ carried_tells boxes length slot =
 -- ---- misfits
 
 -- what a decision says
-abbrev pub Judges : List Block → Boxes → Placement → Option YardFault → Type 0
+abbrev pub Judges : List Block → Boxes → Placement → Option Refusal → Type 0
 Judges plan boxes s None = IsOpen plan (finite_map.get boxes) s
-Judges plan boxes s (Some f) = Misfits plan (finite_map.get boxes) s f
+Judges plan boxes s (Some r) = Misfits plan (finite_map.get boxes) s (fault_of r)
 
 pub misfit_judges : (plan : List Block) (boxes : Boxes) (s : Placement) → Judges plan boxes s (misfit_of plan boxes s)
 unfolding misfit_of

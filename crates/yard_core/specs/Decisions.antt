@@ -10,9 +10,33 @@ use Rattle.box6346.specs.declared.slot.Slot.{Slot}
 use Rattle.yard_core.specs.declared.block.Block.{Block}
 use Rattle.yard_core.specs.declared.placement.Placement.{Placement}
 use Rattle.yard_core.specs.declared.yard_fault.YardFault.{YardFault}
-use Rattle.yard_core.specs.declared.yard_fault.YardFault.TheVariants.{Present, Absent, Buried, NoSlot, SlotKind, Taken, OnAir, NoRoom}
+use Rattle.yard_core.specs.declared.yard_fault.YardFault.TheVariants as fault
 use Rattle.yard_core.specs.Plan.{block_of}
 use Rattle.yard_core.specs.YardMap.{Box, Boxes, YardMap, yard_map, placement, in_bay, above, below}
+
+-- ---- refusals
+
+-- why a yard refuses a call: what a fault says, but for want of memory
+pub data Refusal : Type 0 where
+  present : Refusal
+  absent : Refusal
+  buried : Box → Refusal
+  no_slot : Refusal
+  slot_kind : Refusal
+  taken : Refusal
+  on_air : Refusal
+  no_room : Refusal
+
+-- the fault that a call answers then
+abbrev pub fault_of : Refusal → YardFault
+fault_of present = fault.Present
+fault_of absent = fault.Absent
+fault_of (buried blocker) = fault.Buried blocker
+fault_of no_slot = fault.NoSlot
+fault_of slot_kind = fault.SlotKind
+fault_of taken = fault.Taken
+fault_of on_air = fault.OnAir
+fault_of no_room = fault.NoRoom
 
 -- ---- the plan
 
@@ -84,12 +108,12 @@ is_carried boxes length slot = slot.tier == 1 || is_supported boxes length slot
 -- ---- what fits, and what is free
 
 -- why a container does not fit there, if it does not: the first reason
-unfoldable pub misfit_of : List Block → Boxes → Placement → Option YardFault
+unfoldable pub misfit_of : List Block → Boxes → Placement → Option Refusal
 misfit_of plan boxes s =
-    cond (not (in_plan plan s.slot)) (Some NoSlot)
-    (cond (not (is_kind s.length s.slot)) (Some SlotKind)
-    (cond (is_taken boxes s) (Some Taken)
-    (cond (is_carried boxes s.length s.slot) None (Some OnAir))))
+    cond (not (in_plan plan s.slot)) (Some no_slot)
+    (cond (not (is_kind s.length s.slot)) (Some slot_kind)
+    (cond (is_taken boxes s) (Some taken)
+    (cond (is_carried boxes s.length s.slot) None (Some on_air))))
 
 -- the first that is there
 abbrev pub first_there : List (Option Box) → Option Box
@@ -123,42 +147,42 @@ first_fit plan boxes length = find (λ slot. is_none (misfit_of plan boxes (plac
 
 -- ---- the calls
 
-abbrev pub with_misfit : Option YardFault → YardMap → Result YardMap YardFault
-with_misfit (Some fault) y = Err fault
+abbrev pub with_misfit : Option Refusal → YardMap → Result YardMap Refusal
+with_misfit (Some refusal) y = Err refusal
 with_misfit None y = Ok y
 
 -- one container more, in a named slot
-abbrev pub placed : YardMap → Box → Length → Slot → Result YardMap YardFault
+abbrev pub placed : YardMap → Box → Length → Slot → Result YardMap Refusal
 placed y b length slot =
-    cond (is_some (finite_map.get y.boxes b)) (Err Present)
+    cond (is_some (finite_map.get y.boxes b)) (Err present)
     (with_misfit (misfit_of y.plan y.boxes (placement length slot)) (yard_map y.plan (finite_map.insert y.boxes b (placement length slot))))
 
-abbrev pub with_slot : Option Slot → YardMap → Box → Length → Result (YardMap × Slot) YardFault
-with_slot None y b length = Err NoRoom
+abbrev pub with_slot : Option Slot → YardMap → Box → Length → Result (YardMap × Slot) Refusal
+with_slot None y b length = Err no_room
 with_slot (Some slot) y b length = Ok (yard_map y.plan (finite_map.insert y.boxes b (placement length slot)), slot)
 
 -- one container more, in the first slot that fits
-abbrev pub placed_first : YardMap → Box → Length → Result (YardMap × Slot) YardFault
-placed_first y b length = cond (is_some (finite_map.get y.boxes b)) (Err Present) (with_slot (first_fit y.plan y.boxes length) y b length)
+abbrev pub placed_first : YardMap → Box → Length → Result (YardMap × Slot) Refusal
+placed_first y b length = cond (is_some (finite_map.get y.boxes b)) (Err present) (with_slot (first_fit y.plan y.boxes length) y b length)
 
-abbrev pub unless_buried : {A : Type 0} → Option Box → Result A YardFault → Result A YardFault
+abbrev pub unless_buried : {A : Type 0} → Option Box → Result A Refusal → Result A Refusal
 unless_buried None answer = answer
-unless_buried (Some blocker) answer = Err (Buried blocker)
+unless_buried (Some blocker) answer = Err (buried blocker)
 
-abbrev pub removed_at : Option Placement → YardMap → Box → Result (YardMap × Placement) YardFault
-removed_at None y b = Err Absent
+abbrev pub removed_at : Option Placement → YardMap → Box → Result (YardMap × Placement) Refusal
+removed_at None y b = Err absent
 removed_at (Some s) y b = unless_buried (blocker_of y.boxes s) (Ok (yard_map y.plan (finite_map.remove y.boxes b), s))
 
 -- one container less
-abbrev pub removed : YardMap → Box → Result (YardMap × Placement) YardFault
+abbrev pub removed : YardMap → Box → Result (YardMap × Placement) Refusal
 removed y b = removed_at (finite_map.get y.boxes b) y b
 
-abbrev pub shifted_at : Option Placement → YardMap → Box → Slot → Result YardMap YardFault
-shifted_at None y b slot = Err Absent
+abbrev pub shifted_at : Option Placement → YardMap → Box → Slot → Result YardMap Refusal
+shifted_at None y b slot = Err absent
 shifted_at (Some s) y b slot =
     unless_buried (blocker_of y.boxes s)
     (with_misfit (misfit_of y.plan (finite_map.remove y.boxes b) (placement s.length slot)) (yard_map y.plan (finite_map.insert y.boxes b (placement s.length slot))))
 
 -- a container in another slot, which has to fit the yard without it
-abbrev pub shifted : YardMap → Box → Slot → Result YardMap YardFault
+abbrev pub shifted : YardMap → Box → Slot → Result YardMap Refusal
 shifted y b slot = shifted_at (finite_map.get y.boxes b) y b slot

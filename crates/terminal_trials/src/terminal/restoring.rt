@@ -1,14 +1,14 @@
 //! Rows that are a state's, and rows that are none.
 
 use super::{
-    A, Answer, Ask, FIRST, HAULIER, Row, SECOND, assert_answers, assert_lines, assert_stands,
+    A, Answer, Ask, FIRST, HAULIER, QUAY, Row, SECOND, assert_answers, assert_lines, assert_stands,
     assert_visits, call, moment, number, size_type, slot,
 };
 use std::alloc::{AllocError, Global};
 use std::process::Abort;
 use std::test::Fail;
 use terminal_core::{
-    Arrival, Departure, LineState, Listing, RestoreFault, Side, Source, Stay, Terminal, Visit, Way,
+    Arrival, Departure, LineState, Listing, Place, RestoreFault, Side, Source, Terminal, Visit, Way,
 };
 use yard_core::Plan;
 
@@ -45,8 +45,8 @@ fn closed(rt: &impl Abort, alloc: Global, visit: u32, text: &str) -> Result<Visi
     Ok(visit)
 }
 
-fn stay(rt: &impl Abort, text: &str, visit: u32, name: &str) -> Stay {
-    Stay {
+fn place(rt: &impl Abort, text: &str, visit: u32, name: &str) -> Place {
+    Place {
         container: number(rt, text),
         visit,
         slot: slot(rt, name),
@@ -76,7 +76,7 @@ fn restored(
     alloc: Global,
     limit: u32,
     visits: Vec<Visit>,
-    places: Vec<Stay>,
+    places: Vec<Place>,
     lines: Vec<Listing>,
 ) -> Result<Terminal, RestoreFault> {
     let plan = Plan::new(&[A]).expect(rt, "a plan");
@@ -102,7 +102,7 @@ fn two_lines(rt: &impl Abort, alloc: Global) -> Result<Vec<Listing>, AllocError>
 }
 
 /// The answer on places of the three visits, beside the two lines.
-fn fault(rt: &impl Abort, alloc: Global, places: &[Stay]) -> Result<Option<RestoreFault>, Fail> {
+fn fault(rt: &impl Abort, alloc: Global, places: &[Place]) -> Result<Option<RestoreFault>, Fail> {
     let visits = three_visits(rt, alloc)?;
     let lines = two_lines(rt, alloc)?;
     let places = Vec::from_slice(alloc, places)?;
@@ -113,8 +113,8 @@ fn fault(rt: &impl Abort, alloc: Global, places: &[Stay]) -> Result<Option<Resto
 fn whole_terminal(rt: &impl Abort, alloc: Global) -> Result<Terminal, Fail> {
     let visits = three_visits(rt, alloc)?;
     let places = vec![in alloc;
-        stay(rt, SECOND, 3, "A001012"),
-        stay(rt, FIRST, 1, "A001011"),
+        place(rt, SECOND, 3, "A001012"),
+        place(rt, FIRST, 1, "A001011"),
     ]?;
     let lines = two_lines(rt, alloc)?;
     Ok(restored(rt, alloc, 3, visits, places, lines).expect(rt, "a state"))
@@ -184,7 +184,7 @@ fn no_rows_are_an_empty_state(rt: HostRuntime) -> Result<(), Fail> {
 fn assert_fault(
     rt: &impl Abort,
     alloc: Global,
-    places: &[Stay],
+    places: &[Place],
     want: Option<RestoreFault>,
 ) -> Result<(), Fail> {
     assert_eq!(rt; fault(rt, alloc, places)?, want);
@@ -195,9 +195,9 @@ fn assert_fault(
 fn each_open_visit_has_its_place(rt: HostRuntime) -> Result<(), Fail> {
     let alloc = rt.alloc();
     let places = [
-        stay(&rt, FIRST, 1, "A001011"),
-        stay(&rt, SECOND, 3, "A001012"),
-        stay(&rt, SECOND, 3, "A003011"),
+        place(&rt, FIRST, 1, "A001011"),
+        place(&rt, SECOND, 3, "A001012"),
+        place(&rt, SECOND, 3, "A003011"),
     ];
     assert_fault(&rt, alloc, &places[..2], None)?;
     assert_fault(&rt, alloc, &places[..1], Some(RestoreFault::Unsound))?;
@@ -218,8 +218,8 @@ fn no_other_place_is_taken_for_an_open_visit(rt: HostRuntime) -> Result<(), Fail
         (3, "B001011"),
         (3, "A001011"),
     ] {
-        let ground = stay(&rt, FIRST, 1, "A001011");
-        let other = stay(&rt, SECOND, visit, name);
+        let ground = place(&rt, FIRST, 1, "A001011");
+        let other = place(&rt, SECOND, visit, name);
         assert_fault(&rt, alloc, &[ground, other], Some(RestoreFault::Unsound))?;
     }
     Ok(())
@@ -233,7 +233,7 @@ fn assert_visits_fault(
     visits: Vec<Visit>,
     want: Option<RestoreFault>,
 ) -> Result<(), Fail> {
-    let places = vec![in alloc; stay(rt, FIRST, 1, "A001011")]?;
+    let places = vec![in alloc; place(rt, FIRST, 1, "A001011")]?;
     let fault = restored(rt, alloc, limit, visits, places, Vec::new(alloc)).err();
     assert_eq!(rt; fault, want);
     Ok(())
@@ -285,5 +285,36 @@ fn no_line_is_given_twice(rt: HostRuntime) -> Result<(), Fail> {
     let lines = three_lines(&rt, alloc)?;
     let terminal = restored(&rt, alloc, 3, Vec::new(alloc), Vec::new(alloc), lines);
     assert_eq!(rt; terminal.err(), Some(RestoreFault::Unsound));
+    Ok(())
+}
+
+const ALL_GO: [Row; 2] = [
+    (HAULIER, SECOND, Ask::Goes, Answer::Gone, 2),
+    (QUAY, FIRST, Ask::Loads, Answer::Gone, 3),
+];
+
+/// How many visits are open.
+fn assert_open(rt: &impl Abort, terminal: &Terminal, count: usize) {
+    let open = terminal
+        .visits()
+        .iter()
+        .filter(|visit| visit.departure.is_none())
+        .count();
+    assert_eq!(rt; open, count);
+}
+
+#[test]
+fn a_restored_terminal_closes_its_visits(rt: HostRuntime) -> Result<(), Fail> {
+    let alloc = rt.alloc();
+    let mut terminal = whole_terminal(&rt, alloc)?;
+    assert_open(&rt, &terminal, 2);
+    assert_answers(&rt, alloc, &mut terminal, &ALL_GO)?;
+    assert_open(&rt, &terminal, 0);
+    assert_lines(
+        &rt,
+        alloc,
+        &terminal,
+        &[(Side::Load, FIRST, Some(LineState::Done))],
+    )?;
     Ok(())
 }

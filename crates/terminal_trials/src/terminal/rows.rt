@@ -147,3 +147,36 @@ fn visits_are_limited_whether_open_or_closed(rt: HostRuntime) -> Result<(), Fail
     assert_visits(&rt, &terminal, 1);
     Ok(())
 }
+
+/// The first container comes by gate, goes and comes again, is loaded, and comes back off the vessel: each visit is closed
+/// by its own order.
+const AGAIN: [Row; 9] = [
+    (HAULIER, FIRST, Ask::Comes, Answer::Done("A001011"), 2),
+    (HAULIER, FIRST, Ask::Goes, Answer::Gone, 2),
+    (HAULIER, FIRST, Ask::Comes, Answer::Done("A001011"), 2),
+    (LINE, FIRST, Ask::ListsToLoad, Answer::Listed, 1),
+    (LINE, FIRST, Ask::ListsToDischarge, Answer::Listed, 1),
+    (QUAY, FIRST, Ask::Loads, Answer::Gone, 3),
+    (QUAY, FIRST, Ask::Discharges, Answer::Done("A001011"), 3),
+    (HAULIER, FIRST, Ask::Goes, Answer::Gone, 2),
+    (HAULIER, FIRST, Ask::Goes, Answer::Refused(Reason::NotIn), 0),
+];
+
+/// Whether each of so many visits is closed.
+fn assert_all_closed(rt: &impl Abort, terminal: &Terminal, count: usize) {
+    let closed = terminal
+        .visits()
+        .iter()
+        .filter(|visit| visit.departure.is_some())
+        .count();
+    assert_eq!(rt; (terminal.visits().len(), closed), (count, count));
+}
+
+#[test]
+fn a_container_comes_again_and_again(rt: HostRuntime) -> Result<(), Fail> {
+    let alloc = rt.alloc();
+    let mut terminal = terminal(&rt, alloc, 1_000)?;
+    assert_answers(&rt, alloc, &mut terminal, &AGAIN)?;
+    assert_all_closed(&rt, &terminal, 3);
+    Ok(())
+}

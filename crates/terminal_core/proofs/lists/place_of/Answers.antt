@@ -1,19 +1,21 @@
-use Rattle.std.proofs.Common.{refl, sym, ◌∙◌, arith, length}
-use Rattle.std.proofs.lemmas.Option.{slice_get_read}
+use Rattle.std.proofs.Common.{◌≡◌, ◌<◌, length, Some, sym, ap, ◌∙◌}
+use Rattle.std.specs.Prelude.{slice_get}
+use Rattle.std.proofs.lemmas.Bool.{ltb-true}
+use Rattle.std.proofs.lemmas.Option.{slice_get-get_or}
 use Rattle.edi_messages.specs.Owned.{call_content}
-use Rattle.terminal_core.proofs.Lined.{none_before}
+use Rattle.terminal_core.proofs.Noted.{first_there, none_there}
 use Rattle.terminal_core.proofs.lists.place_of.Goals as goal
 
 pub returns-then-is_line : goal.returns-then-is_line
-returns-then-is_line c = record {
-  row = c.index-rows-place.result;
-  at = slice_get_read c.args.rows.now (length c.args.rows.now) _ c.index-rows-place.result refl (omega arith) c.index-rows-place.is;
-  is = sym c.is_line.ensures ∙ c.if-is_line.true;
-  before = c.loop-place.invariant;
-}
+returns-then-is_line c =
+    let low : c.in-Some.place < length c.args.rows.now = ltb-true c.in-Some.place (length c.args.rows.now) (sym c.in-Some-get.ensures.lookup.0) in
+    let at : slice_get c.args.rows.now c.in-Some.place ≡ Some c.in-Some-get.row.now = slice_get-get_or c.args.rows.now c.in-Some.place _ low ∙ ap Some (sym c.in-Some-get.ensures.lookup.1) in
+    first_there c.args.rows.now c.args.places.now c.requires (call_content c.args.call.now) c.args.side c.args.container c.in-Some.place c.in-Some-get.row.now (sym c.noted.ensures ∙ c.in-Some.is) at
+    (sym c.is_line.ensures ∙ c.if-is_line.true)
 
-pub loop-place-preserved : goal.loop-place-preserved
-loop-place-preserved c =
-    none_before (call_content c.args.call.now) c.args.side c.args.container c.args.rows.now c.loop-place.place c.index-rows-place.result
-    (slice_get_read c.args.rows.now (length c.args.rows.now) _ c.index-rows-place.result refl (omega arith) c.index-rows-place.is)
-    (sym c.is_line.ensures ∙ c.if-is_line.false) c.loop-place.invariant
+pub returns-else-is_line : goal.returns-else-is_line
+returns-else-is_line c =
+    let low : c.in-Some.place < length c.args.rows.now = ltb-true c.in-Some.place (length c.args.rows.now) (sym c.in-Some-get.ensures.lookup.0) in
+    let at : slice_get c.args.rows.now c.in-Some.place ≡ Some c.in-Some-get.row.now = slice_get-get_or c.args.rows.now c.in-Some.place _ low ∙ ap Some (sym c.in-Some-get.ensures.lookup.1) in
+    none_there c.args.rows.now c.args.places.now c.requires (call_content c.args.call.now) c.args.side c.args.container c.in-Some.place c.in-Some-get.row.now (sym c.noted.ensures ∙ c.in-Some.is) at
+    (sym c.is_line.ensures ∙ c.if-is_line.false)

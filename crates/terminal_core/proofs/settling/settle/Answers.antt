@@ -9,7 +9,7 @@ returns-in-Ok-clause-ok c =
 pub returns-in_ok-refusal-in-Err-clause-ok : goal.returns-in_ok-refusal-in-Err-clause-ok
 returns-in_ok-refusal-in-Err-clause-ok c =
     unsettled_there c.args.yard.now (entry_content c.args.entry.now) c.length-length.result c.in-Some.slot c.in-Err.fault _ (c.requires.plan, c.requires.sound) c.length-length.ensures c.in-Some.is
-    c.in_ok-refusal-in-Err.ensures.not_memory c.in-Err.ensures.answer c.in_ok-refusal-in-Err.ensures.ok
+    c.in-Err.ensures.answer c.in_ok-refusal-in-Err.ensures.ok
 
 pub returns-in-Ok-place_first-clause-ok : goal.returns-in-Ok-place_first-clause-ok
 returns-in-Ok-place_first-clause-ok c =
@@ -19,4 +19,4 @@ returns-in-Ok-place_first-clause-ok c =
 pub returns-in_ok-refusal-in-Err-place_first-clause-ok : goal.returns-in_ok-refusal-in-Err-place_first-clause-ok
 returns-in_ok-refusal-in-Err-place_first-clause-ok c =
     unsettled_first c.args.yard.now (entry_content c.args.entry.now) c.length-length.result c.in-Err-place_first.fault _ (c.requires.plan, c.requires.sound) c.length-length.ensures c.in-None.is
-    c.in_ok-refusal-in-Err-place_first.ensures.not_memory c.in-Err-place_first.ensures.answer c.in_ok-refusal-in-Err-place_first.ensures.ok
+    c.in-Err-place_first.ensures.answer c.in_ok-refusal-in-Err-place_first.ensures.ok

@@ -10,7 +10,7 @@ use Rattle.terminal_core.proofs.terminal.Terminal.depart.Goals as goal
 
 pub invariant_of-self : goal.invariant_of-self
 invariant_of-self c =
-    whole_with (record { yard = c.self.inside.yard; limit = c.self.inside.limit; visits = map visit_content c.self.inside.visits.items; lines = c.self.inside.lists }) c.remove.new.self _ _ c.close-visit.ensures.closed
+    whole_with (record { yard = c.self.inside.yard; limit = c.self.inside.limit; visits = c.self.inside.visits.visits; lines = c.self.inside.lists }) c.remove.new.self _ _ c.close-visit.ensures.closed
     (whole_departed _ c.remove.new.self c.args.container (departure_by c.args.way c.args.source c.args.moment) (placement c.in-Ok.field-0.0 c.in-Ok.field-0.1) c.self.invariant c.in-Ok.ensures.answer c.in-Ok.ensures.sound)
 
 pub returns-in-Ok-clause-step : goal.returns-in-Ok-clause-step

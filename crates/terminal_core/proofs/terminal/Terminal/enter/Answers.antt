@@ -1,4 +1,4 @@
-use Rattle.std.proofs.Common.{◌+◌, refl, arith, subst}
+use Rattle.std.proofs.Common.{◌+◌, length, refl, ap, ◌∙◌, arith, subst}
 use Rattle.std.specs.Prelude.{map}
 use Rattle.std.proofs.lemmas.Result.{MatchResult-at_ok}
 use Rattle.edi_messages.specs.Owned.{entry_content}
@@ -7,31 +7,31 @@ use Rattle.terminal_core.specs.Rows.{visit_content, change_content}
 use Rattle.terminal_core.specs.State.{TerminalState}
 use Rattle.terminal_core.specs.Step.{entered}
 use Rattle.terminal_core.specs.Calls.{Follows, Settles, Unsettled}
-use Rattle.terminal_core.proofs.Appended.{visits_after, changes_after, room_for_visits}
+use Rattle.terminal_core.proofs.Appended.{visits_after, changes_after, room}
 use Rattle.terminal_core.proofs.Whole.{whole_entered, whole_with, placed_in_plan}
 use Rattle.terminal_core.proofs.Steps.{has_entered}
 use Rattle.terminal_core.proofs.terminal.Terminal.enter.Goals as goal
 
 pub invariant_of-self-in-Ok : goal.invariant_of-self-in-Ok
 invariant_of-self-in-Ok c =
-    let state : TerminalState = record { yard = c.self.inside.yard; limit = c.self.inside.limit; visits = map visit_content c.self.inside.visits.items; lines = c.self.inside.lists } in
+    let state : TerminalState = record { yard = c.self.inside.yard; limit = c.self.inside.limit; visits = c.self.inside.visits.visits; lines = c.self.inside.lists } in
     let settles = MatchResult-at_ok (Settles c.self.inside.yard c.settle.new.yard (entry_content c.args.entry.now)) (Unsettled c.self.inside.yard (entry_content c.args.entry.now)) c.in-Ok.slot c.in-Ok.is c.in_ok-slot.ensures.ok in
     whole_with state c.settle.new.yard _ _
-    (visits_after c.self.inside.visits c.reserve.new.self c.append.new.rows c.opened_visit.result c.args.way c.args.source (entry_content c.args.entry.now) c.in-Ok.slot (c.len-2.result + 1) c.reserve.ensures.items c.append.ensures.rows c.opened_visit.ensures
-    (omega (arith, c.reserve.ensures.len)))
-    (whole_entered state c.settle.new.yard _ _ c.self.invariant settles.places c.in_ok-slot.ensures.sound refl refl (room_for_visits c.self.inside.visits c.self.inside.limit (omega arith)))
+    (visits_after c.self.inside.visits.visits c.reserve.new.self.visits c.open.new.self.visits (visit_content c.opened_visit.result) c.args.way c.args.source (entry_content c.args.entry.now) c.in-Ok.slot (c.count-2.result + 1) c.reserve.ensures.kept c.open.ensures
+    c.opened_visit.ensures (ap (λ n. n + 1) (c.count-2.ensures ∙ ap length c.reserve.ensures.kept)))
+    (whole_entered state c.settle.new.yard _ _ c.self.invariant settles.places c.in_ok-slot.ensures.sound refl refl refl (room c.count.result c.self.inside.visits.visits c.self.inside.limit c.count.ensures (omega arith)))
 
 pub returns-in-Ok-clause-ok : goal.returns-in-Ok-clause-ok
 returns-in-Ok-clause-ok c =
-    let state : TerminalState = record { yard = c.self.inside.yard; limit = c.self.inside.limit; visits = map visit_content c.self.inside.visits.items; lines = c.self.inside.lists } in
+    let state : TerminalState = record { yard = c.self.inside.yard; limit = c.self.inside.limit; visits = c.self.inside.visits.visits; lines = c.self.inside.lists } in
     let settles = MatchResult-at_ok (Settles c.self.inside.yard c.settle.new.yard (entry_content c.args.entry.now)) (Unsettled c.self.inside.yard (entry_content c.args.entry.now)) c.in-Ok.slot c.in-Ok.is c.in_ok-slot.ensures.ok in
     let P : TerminalState → Type 0 = λ s.
-    Follows (entered s c.args.way c.args.source (entry_content c.args.entry.now)) (record state { yard = c.settle.new.yard; visits = map visit_content c.append.new.rows.items }) (Done c.in-Ok.slot) (map change_content c.args.changes.now.items) (map change_content c.append-in-Ok-2.new.rows.items) in
-    subst P c.self.view_is (has_entered state c.args.way c.args.source (entry_content c.args.entry.now) c.settle.new.yard c.in-Ok.slot _ _ _ (room_for_visits c.self.inside.visits c.self.inside.limit (omega arith)) settles
-    (visits_after c.self.inside.visits c.reserve.new.self c.append.new.rows c.opened_visit.result c.args.way c.args.source (entry_content c.args.entry.now) c.in-Ok.slot (c.len-2.result + 1) c.reserve.ensures.items c.append.ensures.rows c.opened_visit.ensures
-    (omega (arith, c.reserve.ensures.len)))
-    (changes_after c.self.inside.visits c.args.changes.now.items c.append-in-Ok.new.rows.items c.append-in-Ok-2.new.rows.items c.opened_visit-in-Ok.result c.args.way c.args.source (entry_content c.args.entry.now) c.in-Ok.slot (c.len-2.result + 1)
-    c.append-in-Ok.ensures.rows c.append-in-Ok-2.ensures.rows c.opened_visit-in-Ok.ensures (omega (arith, c.reserve.ensures.len))))
+    Follows (entered s c.args.way c.args.source (entry_content c.args.entry.now)) (record state { yard = c.settle.new.yard; visits = c.open.new.self.visits }) (Done c.in-Ok.slot) (map change_content c.args.changes.now.items) (map change_content c.append-in-Ok.new.rows.items) in
+    subst P c.self.view_is (has_entered state c.args.way c.args.source (entry_content c.args.entry.now) c.settle.new.yard c.in-Ok.slot _ _ _ (room c.count.result c.self.inside.visits.visits c.self.inside.limit c.count.ensures (omega arith)) settles
+    (visits_after c.self.inside.visits.visits c.reserve.new.self.visits c.open.new.self.visits (visit_content c.opened_visit.result) c.args.way c.args.source (entry_content c.args.entry.now) c.in-Ok.slot (c.count-2.result + 1) c.reserve.ensures.kept c.open.ensures
+    c.opened_visit.ensures (ap (λ n. n + 1) (c.count-2.ensures ∙ ap length c.reserve.ensures.kept)))
+    (changes_after c.self.inside.visits.visits c.args.changes.now.items c.append.new.rows.items c.append-in-Ok.new.rows.items c.opened_visit-in-Ok.result c.args.way c.args.source (entry_content c.args.entry.now) c.in-Ok.slot (c.count-2.result + 1)
+    c.append.ensures.rows c.append-in-Ok.ensures.rows c.opened_visit-in-Ok.ensures (ap (λ n. n + 1) (c.count-2.ensures ∙ ap length c.reserve.ensures.kept))))
 
 pub returns-in-Ok-clause-planned : goal.returns-in-Ok-clause-planned
 returns-in-Ok-clause-planned c =

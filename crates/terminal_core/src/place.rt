@@ -2,7 +2,7 @@ use box6346::{BoxNumber, Slot};
 
 /// Where a container stands, and the visit by which it is here: a row of the yard's list.
 #[derive(Clone, Copy, Debug)]
-pub struct Stay {
+pub struct Place {
     /// The container's number (ISO 6346).
     pub container: BoxNumber,
     /// The number of its open visit.

@@ -1,0 +1,196 @@
+-- What is well formed stays so.
+use Rattle.std.proofs.Common.{◌≡◌, ℕ, ◌+◌, ◌≤◌, ◌<◌, List, [], ◌∷◌, ◌++◌, length, map, Bool, true, false, cond, Option, None, Some, Result, Ok, Err, IsTrue, refl, sym, ap, ◌∙◌, arith, subst, inl, inr, nat_le}
+use Rattle.std.specs.Prelude.{Contains, ◌&&◌}
+use Rattle.std.specs.Char.{is_ascii_uppercase}
+use Rattle.std.specs.FinMap as finite_map
+use Rattle.std.specs.Str.{bytes_eq}
+use Rattle.std.specs.Ordering.{eq_by_cmp}
+use Rattle.std.proofs.lemmas.Bool.{le-leb}
+use Rattle.std.proofs.lemmas.Option.{same_Some, none-some}
+use Rattle.std.proofs.lemmas.List.Elements.{Contains-push_cases}
+use Rattle.box6346.specs.SizeCode.{length_of}
+use Rattle.box6346.specs.SlotName.{IsNamed}
+use Rattle.box6346.specs.declared.box_number.BoxNumber.{BoxNumber}
+use Rattle.box6346.specs.declared.slot.Slot.{Slot}
+use Rattle.edi_moments.specs.Moments.{CivilMoment}
+use Rattle.edi_messages.specs.Purposes.{CallContent}
+use Rattle.edi_messages.specs.Orders.{EntryContent, OrderContent, gate_in, gate_out, move, list_discharge, list_load, discharge, load}
+use Rattle.yard_core.specs.declared.block.Block.{Block}
+use Rattle.yard_core.specs.declared.placement.Placement.{Placement}
+use Rattle.yard_core.specs.Plan.{IsPlan, InPlan}
+use Rattle.yard_core.specs.YardMap.{Boxes, YardMap, placement}
+use Rattle.yard_core.specs.FitsAndFree.{IsOpen}
+use Rattle.yard_core.specs.Decisions.{Refusal, misfit_of, removed, shifted}
+use Rattle.yard_core.proofs.Exact.{numbered}
+use Rattle.yard_core.proofs.Fitting.{Judges, misfit_judges}
+use Rattle.terminal_core.specs.declared.departure.Departure.{Departure}
+use Rattle.terminal_core.specs.declared.line_state.LineState.{LineState}
+use Rattle.terminal_core.specs.declared.line_state.LineState.TheVariants.{Pending, Done as LineIsDone}
+use Rattle.terminal_core.specs.declared.outcome.Outcome.{Outcome}
+use Rattle.terminal_core.specs.declared.outcome.Outcome.TheVariants.{Done, Gone, Listed, Refused}
+use Rattle.terminal_core.specs.declared.reason.Reason.TheVariants.{AlreadyIn, NotIn, VisitLimit}
+use Rattle.terminal_core.specs.declared.side.Side.{Side}
+use Rattle.terminal_core.specs.declared.side.Side.TheVariants.{Load, Discharge}
+use Rattle.terminal_core.specs.declared.source.Source.{Source}
+use Rattle.terminal_core.specs.declared.way.Way.{Way}
+use Rattle.terminal_core.specs.declared.way.Way.TheVariants.{Gate, Ship}
+use Rattle.terminal_core.specs.Rows.{VisitContent}
+use Rattle.terminal_core.specs.State.{TerminalState, LineContent, LineKey, Lines, line_key, line_of, is_in, is_open_visit, empty_state, IsWhole}
+use Rattle.terminal_core.specs.Step.{Stepped, refused, step, settled, is_full, visit_of, entered, entered_at, closed, departed, departed_at, departure_by, moved_at, listed_at, then_line_done_at, by_line, by_state}
+use Rattle.terminal_core.specs.Forms.{IsSource, IsFormedCall, IsFormedDeparture, IsFormedExit, IsFormedVisit, IsFormedPort, IsFormedLine, IsWellFormed, IsFormedEntry, IsFormedListing, IsFormedOrder}
+use Rattle.terminal_core.proofs.Boxes.{in_placed_map, in_removed_map}
+use Rattle.terminal_core.proofs.Lined.{order, keys_total, same_key}
+use Rattle.terminal_core.proofs.Numbered.{contained, found_at}
+use Rattle.terminal_core.proofs.Indexed.{mapped_at}
+use Rattle.terminal_core.proofs.Noted.{key_parts}
+use Rattle.terminal_core.proofs.Changing.{Comes, comes, goes, shifts, either, KeepsLines, entered_keeps, departed_keeps}
+
+-- ---- slots
+
+capital : (letter : ℕ) → 65 ≤ letter → letter ≤ 90 → IsTrue (is_ascii_uppercase letter)
+capital letter low high = let a : nat_le 65 letter ≡ true = le-leb 65 letter low in let b : nat_le letter 90 ≡ true = le-leb letter 90 high in ap (λ v. v && nat_le letter 90) a ∙ b
+
+-- where a container fits is a slot with a name
+named : (plan : List Block) (boxes : Boxes) (s : Placement) → IsPlan plan → misfit_of plan boxes s ≡ None → IsNamed s.slot
+named plan boxes s valid fits =
+    let P : Option Refusal → Type 0 = Judges plan boxes s in
+    let open_ : IsOpen plan (finite_map.get boxes) s = subst P fits (misfit_judges plan boxes s) in
+    let n = numbered plan s.slot valid open_.in_plan in
+    record { block = capital s.slot.block n.letter_low (omega (arith, n.letter_high)); bay = omega (arith, n.bay_high); row = omega (arith, n.row_high); tier = omega (arith, n.tier_high) }
+
+placed_case : (boxes : Boxes) (s t : Placement) (q : BoxNumber) (is : Bool) → ((t : Placement) → finite_map.get boxes q ≡ Some t → IsNamed t.slot) → IsNamed s.slot → cond is (Some s) (finite_map.get boxes q) ≡ Some t → IsNamed t.slot
+placed_case boxes s t q true old new at = let P : Placement → Type 0 = λ p. IsNamed p.slot in subst P (same_Some s t at) new
+placed_case boxes s t q false old new at = old t at
+
+removed_case : (boxes : Boxes) (t : Placement) (q : BoxNumber) (is : Bool) → ((t : Placement) → finite_map.get boxes q ≡ Some t → IsNamed t.slot) → cond is None (finite_map.get boxes q) ≡ Some t → IsNamed t.slot
+removed_case boxes t q true old at = absurd (none-some t at)
+removed_case boxes t q false old at = old t at
+
+-- ---- the empty state
+
+pub empty_formed : (yard : YardMap) (limit : ℕ) → yard.boxes ≡ finite_map.empty → IsWellFormed (empty_state yard limit)
+empty_formed yard limit none = record {
+  visits = λ visit inside. (let bad : inside.0 < 0 = inside.1 in absurd (omega arith));
+  lines = λ call side container line there. absurd (none-some line (sym (finite_map.get-empty _ (line_key call side container)) ∙ there));
+  slots = λ container s at. absurd (none-some s (sym (ap (λ (m : Boxes). finite_map.get m container) none ∙ finite_map.get-empty _ container) ∙ at));
+}
+
+-- ---- steps
+
+abbrev Forms : Stepped → Type 0
+Forms after = IsWellFormed after.state
+
+formed_entered_at : (state : TerminalState) (way : Way) (source : Source) (entry : EntryContent) (r : Result (YardMap × Slot) Refusal) → IsWhole state → IsWellFormed state → IsSource source → IsFormedEntry entry → settled state.yard entry ≡ r
+    → Forms (entered_at state way source entry r)
+formed_entered_at state way source entry (Err f) whole formed from its e = formed
+formed_entered_at state way source entry (Ok (y, slot)) whole formed from its e =
+    let s : Placement = placement (length_of entry.size_type) slot in
+    let came : Comes state.yard y entry.number s = comes state.yard y entry entry.slot slot e in
+    let slot_named : IsNamed slot = named state.yard.plan state.yard.boxes s whole.plan came.fits in
+    let v : VisitContent = visit_of state way source entry slot in
+    let V : VisitContent → Type 0 = IsFormedVisit in
+    let v_formed : V v = record { container = its.container; size_type = its.size_type; booking = its.booking; source = from; moment = its.moment; slot = slot_named; exit = tt } in
+    record {
+      visits = λ visit inside. elim (Contains-push_cases state.visits v visit inside) [ inl old ↦ formed.visits visit old | inr same ↦ subst V same v_formed ];
+      lines = formed.lines;
+      slots = λ q t at. placed_case state.yard.boxes s t q (bytes_eq entry.number q) (formed.slots q) slot_named (sym (in_placed_map state.yard.boxes y.boxes entry.number q s came.boxes) ∙ at);
+    }
+
+formed_entered : (state : TerminalState) (way : Way) (source : Source) (entry : EntryContent) → IsWhole state → IsWellFormed state → IsSource source → IsFormedEntry entry → Forms (entered state way source entry)
+formed_entered state way source entry whole formed from its =
+    either Forms (is_full state) (refused state VisitLimit) (entered_at state way source entry (settled state.yard entry)) formed (formed_entered_at state way source entry (settled state.yard entry) whole formed from its refl)
+
+closed_case : (departure : Departure) (v : VisitContent) (is : Bool) → IsFormedVisit v → IsFormedDeparture departure → IsFormedVisit (cond is (record v { departure = Some departure }) v)
+closed_case departure v true old new = record { container = old.container; size_type = old.size_type; booking = old.booking; source = old.source; moment = old.moment; slot = old.slot; exit = new }
+closed_case departure v false old new = old
+
+formed_departed_at : (state : TerminalState) (b : BoxNumber) (departure : Departure) (r : Result (YardMap × Placement) Refusal) → IsWellFormed state → IsFormedDeparture departure → removed state.yard b ≡ r → Forms (departed_at state b departure r)
+formed_departed_at state b departure (Err f) formed its e = formed
+formed_departed_at state b departure (Ok (y, s)) formed its e =
+    let went = goes (finite_map.get state.yard.boxes b) state.yard y b s e in
+    record {
+      visits = λ visit inside. (let V : VisitContent → Type 0 = IsFormedVisit in
+          let row = mapped_at (closed departure b) state.visits inside.0 visit (found_at (map (closed departure b) state.visits) visit inside) in
+          subst V row.2 (closed_case departure row.0 (is_open_visit b row.0) (formed.visits row.0 (contained state.visits inside.0 row.0 row.1)) its));
+      lines = formed.lines;
+      slots = λ q t at. removed_case state.yard.boxes t q (bytes_eq b q) (formed.slots q) (sym (in_removed_map state.yard.boxes y.boxes b q went.1) ∙ at);
+    }
+
+formed_departed : (state : TerminalState) (way : Way) (source : Source) (b : BoxNumber) (moment : CivilMoment) → IsWellFormed state → IsFormedDeparture (departure_by way source moment) → Forms (departed state way source b moment)
+formed_departed state way source b moment formed its = formed_departed_at state b (departure_by way source moment) (removed state.yard b) formed its refl
+
+formed_moved_at : (state : TerminalState) (b : BoxNumber) (slot : Slot) (r : Result YardMap Refusal) → IsWhole state → IsWellFormed state → shifted state.yard b slot ≡ r → Forms (moved_at state b slot r)
+formed_moved_at state b slot (Err f) whole formed e = formed
+formed_moved_at state b slot (Ok y) whole formed e =
+    let is = shifts (finite_map.get state.yard.boxes b) state.yard y b slot e in
+    let s : Placement = placement is.0.length slot in
+    record {
+      visits = formed.visits;
+      lines = formed.lines;
+      slots = λ q t at. placed_case state.yard.boxes s t q (bytes_eq b q) (formed.slots q) (named state.yard.plan (finite_map.remove state.yard.boxes b) s whole.plan is.3)
+          (sym (in_placed_map state.yard.boxes y.boxes b q s is.2) ∙ at);
+    }
+
+-- ---- lists
+
+line_case : (lines : Lines) (call c : CallContent) (side s : Side) (b q : BoxNumber) (new line : LineContent) (is : Bool) → eq_by_cmp order (line_key c s q) (line_key call side b) ≡ is → IsFormedLine call side b new
+    → (finite_map.get lines (line_key c s q) ≡ Some line → IsFormedLine c s q line) → cond is (Some new) (finite_map.get lines (line_key c s q)) ≡ Some line → IsFormedLine c s q line
+line_case lines call c side s b q new line true e its old at =
+    let parts = key_parts call c side s b q (sym (same_key (line_key c s q) (line_key call side b) e)) in
+    let P : CallContent → Type 0 = λ x. IsFormedLine x side b new in
+    let Q : Side → Type 0 = λ x. IsFormedLine c x b new in
+    let R : BoxNumber → Type 0 = λ x. IsFormedLine c s x new in
+    let L : LineContent → Type 0 = IsFormedLine c s q in
+    subst L (same_Some new line at) (subst R parts.2 (subst Q parts.1 (subst P parts.0 its)))
+line_case lines call c side s b q new line false e its old at = old at
+
+formed_lines : (state : TerminalState) (call : CallContent) (side : Side) (b : BoxNumber) (new : LineContent) → IsWellFormed state → IsFormedLine call side b new
+    → IsWellFormed (record state { lines = finite_map.insert state.lines (line_key call side b) new })
+formed_lines state call side b new formed its = record {
+  visits = formed.visits;
+  lines = λ c s q line at. line_case state.lines call c side s b q new line (eq_by_cmp order (line_key c s q) (line_key call side b)) refl its (formed.lines c s q line) (sym (finite_map.get-insert keys_total state.lines (line_key call side b) new (line_key c s q)) ∙ at);
+  slots = formed.slots;
+}
+
+formed_listed : (state : TerminalState) (call : CallContent) (side : Side) (b : BoxNumber) (port : List ℕ) (o : Option LineContent) → IsWellFormed state → IsFormedLine call side b (record { port = port; state = Pending }) → Forms (listed_at state call side b port o)
+formed_listed state call side b port (Some line) formed its = formed
+formed_listed state call side b port None formed its = formed_lines state call side b (record { port = port; state = Pending }) formed its
+
+done_formed : (call : CallContent) (side : Side) (b : BoxNumber) (line : LineContent) → IsFormedLine call side b line → IsFormedLine call side b (record line { state = LineIsDone })
+done_formed call side b line its = record { call_formed = its.call_formed; container_formed = its.container_formed; port_formed = its.port_formed }
+
+formed_then : (call : CallContent) (side : Side) (b : BoxNumber) (line : LineContent) (after : Stepped) (o : Outcome) → Forms after → IsFormedLine call side b line → Forms (then_line_done_at call side b line after o)
+formed_then call side b line after (Refused reason) formed its = formed
+formed_then call side b line after (Done slot) formed its = formed_lines after.state call side b (record line { state = LineIsDone }) formed (done_formed call side b line its)
+formed_then call side b line after Gone formed its = formed_lines after.state call side b (record line { state = LineIsDone }) formed (done_formed call side b line its)
+formed_then call side b line after Listed formed its = formed_lines after.state call side b (record line { state = LineIsDone }) formed (done_formed call side b line its)
+
+formed_by_state : (state : TerminalState) (call : CallContent) (side : Side) (b : BoxNumber) (line : LineContent) (after : Stepped) (s : LineState) → IsWellFormed state → Forms after → IsFormedLine call side b line → Forms (by_state state call side b line after s)
+formed_by_state state call side b line after LineIsDone formed then its = formed
+formed_by_state state call side b line after Pending formed then its = formed_then call side b line after after.outcome then its
+
+formed_by_line : (state : TerminalState) (call : CallContent) (side : Side) (b : BoxNumber) (o : Option LineContent) (after : Stepped) → IsWellFormed state → Forms after → line_of state call side b ≡ o → Forms (by_line state call side b o after)
+formed_by_line state call side b None after formed then e = formed
+formed_by_line state call side b (Some line) after formed then e = formed_by_state state call side b line after line.state formed then (formed.lines call side b line e)
+
+-- ---- orders
+
+listing_formed : (call : CallContent) (b : BoxNumber) (port : List ℕ) → IsFormedListing call b port → IsFormedLine call Load b (record { port = port; state = Pending })
+listing_formed call b port its = record { call_formed = its.call_formed; container_formed = its.container_formed; port_formed = its.port_formed }
+
+discharge_formed : (call : CallContent) (b : BoxNumber) → IsFormedListing call b [] → IsFormedLine call Discharge b (record { port = []; state = Pending })
+discharge_formed call b its = record { call_formed = its.call_formed; container_formed = its.container_formed; port_formed = refl }
+
+pub formed_step : (state : TerminalState) (source : Source) (order : OrderContent) → IsWhole state → IsWellFormed state → IsSource source → IsFormedOrder order → Forms (step state source order)
+formed_step state source (gate_in entry) whole formed from its =
+    either Forms (is_in state entry.number) (refused state AlreadyIn) (entered state Gate source entry) formed (formed_entered state Gate source entry whole formed from its)
+formed_step state source (gate_out b moment) whole formed from its = formed_departed state Gate source b moment formed (record { source = from; moment = its })
+formed_step state source (move b slot) whole formed from its = formed_moved_at state b slot (shifted state.yard b slot) whole formed refl
+formed_step state source (list_discharge call b) whole formed from its = formed_listed state call Discharge b [] (line_of state call Discharge b) formed (discharge_formed call b its)
+formed_step state source (list_load call b port) whole formed from its = formed_listed state call Load b port (line_of state call Load b) formed (listing_formed call b port its)
+formed_step state source (discharge call entry) whole formed from its =
+    either Forms (is_in state entry.number) (refused state AlreadyIn) (by_line state call Discharge entry.number (line_of state call Discharge entry.number) (entered state Ship source entry)) formed
+    (formed_by_line state call Discharge entry.number (line_of state call Discharge entry.number) (entered state Ship source entry) formed (formed_entered state Ship source entry whole formed from its) refl)
+formed_step state source (load call b moment) whole formed from its =
+    either Forms (is_in state b) (by_line state call Load b (line_of state call Load b) (departed state Ship source b moment)) (refused state NotIn)
+    (formed_by_line state call Load b (line_of state call Load b) (departed state Ship source b moment) formed (formed_departed state Ship source b moment formed (record { source = from; moment = its })) refl) formed

@@ -1,0 +1,252 @@
+-- Where the lines of the vessels' lists are said to stand.
+use Rattle.std.proofs.Common.{◌≡◌, ℕ, ◌+◌, ◌<◌, ◌≤◌, zero, suc, List, [], ◌∷◌, ◌++◌, length, map, take, get_or, ◌⊎◌, Bool, true, false, cond, Option, None, Some, Result, Ok, Err, is_some, refl, sym, ap, ◌∙◌, arith, subst, inl, inr}
+use Rattle.std.specs.Prelude.{OnErr, ◌&&◌, ◌==◌, slice_get, slice_set, string_bytes}
+use Rattle.std.specs.Str.{bytes_eq}
+use Rattle.std.specs.Map.{lookup}
+use Rattle.std.proofs.lemmas.Bool.{and_parts, eqb-true, eq-eqb}
+use Rattle.std.proofs.lemmas.Option.{same_Some, none-some, slice_get-get_or}
+use Rattle.std.specs.FinMap as finite_map
+use Rattle.std.specs.Cmp.{eq_by_cmp_equiv}
+use Rattle.std.specs.Ordering.{eq_by_cmp}
+use Rattle.box6346.specs.declared.box_number.BoxNumber.{BoxNumber}
+use Rattle.edi_messages.specs.Purposes.{CallContent}
+use Rattle.edi_messages.specs.Owned.{call_content}
+use Rattle.edi_messages.specs.declared.call.Call.{Call}
+use Rattle.terminal_core.specs.declared.listing.Listing.{Listing}
+use Rattle.terminal_core.specs.declared.side.Side.{Side}
+use Rattle.terminal_core.specs.declared.side.Side.TheVariants.{Load, Discharge}
+use Rattle.terminal_core.specs.State.{LineContent, LineKey, line_key, side_code}
+use Rattle.terminal_core.specs.Listings.{key_of, line_content, line_entry, lines_of, is_line, is_side, NoneBefore, IsFirstAt}
+use Rattle.terminal_core.specs.LinePlaces.{CallPlaces, AllPlaces, is_call, is_key, places_of, place_by, place_in, is_same_line, SamePlaces, NotesPlace, AreNoted}
+use Rattle.terminal_core.proofs.Boxes.{same_bytes, same_self, bytes_turned}
+use Rattle.terminal_core.proofs.Lined.{order, keys_total, same_key, line_tied, line_none}
+use Rattle.std.proofs.lemmas.List.{take_more, length-take-le}
+use Rattle.terminal_core.specs.Restoring.{AreOnce}
+use Rattle.terminal_core.proofs.Counted.{at_most_one}
+use Rattle.terminal_core.proofs.Indexed.{pushed_at, mapped_at}
+
+-- what holds holds where it failed
+pub always : {A E : Type 0} {P : Type 0} (r : Result A E) → P → OnErr r P
+always (Ok x) fact = tt
+always (Err e) fact = fact
+
+-- ---- one call's places
+
+same_call : (call : CallContent) (other : Call) → is_call call other ≡ true → call_content other ≡ call
+same_call call other e =
+    let parts = and_parts (bytes_eq call.vessel (string_bytes other.vessel)) (bytes_eq call.voyage (string_bytes other.voyage)) e in
+    let vessel : string_bytes other.vessel ≡ call.vessel = same_bytes call.vessel (string_bytes other.vessel) parts.0 in
+    let voyage : string_bytes other.voyage ≡ call.voyage = same_bytes call.voyage (string_bytes other.voyage) parts.1 in
+    λ i. record { vessel = vessel i; voyage = voyage i }
+
+written : (u v : Bool) (o : Option CallPlaces) (old new : CallPlaces) (side : Side) (b : BoxNumber) (place : ℕ) → (u ≡ true → o ≡ Some old) → lookup (is_key side b) new.entries ≡ cond v (Some place) (lookup (is_key side b) old.entries)
+    → place_by (cond u (Some new) o) side b ≡ cond (u && v) (Some place) (place_by o side b)
+written true v o old new side b place there e = e ∙ ap (λ x. cond v (Some place) (place_by x side b)) (sym (there refl))
+written false v o old new side b place there e = refl
+
+unwritten : (u : Bool) (o : Option CallPlaces) (old new : CallPlaces) (side : Side) (b : BoxNumber) → (u ≡ true → o ≡ Some old) → new.entries ≡ old.entries → place_by (cond u (Some new) o) side b ≡ place_by o side b
+unwritten true o old new side b there e = ap (lookup (is_key side b)) e ∙ ap (λ x. place_by x side b) (sym (there refl))
+unwritten false o old new side b there e = refl
+
+unknown : (u : Bool) (o : Option CallPlaces) (new : CallPlaces) (side : Side) (b : BoxNumber) → (u ≡ true → o ≡ None) → new.entries ≡ [] → place_by (cond u (Some new) o) side b ≡ place_by o side b
+unknown true o new side b none e = ap (lookup (is_key side b)) e ∙ ap (λ x. place_by x side b) (sym (none refl))
+unknown false o new side b none e = refl
+
+module _ (call : CallContent) (old new : AllPlaces) (was now : CallPlaces) (writes : (q : Call) → places_of new (call_content q) ≡ cond (is_call call q) (Some now) (places_of old (call_content q))) where
+  pub notes_place : (side : Side) (container : BoxNumber) (place : ℕ) → places_of old call ≡ Some was
+      → ((s : Side) (b : BoxNumber) → lookup (is_key s b) now.entries ≡ cond (side_code side == side_code s && bytes_eq container b) (Some place) (lookup (is_key s b) was.entries)) → NotesPlace old new call side container place
+  notes_place side container place there puts q s b =
+      ap (λ o. place_by o s b) (writes q)
+      ∙ written (is_call call q) (side_code side == side_code s && bytes_eq container b) (places_of old (call_content q)) was now s b place (λ e. ap (places_of old) (same_call call q e) ∙ there) (puts s b)
+
+  pub stays_noted : places_of old call ≡ Some was → now.entries ≡ was.entries → SamePlaces old new
+  stays_noted there same q s b =
+      ap (λ o. place_by o s b) (writes q) ∙ unwritten (is_call call q) (places_of old (call_content q)) was now s b (λ e. ap (places_of old) (same_call call q e) ∙ there) same
+
+  pub known_now : places_of old call ≡ None → now.entries ≡ [] → SamePlaces old new
+  known_now none empty q s b =
+      ap (λ o. place_by o s b) (writes q) ∙ unknown (is_call call q) (places_of old (call_content q)) now s b (λ e. ap (places_of old) (same_call call q e) ∙ none) empty
+
+-- ---- the rows
+
+same_side : (s t : Side) → side_code s ≡ side_code t → s ≡ t
+same_side Load Load e = refl
+same_side Load Discharge e = absurd (omega arith)
+same_side Discharge Load e = absurd (omega arith)
+same_side Discharge Discharge e = refl
+
+-- the parts of a key
+call_in : LineKey → CallContent
+call_in [] = record { vessel = []; voyage = [] }
+call_in (v ∷ []) = record { vessel = v; voyage = [] }
+call_in (v ∷ w ∷ k) = record { vessel = v; voyage = w }
+
+side_in : LineKey → List ℕ
+side_in (v ∷ w ∷ s ∷ k) = s
+side_in [] = []
+side_in (v ∷ []) = []
+side_in (v ∷ w ∷ []) = []
+
+container_in : LineKey → List ℕ
+container_in (v ∷ w ∷ s ∷ b ∷ k) = b
+container_in [] = []
+container_in (v ∷ []) = []
+container_in (v ∷ w ∷ []) = []
+container_in (v ∷ w ∷ s ∷ []) = []
+
+first_of_list : List ℕ → ℕ
+first_of_list [] = 0
+first_of_list (n ∷ ns) = n
+
+-- a key tells its call, side and container
+pub key_parts : (call c : CallContent) (side s : Side) (container b : BoxNumber) → line_key call side container ≡ line_key c s b → (call ≡ c) × (side ≡ s) × (container ≡ b)
+unfolding call_in side_in container_in first_of_list
+key_parts call c side s container b key = (ap call_in key, same_side side s (ap (λ k. first_of_list (side_in k)) key), ap container_in key)
+
+-- lines of one key are said to stand at one place
+pub place_by_key : (places : AllPlaces) (call : CallContent) (side : Side) (container : BoxNumber) (row : Listing) → line_key call side container ≡ key_of row
+    → place_in places call side container ≡ place_in places (call_content row.call) row.side row.container
+unfolding call_in side_in container_in first_of_list
+place_by_key places call side container row key =
+    let calls : call ≡ call_content row.call = ap call_in key in
+    let sides : side ≡ row.side = same_side side row.side (ap (λ k. first_of_list (side_in k)) key) in
+    let boxes : container ≡ row.container = ap container_in key in
+    ap (λ (c : CallContent). place_in places c side container) calls ∙ ap (λ s. place_in places (call_content row.call) s container) sides ∙ ap (place_in places (call_content row.call) row.side) boxes
+
+same_place : (places : AllPlaces) (call : CallContent) (side : Side) (container : BoxNumber) (row : Listing) → is_line call side container row ≡ true
+    → place_in places call side container ≡ place_in places (call_content row.call) row.side row.container
+same_place places call side container row is = place_by_key places call side container row (same_key (line_key call side container) (key_of row) (line_tied call side container row ∙ is))
+
+module _ (rows : List Listing) (places : AllPlaces) (noted : AreNoted rows places) (call : CallContent) (side : Side) (container : BoxNumber) where
+  -- a line that stands is said to stand there
+  pub said : (k : ℕ) (row : Listing) → slice_get rows k ≡ Some row → is_line call side container row ≡ true → place_in places call side container ≡ Some k
+  said k row at is = same_place places call side container row is ∙ noted k row at
+
+  isnt_line : (k : ℕ) (row : Listing) → slice_get rows k ≡ Some row → (place_in places call side container ≡ Some k → ⊥) → is_line call side container row ≡ false
+  isnt_line k row at not =
+      elim (is_line call side container row) as (λ v. is_line call side container row ≡ v → v ≡ false) [ true ↦ λ is. absurd (not (said k row at is)) | false ↦ λ e. refl ] refl
+
+  pub none_said : place_in places call side container ≡ None → NoneBefore call side container rows (length rows)
+  none_said none k row low at = isnt_line k row at (λ is. none-some k (sym none ∙ is))
+
+  pub none_past : (place : ℕ) → place_in places call side container ≡ Some place → slice_get rows place ≡ None → NoneBefore call side container rows (length rows)
+  none_past place is past k row low at = isnt_line k row at (λ also. none-some row (sym past ∙ ap (slice_get rows) (same_Some place k (sym is ∙ also)) ∙ at))
+
+  pub none_there : (place : ℕ) (other : Listing) → place_in places call side container ≡ Some place → slice_get rows place ≡ Some other → is_line call side container other ≡ false → NoneBefore call side container rows (length rows)
+  none_there place other is there isnt k row low at =
+      elim (is_line call side container row) as (λ v. is_line call side container row ≡ v → v ≡ false) [
+        | true ↦ λ its.
+            let same : place ≡ k = same_Some place k (sym is ∙ said k row at its) in
+            let met : other ≡ row = same_Some other row (sym there ∙ ap (slice_get rows) same ∙ at) in
+            let bad : true ≡ false = sym its ∙ ap (is_line call side container) (sym met) ∙ isnt in
+            bad
+        | false ↦ λ e. refl
+      ] refl
+
+  pub first_there : (place : ℕ) (row : Listing) → place_in places call side container ≡ Some place → slice_get rows place ≡ Some row → is_line call side container row ≡ true → IsFirstAt call side container rows place
+  first_there place row is at its = record {
+    row = row;
+    at = at;
+    is = its;
+    before = λ k other low there. isnt_line k other there (λ also. let same : place ≡ k = same_Some place k (sym is ∙ also) in omega arith);
+  }
+
+-- ---- a row more
+
+pub none_noted : (places : AllPlaces) → AreNoted [] places
+none_noted places k row at = absurd (none-some row at)
+
+pub still_noted : (rows : List Listing) (old new : AllPlaces) → SamePlaces old new → AreNoted rows old → AreNoted rows new
+still_noted rows old new same noted k row at = same row.call row.side row.container ∙ noted k row at
+
+cond_none : {A : Type 0} (v : Bool) (x : A) (o : Option A) → cond v (Some x) o ≡ None → (v ≡ false) × (o ≡ None)
+cond_none true x o e = absurd (none-some x (sym e))
+cond_none false x o e = (refl, e)
+
+-- no row has a key that the map lacks
+lacks : (rows : List Listing) (key : LineKey) → finite_map.find order key (map line_entry rows) ≡ None → (k : ℕ) (row : Listing) → slice_get rows k ≡ Some row → eq_by_cmp order key (key_of row) ≡ false
+lacks [] key none k row at = absurd (none-some row at)
+lacks (r ∷ rows) key none zero row at =
+    ap (λ (w : Listing). eq_by_cmp order key (key_of w)) (sym (same_Some r row at)) ∙ (cond_none (eq_by_cmp order key (key_of r)) (line_content r) (finite_map.find order key (map line_entry rows)) none).0
+lacks (r ∷ rows) key none (suc k) row at = lacks rows key (cond_none (eq_by_cmp order key (key_of r)) (line_content r) (finite_map.find order key (map line_entry rows)) none).1 k row at
+
+one_key : (line row : Listing) → is_same_line (call_content line.call) line.side line.container row.call row.side row.container ≡ true → key_of row ≡ key_of line
+one_key line row e =
+    let parts = and_parts (is_call (call_content line.call) row.call) (side_code line.side == side_code row.side && bytes_eq line.container row.container) e in
+    let last = and_parts (side_code line.side == side_code row.side) (bytes_eq line.container row.container) parts.1 in
+    let calls : call_content row.call ≡ call_content line.call = same_call (call_content line.call) row.call parts.0 in
+    let sides : row.side ≡ line.side = same_side row.side line.side (sym (eqb-true (side_code line.side) (side_code row.side) last.0)) in
+    ap (λ (c : CallContent). line_key c row.side row.container) calls ∙ ap (λ s. line_key (call_content line.call) s row.container) sides
+    ∙ ap (line_key (call_content line.call) line.side) (same_bytes line.container row.container last.1)
+
+both_hold : (a b : Bool) → a ≡ true → b ≡ true → (a && b) ≡ true
+both_hold true b e f = f
+both_hold false b e f = e
+
+one_line : (line : Listing) → is_same_line (call_content line.call) line.side line.container line.call line.side line.container ≡ true
+one_line line =
+    both_hold _ _ (both_hold _ _ (same_self (string_bytes line.call.vessel)) (same_self (string_bytes line.call.voyage)))
+    (both_hold (side_code line.side == side_code line.side) (bytes_eq line.container line.container) (eq-eqb (side_code line.side) (side_code line.side) refl) (same_self line.container))
+
+kept_case : (line row : Listing) (v : Bool) (n k : ℕ) (o : Option ℕ) → is_same_line (call_content line.call) line.side line.container row.call row.side row.container ≡ v → eq_by_cmp order (key_of line) (key_of row) ≡ false → o ≡ Some k
+    → cond v (Some n) o ≡ Some k
+kept_case line row true n k o e apart at =
+    let bad : true ≡ false = sym ((eq_by_cmp_equiv keys_total).refl (key_of line)) ∙ ap (eq_by_cmp order (key_of line)) (sym (one_key line row e)) ∙ apart in
+    cc
+kept_case line row false n k o e apart at = at
+
+pub one_noted : (rows : List Listing) (line : Listing) (old new : AllPlaces) → finite_map.get (lines_of rows) (key_of line) ≡ None → AreNoted rows old → NotesPlace old new (call_content line.call) line.side line.container (length rows)
+    → AreNoted (rows ++ line ∷ []) new
+one_noted rows line old new none noted notes k row at = elim (pushed_at rows line k row at) [
+  | inl before ↦ notes row.call row.side row.container
+      ∙ kept_case line row (is_same_line (call_content line.call) line.side line.container row.call row.side row.container) (length rows) k (place_in old (call_content row.call) row.side row.container) refl
+      (lacks rows (key_of line) (sym (finite_map.get-from_entries keys_total (map line_entry rows) (key_of line)) ∙ none) k row before) (noted k row before)
+  | inr last ↦ (let P : Listing → Type 0 = λ r. place_in new (call_content r.call) r.side r.container ≡ Some k in
+      subst P last.1 (notes line.call line.side line.container
+      ∙ ap (λ v. cond v (Some (length rows)) (place_in old (call_content line.call) line.side line.container)) (one_line line) ∙ ap Some (sym last.0)))
+]
+
+-- a row more of those that are read
+pub next_noted : (rows : List Listing) (i : ℕ) (row : Listing) (old new : AllPlaces) → i < length rows → row ≡ get_or rows i row → NoneBefore (call_content row.call) row.side row.container (take i rows) (length (take i rows))
+    → AreNoted (take i rows) old → NotesPlace old new (call_content row.call) row.side row.container i → AreNoted (take (i + 1) rows) new
+next_noted rows i row old new low at none noted notes =
+    let longer : take (i + 1) rows ≡ take i rows ++ row ∷ [] = take_more rows i row low ∙ ap (λ (r : Listing). take i rows ++ r ∷ []) (sym at) in
+    let long : length (take i rows) ≡ i = length-take-le i rows (omega arith) in
+    let P : List Listing → Type 0 = λ r. AreNoted r new in
+    let Q : ℕ → Type 0 = NotesPlace old new (call_content row.call) row.side row.container in
+    subst P (sym longer) (one_noted (take i rows) row old new (line_none (call_content row.call) row.side row.container (take i rows) none) noted (subst Q (sym long) notes))
+
+-- ---- a row that is done
+
+set_at : {A : Type 0} (xs : List A) (i : ℕ) (y : A) (k : ℕ) (w : A) → slice_get (slice_set xs i y) k ≡ Some w → ((k ≡ i) × (y ≡ w)) ⊎ (slice_get xs k ≡ Some w)
+set_at [] i y k w at = inr at
+set_at (x ∷ xs) zero y zero w at = inl (refl, same_Some y w at)
+set_at (x ∷ xs) zero y (suc k) w at = inr at
+set_at (x ∷ xs) (suc i) y zero w at = inr at
+set_at (x ∷ xs) (suc i) y (suc k) w at = elim (set_at xs i y k w at) [ inl here ↦ inl (ap suc here.0, here.1) | inr there ↦ inr there ]
+
+pub done_noted : (rows : List Listing) (places : AllPlaces) (place : ℕ) (read done : Listing) → AreNoted rows places → place < length rows → read ≡ get_or rows place read
+    → call_content done.call ≡ call_content read.call → done.side ≡ read.side → done.container ≡ read.container → AreNoted (slice_set rows place done) places
+done_noted rows places place read done noted low is calls sides boxes k row at = elim (set_at rows place done k row at) [
+  | inl here ↦ (let P : Listing → Type 0 = λ r. place_in places (call_content r.call) r.side r.container ≡ Some k in
+      subst P here.1 (ap (λ (c : CallContent). place_in places c done.side done.container) calls ∙ ap (λ s. place_in places (call_content read.call) s done.container) sides
+      ∙ ap (place_in places (call_content read.call) read.side) boxes ∙ noted place read (slice_get-get_or rows place read low ∙ ap Some (sym is)) ∙ ap Some (sym here.0)))
+  | inr there ↦ noted k row there
+]
+
+-- ---- copies
+
+map_at : {A B : Type 0} (f : A → B) (xs : List A) (k : ℕ) (x : A) → slice_get xs k ≡ Some x → slice_get (map f xs) k ≡ Some (f x)
+map_at f [] k x at = absurd (none-some x at)
+map_at f (y ∷ xs) zero x at = ap (λ z. Some (f z)) (same_Some y x at)
+map_at f (y ∷ xs) (suc k) x at = map_at f xs k x at
+
+pub copy_noted : (rows copies : List Listing) (places : AllPlaces) → AreNoted rows places → map line_entry copies ≡ map line_entry rows → AreNoted copies places
+copy_noted rows copies places noted e k row at =
+    let other = mapped_at line_entry rows k (line_entry row) (sym (ap (λ l. slice_get l k) e) ∙ map_at line_entry copies k row at) in
+    place_by_key places (call_content row.call) row.side row.container other.0 (sym (ap (λ (p : LineKey × LineContent). p.0) other.2)) ∙ noted k other.0 other.1
+
+pub once_noted : (rows : List Listing) (places : AllPlaces) → AreNoted rows places → AreOnce rows
+once_noted rows places noted call side container =
+    at_most_one (is_line call side container) rows
+    (λ j k x y at also is too. same_Some j k (sym (said rows places noted call side container j x at is) ∙ said rows places noted call side container k y also too))

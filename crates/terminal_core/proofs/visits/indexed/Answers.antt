@@ -1,0 +1,31 @@
+use Rattle.std.proofs.Common.{ℕ, List, Some, cond, sym, ap, ◌∙◌, arith, subst, take}
+use Rattle.std.specs.Prelude.{map}
+use Rattle.std.specs.Str.{bytes_eq}
+use Rattle.std.specs.Map.{lookup}
+use Rattle.std.proofs.lemmas.List.{take_all}
+use Rattle.box6346.specs.declared.box_number.BoxNumber.{BoxNumber}
+use Rattle.terminal_core.specs.declared.visit.Visit.{Visit}
+use Rattle.terminal_core.specs.Rows.{VisitContent, visit_content}
+use Rattle.terminal_core.specs.Index.{AreIndexed}
+use Rattle.terminal_core.proofs.Indexed.{none_indexed, open_row_indexed, closed_row_indexed, stays_tested, went_tested}
+use Rattle.terminal_core.proofs.visits.indexed.Goals.{then-is_none+in_ok-insert, else-is_none}
+use Rattle.terminal_core.proofs.visits.indexed.Goals as goal
+
+pub loop-place-init : goal.loop-place-init
+loop-place-init c = none_indexed c.new-open_places.result.entries
+
+pub loop-place-preserved : goal.loop-place-preserved
+loop-place-preserved c = elim c.if-is_none.branch [
+  | then-is_none+in_ok-insert w ↦ rw w.open_places-is
+      (open_row_indexed c.args.rows.now c.loop-place.place c.index-rows-place.result c.loop-place.open_places.entries w.insert.new.self.entries c.requires (omega arith) c.index-rows-place.is
+      (stays_tested c.index-rows-place.result c.is_none.result c.is_none.ensures w.if-is_none.true) c.loop-place.invariant
+      (λ q. w.in_ok-insert.ensures.updates.0 q ∙ ap (λ t. cond (bytes_eq t q) (Some c.loop-place.place) (lookup (bytes_eq q) c.loop-place.open_places.entries)) w.text.ensures.same))
+  | else-is_none w ↦ rw w.open_places-is
+      (closed_row_indexed c.args.rows.now c.loop-place.place c.index-rows-place.result c.loop-place.open_places.entries (omega arith) c.index-rows-place.is
+      (went_tested c.index-rows-place.result c.is_none.result c.is_none.ensures w.if-is_none.false) c.loop-place.invariant)
+]
+
+pub returns : goal.returns
+returns c =
+    let P : List Visit → Type 0 = λ rows. AreIndexed (map visit_content rows) c.loop-place.open_places.entries in
+    subst P (take_all c.loop-place.place c.args.rows.now (omega arith)) c.loop-place.invariant
