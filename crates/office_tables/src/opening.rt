@@ -7,7 +7,6 @@ ghost use Rattle.office_rows.specs.Stored.{HasRows, HasEmpty};
 ghost use Rattle.office_rows.specs.Steps.{Turns};
 ghost use Rattle.office_rows.specs.Opening.{opening_rows};
 ghost use Rattle.office_setup.specs.Setups.{setup_content};
-ghost use Rattle.office_setup.specs.Given.{IsGiven};
 ghost use Rattle.office_tables.specs.Opened.{Opens, IsOpening};
 
 use crate::blocks::insert_blocks;
@@ -21,7 +20,7 @@ use sqlite::{Alter, Connection, Transaction};
 /// Makes the tables of an empty database, with the rows of a set-up, wholly or not at all.
 pub fn create<S: Alter>(conn: &mut Connection<S>, setup: &Setup) -> Result<(), TableFault>
     requires idle { (state S.Store conn.old).in_transaction ≡ false }
-    requires given { IsGiven (setup_content setup.now) }
+    requires counted { length setup.now.partners.items ≤ 999 }
     ensures idle { (state S.Store conn.new).in_transaction ≡ false }
     ensures ok { HasCleanDisk (state S.Store conn.new) → OnOk result (Opens (setup_content setup.now) (state S.Store conn.old) (state S.Store conn.new)) }
     ensures err { HasCleanDisk (state S.Store conn.new) → IsTrue (state S.Store conn.new).is_open
@@ -38,7 +37,7 @@ pub fn create<S: Alter>(conn: &mut Connection<S>, setup: &Setup) -> Result<(), T
 
 // The tables and their first rows, in the transaction.
 fn write_opening<S: Alter>(tx: &mut Transaction<'_, S>, setup: &Setup) -> Result<(), TableFault>
-    requires { IsGiven (setup_content setup.now) }
+    requires { length setup.now.partners.items ≤ 999 }
     ensures same_reference { tx.new.conn.ghost_name ≡ tx.old.conn.ghost_name }
     ensures made { HasCleanDisk (state S.Store tx.new.conn.now) → IsTrue (state S.Store tx.old.conn.now).in_transaction
         → OnOk result (Turns (HasEmpty (take 0 office_tables)) (HasRows (opening_rows (setup_content setup.now))) (state S.Store tx.old.conn.now) (state S.Store tx.new.conn.now)) }
