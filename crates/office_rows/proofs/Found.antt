@@ -1,0 +1,47 @@
+-- What a query of one row finds.
+use Rattle.std.proofs.Common.{◌≡◌, ℕ, ◌==◌, ◌&&◌, List, [], ◌∷◌, Bool, true, false, map, filter, refl, ap₂, ◌∙◌}
+use Rattle.std.specs.List.Sorted.{IsPermutation}
+use Rattle.std.proofs.lemmas.List.Sorted.{IsPermutation-trans}
+use Rattle.sqlite.specs.declared.types.Value.TheVariants.{Null, Text, Blob}
+use Rattle.sqlite.specs.Order.{Row, column}
+use Rattle.sqlite.specs.Collation.TheVariants.{Binary}
+use Rattle.sqlite.specs.Ops.{binary, is_true}
+use Rattle.sqlite_sql.specs.declared.ops.BinaryOp.TheVariants.{Compare}
+use Rattle.sqlite_sql.specs.declared.ops.CompareOp.TheVariants.{Eq}
+use Rattle.sqlite.specs.Command.TheVariants.{Select}
+use Rattle.sqlite.specs.State.{State, Shown}
+use Rattle.sqlite.proofs.Callers.{reads_as}
+use Rattle.office_rows.specs.Tables.{partner, interchange, office_schema}
+use Rattle.office_rows.specs.Rows.{Partner, Interchange, Rows}
+use Rattle.office_rows.specs.Values.{number, partner_values, interchange_values, kept_values, next_values}
+use Rattle.office_rows.specs.Stored.{HasRows}
+use Rattle.office_rows.specs.Effects.{is_pair}
+use Rattle.office_rows.proofs.Reading as texts
+use Rattle.office_rows.proofs.WriteLemmas.{equal_numbers, rows_of, answer_is}
+use Rattle.office_rows.proofs.HoldLemmas.{holds_read}
+
+and_true : (b : Bool) → (b && true) ≡ b
+and_true true = refl
+and_true false = refl
+
+abbrev equals : Row → ℕ → ℕ → Bool
+equals c at n = is_true (binary (Compare Eq Binary) (column c at) (number n))
+
+module _ (old new : State) (rows : Rows) (answer : List Row) (has : HasRows rows old.now) where
+  pub finds_kept : (p n : ℕ) → Shown texts.select_kept (number p ∷ number n ∷ []) old new answer → IsPermutation (map kept_values (filter (is_pair p n) rows.interchanges)) answer
+  finds_kept p n h =
+      let params = number p ∷ number n ∷ [] in
+      let read = reads_as texts.select_kept params old new office_schema has.schema (Select (record { lets = []; body = rows_of 2 texts.select_kept_tests texts.select_kept_shown }) texts.select_kept_names) texts.select_kept_is.0 texts.select_kept_plain texts.select_kept_is.1 answer h in
+      IsPermutation-trans _ _ _ (holds_read interchange interchange_values rows.interchanges (old.now.trees 2) has.rows_are.interchanges params texts.select_kept_tests texts.select_kept_shown
+      (λ c. equals c 0 p && (equals c 1 n && true)) (λ c. column c 2 ∷ column c 3 ∷ []) (is_pair p n) kept_values
+      (λ r. refl) (λ r. refl) (λ i. ap₂ ◌&&◌ (equal_numbers i.partner p) (and_true _ ∙ equal_numbers i.number n)) (λ i. refl))
+      (answer_is params texts.select_kept_tests 2 texts.select_kept_shown old.now.trees answer refl (read.answer Null))
+
+  pub finds_next : (id : ℕ) → Shown texts.select_next (number id ∷ []) old new answer → IsPermutation (map next_values (filter (λ p. p.id == id) rows.partners)) answer
+  finds_next id h =
+      let params = number id ∷ [] in
+      let read = reads_as texts.select_next params old new office_schema has.schema (Select (record { lets = []; body = rows_of 0 texts.select_next_tests texts.select_next_shown }) texts.select_next_names) texts.select_next_is.0 texts.select_next_plain texts.select_next_is.1 answer h in
+      IsPermutation-trans _ _ _ (holds_read partner partner_values rows.partners (old.now.trees 0) has.rows_are.partners params texts.select_next_tests texts.select_next_shown
+      (λ c. equals c 0 id && true) (λ c. column c 3 ∷ []) (λ p. p.id == id) next_values
+      (λ r. refl) (λ r. refl) (λ p. and_true _ ∙ equal_numbers p.id id) (λ p. refl))
+      (answer_is params texts.select_next_tests 0 texts.select_next_shown old.now.trees answer refl (read.answer Null))

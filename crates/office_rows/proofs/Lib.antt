@@ -1,0 +1,13 @@
+pub mod EditLemmas
+pub mod WriteLemmas
+pub mod HoldLemmas
+pub mod StepLemmas
+pub mod ReadLemmas
+pub mod TableLemmas
+pub mod Creating
+pub mod Writing
+pub mod Reading
+pub mod Written
+pub mod Created
+pub mod OpeningLemmas
+pub mod Found

@@ -1,0 +1,113 @@
+-- A write to one table leaves the rows of the others.
+use Rattle.std.proofs.Common.{◌≡◌, ℕ, ℤ, List, arith}
+use Rattle.sqlite.specs.Order.{Row}
+use Rattle.sqlite.specs.Effect.{Database}
+use Rattle.sqlite_rules.specs.declared.error.Rowids.{Rowids}
+use Rattle.sqlite_rules.specs.Edit.{edit_of}
+use Rattle.yard_core.specs.declared.block.Block.{Block}
+use Rattle.terminal_core.specs.Rows.{VisitContent}
+use Rattle.office_rows.specs.Tables.{partner, interchange, visit, place, listed, setting, block}
+use Rattle.office_rows.specs.Rows.{Partner, Interchange, PlaceContent, ListingContent, Setting, Rows}
+use Rattle.office_rows.specs.Values.{partner_values, interchange_values, visit_values, place_values, line_values, setting_values, block_values}
+use Rattle.office_rows.specs.Stored.{Holds, HasRows}
+use Rattle.office_rows.proofs.WriteLemmas.{Edits}
+
+module _ (rows : Rows) (old new : Database) (has : HasRows rows old) (gone : List ℤ) (rowids : Rowids) (from : ℕ) (sources : List Row) where
+  pub only_partners : (now : List Partner) → Edits partner (edit_of old.trees partner gone rowids from sources) old new → Holds partner partner_values now (new.trees 0) → HasRows (record rows { partners = now }) new
+  only_partners now it held = record {
+    schema = it.schema;
+    rows_are = record {
+      partners = held;
+      interchanges = rw (it.applies.tables.1.0 (λ e. omega (arith, e))) has.rows_are.interchanges;
+      visits = rw (it.applies.tables.1.1.0 (λ e. omega (arith, e))) has.rows_are.visits;
+      places = rw (it.applies.tables.1.1.1.0 (λ e. omega (arith, e))) has.rows_are.places;
+      lines = rw (it.applies.tables.1.1.1.1.0 (λ e. omega (arith, e))) has.rows_are.lines;
+      settings = rw (it.applies.tables.1.1.1.1.1.0 (λ e. omega (arith, e))) has.rows_are.settings;
+      blocks = rw (it.applies.tables.1.1.1.1.1.1.0 (λ e. omega (arith, e))) has.rows_are.blocks;
+    };
+  }
+
+  pub only_interchanges : (now : List Interchange) → Edits interchange (edit_of old.trees interchange gone rowids from sources) old new → Holds interchange interchange_values now (new.trees 2) → HasRows (record rows { interchanges = now }) new
+  only_interchanges now it held = record {
+    schema = it.schema;
+    rows_are = record {
+      partners = rw (it.applies.tables.0 (λ e. omega (arith, e))) has.rows_are.partners;
+      interchanges = held;
+      visits = rw (it.applies.tables.1.1.0 (λ e. omega (arith, e))) has.rows_are.visits;
+      places = rw (it.applies.tables.1.1.1.0 (λ e. omega (arith, e))) has.rows_are.places;
+      lines = rw (it.applies.tables.1.1.1.1.0 (λ e. omega (arith, e))) has.rows_are.lines;
+      settings = rw (it.applies.tables.1.1.1.1.1.0 (λ e. omega (arith, e))) has.rows_are.settings;
+      blocks = rw (it.applies.tables.1.1.1.1.1.1.0 (λ e. omega (arith, e))) has.rows_are.blocks;
+    };
+  }
+
+  pub only_visits : (now : List VisitContent) → Edits visit (edit_of old.trees visit gone rowids from sources) old new → Holds visit visit_values now (new.trees 4) → HasRows (record rows { visits = now }) new
+  only_visits now it held = record {
+    schema = it.schema;
+    rows_are = record {
+      partners = rw (it.applies.tables.0 (λ e. omega (arith, e))) has.rows_are.partners;
+      interchanges = rw (it.applies.tables.1.0 (λ e. omega (arith, e))) has.rows_are.interchanges;
+      visits = held;
+      places = rw (it.applies.tables.1.1.1.0 (λ e. omega (arith, e))) has.rows_are.places;
+      lines = rw (it.applies.tables.1.1.1.1.0 (λ e. omega (arith, e))) has.rows_are.lines;
+      settings = rw (it.applies.tables.1.1.1.1.1.0 (λ e. omega (arith, e))) has.rows_are.settings;
+      blocks = rw (it.applies.tables.1.1.1.1.1.1.0 (λ e. omega (arith, e))) has.rows_are.blocks;
+    };
+  }
+
+  pub only_places : (now : List PlaceContent) → Edits place (edit_of old.trees place gone rowids from sources) old new → Holds place place_values now (new.trees 5) → HasRows (record rows { places = now }) new
+  only_places now it held = record {
+    schema = it.schema;
+    rows_are = record {
+      partners = rw (it.applies.tables.0 (λ e. omega (arith, e))) has.rows_are.partners;
+      interchanges = rw (it.applies.tables.1.0 (λ e. omega (arith, e))) has.rows_are.interchanges;
+      visits = rw (it.applies.tables.1.1.0 (λ e. omega (arith, e))) has.rows_are.visits;
+      places = held;
+      lines = rw (it.applies.tables.1.1.1.1.0 (λ e. omega (arith, e))) has.rows_are.lines;
+      settings = rw (it.applies.tables.1.1.1.1.1.0 (λ e. omega (arith, e))) has.rows_are.settings;
+      blocks = rw (it.applies.tables.1.1.1.1.1.1.0 (λ e. omega (arith, e))) has.rows_are.blocks;
+    };
+  }
+
+  pub only_lines : (now : List ListingContent) → Edits listed (edit_of old.trees listed gone rowids from sources) old new → Holds listed line_values now (new.trees 9) → HasRows (record rows { lines = now }) new
+  only_lines now it held = record {
+    schema = it.schema;
+    rows_are = record {
+      partners = rw (it.applies.tables.0 (λ e. omega (arith, e))) has.rows_are.partners;
+      interchanges = rw (it.applies.tables.1.0 (λ e. omega (arith, e))) has.rows_are.interchanges;
+      visits = rw (it.applies.tables.1.1.0 (λ e. omega (arith, e))) has.rows_are.visits;
+      places = rw (it.applies.tables.1.1.1.0 (λ e. omega (arith, e))) has.rows_are.places;
+      lines = held;
+      settings = rw (it.applies.tables.1.1.1.1.1.0 (λ e. omega (arith, e))) has.rows_are.settings;
+      blocks = rw (it.applies.tables.1.1.1.1.1.1.0 (λ e. omega (arith, e))) has.rows_are.blocks;
+    };
+  }
+
+  pub only_settings : (now : List Setting) → Edits setting (edit_of old.trees setting gone rowids from sources) old new → Holds setting setting_values now (new.trees 11) → HasRows (record rows { settings = now }) new
+  only_settings now it held = record {
+    schema = it.schema;
+    rows_are = record {
+      partners = rw (it.applies.tables.0 (λ e. omega (arith, e))) has.rows_are.partners;
+      interchanges = rw (it.applies.tables.1.0 (λ e. omega (arith, e))) has.rows_are.interchanges;
+      visits = rw (it.applies.tables.1.1.0 (λ e. omega (arith, e))) has.rows_are.visits;
+      places = rw (it.applies.tables.1.1.1.0 (λ e. omega (arith, e))) has.rows_are.places;
+      lines = rw (it.applies.tables.1.1.1.1.0 (λ e. omega (arith, e))) has.rows_are.lines;
+      settings = held;
+      blocks = rw (it.applies.tables.1.1.1.1.1.1.0 (λ e. omega (arith, e))) has.rows_are.blocks;
+    };
+  }
+
+  pub only_blocks : (now : List Block) → Edits block (edit_of old.trees block gone rowids from sources) old new → Holds block block_values now (new.trees 13) → HasRows (record rows { blocks = now }) new
+  only_blocks now it held = record {
+    schema = it.schema;
+    rows_are = record {
+      partners = rw (it.applies.tables.0 (λ e. omega (arith, e))) has.rows_are.partners;
+      interchanges = rw (it.applies.tables.1.0 (λ e. omega (arith, e))) has.rows_are.interchanges;
+      visits = rw (it.applies.tables.1.1.0 (λ e. omega (arith, e))) has.rows_are.visits;
+      places = rw (it.applies.tables.1.1.1.0 (λ e. omega (arith, e))) has.rows_are.places;
+      lines = rw (it.applies.tables.1.1.1.1.0 (λ e. omega (arith, e))) has.rows_are.lines;
+      settings = rw (it.applies.tables.1.1.1.1.1.0 (λ e. omega (arith, e))) has.rows_are.settings;
+      blocks = held;
+    };
+  }
+

@@ -1,0 +1,229 @@
+-- From what a statement means to the rows of its table.
+use Rattle.std.proofs.Common.{◌≡◌, ◌≢◌, ◌⊎◌, ℕ, ◌==◌, ℤ, pos, negsuc, inl, inr, List, [], ◌∷◌, ◌++◌, map, filter, slice_get, Bool, true, false, ◌&&◌, cond, Option, Some, None, Result, Ok, Err, IsTrue, refl, sym, ap, subst, ◌∙◌, length, ◌/◌, arith, is_eq, is_lt, int_cmp, fold, MatchBool, if◌then◌else◌}
+use Rattle.std.specs.List.{flat_map, filter_map, list_all, AllByRecursion}
+use Rattle.std.specs.List.Sorted.{IsPermutation}
+use Rattle.std.proofs.lemmas.Bool.{cases_Bool}
+use Rattle.std.proofs.lemmas.Bool.Decides.{nat_tests}
+use Rattle.std.proofs.lemmas.Int.{ints}
+use Rattle.std.proofs.lemmas.List.Sorted.{IsPermutation-sym, IsPermutation-trans, IsPermutation-map}
+use Rattle.sqlite.specs.Collation.TheVariants.{Binary}
+use Rattle.sqlite.specs.declared.types.Value.{Value}
+use Rattle.sqlite.specs.declared.types.Value.TheVariants.{Null, Int, Text}
+use Rattle.sqlite.specs.Order.{Row, column}
+use Rattle.sqlite_value.proofs.OrderLemmas.{value_cmp-Int, value_cmp-Text}
+use Rattle.std.specs.Str.{bytes_eq}
+use Rattle.std.specs.Ordering.{nat_cmp}
+use Rattle.std.specs.Cmp.Lexicographic.{slice_cmp}
+use Rattle.std.proofs.lemmas.Map.Text.{is_eq-slice_cmp}
+use Rattle.sqlite.specs.Term.{Term, Env, lit, eval_all, holds}
+use Rattle.sqlite.specs.Ops.{unary, binary, is_true}
+use Rattle.sqlite_sql.specs.declared.ops.BinaryOp.TheVariants.{Compare}
+use Rattle.sqlite_sql.specs.declared.ops.CompareOp.TheVariants.{Eq}
+use Rattle.sqlite.specs.Query.{Query, inner, end, IsAnswer, output, Output, key_cmp}
+use Rattle.sqlite_value.specs.declared.keys.Key.{Key}
+use Rattle.std.specs.Prelude.{IsSorted}
+use Rattle.std.specs.Ordering.{on}
+use Rattle.sqlite.specs.Program.{overlay}
+use Rattle.sqlite.specs.Table.{Table}
+use Rattle.sqlite.specs.Kind.TheVariants.{Integer}
+use Rattle.sqlite.specs.Source.TheVariants.{Values}
+use Rattle.sqlite.specs.Command.TheVariants.{Insert, Update, Delete}
+use Rattle.sqlite_schema.specs.declared.schema.Keys.TheVariants.{Enforced}
+use Rattle.sqlite_schema.specs.declared.program.Program.{Program}
+use Rattle.sqlite_schema.specs.Rules.{parent_key}
+use Rattle.sqlite.specs.Tree.{Trees}
+use Rattle.sqlite_trees.specs.declared.store.Shape.TheVariants as shape
+use Rattle.sqlite_trees.specs.Tree.{rowid}
+use Rattle.sqlite_trees.specs.View.{IsShaped}
+use Rattle.sqlite_trees.proofs.ListLemmas.{map-map}
+use Rattle.sqlite_rules.specs.Cast.{cast, cast_row}
+use Rattle.sqlite_rules.specs.Calls.{ids_of}
+use Rattle.sqlite_rules.specs.declared.error.Rowids.TheVariants.{Chosen, Above, Given}
+use Rattle.sqlite_rules.specs.Edit.{Edit, edit_of, edited, numbered, without_all, id_in, taken_by, Applies}
+use Rattle.sqlite_rules.specs.Action.{works, work_by, pairs, deed_for, Writes as Steps}
+use Rattle.sqlite.specs.Effect.{Database, value_rows}
+use Rattle.sqlite.specs.Rows.{Written, Task, stamped, CountsIn, count_of, higher, rowids_for, sequence, Gives}
+use Rattle.sqlite.specs.Does.{Tally, Does, OnRows, AtPlace}
+use Rattle.sqlite.specs.State.{State, mode_of, Writes}
+use Rattle.sqlite.proofs.Callers.{one_step}
+use Rattle.office_rows.specs.Tables.{office_schema}
+
+-- ---- values
+
+either : (b : Bool) (x : Value) → cond b x x ≡ x
+either true x = refl
+either false x = refl
+
+pub cast_null : cast Integer Null ≡ Null
+unfolding unary
+cast_null = either _ Null
+
+pub cast_int : (n : ℤ) → cast Integer (Int n) ≡ Int n
+unfolding unary
+cast_int n = either _ (Int n)
+
+pub equal_numbers : (m n : ℕ) → is_true (binary (Compare Eq Binary) (Int (pos m)) (Int (pos n))) ≡ (m == n)
+unfolding binary
+equal_numbers m n = rw value_cmp-Int (truth_is (is_eq (int_cmp (pos m) (pos n))) ∙ ints_equal m n)
+  where
+    ints_equal : (m n : ℕ) → is_eq (int_cmp (pos m) (pos n)) ≡ (m == n)
+    ints_equal m n = grind (arith, ints, nat_tests)
+    truth_is : (b : Bool) → is_true (Rattle.sqlite.specs.Ops.from_truth (Some b)) ≡ b
+    truth_is true = refl
+    truth_is false = refl
+
+pub equal_texts : (s t : List ℕ) → is_true (binary (Compare Eq Binary) (Text s) (Text t)) ≡ bytes_eq s t
+unfolding binary
+equal_texts s t = rw value_cmp-Text (truth_is (is_eq (slice_cmp nat_cmp s t)) ∙ is_eq-slice_cmp s t)
+  where
+    truth_is : (b : Bool) → is_true (Rattle.sqlite.specs.Ops.from_truth (Some b)) ≡ b
+    truth_is true = refl
+    truth_is false = refl
+
+-- ---- the parts of a statement
+
+-- a part that gave a value did not stop on the way
+pub went : {X E R : Type 0} {x : X} {Stops : E → Type 0} → ((stop : E) × Stops stop × (Ok x ≡ Err stop)) ⊎ R → R
+went (inl stopped) = absurd (let e = stopped.2 in cc)
+went (inr on) = on
+
+pub same_value : {X E : Type 0} {a b : X} → ◌≡◌ {A = Result X E} (Ok a) (Ok b) → a ≡ b
+same_value e = cc
+
+-- no reference acts where its key changes
+pub no_works : (tree : ℕ) (olds news : List Row) → works office_schema Enforced 0 tree olds news ≡ []
+no_works tree olds news =
+    elim (length news == 0) as (λ b. flat_map (λ (child : Table). filter_map (λ ref. work_by 0 tree (pairs olds news) child ref (deed_for Enforced b ref) (parent_key office_schema.tables ref)) child.references) office_schema.tables ≡ [])
+    [ true ↦ refl | false ↦ refl ]
+
+-- ---- queries of one table
+
+-- the rows of one table that pass tests, in any order
+abbrev pub rows_of : ℕ → List Term → List Term → Query
+rows_of tree tests shown = record {
+  from = inner tree end;
+  filter = tests;
+  group = None;
+  project = shown;
+  distinct = false;
+  collations = [];
+  order = [];
+  limit = lit (Int (negsuc 0));
+  offset = lit (Int (pos 0));
+}
+
+module _ (params : Row) (tests : List Term) where
+  abbrev pub passes : Row → Bool
+  passes r = list_all (holds (params ∷ r ∷ [])) tests
+
+  matched : (rows : List Row) → flat_map (λ r. cond (passes r) ((params ∷ r ∷ []) ∷ []) []) rows ≡ map (λ r. params ∷ r ∷ []) (filter passes rows)
+  matched [] = refl
+  matched (r ∷ rows) = elim (cases_Bool (passes r)) [ inl here ↦ rw (here, matched rows) | inr other ↦ rw (other, matched rows) ]
+
+  pub answer_is : (tree : ℕ) (shown : List Term) (trees : Trees) (rows : List Row) → overlay trees [] tree ≡ trees tree → IsAnswer (rows_of tree tests shown) (overlay trees []) params rows
+      → IsPermutation (map (λ r. eval_all shown (params ∷ r ∷ [])) (filter passes (trees tree))) rows
+  answer_is tree shown trees rows seen a =
+      let q = rows_of tree tests shown in
+      let staged : a.staged ≡ map (λ r. params ∷ r ∷ []) (filter passes (trees tree)) = a.grouped ∙ matched (overlay trees [] tree) ∙ ap (λ l. map (λ r. params ∷ r ∷ []) (filter passes l)) seen in
+      let kept : a.kept ≡ map (λ r. ([], eval_all shown (params ∷ r ∷ []))) (filter passes (trees tree)) = a.distinct ∙ ap (map (output q)) staged ∙ map-map (output q) _ _ in
+      let all = IsPermutation-map (λ (o : Output). o.1) _ _ (subst (λ k. IsPermutation k a.ordered) kept a.same) in
+      rw (a.shown, ← map-map (λ (o : Output). o.1) (λ r. ([], eval_all shown (params ∷ r ∷ []))) (filter passes (trees tree))) all
+
+
+  -- the same under ORDER BY: the rows are shown in an order of their keys
+  pub answer_in_order : (tree : ℕ) (shown : List Term) (order : List (Term × Key)) (trees : Trees) (rows : List Row) → overlay trees [] tree ≡ trees tree
+      → (a : IsAnswer (record (rows_of tree tests shown) { order = order }) (overlay trees []) params rows)
+      → IsPermutation (map (λ r. (eval_all (map (λ k. k.0) order) (params ∷ r ∷ []), eval_all shown (params ∷ r ∷ []))) (filter passes (trees tree))) a.ordered
+      × IsSorted (on (λ (o : Output). o.0) (key_cmp 0 (map (λ k. k.1) order))) a.ordered × (rows ≡ map (λ o. o.1) a.ordered)
+  answer_in_order tree shown order trees rows seen a =
+      let q = record (rows_of tree tests shown) { order = order } in
+      let staged : a.staged ≡ map (λ r. params ∷ r ∷ []) (filter passes (trees tree)) = a.grouped ∙ matched (overlay trees [] tree) ∙ ap (λ l. map (λ r. params ∷ r ∷ []) (filter passes l)) seen in
+      let kept : a.kept ≡ map (λ r. output q (params ∷ r ∷ [])) (filter passes (trees tree)) = a.distinct ∙ ap (map (output q)) staged ∙ map-map (output q) _ _ in
+      (subst (λ k. IsPermutation k a.ordered) kept a.same, a.sorted, a.shown)
+
+-- ---- writes
+
+-- what a write leaves of the tables that it is not about
+abbrev pub KeepsOthers : Table → Trees → Trees → Type 0
+KeepsOthers table old new = AllByRecursion (λ t. t.tree ≢ table.tree → new t.tree ≡ old t.tree) office_schema.tables
+
+pub record Edits (table : Table) (edit : Edit) (old new : Database) : Type 0 where
+  pub schema : new.schema ≡ office_schema
+  pub applies : Applies office_schema Enforced old.trees edit new.trees
+
+pub record Inserts (table : Table) (rows : List Row) (old new : Database) : Type 0 where
+  pub edits : Edits table (edit_of old.trees table [] Chosen 0 rows) old new
+
+pub record Updates (table : Table) (params : Row) (tests shown : List Term) (old new : Database) : Type 0 where
+  pub answer : List Row
+  pub answers : IsPermutation (map (λ r. eval_all shown (params ∷ r ∷ [])) (filter (passes params tests) (old.trees table.tree))) answer
+  pub edits : Edits table (edit_of old.trees table (ids_of answer) Given 1 answer) old new
+
+pub record Deletes (table : Table) (params : Row) (tests shown : List Term) (old new : Database) : Type 0 where
+  pub answer : List Row
+  pub answers : IsPermutation (map (λ r. eval_all shown (params ∷ r ∷ [])) (filter (passes params tests) (old.trees table.tree))) answer
+  pub edits : Edits table (edit_of old.trees table (ids_of answer) Given 0 []) old new
+
+module _ (old new : State) (has : old.now.schema ≡ office_schema) (at : ℕ) (table : Table) (listed : slice_get office_schema.tables at ≡ Some table) (uncounted : table.is_counted ≡ false)
+    (params : Row) (text : List ℕ) (count : ℕ) where
+  abbrev task : Task
+  task = record { limit = old.step_limit; keys = Enforced; schema = office_schema; table = table; params = params }
+
+  pub inserts : (terms : List Term) (width : ℕ) → Writes old new None (Insert at (Values terms width)) text params count
+      → Inserts table (value_rows (stamped table params) width (length terms / width) terms) old.now new.now
+  inserts terms width w =
+      let command = Insert at (Values terms width) in
+      let here = subst (λ s. Does old.step_limit (mode_of old) params (record old.now { schema = s }) text None command (Ok (w.tally, new.now))) has w.changed in
+      let done = went (subst (λ o. AtPlace (λ t. OnRows (record task { table = t }) (mode_of old) None command old.now.trees) o (Ok (w.tally, new.now))) listed here) in
+      let now = ap (λ (p : Tally × Database). p.1) (same_value (went (went done.2).2).2) in
+      let given = went done.1 in
+      let uncount = went given.2 in
+      let written = went uncount.2 in
+      let counted = went written.2 in
+      let top = fold higher (count_of uncount.0) (edit_of old.now.trees table [] (rowids_for table (count_of uncount.0)) 0 given.0).news in
+      let kept : Gives written.0 (Ok counted.0) =
+      subst (λ b. MatchBool (if b then is_lt (int_cmp (count_of uncount.0) top) else false) (CountsIn task written.0 uncount.0 top (sequence office_schema) (Ok counted.0)) (Gives written.0 (Ok counted.0))) uncounted counted.1 in
+      let trees : new.now.trees ≡ written.0 = ap (λ (d : Database). d.trees) now ∙ ap (λ (it : Written). it.trees) (same_value counted.2) ∙ same_value kept in
+      let chosen : rowids_for table (count_of uncount.0) ≡ Chosen = ap (λ b. if b then Above (count_of uncount.0) else Chosen) uncounted in
+      let edit = edit_of old.now.trees table [] Chosen 0 given.0 in
+      let step : Applies office_schema Enforced old.now.trees edit written.0 =
+      one_step office_schema Enforced old.now.trees written.0 edit (no_works table.tree (taken_by old.now.trees edit) edit.news)
+      (subst (λ r. Steps office_schema Enforced old.now.trees (edit_of old.now.trees table [] r 0 given.0) (Ok written.0)) chosen written.1) in
+      let whole = subst (λ t. Applies office_schema Enforced old.now.trees edit t) (sym trees) step in
+      subst (λ rows. Inserts table rows old.now new.now) given.1.1 (record { edits = record { schema = ap (λ (d : Database). d.schema) now; applies = whole } })
+
+  pub updates : (tests shown : List Term) → ((trees : Trees) → overlay trees [] table.tree ≡ trees table.tree)
+      → Writes old new None (Update at (record { lets = []; body = rows_of table.tree tests shown })) text params count → Updates table params tests shown old.now new.now
+  updates tests shown seen w =
+      let command = Update at (record { lets = []; body = rows_of table.tree tests shown }) in
+      let here = subst (λ s. Does old.step_limit (mode_of old) params (record old.now { schema = s }) text None command (Ok (w.tally, new.now))) has w.changed in
+      let done = went (subst (λ o. AtPlace (λ t. OnRows (record task { table = t }) (mode_of old) None command old.now.trees) o (Ok (w.tally, new.now))) listed here) in
+      let now = ap (λ (p : Tally × Database). p.1) (same_value (went (went done.2).2).2) in
+      let given = went done.1 in
+      let written = went given.2 in
+      let trees : new.now.trees ≡ written.0 = ap (λ (d : Database). d.trees) now ∙ ap (λ (it : Written). it.trees) (same_value written.2) in
+      let edit = edit_of old.now.trees table (ids_of given.0) Given 1 given.0 in
+      let step = one_step office_schema Enforced old.now.trees written.0 edit (no_works table.tree (taken_by old.now.trees edit) edit.news) written.1 in
+      record {
+        answer = given.0;
+        answers = answer_is params tests table.tree shown old.now.trees given.0 (seen old.now.trees) (given.1.answer Null);
+        edits = record { schema = ap (λ (d : Database). d.schema) now; applies = subst (λ t. Applies office_schema Enforced old.now.trees edit t) (sym trees) step };
+      }
+
+  pub deletes : (tests shown : List Term) → ((trees : Trees) → overlay trees [] table.tree ≡ trees table.tree)
+      → Writes old new None (Delete at (record { lets = []; body = rows_of table.tree tests shown })) text params count → Deletes table params tests shown old.now new.now
+  deletes tests shown seen w =
+      let command = Delete at (record { lets = []; body = rows_of table.tree tests shown }) in
+      let here = subst (λ s. Does old.step_limit (mode_of old) params (record old.now { schema = s }) text None command (Ok (w.tally, new.now))) has w.changed in
+      let done = went (subst (λ o. AtPlace (λ t. OnRows (record task { table = t }) (mode_of old) None command old.now.trees) o (Ok (w.tally, new.now))) listed here) in
+      let now = ap (λ (p : Tally × Database). p.1) (same_value (went (went done.2).2).2) in
+      let given = went done.1 in
+      let written = went given.2 in
+      let trees : new.now.trees ≡ written.0 = ap (λ (d : Database). d.trees) now ∙ ap (λ (it : Written). it.trees) (same_value written.2) in
+      let edit = edit_of old.now.trees table (ids_of given.0) Given 0 [] in
+      let step = one_step office_schema Enforced old.now.trees written.0 edit (no_works table.tree (taken_by old.now.trees edit) edit.news) written.1 in
+      record {
+        answer = given.0;
+        answers = answer_is params tests table.tree shown old.now.trees given.0 (seen old.now.trees) (given.1.answer Null);
+        edits = record { schema = ap (λ (d : Database). d.schema) now; applies = subst (λ t. Applies office_schema Enforced old.now.trees edit t) (sym trees) step };
+      }

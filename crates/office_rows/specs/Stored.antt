@@ -1,0 +1,42 @@
+-- How a database holds the rows.
+use Rattle.std.specs.Prelude.{◌≡◌, ℕ, List, [], ◌∷◌, length, map}
+use Rattle.std.specs.List.{range_with_len, AllByRecursion}
+use Rattle.std.specs.List.Sorted.{IsPermutation}
+use Rattle.sqlite.specs.Order.{Row, column}
+use Rattle.sqlite.specs.Table.{Table}
+use Rattle.sqlite.specs.Tree.{Trees}
+use Rattle.sqlite.specs.Effect.{Database}
+use Rattle.sqlite_schema.specs.Names.{place_of}
+use Rattle.sqlite_trees.specs.declared.store.Shape.TheVariants as shape
+use Rattle.sqlite_trees.specs.View.{IsShaped}
+use Rattle.office_rows.specs.Tables.{partner, interchange, visit, place, listed, setting, block, schema_of, office_schema}
+use Rattle.office_rows.specs.Rows.{Rows}
+use Rattle.office_rows.specs.Values.{partner_values, interchange_values, visit_values, place_values, line_values, setting_values, block_values}
+
+-- the values of a stored row's columns, as SQL shows them
+abbrev pub columns_of : Table → Row → Row
+columns_of table row = map (λ at. column row (place_of table at)) (range_with_len 0 (length table.columns))
+
+-- the tree has these records, in any order, each under a rowid of its own
+pub record Holds {A : Type 0} (table : Table) (values : A → Row) (records : List A) (stored : List Row) : Type 0 where
+  pub shaped : IsShaped shape.Table stored
+  pub same : IsPermutation (map values records) (map (columns_of table) stored)
+
+pub record AreRows (rows : Rows) (trees : Trees) : Type 0 where
+  pub partners : Holds partner partner_values rows.partners (trees 0)
+  pub interchanges : Holds interchange interchange_values rows.interchanges (trees 2)
+  pub visits : Holds visit visit_values rows.visits (trees 4)
+  pub places : Holds place place_values rows.places (trees 5)
+  pub lines : Holds listed line_values rows.lines (trees 9)
+  pub settings : Holds setting setting_values rows.settings (trees 11)
+  pub blocks : Holds block block_values rows.blocks (trees 13)
+
+-- the tables and nothing else, with these rows
+pub record HasRows (rows : Rows) (db : Database) : Type 0 where
+  pub schema : db.schema ≡ office_schema
+  pub rows_are : AreRows rows db.trees
+
+-- these tables and nothing else, each empty
+pub record HasEmpty (tables : List Table) (db : Database) : Type 0 where
+  pub schema : db.schema ≡ schema_of tables
+  pub empty : AllByRecursion (λ (t : Table). db.trees t.tree ≡ []) tables

@@ -1,0 +1,18 @@
+use Rattle.std.proofs.Common.{◌≡◌, sym, subst}
+use Rattle.office_rows.specs.Values.{kept_values, next_values}
+use Rattle.office_rows.proofs.ReadLemmas.{none_first, some_first}
+use Rattle.office_tables.specs.Answers.{pair_of, has_id, RepliesAs}
+use Rattle.office_tables.proofs.finding.kept.Goals as goal
+
+pub returns-in-None-clause-answer : goal.returns-in-None-clause-answer
+returns-in-None-clause-answer g c clean rows has =
+    none_first kept_values (pair_of c.args.partner c.args.number rows) c.in_ok-rows.rows.items (c.in_ok-rows.ensures.shown clean rows has) (sym (rw c.deref.ensures.value at c.in-None.ensures.value))
+
+pub returns-clause-answer : goal.returns-clause-answer
+returns-clause-answer g c clean rows has =
+    let found = some_first kept_values (pair_of c.args.partner c.args.number rows) c.in_ok-rows.rows.items c.in-Some.row.now (c.in_ok-rows.ensures.shown clean rows has) (sym (rw c.deref.ensures.value at c.in-Some.ensures.value)) in
+    let kept = c.in_ok-read_kept-in-Some.field-0 in
+    let read = rw found.2 at c.in_ok-read_kept-in-Some.ensures in
+    let body : kept.text.items ≡ found.0.body = let e = read.0 in cc in
+    let reply : read.1.0 ≡ found.0.reply = let e = read.1.1 in cc in
+    (found.0, found.1, body, subst (RepliesAs kept.reply) reply read.1.2)

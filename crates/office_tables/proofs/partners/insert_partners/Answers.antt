@@ -1,0 +1,38 @@
+use Rattle.std.proofs.Common.{◌≡◌, refl, sym, ap, subst, ◌∙◌, ◌+◌, arith, rules, take, map, slice_get, Some, [], ◌∷◌, ◌++◌, string_bytes, length, length-take}
+use Rattle.std.proofs.lemmas.List.{length-map, map-append}
+use Rattle.office_rows.specs.Rows.{Partner}
+use Rattle.std.proofs.lemmas.List.{take_more}
+use Rattle.sqlite.specs.State.{HasCleanDisk}
+use Rattle.sqlite.specs.Held.{state}
+use Rattle.edi_messages.specs.Codes.{table_texts}
+use Rattle.office_setup.specs.Setups.{account_contents}
+use Rattle.office_rows.specs.Opening.{partners_from, code_names, code_settings, setting, with_partners, with_settings, with_blocks}
+use Rattle.office_rows.specs.Steps.{Steps}
+use Rattle.office_rows.proofs.StepLemmas.{quiet_then}
+use Rattle.office_rows.proofs.OpeningLemmas.{take_at, setting_at, partners_then, more_settings, more_partners, more_blocks}
+use Rattle.office_tables.proofs.partners.insert_partners.Goals as goal
+
+pub loop-account-preserved : goal.loop-account-preserved
+loop-account-preserved g c =
+    let old = state g.S.Store c.args.tx.now.conn.now in
+    let mid = state g.S.Store c.loop-account.tx.conn.now in
+    let new = state g.S.Store c.insert_partner.new.tx.conn.now in
+    let i = c.loop-account.account-index in
+    let all = c.args.accounts.now in
+    let item = c.account-item.result in
+    let one : Partner = record { id = c.loop-account.id; code = string_bytes item.code; kind = item.kind; next = 1 } in
+    let taken : take (i + 1) all ≡ take i all ++ item ∷ [] = take_more all i item c.loop-account-test.true ∙ ap (λ x. take i all ++ x ∷ []) (sym c.account-item.is) in
+    let contents : account_contents (take (i + 1) all) ≡ account_contents (take i all) ++ (string_bytes item.code, item.kind) ∷ [] = ap account_contents taken ∙ map-append _ (take i all) (item ∷ []) in
+    let count : 1 + length (account_contents (take i all)) ≡ c.loop-account.id = simp (length-map, length-take) (omega (arith, c.loop-account.invariant.id, c.loop-account-test.true)) in
+    let more : partners_from 1 (account_contents (take (i + 1) all)) ≡ partners_from 1 (account_contents (take i all)) ++ one ∷ [] =
+    ap (partners_from 1) contents ∙ rw count at (partners_then 1 (account_contents (take i all)) (string_bytes item.code, item.kind)) in
+    record {
+      same = search rules;
+      id = omega (arith, c.loop-account.invariant.id);
+      steps = λ clean inside was.
+          let early : HasCleanDisk mid = omega (arith, c.insert_partner.ensures.survives.clean) in
+          let first = c.loop-account.invariant.steps early inside was in
+          let second : Steps (with_partners (one ∷ [])) mid new = rw c.as_str.ensures.value at (c.in_ok-insert_partner.ensures.steps clean first.inside) in
+          subst (λ l. Steps (with_partners l) old new) (sym more) (more_partners old mid new (partners_from 1 (account_contents (take i all))) (one ∷ []) first second);
+      survives = quiet_then old mid new c.loop-account.invariant.survives c.insert_partner.ensures.survives;
+    }

@@ -1,0 +1,46 @@
+ghost use Rattle.std.specs.Prelude.{◌≡◌, OnOk, IsTrue};
+ghost use Rattle.sqlite.specs.Held.{state};
+ghost use Rattle.sqlite.specs.State.{HasCleanDisk, Survives, KeepsCommit};
+ghost use Rattle.terminal_core.specs.Rows.{change_content};
+ghost use Rattle.office_rows.specs.Effects.{with_change};
+ghost use Rattle.office_rows.specs.Steps.{Steps};
+
+use crate::lines::{insert_line, set_done};
+use crate::places::{delete_place, insert_place, set_slot};
+use crate::table_fault::TableFault;
+use crate::visits::{insert_visit, set_exit};
+use sqlite::{Alter, Transaction};
+use terminal_core::Change;
+
+/// Writes the row that a change adds, alters or removes.
+pub fn apply<S: Alter>(tx: &mut Transaction<'_, S>, change: &Change) -> Result<(), TableFault>
+    ensures same_reference { tx.new.conn.ghost_name ≡ tx.old.conn.ghost_name }
+    ensures steps { HasCleanDisk (state S.Store tx.new.conn.now) → IsTrue (state S.Store tx.old.conn.now).in_transaction
+        → OnOk result (Steps (with_change (change_content change.now)) (state S.Store tx.old.conn.now) (state S.Store tx.new.conn.now)) }
+    ensures keeps { HasCleanDisk (state S.Store tx.new.conn.now) → IsTrue (state S.Store tx.old.conn.now).in_transaction
+        → KeepsCommit (state S.Store tx.old.conn.now) (state S.Store tx.new.conn.now) }
+    ensures survives { Survives (state S.Store tx.old.conn.now) (state S.Store tx.new.conn.now) (λ _. ⊥) }
+{
+    match change {
+        Change::VisitOpened(visit) => insert_visit(tx, visit),
+        Change::VisitClosed { visit, departure } => set_exit(tx, *visit, *departure),
+        Change::Placed {
+            container,
+            visit,
+            slot,
+        } => insert_place(tx, *container, *visit, *slot),
+        Change::Moved { container, slot } => set_slot(tx, *container, *slot),
+        Change::Removed { container } => delete_place(tx, *container),
+        Change::Listed {
+            call,
+            side,
+            container,
+            port,
+        } => insert_line(tx, call, *side, *container, port.as_str()),
+        Change::LineDone {
+            call,
+            side,
+            container,
+        } => set_done(tx, call, *side, *container),
+    }
+}

@@ -1,0 +1,145 @@
+ghost use Rattle.std.specs.Prelude.{◌≡◌, OnOk, IsTrue, take};
+ghost use Rattle.sqlite.specs.Held.{state};
+ghost use Rattle.sqlite.specs.State.{HasCleanDisk, KeepsCommit, Survives};
+ghost use Rattle.office_rows.specs.Tables.{office_tables};
+ghost use Rattle.office_rows.specs.Rows.{no_rows};
+ghost use Rattle.office_rows.specs.Stored.{HasRows, HasEmpty};
+ghost use Rattle.office_rows.specs.Steps.{Turns};
+
+use crate::table_fault::TableFault;
+use sqlite::{Alter, Transaction};
+
+/// Makes the tables of an empty database.
+pub(crate) fn create_tables<S: Alter>(tx: &mut Transaction<'_, S>) -> Result<(), TableFault>
+    ensures same_reference { tx.new.conn.ghost_name ≡ tx.old.conn.ghost_name }
+    ensures made { HasCleanDisk (state S.Store tx.new.conn.now) → IsTrue (state S.Store tx.old.conn.now).in_transaction
+        → OnOk result (Turns (HasEmpty (take 0 office_tables)) (HasRows no_rows) (state S.Store tx.old.conn.now) (state S.Store tx.new.conn.now)) }
+    ensures keeps { HasCleanDisk (state S.Store tx.new.conn.now) → IsTrue (state S.Store tx.old.conn.now).in_transaction
+        → KeepsCommit (state S.Store tx.old.conn.now) (state S.Store tx.new.conn.now) }
+    ensures survives { Survives (state S.Store tx.old.conn.now) (state S.Store tx.new.conn.now) (λ _. ⊥) }
+{
+    create_first_tables(tx)?;
+    create_listed(tx)?;
+    create_setting(tx)?;
+    create_block(tx)
+}
+
+// The tables of partners, interchanges, visits and places.
+fn create_first_tables<S: Alter>(tx: &mut Transaction<'_, S>) -> Result<(), TableFault>
+    ensures same_reference { tx.new.conn.ghost_name ≡ tx.old.conn.ghost_name }
+    ensures made { HasCleanDisk (state S.Store tx.new.conn.now) → IsTrue (state S.Store tx.old.conn.now).in_transaction
+        → OnOk result (Turns (HasEmpty (take 0 office_tables)) (HasEmpty (take 4 office_tables)) (state S.Store tx.old.conn.now) (state S.Store tx.new.conn.now)) }
+    ensures keeps { HasCleanDisk (state S.Store tx.new.conn.now) → IsTrue (state S.Store tx.old.conn.now).in_transaction
+        → KeepsCommit (state S.Store tx.old.conn.now) (state S.Store tx.new.conn.now) }
+    ensures survives { Survives (state S.Store tx.old.conn.now) (state S.Store tx.new.conn.now) (λ _. ⊥) }
+{
+    create_partner(tx)?;
+    create_interchange(tx)?;
+    create_visit(tx)?;
+    create_place(tx)
+}
+
+fn create_partner<S: Alter>(tx: &mut Transaction<'_, S>) -> Result<(), TableFault>
+    ensures same_reference { tx.new.conn.ghost_name ≡ tx.old.conn.ghost_name }
+    ensures made { HasCleanDisk (state S.Store tx.new.conn.now) → IsTrue (state S.Store tx.old.conn.now).in_transaction
+        → OnOk result (Turns (HasEmpty (take 0 office_tables)) (HasEmpty (take 1 office_tables)) (state S.Store tx.old.conn.now) (state S.Store tx.new.conn.now)) }
+    ensures keeps { HasCleanDisk (state S.Store tx.new.conn.now) → IsTrue (state S.Store tx.old.conn.now).in_transaction
+        → KeepsCommit (state S.Store tx.old.conn.now) (state S.Store tx.new.conn.now) }
+    ensures survives { Survives (state S.Store tx.old.conn.now) (state S.Store tx.new.conn.now) (λ _. ⊥) }
+{
+    tx.execute(
+        "CREATE TABLE partner (id INTEGER PRIMARY KEY, code TEXT NOT NULL UNIQUE, kind INTEGER NOT NULL, next INTEGER NOT NULL) STRICT",
+        &[],
+    )?;
+    Ok(())
+}
+
+fn create_interchange<S: Alter>(tx: &mut Transaction<'_, S>) -> Result<(), TableFault>
+    ensures same_reference { tx.new.conn.ghost_name ≡ tx.old.conn.ghost_name }
+    ensures made { HasCleanDisk (state S.Store tx.new.conn.now) → IsTrue (state S.Store tx.old.conn.now).in_transaction
+        → OnOk result (Turns (HasEmpty (take 1 office_tables)) (HasEmpty (take 2 office_tables)) (state S.Store tx.old.conn.now) (state S.Store tx.new.conn.now)) }
+    ensures keeps { HasCleanDisk (state S.Store tx.new.conn.now) → IsTrue (state S.Store tx.old.conn.now).in_transaction
+        → KeepsCommit (state S.Store tx.old.conn.now) (state S.Store tx.new.conn.now) }
+    ensures survives { Survives (state S.Store tx.old.conn.now) (state S.Store tx.new.conn.now) (λ _. ⊥) }
+{
+    tx.execute(
+        "CREATE TABLE interchange (partner INTEGER NOT NULL REFERENCES partner(id), number INTEGER NOT NULL, body BLOB NOT NULL, reply TEXT NOT NULL, PRIMARY KEY(partner, number)) STRICT",
+        &[],
+    )?;
+    Ok(())
+}
+
+fn create_visit<S: Alter>(tx: &mut Transaction<'_, S>) -> Result<(), TableFault>
+    ensures same_reference { tx.new.conn.ghost_name ≡ tx.old.conn.ghost_name }
+    ensures made { HasCleanDisk (state S.Store tx.new.conn.now) → IsTrue (state S.Store tx.old.conn.now).in_transaction
+        → OnOk result (Turns (HasEmpty (take 2 office_tables)) (HasEmpty (take 3 office_tables)) (state S.Store tx.old.conn.now) (state S.Store tx.new.conn.now)) }
+    ensures keeps { HasCleanDisk (state S.Store tx.new.conn.now) → IsTrue (state S.Store tx.old.conn.now).in_transaction
+        → KeepsCommit (state S.Store tx.old.conn.now) (state S.Store tx.new.conn.now) }
+    ensures survives { Survives (state S.Store tx.old.conn.now) (state S.Store tx.new.conn.now) (λ _. ⊥) }
+{
+    tx.execute(
+        "CREATE TABLE visit (visit INTEGER PRIMARY KEY, box TEXT NOT NULL, size TEXT NOT NULL, laden INTEGER NOT NULL, booking TEXT NOT NULL, in_by INTEGER NOT NULL, in_partner INTEGER NOT NULL, in_number INTEGER NOT NULL, in_at TEXT NOT NULL, in_slot TEXT NOT NULL, out_by INTEGER NOT NULL, out_partner INTEGER NOT NULL, out_number INTEGER NOT NULL, out_at TEXT NOT NULL) STRICT",
+        &[],
+    )?;
+    Ok(())
+}
+
+fn create_place<S: Alter>(tx: &mut Transaction<'_, S>) -> Result<(), TableFault>
+    ensures same_reference { tx.new.conn.ghost_name ≡ tx.old.conn.ghost_name }
+    ensures made { HasCleanDisk (state S.Store tx.new.conn.now) → IsTrue (state S.Store tx.old.conn.now).in_transaction
+        → OnOk result (Turns (HasEmpty (take 3 office_tables)) (HasEmpty (take 4 office_tables)) (state S.Store tx.old.conn.now) (state S.Store tx.new.conn.now)) }
+    ensures keeps { HasCleanDisk (state S.Store tx.new.conn.now) → IsTrue (state S.Store tx.old.conn.now).in_transaction
+        → KeepsCommit (state S.Store tx.old.conn.now) (state S.Store tx.new.conn.now) }
+    ensures survives { Survives (state S.Store tx.old.conn.now) (state S.Store tx.new.conn.now) (λ _. ⊥) }
+{
+    tx.execute(
+        "CREATE TABLE place (box TEXT PRIMARY KEY, visit INTEGER NOT NULL UNIQUE REFERENCES visit(visit), slot TEXT NOT NULL UNIQUE) STRICT",
+        &[],
+    )?;
+    Ok(())
+}
+
+fn create_listed<S: Alter>(tx: &mut Transaction<'_, S>) -> Result<(), TableFault>
+    ensures same_reference { tx.new.conn.ghost_name ≡ tx.old.conn.ghost_name }
+    ensures made { HasCleanDisk (state S.Store tx.new.conn.now) → IsTrue (state S.Store tx.old.conn.now).in_transaction
+        → OnOk result (Turns (HasEmpty (take 4 office_tables)) (HasEmpty (take 5 office_tables)) (state S.Store tx.old.conn.now) (state S.Store tx.new.conn.now)) }
+    ensures keeps { HasCleanDisk (state S.Store tx.new.conn.now) → IsTrue (state S.Store tx.old.conn.now).in_transaction
+        → KeepsCommit (state S.Store tx.old.conn.now) (state S.Store tx.new.conn.now) }
+    ensures survives { Survives (state S.Store tx.old.conn.now) (state S.Store tx.new.conn.now) (λ _. ⊥) }
+{
+    tx.execute(
+        "CREATE TABLE listed (vessel TEXT NOT NULL, voyage TEXT NOT NULL, side INTEGER NOT NULL, box TEXT NOT NULL, port TEXT NOT NULL, done INTEGER NOT NULL, PRIMARY KEY(vessel, voyage, side, box)) STRICT",
+        &[],
+    )?;
+    Ok(())
+}
+
+fn create_setting<S: Alter>(tx: &mut Transaction<'_, S>) -> Result<(), TableFault>
+    ensures same_reference { tx.new.conn.ghost_name ≡ tx.old.conn.ghost_name }
+    ensures made { HasCleanDisk (state S.Store tx.new.conn.now) → IsTrue (state S.Store tx.old.conn.now).in_transaction
+        → OnOk result (Turns (HasEmpty (take 5 office_tables)) (HasEmpty (take 6 office_tables)) (state S.Store tx.old.conn.now) (state S.Store tx.new.conn.now)) }
+    ensures keeps { HasCleanDisk (state S.Store tx.new.conn.now) → IsTrue (state S.Store tx.old.conn.now).in_transaction
+        → KeepsCommit (state S.Store tx.old.conn.now) (state S.Store tx.new.conn.now) }
+    ensures survives { Survives (state S.Store tx.old.conn.now) (state S.Store tx.new.conn.now) (λ _. ⊥) }
+{
+    tx.execute(
+        "CREATE TABLE setting (name TEXT PRIMARY KEY, value TEXT NOT NULL) STRICT",
+        &[],
+    )?;
+    Ok(())
+}
+
+fn create_block<S: Alter>(tx: &mut Transaction<'_, S>) -> Result<(), TableFault>
+    ensures same_reference { tx.new.conn.ghost_name ≡ tx.old.conn.ghost_name }
+    ensures made { HasCleanDisk (state S.Store tx.new.conn.now) → IsTrue (state S.Store tx.old.conn.now).in_transaction
+        → OnOk result (Turns (HasEmpty (take 6 office_tables)) (HasEmpty (take 7 office_tables)) (state S.Store tx.old.conn.now) (state S.Store tx.new.conn.now)) }
+    ensures keeps { HasCleanDisk (state S.Store tx.new.conn.now) → IsTrue (state S.Store tx.old.conn.now).in_transaction
+        → KeepsCommit (state S.Store tx.old.conn.now) (state S.Store tx.new.conn.now) }
+    ensures survives { Survives (state S.Store tx.old.conn.now) (state S.Store tx.new.conn.now) (λ _. ⊥) }
+{
+    tx.execute(
+        "CREATE TABLE block (letter TEXT PRIMARY KEY, bays INTEGER NOT NULL, lanes INTEGER NOT NULL, tiers INTEGER NOT NULL) STRICT",
+        &[],
+    )?;
+    Ok(())
+}

@@ -1,0 +1,101 @@
+ghost use Rattle.std.specs.Prelude.{◌≡◌, IfOk, OnOk, false, map, filter};
+ghost use Rattle.std.specs.List.Sorted.{IsPermutation};
+ghost use Rattle.sqlite.specs.declared.types.Value.TheVariants.{Text, Blob};
+ghost use Rattle.sqlite.specs.Order.{column};
+ghost use Rattle.sqlite.specs.Held.{state};
+ghost use Rattle.sqlite.specs.State.{HasCleanDisk, IsUnchanged, KeepsCommit, Survives};
+ghost use Rattle.office_rows.specs.Tables.{office_schema};
+ghost use Rattle.office_rows.specs.Stored.{HasRows};
+ghost use Rattle.office_rows.specs.Values.{number, kept_values, next_values};
+ghost use Rattle.office_tables.specs.Answers.{IsKept, IsNextOf, RepliesAs, has_id, pair_of};
+
+use crate::kept_interchange::Kept;
+use crate::table_fault::TableFault;
+use crate::values::integer;
+use sqlite::{Alter, Connection, Row};
+
+/// The interchange that is kept for a partner and a number. It changes nothing.
+pub fn kept<S: Alter>(
+    conn: &mut Connection<S>,
+    partner: u16,
+    number: u32,
+) -> Result<Option<Kept>, TableFault>
+    ensures answer { HasCleanDisk (state S.Store conn.new) → IfOk result (λ answer. (rows : _) → HasRows rows (state S.Store conn.old).now → IsKept partner number rows answer) }
+    ensures same { HasCleanDisk (state S.Store conn.new) → (state S.Store conn.old).now.schema ≡ office_schema → OnOk result (IsUnchanged (state S.Store conn.old) (state S.Store conn.new)) }
+    ensures keeps { HasCleanDisk (state S.Store conn.new) → (state S.Store conn.old).now.schema ≡ office_schema → KeepsCommit (state S.Store conn.old) (state S.Store conn.new) }
+    ensures mode { conn.old.in_transaction ≡ false → conn.new.in_transaction ≡ false }
+    ensures survives { (state S.Store conn.old).now.schema ≡ office_schema → Survives (state S.Store conn.old) (state S.Store conn.new) (λ _. ⊥) }
+{
+    let rows = select_kept(conn, partner, number)?;
+    match rows.first() {
+        None => Ok(None),
+        Some(row) => Ok(Some(read_kept(row)?)),
+    }
+}
+
+fn select_kept<S: Alter>(
+    conn: &mut Connection<S>,
+    partner: u16,
+    number: u32,
+) -> Result<Vec<Row>, TableFault>
+    ensures shown { HasCleanDisk (state S.Store conn.new) → IfOk result (λ answer. (rows : _) → HasRows rows (state S.Store conn.old).now → IsPermutation (map kept_values (pair_of partner number rows)) answer.items) }
+    ensures same { HasCleanDisk (state S.Store conn.new) → (state S.Store conn.old).now.schema ≡ office_schema → OnOk result (IsUnchanged (state S.Store conn.old) (state S.Store conn.new)) }
+    ensures keeps { HasCleanDisk (state S.Store conn.new) → (state S.Store conn.old).now.schema ≡ office_schema → KeepsCommit (state S.Store conn.old) (state S.Store conn.new) }
+    ensures mode { conn.old.in_transaction ≡ false → conn.new.in_transaction ≡ false }
+    ensures survives { (state S.Store conn.old).now.schema ≡ office_schema → Survives (state S.Store conn.old) (state S.Store conn.new) (λ _. ⊥) }
+{
+    Ok(conn.query_all(
+        "SELECT body, reply FROM interchange WHERE partner = ?1 AND number = ?2",
+        &[integer(u32::from(partner)), integer(number)],
+    )?)
+}
+
+fn read_kept(row: &Row) -> Result<Kept, TableFault>
+    ensures { IfOk result (λ kept. (column row.now 0 ≡ Blob kept.text.items) × ((reply : _) × (column row.now 1 ≡ Text reply) × RepliesAs kept.reply reply)) }
+{
+    let text = row.get(0)?;
+    let reply: String = row.get(1)?;
+    let reply = if reply.is_empty() {
+        None
+    } else {
+        Some(reply)
+    };
+    Ok(Kept { text, reply })
+}
+
+/// The number that the next interchange of a partner has. It changes nothing.
+pub fn next_of<S: Alter>(conn: &mut Connection<S>, partner: u16) -> Result<u32, TableFault>
+    ensures answer { HasCleanDisk (state S.Store conn.new) → IfOk result (λ next. (rows : _) → HasRows rows (state S.Store conn.old).now → IsNextOf partner rows next) }
+    ensures same { HasCleanDisk (state S.Store conn.new) → (state S.Store conn.old).now.schema ≡ office_schema → OnOk result (IsUnchanged (state S.Store conn.old) (state S.Store conn.new)) }
+    ensures keeps { HasCleanDisk (state S.Store conn.new) → (state S.Store conn.old).now.schema ≡ office_schema → KeepsCommit (state S.Store conn.old) (state S.Store conn.new) }
+    ensures mode { conn.old.in_transaction ≡ false → conn.new.in_transaction ≡ false }
+    ensures survives { (state S.Store conn.old).now.schema ≡ office_schema → Survives (state S.Store conn.old) (state S.Store conn.new) (λ _. ⊥) }
+{
+    let rows = select_next(conn, partner)?;
+    match rows.first() {
+        None => Err(TableFault::Damaged),
+        Some(row) => read_number(row),
+    }
+}
+
+fn select_next<S: Alter>(
+    conn: &mut Connection<S>,
+    partner: u16,
+) -> Result<Vec<Row>, TableFault>
+    ensures shown { HasCleanDisk (state S.Store conn.new) → IfOk result (λ answer. (rows : _) → HasRows rows (state S.Store conn.old).now → IsPermutation (map next_values (filter (has_id partner) rows.partners)) answer.items) }
+    ensures same { HasCleanDisk (state S.Store conn.new) → (state S.Store conn.old).now.schema ≡ office_schema → OnOk result (IsUnchanged (state S.Store conn.old) (state S.Store conn.new)) }
+    ensures keeps { HasCleanDisk (state S.Store conn.new) → (state S.Store conn.old).now.schema ≡ office_schema → KeepsCommit (state S.Store conn.old) (state S.Store conn.new) }
+    ensures mode { conn.old.in_transaction ≡ false → conn.new.in_transaction ≡ false }
+    ensures survives { (state S.Store conn.old).now.schema ≡ office_schema → Survives (state S.Store conn.old) (state S.Store conn.new) (λ _. ⊥) }
+{
+    Ok(conn.query_all(
+        "SELECT next FROM partner WHERE id = ?1",
+        &[integer(u32::from(partner))],
+    )?)
+}
+
+fn read_number(row: &Row) -> Result<u32, TableFault>
+    ensures { IfOk result (λ read. column row.now 0 ≡ number read) }
+{
+    Ok(row.get(0)?)
+}

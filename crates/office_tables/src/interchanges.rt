@@ -1,0 +1,60 @@
+ghost use Rattle.std.specs.Prelude.{◌≡◌, OnOk, IsTrue};
+ghost use Rattle.sqlite.specs.Held.{state};
+ghost use Rattle.sqlite.specs.State.{HasCleanDisk, Survives, KeepsCommit};
+ghost use Rattle.office_rows.specs.Effects.{with_kept, with_reply};
+ghost use Rattle.office_rows.specs.Steps.{Steps};
+
+use crate::table_fault::TableFault;
+use crate::values::{characters, integer};
+use sqlite::types::ValueRef;
+use sqlite::{Alter, Transaction};
+
+/// Keeps an interchange that waits.
+pub fn keep<S: Alter>(
+    tx: &mut Transaction<'_, S>,
+    partner: u16,
+    number: u32,
+    body: &[u8],
+) -> Result<(), TableFault>
+    ensures same_reference { tx.new.conn.ghost_name ≡ tx.old.conn.ghost_name }
+    ensures steps { HasCleanDisk (state S.Store tx.new.conn.now) → IsTrue (state S.Store tx.old.conn.now).in_transaction
+        → OnOk result (Steps (with_kept partner number body.now) (state S.Store tx.old.conn.now) (state S.Store tx.new.conn.now)) }
+    ensures keeps { HasCleanDisk (state S.Store tx.new.conn.now) → IsTrue (state S.Store tx.old.conn.now).in_transaction
+        → KeepsCommit (state S.Store tx.old.conn.now) (state S.Store tx.new.conn.now) }
+    ensures survives { Survives (state S.Store tx.old.conn.now) (state S.Store tx.new.conn.now) (λ _. ⊥) }
+{
+    tx.execute(
+        "INSERT INTO interchange (partner, number, body, reply) VALUES (?1, ?2, ?3, '')",
+        &[
+            integer(u32::from(partner)),
+            integer(number),
+            ValueRef::Blob(body),
+        ],
+    )?;
+    Ok(())
+}
+
+/// Gives an interchange its reply.
+pub(crate) fn set_reply<S: Alter>(
+    tx: &mut Transaction<'_, S>,
+    partner: u16,
+    number: u32,
+    reply: &str,
+) -> Result<(), TableFault>
+    ensures same_reference { tx.new.conn.ghost_name ≡ tx.old.conn.ghost_name }
+    ensures steps { HasCleanDisk (state S.Store tx.new.conn.now) → IsTrue (state S.Store tx.old.conn.now).in_transaction
+        → OnOk result (Steps (with_reply partner number reply.now) (state S.Store tx.old.conn.now) (state S.Store tx.new.conn.now)) }
+    ensures keeps { HasCleanDisk (state S.Store tx.new.conn.now) → IsTrue (state S.Store tx.old.conn.now).in_transaction
+        → KeepsCommit (state S.Store tx.old.conn.now) (state S.Store tx.new.conn.now) }
+    ensures survives { Survives (state S.Store tx.old.conn.now) (state S.Store tx.new.conn.now) (λ _. ⊥) }
+{
+    tx.execute(
+        "UPDATE interchange SET reply = ?3 WHERE partner = ?1 AND number = ?2",
+        &[
+            integer(u32::from(partner)),
+            integer(number),
+            characters(reply.as_bytes()),
+        ],
+    )?;
+    Ok(())
+}

@@ -1,0 +1,72 @@
+ghost use Rattle.std.specs.Prelude.{◌≡◌, OnOk, IsTrue};
+ghost use Rattle.sqlite.specs.Held.{state};
+ghost use Rattle.sqlite.specs.State.{HasCleanDisk, Survives, KeepsCommit};
+ghost use Rattle.edi_messages.specs.Owned.{call_content};
+ghost use Rattle.terminal_core.specs.Rows.{listed_on, line_done};
+ghost use Rattle.office_rows.specs.Effects.{with_change};
+ghost use Rattle.office_rows.specs.Steps.{Steps};
+
+use crate::codes::side_code;
+use crate::table_fault::TableFault;
+use crate::values::{characters, integer};
+use box6346::BoxNumber;
+use edi_messages::Call;
+use sqlite::{Alter, Transaction};
+use terminal_core::Side;
+
+/// A line that was opened.
+pub(crate) fn insert_line<'a, S: Alter>(
+    tx: &mut Transaction<'_, S>,
+    call: &'a Call,
+    side: Side,
+    container: BoxNumber,
+    port: &'a str,
+) -> Result<(), TableFault>
+    ensures same_reference { tx.new.conn.ghost_name ≡ tx.old.conn.ghost_name }
+    ensures steps { HasCleanDisk (state S.Store tx.new.conn.now) → IsTrue (state S.Store tx.old.conn.now).in_transaction
+        → OnOk result (Steps (with_change (listed_on (call_content call.now) side container port.now)) (state S.Store tx.old.conn.now) (state S.Store tx.new.conn.now)) }
+    ensures keeps { HasCleanDisk (state S.Store tx.new.conn.now) → IsTrue (state S.Store tx.old.conn.now).in_transaction
+        → KeepsCommit (state S.Store tx.old.conn.now) (state S.Store tx.new.conn.now) }
+    ensures survives { Survives (state S.Store tx.old.conn.now) (state S.Store tx.new.conn.now) (λ _. ⊥) }
+{
+    let container = container.text();
+    tx.execute(
+        "INSERT INTO listed (vessel, voyage, side, box, port, done) VALUES (?1, ?2, ?3, ?4, ?5, ?6)",
+        &[
+            characters(call.vessel.as_bytes()),
+            characters(call.voyage.as_bytes()),
+            integer(side_code(side)),
+            characters(&container),
+            characters(port.as_bytes()),
+            integer(0),
+        ],
+    )?;
+    Ok(())
+}
+
+/// A line whose container was loaded or discharged.
+pub(crate) fn set_done<S: Alter>(
+    tx: &mut Transaction<'_, S>,
+    call: &Call,
+    side: Side,
+    container: BoxNumber,
+) -> Result<(), TableFault>
+    ensures same_reference { tx.new.conn.ghost_name ≡ tx.old.conn.ghost_name }
+    ensures steps { HasCleanDisk (state S.Store tx.new.conn.now) → IsTrue (state S.Store tx.old.conn.now).in_transaction
+        → OnOk result (Steps (with_change (line_done (call_content call.now) side container)) (state S.Store tx.old.conn.now) (state S.Store tx.new.conn.now)) }
+    ensures keeps { HasCleanDisk (state S.Store tx.new.conn.now) → IsTrue (state S.Store tx.old.conn.now).in_transaction
+        → KeepsCommit (state S.Store tx.old.conn.now) (state S.Store tx.new.conn.now) }
+    ensures survives { Survives (state S.Store tx.old.conn.now) (state S.Store tx.new.conn.now) (λ _. ⊥) }
+{
+    let container = container.text();
+    tx.execute(
+        "UPDATE listed SET done = 1 WHERE vessel = ?1 AND voyage = ?2 AND side = ?3 AND box = ?4",
+        &[
+            characters(call.vessel.as_bytes()),
+            characters(call.voyage.as_bytes()),
+            integer(side_code(side)),
+            characters(&container),
+        ],
+    )?;
+    Ok(())
+}

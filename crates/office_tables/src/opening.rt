@@ -1,0 +1,52 @@
+ghost use Rattle.std.specs.Prelude.{◌≡◌, ◌<◌, ◌≤◌, ◌+◌, [], ◌∷◌, length, slice_get, Some, codes, decimal, OnOk, IsTrue};
+ghost use Rattle.sqlite.specs.Held.{state};
+ghost use Rattle.sqlite.specs.State.{HasCleanDisk, Survives, KeepsCommit};
+ghost use Rattle.std.specs.Prelude.{false, take, OnErr};
+ghost use Rattle.office_rows.specs.Tables.{office_tables, no_schema};
+ghost use Rattle.office_rows.specs.Stored.{HasRows, HasEmpty};
+ghost use Rattle.office_rows.specs.Steps.{Turns};
+ghost use Rattle.office_rows.specs.Opening.{opening_rows};
+ghost use Rattle.office_setup.specs.Setups.{setup_content};
+ghost use Rattle.office_tables.specs.Opened.{Opens, IsOpening};
+
+use crate::blocks::insert_blocks;
+use crate::creating::create_tables;
+use crate::partners::insert_partners;
+use crate::settings::insert_settings;
+use crate::table_fault::TableFault;
+use office_setup::Setup;
+use sqlite::{Alter, Connection, Transaction};
+
+/// Makes the tables of an empty database, with the rows of a set-up, wholly or not at all.
+pub fn create<S: Alter>(conn: &mut Connection<S>, setup: &Setup) -> Result<(), TableFault>
+    requires idle { (state S.Store conn.old).in_transaction ≡ false }
+    requires counted { length setup.now.partners.items ≤ 999 }
+    ensures idle { (state S.Store conn.new).in_transaction ≡ false }
+    ensures ok { HasCleanDisk (state S.Store conn.new) → OnOk result (Opens (setup_content setup.now) (state S.Store conn.old) (state S.Store conn.new)) }
+    ensures err { HasCleanDisk (state S.Store conn.new) → IsTrue (state S.Store conn.new).is_open
+        → OnErr result (((state S.Store conn.new).now ≡ (state S.Store conn.old).committed) × ((state S.Store conn.new).committed ≡ (state S.Store conn.old).committed)) }
+    ensures crash { Survives (state S.Store conn.old) (state S.Store conn.new) (IsOpening (setup_content setup.now) (state S.Store conn.old)) }
+{
+    let is_idle = conn.is_autocommit();
+    prove!(is_idle);
+    let mut tx = conn.transaction();
+    write_opening(&mut tx, setup)?;
+    tx.commit()?;
+    Ok(())
+}
+
+// The tables and their first rows, in the transaction.
+fn write_opening<S: Alter>(tx: &mut Transaction<'_, S>, setup: &Setup) -> Result<(), TableFault>
+    requires { length setup.now.partners.items ≤ 999 }
+    ensures same_reference { tx.new.conn.ghost_name ≡ tx.old.conn.ghost_name }
+    ensures made { HasCleanDisk (state S.Store tx.new.conn.now) → IsTrue (state S.Store tx.old.conn.now).in_transaction
+        → OnOk result (Turns (HasEmpty (take 0 office_tables)) (HasRows (opening_rows (setup_content setup.now))) (state S.Store tx.old.conn.now) (state S.Store tx.new.conn.now)) }
+    ensures keeps { HasCleanDisk (state S.Store tx.new.conn.now) → IsTrue (state S.Store tx.old.conn.now).in_transaction
+        → KeepsCommit (state S.Store tx.old.conn.now) (state S.Store tx.new.conn.now) }
+    ensures survives { Survives (state S.Store tx.old.conn.now) (state S.Store tx.new.conn.now) (λ _. ⊥) }
+{
+    create_tables(tx)?;
+    insert_settings(tx, setup)?;
+    insert_partners(tx, &setup.partners)?;
+    insert_blocks(tx, &setup.blocks)
+}

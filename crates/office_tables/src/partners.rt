@@ -1,0 +1,84 @@
+ghost use Rattle.std.specs.Prelude.{◌≡◌, ◌≤◌, length, OnOk, IsTrue};
+ghost use Rattle.sqlite.specs.Held.{state};
+ghost use Rattle.sqlite.specs.State.{HasCleanDisk, Survives, KeepsCommit};
+ghost use Rattle.office_rows.specs.Effects.{with_next, with_partner};
+ghost use Rattle.office_rows.specs.Opening.{partners_from, with_partners};
+ghost use Rattle.office_rows.specs.Steps.{Steps};
+ghost use Rattle.office_setup.specs.Setups.{account_contents};
+
+use crate::codes::kind_code;
+use crate::table_fault::TableFault;
+use crate::values::{characters, integer};
+use edi_messages::PartnerKind;
+use office_setup::Account;
+use sqlite::{Alter, Transaction};
+
+/// The accounts of a set-up, whose partners have sent nothing yet.
+pub(crate) fn insert_partners<S: Alter>(
+    tx: &mut Transaction<'_, S>,
+    accounts: &[Account],
+) -> Result<(), TableFault>
+    requires { length accounts.now ≤ 999 }
+    ensures same_reference { tx.new.conn.ghost_name ≡ tx.old.conn.ghost_name }
+    ensures steps { HasCleanDisk (state S.Store tx.new.conn.now) → IsTrue (state S.Store tx.old.conn.now).in_transaction → IsTrue (state S.Store tx.old.conn.now).is_open
+        → OnOk result (Steps (with_partners (partners_from 1 (account_contents accounts.now))) (state S.Store tx.old.conn.now) (state S.Store tx.new.conn.now)) }
+    ensures keeps { HasCleanDisk (state S.Store tx.new.conn.now) → IsTrue (state S.Store tx.old.conn.now).in_transaction → IsTrue (state S.Store tx.old.conn.now).is_open
+        → KeepsCommit (state S.Store tx.old.conn.now) (state S.Store tx.new.conn.now) }
+    ensures survives { Survives (state S.Store tx.old.conn.now) (state S.Store tx.new.conn.now) (λ _. ⊥) }
+{
+    let mut id = 1;
+    for account in accounts {
+        insert_partner(tx, id, account.code.as_str(), account.kind)?;
+        id += 1;
+    }
+    Ok(())
+}
+
+/// An account whose partner has sent nothing yet.
+pub(crate) fn insert_partner<S: Alter>(
+    tx: &mut Transaction<'_, S>,
+    id: u16,
+    code: &str,
+    kind: PartnerKind,
+) -> Result<(), TableFault>
+    ensures same_reference { tx.new.conn.ghost_name ≡ tx.old.conn.ghost_name }
+    ensures steps { HasCleanDisk (state S.Store tx.new.conn.now) → IsTrue (state S.Store tx.old.conn.now).in_transaction
+        → OnOk result (Steps (with_partner id code.now kind) (state S.Store tx.old.conn.now) (state S.Store tx.new.conn.now)) }
+    ensures keeps { HasCleanDisk (state S.Store tx.new.conn.now) → IsTrue (state S.Store tx.old.conn.now).in_transaction
+        → KeepsCommit (state S.Store tx.old.conn.now) (state S.Store tx.new.conn.now) }
+    ensures survives { Survives (state S.Store tx.old.conn.now) (state S.Store tx.new.conn.now) (λ _. ⊥) }
+{
+    tx.execute(
+        "INSERT INTO partner (id, code, kind, next) VALUES (?1, ?2, ?3, ?4)",
+        &[
+            integer(u32::from(id)),
+            characters(code.as_bytes()),
+            integer(kind_code(kind)),
+            integer(1),
+        ],
+    )?;
+    Ok(())
+}
+
+/// Says which number the partner's next interchange has.
+pub(crate) fn set_next<S: Alter>(
+    tx: &mut Transaction<'_, S>,
+    partner: u16,
+    next: u32,
+) -> Result<(), TableFault>
+    ensures same_reference { tx.new.conn.ghost_name ≡ tx.old.conn.ghost_name }
+    ensures steps { HasCleanDisk (state S.Store tx.new.conn.now) → IsTrue (state S.Store tx.old.conn.now).in_transaction
+        → OnOk result (Steps (with_next partner next) (state S.Store tx.old.conn.now) (state S.Store tx.new.conn.now)) }
+    ensures keeps { HasCleanDisk (state S.Store tx.new.conn.now) → IsTrue (state S.Store tx.old.conn.now).in_transaction
+        → KeepsCommit (state S.Store tx.old.conn.now) (state S.Store tx.new.conn.now) }
+    ensures survives { Survives (state S.Store tx.old.conn.now) (state S.Store tx.new.conn.now) (λ _. ⊥) }
+{
+    tx.execute(
+        "UPDATE partner SET next = ?2 WHERE id = ?1",
+        &[
+            integer(u32::from(partner)),
+            integer(next),
+        ],
+    )?;
+    Ok(())
+}

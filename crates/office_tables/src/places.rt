@@ -1,0 +1,80 @@
+ghost use Rattle.std.specs.Prelude.{◌≡◌, OnOk, IsTrue};
+ghost use Rattle.sqlite.specs.Held.{state};
+ghost use Rattle.sqlite.specs.State.{HasCleanDisk, Survives, KeepsCommit};
+ghost use Rattle.terminal_core.specs.Rows.{placed_at, moved_to, removed_from};
+ghost use Rattle.office_rows.specs.Effects.{with_change};
+ghost use Rattle.office_rows.specs.Steps.{Steps};
+
+use crate::table_fault::TableFault;
+use crate::values::{characters, integer};
+use box6346::{BoxNumber, Slot};
+use sqlite::{Alter, Transaction};
+
+/// A container of this visit that was placed in a slot.
+pub(crate) fn insert_place<S: Alter>(
+    tx: &mut Transaction<'_, S>,
+    container: BoxNumber,
+    visit: u32,
+    slot: Slot,
+) -> Result<(), TableFault>
+    ensures same_reference { tx.new.conn.ghost_name ≡ tx.old.conn.ghost_name }
+    ensures steps { HasCleanDisk (state S.Store tx.new.conn.now) → IsTrue (state S.Store tx.old.conn.now).in_transaction
+        → OnOk result (Steps (with_change (placed_at container visit slot)) (state S.Store tx.old.conn.now) (state S.Store tx.new.conn.now)) }
+    ensures keeps { HasCleanDisk (state S.Store tx.new.conn.now) → IsTrue (state S.Store tx.old.conn.now).in_transaction
+        → KeepsCommit (state S.Store tx.old.conn.now) (state S.Store tx.new.conn.now) }
+    ensures survives { Survives (state S.Store tx.old.conn.now) (state S.Store tx.new.conn.now) (λ _. ⊥) }
+{
+    let container = container.text();
+    let slot = slot.text();
+    tx.execute(
+        "INSERT INTO place (box, visit, slot) VALUES (?1, ?2, ?3)",
+        &[
+            characters(&container),
+            integer(visit),
+            characters(&slot),
+        ],
+    )?;
+    Ok(())
+}
+
+/// The slot that a container was moved to.
+pub(crate) fn set_slot<S: Alter>(
+    tx: &mut Transaction<'_, S>,
+    container: BoxNumber,
+    slot: Slot,
+) -> Result<(), TableFault>
+    ensures same_reference { tx.new.conn.ghost_name ≡ tx.old.conn.ghost_name }
+    ensures steps { HasCleanDisk (state S.Store tx.new.conn.now) → IsTrue (state S.Store tx.old.conn.now).in_transaction
+        → OnOk result (Steps (with_change (moved_to container slot)) (state S.Store tx.old.conn.now) (state S.Store tx.new.conn.now)) }
+    ensures keeps { HasCleanDisk (state S.Store tx.new.conn.now) → IsTrue (state S.Store tx.old.conn.now).in_transaction
+        → KeepsCommit (state S.Store tx.old.conn.now) (state S.Store tx.new.conn.now) }
+    ensures survives { Survives (state S.Store tx.old.conn.now) (state S.Store tx.new.conn.now) (λ _. ⊥) }
+{
+    let container = container.text();
+    let slot = slot.text();
+    tx.execute(
+        "UPDATE place SET slot = ?2 WHERE box = ?1",
+        &[characters(&container), characters(&slot)],
+    )?;
+    Ok(())
+}
+
+/// A container that has left the yard has no place.
+pub(crate) fn delete_place<S: Alter>(
+    tx: &mut Transaction<'_, S>,
+    container: BoxNumber,
+) -> Result<(), TableFault>
+    ensures same_reference { tx.new.conn.ghost_name ≡ tx.old.conn.ghost_name }
+    ensures steps { HasCleanDisk (state S.Store tx.new.conn.now) → IsTrue (state S.Store tx.old.conn.now).in_transaction
+        → OnOk result (Steps (with_change (removed_from container)) (state S.Store tx.old.conn.now) (state S.Store tx.new.conn.now)) }
+    ensures keeps { HasCleanDisk (state S.Store tx.new.conn.now) → IsTrue (state S.Store tx.old.conn.now).in_transaction
+        → KeepsCommit (state S.Store tx.old.conn.now) (state S.Store tx.new.conn.now) }
+    ensures survives { Survives (state S.Store tx.old.conn.now) (state S.Store tx.new.conn.now) (λ _. ⊥) }
+{
+    let container = container.text();
+    tx.execute(
+        "DELETE FROM place WHERE box = ?1",
+        &[characters(&container)],
+    )?;
+    Ok(())
+}

@@ -1,0 +1,85 @@
+ghost use Rattle.std.specs.Prelude.{◌≡◌, ◌<◌, ◌≤◌, ◌+◌, [], ◌∷◌, length, slice_get, Some, codes, decimal, OnOk, IsTrue};
+ghost use Rattle.sqlite.specs.Held.{state};
+ghost use Rattle.sqlite.specs.State.{HasCleanDisk, Survives, KeepsCommit};
+ghost use Rattle.office_rows.specs.Steps.{Steps};
+ghost use Rattle.office_rows.specs.Opening.{code_names, code_settings, setting, settings_of, with_settings};
+ghost use Rattle.office_setup.specs.Setups.{setup_content};
+
+use crate::table_fault::TableFault;
+use crate::values::characters;
+use edi_messages::CodeTable;
+use itoa::Buffer;
+use office_setup::Setup;
+use sqlite::{Alter, Transaction};
+
+/// The version of the tables, and the settings of a set-up.
+pub(crate) fn insert_settings<S: Alter>(
+    tx: &mut Transaction<'_, S>,
+    setup: &Setup,
+) -> Result<(), TableFault>
+    ensures same_reference { tx.new.conn.ghost_name ≡ tx.old.conn.ghost_name }
+    ensures steps { HasCleanDisk (state S.Store tx.new.conn.now) → IsTrue (state S.Store tx.old.conn.now).in_transaction
+        → OnOk result (Steps (with_settings (settings_of (setup_content setup.now))) (state S.Store tx.old.conn.now) (state S.Store tx.new.conn.now)) }
+    ensures keeps { HasCleanDisk (state S.Store tx.new.conn.now) → IsTrue (state S.Store tx.old.conn.now).in_transaction
+        → KeepsCommit (state S.Store tx.old.conn.now) (state S.Store tx.new.conn.now) }
+    ensures survives { Survives (state S.Store tx.old.conn.now) (state S.Store tx.new.conn.now) (λ _. ⊥) }
+{
+    insert_setting(tx, "version", b"1")?;
+    insert_setting(tx, "terminal", setup.terminal.as_bytes())?;
+    let mut buffer = Buffer::new();
+    insert_setting(tx, "visits", buffer.format(setup.visit_limit).as_bytes())?;
+    insert_codes(tx, &setup.codes)
+}
+
+// Each code of a document name under its own name.
+fn insert_codes<S: Alter>(
+    tx: &mut Transaction<'_, S>,
+    codes: &CodeTable,
+) -> Result<(), TableFault>
+    ensures same_reference { tx.new.conn.ghost_name ≡ tx.old.conn.ghost_name }
+    ensures steps { HasCleanDisk (state S.Store tx.new.conn.now) → IsTrue (state S.Store tx.old.conn.now).in_transaction → IsTrue (state S.Store tx.old.conn.now).is_open
+        → OnOk result (Steps (with_settings (code_settings codes.now)) (state S.Store tx.old.conn.now) (state S.Store tx.new.conn.now)) }
+    ensures keeps { HasCleanDisk (state S.Store tx.new.conn.now) → IsTrue (state S.Store tx.old.conn.now).in_transaction → IsTrue (state S.Store tx.old.conn.now).is_open
+        → KeepsCommit (state S.Store tx.old.conn.now) (state S.Store tx.new.conn.now) }
+    ensures survives { Survives (state S.Store tx.old.conn.now) (state S.Store tx.new.conn.now) (λ _. ⊥) }
+{
+    for place in 0..7 {
+        insert_setting(tx, code_name(place), codes.code(place))?;
+    }
+    Ok(())
+}
+
+// The name under which the code at a place of the table is kept.
+fn code_name(place: usize) -> &'static str
+    requires { place < 7 }
+    ensures { slice_get code_names place ≡ Some result.now }
+{
+    match place {
+        0 => "gate-in",
+        1 => "gate-out",
+        2 => "yard-move",
+        3 => "discharge-list",
+        4 => "load-list",
+        5 => "discharge-report",
+        _ => "load-report",
+    }
+}
+
+fn insert_setting<'a, S: Alter>(
+    tx: &mut Transaction<'_, S>,
+    name: &'a str,
+    value: &'a [u8],
+) -> Result<(), TableFault>
+    ensures same_reference { tx.new.conn.ghost_name ≡ tx.old.conn.ghost_name }
+    ensures steps { HasCleanDisk (state S.Store tx.new.conn.now) → IsTrue (state S.Store tx.old.conn.now).in_transaction
+        → OnOk result (Steps (with_settings (setting name.now value.now ∷ [])) (state S.Store tx.old.conn.now) (state S.Store tx.new.conn.now)) }
+    ensures keeps { HasCleanDisk (state S.Store tx.new.conn.now) → IsTrue (state S.Store tx.old.conn.now).in_transaction
+        → KeepsCommit (state S.Store tx.old.conn.now) (state S.Store tx.new.conn.now) }
+    ensures survives { Survives (state S.Store tx.old.conn.now) (state S.Store tx.new.conn.now) (λ _. ⊥) }
+{
+    tx.execute(
+        "INSERT INTO setting (name, value) VALUES (?1, ?2)",
+        &[characters(name.as_bytes()), characters(value)],
+    )?;
+    Ok(())
+}

@@ -1,0 +1,41 @@
+ghost use Rattle.std.specs.Prelude.{◌≡◌};
+ghost use Rattle.office_tables.specs.Faults.{fault_of};
+ghost use Rattle.office_tables.specs.declared.table_fault.TableFault.TheVariants.{Memory};
+
+use sqlite::{Error, ErrorCode};
+use std::alloc::AllocError;
+
+/// Why the tables did not do what was asked.
+#[derive(Debug, Drop)]
+pub enum TableFault {
+    /// The store failed or refused, as SQL tells it.
+    Store(Error),
+    /// The rows are those of no office.
+    Damaged,
+    /// The tables are of another version, or of none.
+    Version,
+    /// Memory was refused.
+    Memory,
+}
+
+impl From<AllocError> for TableFault {
+    ghost from_gives = { λ _ fault. fault ≡ Memory };
+
+    fn from(_: AllocError) -> TableFault {
+        TableFault::Memory
+    }
+}
+
+impl From<Error> for TableFault {
+    ghost from_gives = { λ error fault. fault ≡ fault_of error };
+
+    fn from(error: Error) -> TableFault {
+        match error {
+            Error::SqliteFailure(ErrorCode::OutOfMemory) => TableFault::Memory,
+            Error::InvalidColumnType(_, _)
+            | Error::IntegralValueOutOfRange(_)
+            | Error::Utf8Error(_) => TableFault::Damaged,
+            other => TableFault::Store(other),
+        }
+    }
+}

@@ -1,0 +1,29 @@
+ghost use Rattle.std.specs.Prelude.{◌≡◌, OnOk, IsTrue, ◌<◌};
+ghost use Rattle.sqlite.specs.Held.{state};
+ghost use Rattle.sqlite.specs.State.{HasCleanDisk, Survives, KeepsCommit};
+ghost use Rattle.office_rows.specs.Effects.{with_taken};
+ghost use Rattle.office_rows.specs.Steps.{Steps};
+
+use crate::interchanges::set_reply;
+use crate::partners::set_next;
+use crate::table_fault::TableFault;
+use sqlite::{Alter, Transaction};
+
+/// Marks an interchange as taken: it has its reply, and the partner's next number follows its own.
+pub fn mark_taken<S: Alter>(
+    tx: &mut Transaction<'_, S>,
+    partner: u16,
+    number: u32,
+    reply: &str,
+) -> Result<(), TableFault>
+    requires { number < 1000000000 }
+    ensures same_reference { tx.new.conn.ghost_name ≡ tx.old.conn.ghost_name }
+    ensures steps { HasCleanDisk (state S.Store tx.new.conn.now) → IsTrue (state S.Store tx.old.conn.now).in_transaction
+        → OnOk result (Steps (with_taken partner number reply.now) (state S.Store tx.old.conn.now) (state S.Store tx.new.conn.now)) }
+    ensures keeps { HasCleanDisk (state S.Store tx.new.conn.now) → IsTrue (state S.Store tx.old.conn.now).in_transaction
+        → KeepsCommit (state S.Store tx.old.conn.now) (state S.Store tx.new.conn.now) }
+    ensures survives { Survives (state S.Store tx.old.conn.now) (state S.Store tx.new.conn.now) (λ _. ⊥) }
+{
+    set_reply(tx, partner, number, reply)?;
+    set_next(tx, partner, number + 1)
+}

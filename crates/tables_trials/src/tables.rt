@@ -1,0 +1,141 @@
+//! The rows of a set-up, of interchanges and of changes.
+
+ghost use Rattle.std.specs.Prelude.{◌≡◌, ◌≤◌, IfOk, length};
+
+mod changes;
+
+use edi_messages::{CodeTable, PartnerKind};
+use office_setup::{Account, Setup};
+use office_tables::{Kept, create, keep, kept, mark_taken, next_of};
+use sqlite::{Alter, Connection, Error, MemStore};
+use std::alloc::{AllocError, Global};
+use std::process::Abort;
+use std::test::Fail;
+use yard_core::Block;
+
+const A: Block = Block {
+    letter: b'A',
+    bays: 4,
+    rows: 2,
+    tiers: 3,
+};
+
+fn account(alloc: Global, code: &str, kind: PartnerKind) -> Result<Account, AllocError> {
+    let code = String::from_str(alloc, code)?;
+    Ok(Account { code, kind })
+}
+
+fn setup(alloc: Global, codes: CodeTable) -> Result<Setup, AllocError>
+    ensures { IfOk result (λ setup. length setup.partners.items ≤ 999) }
+{
+    let terminal = String::from_str(alloc, "TERM1")?;
+    let haulier = account(alloc, "HAULA", PartnerKind::Gate)?;
+    let line = account(alloc, "LINEA", PartnerKind::Line)?;
+    let partners = vec![in alloc; haulier, line]?;
+    let blocks = vec![in alloc; A]?;
+    Ok(Setup {
+        terminal,
+        codes,
+        partners,
+        blocks,
+        visit_limit: 1000,
+    })
+}
+
+/// The tables in memory, with the rows of a set-up.
+fn made(rt: &impl Abort, alloc: Global) -> Result<Connection<MemStore>, Fail> {
+    let codes = CodeTable::new([b"34", b"36", b"YMV", b"43", b"45", b"44", b"46"]);
+    let setup = setup(alloc, codes.expect(rt, "a table"))?;
+    let mut conn = Connection::open_in_memory(alloc)?;
+    assert!(rt; conn.is_autocommit());
+    create(&mut conn, &setup)?;
+    Ok(conn)
+}
+
+/// The first column of each row of an answer.
+fn assert_shows<S: Alter>(
+    rt: &impl Abort,
+    conn: &mut Connection<S>,
+    sql: &str,
+    expected: &[&str],
+) -> Result<(), Error> {
+    let rows = conn.query_all(sql, &[])?;
+    assert!(rt; rows.len() == expected.len());
+    for (row, text) in rows.iter().zip(expected) {
+        let shown: String = row.get(0)?;
+        assert!(rt; shown.as_str() == *text);
+    }
+    Ok(())
+}
+
+#[test]
+fn a_set_up_has_its_rows(rt: HostRuntime) -> Result<(), Fail> {
+    let mut conn = made(&rt, rt.alloc())?;
+    for (sql, expected) in [
+        (
+            "SELECT name || '=' || value FROM setting ORDER BY name",
+            [
+                "discharge-list=43",
+                "discharge-report=44",
+                "gate-in=34",
+                "gate-out=36",
+                "load-list=45",
+                "load-report=46",
+                "terminal=TERM1",
+                "version=1",
+                "visits=1000",
+                "yard-move=YMV",
+            ]
+            .as_slice(),
+        ),
+        (
+            "SELECT id || ' ' || code || ' ' || kind || ' ' || next FROM partner ORDER BY id",
+            &["1 HAULA 1 1", "2 LINEA 2 1"],
+        ),
+        (
+            "SELECT letter || ' ' || bays || ' ' || lanes || ' ' || tiers FROM block",
+            &["A 4 2 3"],
+        ),
+        ("SELECT box FROM place", &[]),
+    ] {
+        assert_shows(&rt, &mut conn, sql, expected)?;
+    }
+    Ok(())
+}
+
+/// Two interchanges are kept, and the first is taken.
+fn keep_two<S: Alter>(rt: &impl Abort, conn: &mut Connection<S>) -> Result<(), Fail> {
+    assert!(rt; conn.is_autocommit());
+    let mut tx = conn.transaction();
+    keep(&mut tx, 1, 2, b"early")?;
+    keep(&mut tx, 1, 1, b"first")?;
+    mark_taken(&mut tx, 1, 1, "done")?;
+    tx.commit()?;
+    Ok(())
+}
+
+fn is_kept(found: &Option<Kept>, text: &[u8], reply: Option<&str>) -> bool {
+    match found {
+        Some(kept) => kept.text.as_slice() == text && kept.reply.as_deref() == reply,
+        None => false,
+    }
+}
+
+#[test]
+fn an_interchange_waits_until_it_is_taken(rt: HostRuntime) -> Result<(), Fail> {
+    let mut conn = made(&rt, rt.alloc())?;
+    keep_two(&rt, &mut conn)?;
+    for (number, text, reply) in [
+        (1, b"first".as_slice(), Some("done")),
+        (2, b"early", None),
+    ] {
+        let found = kept(&mut conn, 1, number)?;
+        assert!(rt; is_kept(&found, text, reply));
+    }
+    let none = kept(&mut conn, 2, 1)?;
+    assert!(rt; none.is_none());
+    for (partner, next) in [(1, 2), (2, 1)] {
+        assert!(rt; next_of(&mut conn, partner)? == next);
+    }
+    Ok(())
+}
