@@ -121,4 +121,3 @@ create_block_plain = (refl, refl)
 pub block_defined : table_defined_by create_block ≡ Ok (record block { tree = 0 })
 unfolding understood everything
 block_defined = refl
-

@@ -70,8 +70,8 @@ module _ {A : Type 0} (table : Table) (values : A → Row) (records : List A) (o
       record {
         shaped = rw rows (put_all_shaped news _ (rw numbers at applies.keyed) left);
         same = rw rows (IsPermutation-trans _ _ _
-        (subst (λ l. IsPermutation l (map each (map (columns_of table) stored))) (in_records records) (IsPermutation-map each _ _ held.same))
-        (subst (λ l. IsPermutation l (map (columns_of table) (put_all (without_all stored gone) news))) (in_columns stored) whole));
+            (subst (λ l. IsPermutation l (map each (map (columns_of table) stored))) (in_records records) (IsPermutation-map each _ _ held.same))
+            (subst (λ l. IsPermutation l (map (columns_of table) (put_all (without_all stored gone) news))) (in_columns stored) whole));
       }
     where
       in_records : (xs : List A) → map (λ c. cond (test c) (change c) c) (map values xs) ≡ map values (map (λ a. cond (chosen a) (changed a) a) xs)
@@ -80,6 +80,7 @@ module _ {A : Type 0} (table : Table) (values : A → Row) (records : List A) (o
         | inl here ↦ rw (choosing x, here, changing x, in_records xs)
         | inr other ↦ rw (choosing x, other, in_records xs)
       ]
+
       in_columns : (rows : List Row) → map (columns_of table) (map (λ r. cond (passes params tests r) (rewritten table params shown r) r) rows) ≡ map (λ c. cond (test c) (change c) c) (map (columns_of table) rows)
       in_columns [] = refl
       in_columns (r ∷ rows) = elim (cases_Bool (test (columns_of table r))) [
@@ -102,7 +103,7 @@ module _ {A : Type 0} (table : Table) (values : A → Row) (records : List A) (o
       record {
         shaped = rw applies.rows (without_all_shaped gone stored held.shaped);
         same = rw rows (subst (λ l. IsPermutation l (map (columns_of table) (filter (λ r. not (p r)) stored))) (in_records records)
-        (subst (IsPermutation (filter (λ c. not (test c)) (map values records))) (sym (in_columns stored)) (IsPermutation-filter (λ c. not (test c)) _ _ held.same)));
+            (subst (IsPermutation (filter (λ c. not (test c)) (map values records))) (sym (in_columns stored)) (IsPermutation-filter (λ c. not (test c)) _ _ held.same)));
       }
     where
       in_records : (xs : List A) → filter (λ c. not (test c)) (map values xs) ≡ map values (filter (λ a. not (chosen a)) xs)
@@ -111,6 +112,7 @@ module _ {A : Type 0} (table : Table) (values : A → Row) (records : List A) (o
         | inl here ↦ rw (choosing x, here, in_records xs)
         | inr other ↦ rw (choosing x, other, in_records xs)
       ]
+
       in_columns : (rows : List Row) → map (columns_of table) (filter (λ r. not (passes params tests r)) rows) ≡ filter (λ c. not (test c)) (map (columns_of table) rows)
       in_columns [] = refl
       in_columns (r ∷ rows) = elim (cases_Bool (test (columns_of table r))) [
@@ -135,6 +137,7 @@ module _ {A : Type 0} (table : Table) (values : A → Row) (records : List A) (s
         | inl here ↦ rw (choosing x, here, viewing x, in_records xs)
         | inr other ↦ rw (choosing x, other, in_records xs)
       ]
+
       in_columns : (rows : List Row) → map (λ r. eval_all shown (params ∷ r ∷ [])) (filter (passes params tests) rows) ≡ map show (filter test (map (columns_of table) rows))
       in_columns [] = refl
       in_columns (r ∷ rows) = elim (cases_Bool (test (columns_of table r))) [

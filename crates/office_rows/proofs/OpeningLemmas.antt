@@ -46,4 +46,3 @@ module _ (a b c : State) where
       let first = with_blocks done in
       let second = with_blocks more in
       steps_same (λ rows. second (first rows)) (with_blocks (done ++ more)) a c (λ rows. ap (λ l. record rows { blocks = l }) (append_assoc rows.blocks done more)) (steps_then first second a b c p q)
-

@@ -197,4 +197,3 @@ select_next_is = (refl, refl)
 pub select_next_plain : IsPlain (understood office_schema select_next)
 unfolding understood everything
 select_next_plain = (refl, refl)
-

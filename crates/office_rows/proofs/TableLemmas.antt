@@ -110,4 +110,3 @@ module _ (rows : Rows) (old new : Database) (has : HasRows rows old) (gone : Lis
       blocks = held;
     };
   }
-

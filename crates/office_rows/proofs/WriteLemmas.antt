@@ -68,6 +68,7 @@ equal_numbers m n = rw value_cmp-Int (truth_is (is_eq (int_cmp (pos m) (pos n)))
   where
     ints_equal : (m n : ℕ) → is_eq (int_cmp (pos m) (pos n)) ≡ (m == n)
     ints_equal m n = grind (arith, ints, nat_tests)
+
     truth_is : (b : Bool) → is_true (Rattle.sqlite.specs.Ops.from_truth (Some b)) ≡ b
     truth_is true = refl
     truth_is false = refl
@@ -128,7 +129,6 @@ module _ (params : Row) (tests : List Term) where
       let kept : a.kept ≡ map (λ r. ([], eval_all shown (params ∷ r ∷ []))) (filter passes (trees tree)) = a.distinct ∙ ap (map (output q)) staged ∙ map-map (output q) _ _ in
       let all = IsPermutation-map (λ (o : Output). o.1) _ _ (subst (λ k. IsPermutation k a.ordered) kept a.same) in
       rw (a.shown, ← map-map (λ (o : Output). o.1) (λ r. ([], eval_all shown (params ∷ r ∷ []))) (filter passes (trees tree))) all
-
 
   -- the same under ORDER BY: the rows are shown in an order of their keys
   pub answer_in_order : (tree : ℕ) (shown : List Term) (order : List (Term × Key)) (trees : Trees) (rows : List Row) → overlay trees [] tree ≡ trees tree

@@ -219,4 +219,3 @@ delete_place_is = refl
 pub delete_place_plain : IsPlain (understood office_schema delete_place)
 unfolding understood everything
 delete_place_plain = (refl, refl)
-

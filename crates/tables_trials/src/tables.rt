@@ -125,10 +125,7 @@ fn is_kept(found: &Option<Kept>, text: &[u8], reply: Option<&str>) -> bool {
 fn an_interchange_waits_until_it_is_taken(rt: HostRuntime) -> Result<(), Fail> {
     let mut conn = made(&rt, rt.alloc())?;
     keep_two(&rt, &mut conn)?;
-    for (number, text, reply) in [
-        (1, b"first".as_slice(), Some("done")),
-        (2, b"early", None),
-    ] {
+    for (number, text, reply) in [(1, b"first".as_slice(), Some("done")), (2, b"early", None)] {
         let found = kept(&mut conn, 1, number)?;
         assert!(rt; is_kept(&found, text, reply));
     }

@@ -117,7 +117,8 @@ const LINES: &str =
 const ENTRIES: &str =
     "SELECT visit || ' ' || box || ' ' || size || ' ' || laden || ' ' || booking || ' ' || in_by || ' ' || in_partner || ' ' || in_number || ' ' || in_at || ' ' || in_slot FROM visit";
 
-const EXITS: &str = "SELECT out_by || ' ' || out_partner || ' ' || out_number || ' ' || out_at FROM visit";
+const EXITS: &str =
+    "SELECT out_by || ' ' || out_partner || ' ' || out_number || ' ' || out_at FROM visit";
 
 #[test]
 fn a_visit_is_opened_and_closed(rt: HostRuntime) -> Result<(), Fail> {
@@ -126,7 +127,12 @@ fn a_visit_is_opened_and_closed(rt: HostRuntime) -> Result<(), Fail> {
     write(&rt, &mut conn, opened(&rt, alloc)?)?;
     assert_shows(&rt, &mut conn, EXITS, &["0 0 0 "])?;
     write(&rt, &mut conn, closed(&rt))?;
-    assert_shows(&rt, &mut conn, ENTRIES, &["1 ABCU0000017 22G1 1 A+B 1 1 7 202403050910 A003011"])?;
+    assert_shows(
+        &rt,
+        &mut conn,
+        ENTRIES,
+        &["1 ABCU0000017 22G1 1 A+B 1 1 7 202403050910 A003011"],
+    )?;
     assert_shows(&rt, &mut conn, EXITS, &["2 2 9 202403050910"])?;
     Ok(())
 }
@@ -155,8 +161,18 @@ fn a_line_is_listed_and_done(rt: HostRuntime) -> Result<(), Fail> {
     let alloc = rt.alloc();
     let mut conn = made(&rt, alloc)?;
     write(&rt, &mut conn, listed(&rt, alloc)?)?;
-    assert_shows(&rt, &mut conn, LINES, &["9123456 V12 1 ABCU0000017 SGSIN 0"])?;
+    assert_shows(
+        &rt,
+        &mut conn,
+        LINES,
+        &["9123456 V12 1 ABCU0000017 SGSIN 0"],
+    )?;
     write(&rt, &mut conn, line_done(&rt, alloc)?)?;
-    assert_shows(&rt, &mut conn, LINES, &["9123456 V12 1 ABCU0000017 SGSIN 1"])?;
+    assert_shows(
+        &rt,
+        &mut conn,
+        LINES,
+        &["9123456 V12 1 ABCU0000017 SGSIN 1"],
+    )?;
     Ok(())
 }
