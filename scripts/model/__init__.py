@@ -16,7 +16,7 @@ file has one subject, in the order in which they stand on one another:
     stream.py      the lines and the exit status that answer a stream
     days.py        random streams, and how often what comes in them
     page.py        the page of worked rows, read
-    worked.py      the worked rows of docs/WORKED_ROWS.md, and the day of README.md
+    worked.py      the worked rows of docs/WORKED_ROWS.md, and the day of examples/day
     beside.py      the program beside all this: scripts/beside
 
 A text is a str with one character for each byte (Latin-1), so that bytes from 0x80 stand for themselves.

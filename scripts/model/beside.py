@@ -33,7 +33,7 @@ EVERY_KIND = (
 
 USAGE = """usage: scripts/beside [STREAMS DELIVERIES SHARE [SEED]]
 
-Compares crates/office/out/office with the model: first the worked rows and the day of README.md, then random
+Compares crates/office/out/office with the model: first the worked rows and the day of examples/day, then random
 streams. STREAMS streams of DELIVERIES interchanges each, SHARE of them (0 to 1) with altered bytes, with the seeds
 from SEED on (1 where none is given). Without arguments: %s.
 """ % ', then '.join('%d %d %s' % mix for mix in MIXES)

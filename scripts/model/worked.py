@@ -1,4 +1,4 @@
-"""The worked rows of docs/WORKED_ROWS.md, and the day of README.md, by the model and by the program.
+"""The worked rows of docs/WORKED_ROWS.md, and the day of examples/day, by the model and by the program.
 
 Each row is a function. Interchanges and answers are read from the page and not repeated here; what the page says in
 plain words is written out. Where a row has the set-up of `office demo`, its interchanges are a stream for the program
@@ -216,15 +216,15 @@ def no_interchange(rows):
 
 
 def day(rows, top):
-    """README's day: its files in their order, and what README says that the program prints."""
+    """The day of examples/day: its files in their order, and what the program is said to print."""
     paths = sorted(glob.glob(os.path.join(top, 'examples/day/*.edi')))
     text = ''.join(read(path) for path in paths)
-    printed = re.search(r'```text\n(.*?)```', read(os.path.join(top, 'README.md')), re.S).group(1).splitlines()
+    printed = read(os.path.join(top, 'examples/day/expected.jsonl')).splitlines()
     given = answers(Office(), text)
     for place, line in enumerate(printed):
-        rows.expect('The day of README.md', 'line %d' % (place + 1), lines(given)[place:place + 1] == [line])
-    rows.expect('The day of README.md', 'the number of lines', len(given) == len(printed) == len(paths))
-    rows.stream('The day of README.md', text, given)
+        rows.expect('The day of examples/day', 'line %d' % (place + 1), lines(given)[place:place + 1] == [line])
+    rows.expect('The day of examples/day', 'the number of lines', len(given) == len(printed) == len(paths))
+    rows.stream('The day of examples/day', text, given)
 
 
 def read(path):
@@ -248,5 +248,5 @@ def check(top, program):
     left = [row for row, part in page.rows.items() if part.startswith('**') and row not in rows.checked]
     rows.expect('docs/WORKED_ROWS.md', 'rows that are not checked: %s' % left, not left)
     print(''.join('wrong: %s\n' % text[:2000] for text in rows.wrong), end='')
-    print('worked rows and the day of README.md: %d compared, %d wrong' % (rows.compared, len(rows.wrong)))
+    print('worked rows and the day of examples/day: %d compared, %d wrong' % (rows.compared, len(rows.wrong)))
     return len(rows.wrong)
