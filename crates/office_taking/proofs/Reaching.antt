@@ -13,14 +13,14 @@ use Rattle.yard_core.specs.YardMap.{YardMap}
 use Rattle.partner_core.specs.Deliveries.{Delivery}
 use Rattle.partner_core.specs.Numbered.{with_number}
 use Rattle.partner_core.specs.Order.{text_under, order, state_after, state}
-use Rattle.terminal_core.specs.State.{empty_state}
+use Rattle.terminal_core.specs.State.{TerminalState, empty_state, IsWhole}
 use Rattle.terminal_core.proofs.Forming.{empty_formed}
 use Rattle.terminal_core.proofs.Keeping.{empty_whole}
 use Rattle.office_setup.specs.declared.setup.Setup.{Setup}
 use Rattle.office_admission.specs.Admission.{admission, is_for}
-use Rattle.office_taking.specs.Laws.{IsSoundMachine}
-use Rattle.office_taking.specs.Taking.{MachineState, machine_of, nothing_taken, taken_at, taken_of, interchange_taken}
-use Rattle.office_taking.proofs.Turning.{interchange_leads}
+use Rattle.office_taking.specs.Laws.{cascade_changes, IsSoundMachine}
+use Rattle.office_taking.specs.Taking.{MachineState, machine_of, nothing_taken, taken_at, taken_of, interchange_taken, interchange_changes}
+use Rattle.office_taking.proofs.Turning.{Leads, stays, leads_on, interchange_leads}
 use Rattle.office_taking.proofs.Forming.{interchange_formed}
 
 -- ---- the partners stay
@@ -40,6 +40,17 @@ kinds_if machine false taken same = refl
 kinds_stay : (machine : MachineState) (partner : ℕ) (text : List ℕ) → (interchange_taken machine partner text).0.kinds ≡ machine.kinds
 kinds_stay machine partner text =
     kinds_if machine (is_for partner (admission machine.parties text)) (taken_of machine partner (segments_in text) (with_number machine.kinds partner)) (kinds_of machine partner (segments_in text) (with_number machine.kinds partner))
+
+-- ---- a cascade
+
+pub cascade_leads : (machine : MachineState) (texts : ℕ → ℕ → List ℕ) (numbers : List (ℕ × ℕ)) → IsWhole machine.terminal
+    → Leads machine.terminal (cascade_changes machine texts numbers) (state_after interchange_taken texts numbers machine).terminal
+cascade_leads machine texts [] whole = stays machine.terminal whole
+cascade_leads machine texts (e ∷ numbers) whole =
+    let next : MachineState = (interchange_taken machine e.0 (texts e.0 e.1)).0 in
+    let one = interchange_leads machine e.0 (texts e.0 e.1) whole in
+    leads_on machine.terminal next.terminal (state_after interchange_taken texts numbers next).terminal (interchange_changes machine e.0 (texts e.0 e.1)) (cascade_changes next texts numbers) one
+    (cascade_leads next texts numbers one.whole)
 
 -- ---- a run
 

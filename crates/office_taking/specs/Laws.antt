@@ -1,11 +1,12 @@
 -- What interchanges change, as a whole: the laws of a step hold of all orders of an interchange, one after the other, and of
 -- all interchanges of a run.
-use Rattle.std.specs.Prelude.{◌≡◌, ℕ, ◌≤◌, List, length}
+use Rattle.std.specs.Prelude.{◌≡◌, ℕ, ◌≤◌, List, [], ◌∷◌, ◌++◌, length}
 use Rattle.std.specs.FinMap as finite_map
 use Rattle.yard_core.specs.Plan.{IsPlan}
 use Rattle.yard_core.specs.YardMap.{YardMap}
 use Rattle.partner_core.specs.Deliveries.{Delivery}
-use Rattle.partner_core.specs.Order.{state}
+use Rattle.partner_core.specs.Order.{state_after, state}
+use Rattle.terminal_core.specs.Rows.{ChangeContent}
 use Rattle.terminal_core.specs.State.{empty_state, IsWhole}
 use Rattle.terminal_core.specs.Forms.{IsWellFormed}
 use Rattle.terminal_core.specs.Changes.{rows_of, all_changed, AreApplicable}
@@ -36,6 +37,26 @@ abbrev pub InterchangesKeepForms : Type 0
 InterchangesKeepForms =
     (machine : MachineState) (partner : ℕ) (text : List ℕ) → length machine.kinds ≤ 999 → IsWhole machine.terminal → IsWellFormed machine.terminal
     → IsWellFormed (interchange_taken machine partner text).0.terminal
+
+-- ---- cascades
+
+-- what taking the texts of these partners and numbers in turn changes of the terminal's rows
+abbrev pub cascade_changes : MachineState → (ℕ → ℕ → List ℕ) → List (ℕ × ℕ) → List ChangeContent
+cascade_changes machine texts [] = []
+cascade_changes machine texts (e ∷ numbers) =
+    interchange_changes machine e.0 (texts e.0 e.1) ++ cascade_changes (interchange_taken machine e.0 (texts e.0 e.1)).0 texts numbers
+
+-- they turn the rows of the old terminal into those of the new
+abbrev pub CascadeChangesTurnRows : Type 0
+CascadeChangesTurnRows =
+    (machine : MachineState) (texts : ℕ → ℕ → List ℕ) (numbers : List (ℕ × ℕ)) → IsWhole machine.terminal
+    → all_changed (rows_of machine.terminal) (cascade_changes machine texts numbers) ≡ rows_of (state_after interchange_taken texts numbers machine).terminal
+
+-- each adds, alters or removes one row
+abbrev pub CascadeChangesAreApplicable : Type 0
+CascadeChangesAreApplicable =
+    (machine : MachineState) (texts : ℕ → ℕ → List ℕ) (numbers : List (ℕ × ℕ)) → IsWhole machine.terminal
+    → AreApplicable (rows_of machine.terminal) (cascade_changes machine texts numbers)
 
 -- ---- runs
 
