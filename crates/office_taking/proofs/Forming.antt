@@ -1,5 +1,5 @@
 -- What an interchange leaves is well formed.
-use Rattle.std.proofs.Common.{◌≡◌, ℕ, zero, suc, ◌+◌, ◌<◌, ◌≤◌, nat_le, List, [], ◌∷◌, length, Bool, true, false, cond, ◌&&◌, Option, None, Some, is_none, Result, Ok, Err, IsTrue, All, refl, sym, ap, ◌∙◌, arith, subst}
+use Rattle.std.proofs.Common.{◌≡◌, ℕ, zero, suc, ◌<◌, ◌≤◌, nat_le, List, [], ◌∷◌, length, Bool, true, false, cond, ◌&&◌, Option, None, Some, is_none, Result, Ok, Err, All, refl, arith}
 use Rattle.std.specs.Prelude.{codes, ◌++◌, ◌==◌}
 use Rattle.std.specs.Option.{option_and_then, unwrap_or}
 use Rattle.std.proofs.lemmas.Bool.{and_parts, leb-true}

@@ -1,3 +1,4 @@
 pub mod Takings
 pub mod Turning
 pub mod Forming
+pub mod Reaching

@@ -1,21 +1,16 @@
 -- What is taken, where it is known what partner it is of and that it is an interchange.
-use Rattle.std.proofs.Common.{◌≡◌, ◌≢◌, ℕ, zero, suc, ◌==◌, ◌&&◌, Bool, true, false, cond, List, [], ◌∷◌, length, Some, None, Result, Ok, Err, OnOk, IfOk, eq-eqb, refl, sym, ap, subst, ◌∙◌, ◌≤◌, ◌++◌, IfNone}
-use Rattle.std.specs.Option.{option_map}
+use Rattle.std.proofs.Common.{◌≡◌, ◌≢◌, ℕ, suc, ◌==◌, true, false, cond, List, [], ◌∷◌, length, Some, Result, Ok, Err, OnOk, IfOk, eq-eqb, refl, sym, ap, subst, ◌∙◌, ◌≤◌, ◌++◌}
 use Rattle.std.specs.Result.{MatchResult}
-use Rattle.std.proofs.lemmas.Option.{slice_get-map}
 use Rattle.edi_moments.specs.Moments.{CivilMoment}
 use Rattle.edi_segments.specs.Text.{Content}
 use Rattle.edi_segments.specs.Interchange.{segments_in}
-use Rattle.edi_segments.specs.declared.syntax_fault.SyntaxFault.{SyntaxFault}
 use Rattle.edi_syntax.specs.Envelope.{header_of, messages_of}
-use Rattle.edi_syntax.specs.Faults.{fault_of}
 use Rattle.edi_syntax.specs.Header.{preparation}
 use Rattle.edi_syntax.specs.Messages.{Message}
 use Rattle.edi_messages.specs.Message.{MessageContent, reading}
 use Rattle.edi_messages.specs.declared.codes.Codes.{Codes}
 use Rattle.edi_messages.specs.declared.message_fault.MessageFault.{MessageFault}
 use Rattle.edi_messages.specs.declared.message_fault.MessageFault.TheVariants as message
-use Rattle.edi_messages.specs.declared.partner_kind.PartnerKind.{PartnerKind}
 use Rattle.partner_core.specs.Numbered.{with_number}
 use Rattle.terminal_core.specs.State.{TerminalState}
 use Rattle.terminal_core.specs.declared.source.Source.{Source}
@@ -23,11 +18,11 @@ use Rattle.office_replies.specs.Messages.{rejected, ReportContent}
 use Rattle.office_replies.specs.declared.fault.Fault.{Fault}
 use Rattle.office_setup.specs.declared.account.Account.{Account}
 use Rattle.office_setup.specs.declared.setup.Setup.{Setup}
-use Rattle.office_setup.specs.Parties.{Parties, partner_kinds, parties_of}
+use Rattle.office_setup.specs.Parties.{partner_kinds, parties_of}
 use Rattle.office_setup.specs.Setups.{setup_content, account_contents}
 use Rattle.std.proofs.lemmas.List.{append-nil, length-map}
 use Rattle.office_setup.proofs.Contents.{same_parties, same_kinds}
-use Rattle.office_admission.specs.Admission.{admission, is_for, number_in}
+use Rattle.office_admission.specs.Admission.{admission, is_for}
 use Rattle.office_admission.specs.Outcomes.{IsAdmitted, IsRefused}
 use Rattle.office_admission.specs.declared.refusal.Refusal.{Refusal}
 use Rattle.office_admission.specs.declared.refusal.Refusal.TheVariants.{Plain, WithContrl}

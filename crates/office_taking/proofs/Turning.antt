@@ -27,10 +27,10 @@ pub record Leads (before : TerminalState) (changes : List ChangeContent) (after 
   pub turned : all_changed (rows_of before) changes ≡ rows_of after
   pub applicable : AreApplicable (rows_of before) changes
 
-stays : (state : TerminalState) → IsWhole state → Leads state [] state
+pub stays : (state : TerminalState) → IsWhole state → Leads state [] state
 stays state whole = record { whole = whole; turned = refl; applicable = tt }
 
-leads_on : (a b c : TerminalState) (first second : List ChangeContent) → Leads a first b → Leads b second c → Leads a (first ++ second) c
+pub leads_on : (a b c : TerminalState) (first second : List ChangeContent) → Leads a first b → Leads b second c → Leads a (first ++ second) c
 leads_on a b c first second one two = record {
   whole = two.whole;
   turned = all_appended (rows_of a) first second ∙ ap (λ (rows : TerminalRows). all_changed rows second) one.turned ∙ two.turned;

@@ -1,6 +1,6 @@
-//! What follows of the changes of a whole interchange from those of its orders.
+//! What follows of whole interchanges, and of runs of them, from what is known of one order.
 
-ghost use Rattle.office_taking.specs.Laws.{InterchangesKeepWhole, InterchangeChangesTurnRows, InterchangeChangesAreApplicable, InterchangesKeepForms};
+ghost use Rattle.office_taking.specs.Laws.{InterchangesKeepWhole, InterchangeChangesTurnRows, InterchangeChangesAreApplicable, InterchangesKeepForms, CascadeChangesTurnRows, CascadeChangesAreApplicable, OpeningsAreSound, DeliveriesKeepSound};
 
 /// What an interchange leaves of a whole terminal is whole.
 pub fn interchanges_keep_whole()
@@ -20,4 +20,25 @@ pub fn interchange_changes_are_applicable()
 /// What an interchange leaves of a whole and well-formed terminal is well formed: each value has its form and range.
 pub fn interchanges_keep_forms()
     ensures { InterchangesKeepForms }
+{}
+
+/// The changes of interchanges that are taken in turn lead from the rows of the old terminal to those of the new.
+pub fn cascade_changes_turn_rows()
+    ensures { CascadeChangesTurnRows }
+{}
+
+/// Each change of interchanges that are taken in turn finds the row that it needs, or none where it adds one.
+pub fn cascade_changes_are_applicable()
+    ensures { CascadeChangesAreApplicable }
+{}
+
+/// A machine of a set-up with at most 999 partners, over a terminal with nothing in it, is sound: its terminal is whole and
+/// well formed.
+pub fn openings_are_sound()
+    ensures { OpeningsAreSound }
+{}
+
+/// Whatever texts are delivered, and however they come, a machine that was sound stays so.
+pub fn deliveries_keep_sound()
+    ensures { DeliveriesKeepSound }
 {}

@@ -27,7 +27,7 @@ use Rattle.terminal_core.specs.Rows.{VisitContent, ChangeContent, line_done}
 use Rattle.terminal_core.specs.State.{TerminalState, LineContent, Lines, line_key, line_of, is_in, is_open_visit, open_visit, AreNumbered, IsWhole}
 use Rattle.terminal_core.specs.Step.{Stepped, refused, step, settled, is_full, entered, entered_at, number_of_visit, departed, departed_at, departure_by, moved_at, listed_at, then_line_done_at, by_line, by_state}
 use Rattle.terminal_core.specs.Changes.{TerminalRows, rows_of, changed, all_changed, is_numbered, IsOneOpenVisit, IsApplicable, AreApplicable}
-use Rattle.terminal_core.proofs.Counting.{find_skips, find_meets, none_there}
+use Rattle.terminal_core.proofs.Counting.{find_skips, find_meets}
 use Rattle.terminal_core.proofs.Shared.{new_place, new_slot}
 use Rattle.terminal_core.proofs.Changing.{Comes, comes, goes, shifts, numbered_from, found, turned_entered, turned_departed, entered_keeps, departed_keeps, either, placed_by, Turns, KeepsLines}
 

@@ -1,5 +1,5 @@
 -- The rows of a state as lists, and by their keys.
-use Rattle.std.proofs.Common.{◌≡◌, ℕ, ◌+◌, ◌≤◌, List, [], ◌∷◌, map, Bool, true, false, Option, None, Some, is_some, is_none, refl, sym, ap, ◌∙◌, arith, subst}
+use Rattle.std.proofs.Common.{◌≡◌, ℕ, ◌≤◌, List, map, Bool, true, false, Option, None, Some, is_some, refl, sym, ap, ◌∙◌, arith}
 use Rattle.std.specs.Prelude.{Contains, find, count_by}
 use Rattle.std.specs.FinMap as finite_map
 use Rattle.std.specs.Option.{option_map}
@@ -10,16 +10,16 @@ use Rattle.box6346.specs.SizeCode.{length_of}
 use Rattle.box6346.specs.declared.box_number.BoxNumber.{BoxNumber}
 use Rattle.yard_core.specs.declared.block.Block.{Block}
 use Rattle.yard_core.specs.declared.placement.Placement.{Placement}
-use Rattle.yard_core.specs.YardMap.{Boxes, placement}
+use Rattle.yard_core.specs.YardMap.{placement}
 use Rattle.terminal_core.specs.declared.listing.Listing.{Listing}
 use Rattle.terminal_core.specs.declared.place.Place.{Place}
 use Rattle.terminal_core.specs.declared.visit.Visit.{Visit}
-use Rattle.terminal_core.specs.Rows.{VisitContent, visit_content}
-use Rattle.terminal_core.specs.State.{TerminalState, Lines, is_open_visit, open_visit, IsWhole}
+use Rattle.terminal_core.specs.Rows.{visit_content}
+use Rattle.terminal_core.specs.State.{TerminalState, is_open_visit, open_visit, IsWhole}
 use Rattle.terminal_core.specs.Step.{number_of_visit}
 use Rattle.terminal_core.specs.Listings.{lines_of}
-use Rattle.terminal_core.specs.Restoring.{Names, Stands, ArePlacesOf, AreOnce, AreRowsOf}
-use Rattle.terminal_core.specs.Changes.{Standing, standing_in, standing_of, TerminalRows, rows_of}
+use Rattle.terminal_core.specs.Restoring.{Stands, ArePlacesOf, AreOnce, AreRowsOf}
+use Rattle.terminal_core.specs.Changes.{standing_in, standing_of, TerminalRows, rows_of}
 use Rattle.terminal_core.specs.RowForms.{standing_by, rows_by_key, ArePlacedOnce}
 use Rattle.terminal_core.proofs.Boxes.{same_bytes, same_self}
 use Rattle.terminal_core.proofs.Numbered.{contained, found_at}

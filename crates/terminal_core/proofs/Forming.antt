@@ -1,6 +1,6 @@
 -- What is well formed stays so.
-use Rattle.std.proofs.Common.{◌≡◌, ℕ, ◌+◌, ◌≤◌, ◌<◌, List, [], ◌∷◌, ◌++◌, length, map, Bool, true, false, cond, Option, None, Some, Result, Ok, Err, IsTrue, refl, sym, ap, ◌∙◌, arith, subst, inl, inr, nat_le}
-use Rattle.std.specs.Prelude.{Contains, ◌&&◌}
+use Rattle.std.proofs.Common.{◌≡◌, ℕ, ◌≤◌, ◌<◌, List, [], map, Bool, true, false, cond, Option, None, Some, Result, Ok, Err, IsTrue, refl, sym, ap, ◌∙◌, arith, subst, inl, inr, nat_le}
+use Rattle.std.specs.Prelude.{◌&&◌}
 use Rattle.std.specs.Char.{is_ascii_uppercase}
 use Rattle.std.specs.FinMap as finite_map
 use Rattle.std.specs.Str.{bytes_eq}
@@ -18,7 +18,7 @@ use Rattle.edi_messages.specs.Forms.{IsFormedEntry, IsFormedListing, IsFormedOrd
 use Rattle.edi_messages.specs.Orders.{EntryContent, OrderContent, gate_in, gate_out, move, list_discharge, list_load, discharge, load}
 use Rattle.yard_core.specs.declared.block.Block.{Block}
 use Rattle.yard_core.specs.declared.placement.Placement.{Placement}
-use Rattle.yard_core.specs.Plan.{IsPlan, InPlan}
+use Rattle.yard_core.specs.Plan.{IsPlan}
 use Rattle.yard_core.specs.YardMap.{Boxes, YardMap, placement}
 use Rattle.yard_core.specs.FitsAndFree.{IsOpen}
 use Rattle.yard_core.specs.Decisions.{Refusal, misfit_of, removed, shifted}
@@ -36,15 +36,15 @@ use Rattle.terminal_core.specs.declared.source.Source.{Source}
 use Rattle.terminal_core.specs.declared.way.Way.{Way}
 use Rattle.terminal_core.specs.declared.way.Way.TheVariants.{Gate, Ship}
 use Rattle.terminal_core.specs.Rows.{VisitContent}
-use Rattle.terminal_core.specs.State.{TerminalState, LineContent, LineKey, Lines, line_key, line_of, is_in, is_open_visit, empty_state, IsWhole}
+use Rattle.terminal_core.specs.State.{TerminalState, LineContent, Lines, line_key, line_of, is_in, is_open_visit, empty_state, IsWhole}
 use Rattle.terminal_core.specs.Step.{Stepped, refused, step, settled, is_full, visit_of, entered, entered_at, closed, departed, departed_at, departure_by, moved_at, listed_at, then_line_done_at, by_line, by_state}
-use Rattle.terminal_core.specs.Forms.{IsSource, IsFormedDeparture, IsFormedExit, IsFormedVisit, IsFormedPort, IsFormedLine, IsWellFormed}
+use Rattle.terminal_core.specs.Forms.{IsSource, IsFormedDeparture, IsFormedVisit, IsFormedLine, IsWellFormed}
 use Rattle.terminal_core.proofs.Boxes.{in_placed_map, in_removed_map}
 use Rattle.terminal_core.proofs.Lined.{order, keys_total, same_key}
 use Rattle.terminal_core.proofs.Numbered.{contained, found_at}
 use Rattle.terminal_core.proofs.Indexed.{mapped_at}
 use Rattle.terminal_core.proofs.Noted.{key_parts}
-use Rattle.terminal_core.proofs.Changing.{Comes, comes, goes, shifts, either, KeepsLines, entered_keeps, departed_keeps}
+use Rattle.terminal_core.proofs.Changing.{Comes, comes, goes, shifts, either}
 
 -- ---- slots
 

@@ -1,5 +1,5 @@
 -- The places of open visits, by their containers.
-use Rattle.std.proofs.Common.{◌≡◌, ◌≢◌, ℕ, ◌+◌, ◌<◌, ◌≤◌, zero, suc, List, [], ◌∷◌, ◌++◌, length, map, take, Bool, true, false, cond, Option, None, Some, Result, Ok, Err, is_some, is_none, refl, sym, ap, ◌∙◌, arith, subst, get_or, ◌⊎◌, inl, inr}
+use Rattle.std.proofs.Common.{◌≡◌, ℕ, ◌+◌, ◌<◌, ◌≤◌, zero, suc, List, [], ◌∷◌, ◌++◌, length, map, take, Bool, true, false, cond, Option, None, Some, Result, Ok, Err, is_some, is_none, refl, sym, ap, ◌∙◌, arith, subst, get_or, ◌⊎◌, inl, inr}
 use Rattle.std.specs.Prelude.{IsOk, OnOk, slice_get, slice_set, find, filter, count_by, ◌&&◌, not}
 use Rattle.std.specs.List.{AllZip, each_same}
 use Rattle.std.specs.Array.{AllZipBelow}
@@ -17,7 +17,7 @@ use Rattle.terminal_core.specs.State.{is_open_visit}
 use Rattle.terminal_core.specs.Step.{closed, number_of_visit}
 use Rattle.terminal_core.specs.Calls.{HasOneVisit}
 use Rattle.terminal_core.specs.Index.{AreIndexed}
-use Rattle.terminal_core.proofs.Boxes.{same_bytes, same_self, bytes_turned}
+use Rattle.terminal_core.proofs.Boxes.{same_bytes, same_self}
 use Rattle.terminal_core.proofs.Open.{closed_open}
 use Rattle.terminal_core.proofs.Closing.{closes, finds}
 use Rattle.terminal_core.proofs.Numbered.{contained, row_at}

@@ -1,5 +1,5 @@
 -- A state with nothing in it is whole, and a step leaves a whole state.
-use Rattle.std.proofs.Common.{◌≡◌, ℕ, ◌+◌, ◌≤◌, ◌<◌, List, length, replicate, ◌*◌, Bool, true, false, cond, [], Option, None, Some, is_some, Result, Ok, Err, refl, sym, ap, ◌∙◌, arith, subst, nat_le}
+use Rattle.std.proofs.Common.{◌≡◌, ℕ, ◌<◌, List, length, replicate, ◌*◌, Bool, true, false, cond, [], Option, None, Some, is_some, Result, Ok, Err, refl, sym, ap, ◌∙◌, arith, subst, nat_le}
 use Rattle.std.proofs.lemmas.Bool.{le-leb}
 use Rattle.std.specs.FinMap as finite_map
 use Rattle.box6346.specs.SizeCode.{length_of}
@@ -11,7 +11,7 @@ use Rattle.edi_messages.specs.Purposes.{CallContent}
 use Rattle.edi_messages.specs.Orders.{EntryContent, OrderContent, gate_in, gate_out, move, list_discharge, list_load, discharge, load}
 use Rattle.yard_core.specs.declared.block.Block.{Block}
 use Rattle.yard_core.specs.declared.placement.Placement.{Placement}
-use Rattle.yard_core.specs.Calls.{Places, Removes, Shifts}
+use Rattle.yard_core.specs.Calls.{Places}
 use Rattle.yard_core.specs.Decisions.{Refusal, present, misfit_of, first_fit, blocker_of, unless_buried, with_misfit, with_slot as with_first_slot, removed, removed_at, shifted, shifted_at}
 use Rattle.yard_core.specs.FitsAndFree.{Fits, IsFree, IsOpen}
 use Rattle.yard_core.specs.Plan.{IsPlan}

@@ -10,7 +10,7 @@ use Rattle.box6346.specs.declared.box_number.BoxNumber.{BoxNumber}
 use Rattle.box6346.specs.declared.size_type.SizeType.{SizeType}
 use Rattle.box6346.specs.declared.slot.Slot.{Slot}
 use Rattle.yard_core.specs.declared.placement.Placement.{Placement}
-use Rattle.yard_core.specs.YardMap.{Boxes, YardMap, placement}
+use Rattle.yard_core.specs.YardMap.{YardMap, placement}
 use Rattle.terminal_core.specs.declared.departure.Departure.{Departure}
 use Rattle.terminal_core.specs.Rows.{VisitContent}
 use Rattle.terminal_core.specs.State.{TerminalState, is_in, open_visit, is_open_visit, IsAsLong, IsWhole}

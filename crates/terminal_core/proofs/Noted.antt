@@ -1,5 +1,5 @@
 -- Where the lines of the vessels' lists are said to stand.
-use Rattle.std.proofs.Common.{◌≡◌, ℕ, ◌+◌, ◌<◌, ◌≤◌, zero, suc, List, [], ◌∷◌, ◌++◌, length, map, take, get_or, ◌⊎◌, Bool, true, false, cond, Option, None, Some, Result, Ok, Err, is_some, refl, sym, ap, ◌∙◌, arith, subst, inl, inr}
+use Rattle.std.proofs.Common.{◌≡◌, ℕ, ◌+◌, ◌<◌, zero, suc, List, [], ◌∷◌, ◌++◌, length, map, take, get_or, ◌⊎◌, Bool, true, false, cond, Option, None, Some, Result, Ok, Err, refl, sym, ap, ◌∙◌, arith, subst, inl, inr}
 use Rattle.std.specs.Prelude.{OnErr, ◌&&◌, ◌==◌, slice_get, slice_set, string_bytes}
 use Rattle.std.specs.Str.{bytes_eq}
 use Rattle.std.specs.Map.{lookup}
@@ -16,9 +16,9 @@ use Rattle.terminal_core.specs.declared.listing.Listing.{Listing}
 use Rattle.terminal_core.specs.declared.side.Side.{Side}
 use Rattle.terminal_core.specs.declared.side.Side.TheVariants.{Load, Discharge}
 use Rattle.terminal_core.specs.State.{LineContent, LineKey, line_key, side_code}
-use Rattle.terminal_core.specs.Listings.{key_of, line_content, line_entry, lines_of, is_line, is_side, NoneBefore, IsFirstAt}
+use Rattle.terminal_core.specs.Listings.{key_of, line_content, line_entry, lines_of, is_line, NoneBefore, IsFirstAt}
 use Rattle.terminal_core.specs.LinePlaces.{CallPlaces, AllPlaces, is_call, is_key, places_of, place_by, place_in, is_same_line, SamePlaces, NotesPlace, AreNoted}
-use Rattle.terminal_core.proofs.Boxes.{same_bytes, same_self, bytes_turned}
+use Rattle.terminal_core.proofs.Boxes.{same_bytes, same_self}
 use Rattle.terminal_core.proofs.Lined.{order, keys_total, same_key, line_tied, line_none}
 use Rattle.std.proofs.lemmas.List.{take_more, length-take-le}
 use Rattle.terminal_core.specs.Restoring.{AreOnce}

@@ -1,6 +1,5 @@
 -- No two containers share a slot or a visit.
-use Rattle.std.proofs.Common.{◌≡◌, ◌≢◌, ℕ, ◌+◌, ◌-◌, ◌%◌, ◌≤◌, ◌<◌, List, length, Bool, true, false, cond, Option, None, Some, is_some, refl, sym, ap, ◌∙◌, arith, subst, inl, inr}
-use Rattle.std.specs.Prelude.{find}
+use Rattle.std.proofs.Common.{◌≡◌, ◌≢◌, ◌+◌, ◌-◌, ◌%◌, ◌≤◌, ◌<◌, List, length, Bool, true, false, cond, Option, None, Some, is_some, refl, sym, ap, ◌∙◌, arith, subst, inl}
 use Rattle.std.specs.FinMap as finite_map
 use Rattle.std.specs.Str.{bytes_eq}
 use Rattle.std.proofs.lemmas.Option.{slice_get_within}
@@ -15,13 +14,13 @@ use Rattle.yard_core.specs.FitsAndFree.{IsOpen}
 use Rattle.yard_core.specs.Decisions.{Refusal, misfit_of}
 use Rattle.yard_core.proofs.Fitting.{Judges, misfit_judges}
 use Rattle.terminal_core.specs.Rows.{VisitContent}
-use Rattle.terminal_core.specs.State.{TerminalState, is_open_visit, open_visit, AreNumbered, IsWhole}
+use Rattle.terminal_core.specs.State.{TerminalState, is_open_visit, open_visit, IsWhole}
 use Rattle.terminal_core.specs.Step.{number_of_visit}
 use Rattle.terminal_core.specs.Changes.{Standing, standing_in, standing_of, IsNewPlace, IsNewSlot}
 use Rattle.terminal_core.proofs.Boxes.{same_bytes, in_removed_map}
 use Rattle.terminal_core.proofs.Numbered.{number_at}
 use Rattle.terminal_core.proofs.Counted.{found_is, some_of}
-use Rattle.terminal_core.proofs.Changing.{Comes, placed_by}
+use Rattle.terminal_core.proofs.Changing.{placed_by}
 use Rattle.terminal_core.proofs.Counting.{none_there}
 
 -- two containers of one slot have a cell in common

@@ -1,5 +1,5 @@
 -- What the calls on a terminal do and answer.
-use Rattle.std.specs.Prelude.{◌≡◌, ℕ, ◌≤◌, Bool, true, false, List, ◌++◌, slice_get, Some, Ok, Err, find, filter, length, is_some}
+use Rattle.std.specs.Prelude.{◌≡◌, ◌≤◌, Bool, true, false, List, ◌++◌, Ok, Err, find, filter, length, is_some}
 use Rattle.box6346.specs.SizeCode.{length_of}
 use Rattle.box6346.specs.declared.box_number.BoxNumber.{BoxNumber}
 use Rattle.box6346.specs.declared.slot.Slot.{Slot}
@@ -13,8 +13,7 @@ use Rattle.yard_core.specs.Decisions.{Refusal, fault_of}
 use Rattle.terminal_core.specs.declared.outcome.Outcome.{Outcome}
 use Rattle.terminal_core.specs.declared.outcome.Outcome.TheVariants.{Done, Gone, Listed, Refused}
 use Rattle.terminal_core.specs.declared.reason.Reason.{Reason}
-use Rattle.terminal_core.specs.declared.visit.Visit.{Visit}
-use Rattle.terminal_core.specs.Rows.{VisitContent, ChangeContent, visit_content}
+use Rattle.terminal_core.specs.Rows.{VisitContent, ChangeContent}
 use Rattle.terminal_core.specs.State.{TerminalState, is_open_visit}
 use Rattle.terminal_core.specs.Step.{Stepped, settled, reason_of}
 

@@ -1,10 +1,7 @@
-use Rattle.std.proofs.Common.{sym, ◌∙◌}
-use Rattle.edi_segments.specs.Interchange.{segments_in}
-use Rattle.edi_syntax.specs.Envelope.{header_of}
 use Rattle.office_setup.specs.Parties.{parties_of}
-use Rattle.office_admission.specs.Admission.{admission, number_in}
+use Rattle.office_admission.specs.Admission.{admission}
 use Rattle.office_taking.specs.Taking.{machine_of}
-use Rattle.office_taking.proofs.Takings.{not_for, another_for, refused_for, refused_is}
+use Rattle.office_taking.proofs.Takings.{not_for, refused_for, refused_is}
 use Rattle.office_taking.proofs.machine.admitted_for.Goals as goal
 
 pub returns-in-Err-clause-none : goal.returns-in-Err-clause-none

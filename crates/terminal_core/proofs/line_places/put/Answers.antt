@@ -1,10 +1,10 @@
-use Rattle.std.proofs.Common.{Some, Ok, Err, cond, ap, ◌∙◌, sym}
-use Rattle.std.specs.Prelude.{◌==◌, ◌&&◌, OnErr, Result}
+use Rattle.std.proofs.Common.{Some, cond, ap, ◌∙◌, sym}
+use Rattle.std.specs.Prelude.{◌==◌, ◌&&◌}
 use Rattle.std.specs.Str.{bytes_eq}
 use Rattle.std.specs.Map.{lookup}
 use Rattle.edi_messages.specs.Owned.{call_content}
 use Rattle.terminal_core.specs.State.{side_code}
-use Rattle.terminal_core.specs.LinePlaces.{is_key, SamePlaces}
+use Rattle.terminal_core.specs.LinePlaces.{is_key}
 use Rattle.terminal_core.proofs.Noted.{notes_place, stays_noted, always}
 use Rattle.terminal_core.proofs.line_places.put.Goals as goal
 

@@ -1,7 +1,6 @@
 use Rattle.std.proofs.Common.{refl}
 use Rattle.yard_core.specs.YardMap.{placement}
-use Rattle.std.specs.Prelude.{map}
-use Rattle.terminal_core.specs.Rows.{visit_content, change_content}
+use Rattle.terminal_core.specs.Rows.{change_content}
 use Rattle.terminal_core.specs.Step.{departure_by}
 use Rattle.terminal_core.proofs.Whole.{whole_departed, whole_with}
 use Rattle.terminal_core.proofs.Appended.{two_more}

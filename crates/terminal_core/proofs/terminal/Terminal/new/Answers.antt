@@ -1,8 +1,6 @@
-use Rattle.std.proofs.Common.{List, ap, subst}
+use Rattle.std.proofs.Common.{List, subst}
 use Rattle.yard_core.specs.declared.block.Block.{Block}
 use Rattle.yard_core.specs.Plan.{IsPlan}
-use Rattle.terminal_core.specs.Rows.{visit_content}
-use Rattle.std.specs.Prelude.{map}
 use Rattle.terminal_core.proofs.Whole.{whole_empty}
 use Rattle.terminal_core.proofs.terminal.Terminal.new.Goals as goal
 

@@ -1,4 +1,4 @@
-use Rattle.std.proofs.Common.{◌≡◌, ◌<◌, List, length, vec_len, Some, cond, refl, sym, ap, ◌∙◌, arith, rules, subst}
+use Rattle.std.proofs.Common.{◌≡◌, ◌<◌, List, length, vec_len, Some, cond, refl, sym, ap, ◌∙◌, rules, subst}
 use Rattle.std.specs.Prelude.{map, find, is_some}
 use Rattle.std.specs.Str.{bytes_eq}
 use Rattle.std.specs.Map.{lookup}
