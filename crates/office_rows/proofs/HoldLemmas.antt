@@ -1,5 +1,5 @@
 -- What a write makes of the records of its table.
-use Rattle.std.proofs.Common.{◌≡◌, inl, inr, ℕ, ℤ, List, [], ◌∷◌, ◌++◌, append-nil, map, filter, drop, Bool, true, false, not, cond, refl, sym, ap, subst, ◌∙◌}
+use Rattle.std.proofs.Common.{◌≡◌, inl, inr, List, [], ◌∷◌, ◌++◌, append-nil, map, filter, drop, Bool, not, cond, refl, sym, ap, subst, ◌∙◌}
 use Rattle.std.specs.List.Sorted.{IsPermutation}
 use Rattle.std.proofs.lemmas.Bool.{cases_Bool}
 use Rattle.std.proofs.lemmas.List.Sorted.{IsPermutation-trans, IsPermutation-cons, IsPermutation-map, IsPermutation-middle}
@@ -8,13 +8,11 @@ use Rattle.sqlite.specs.Term.{Term, eval_all}
 use Rattle.sqlite.specs.Table.{Table}
 use Rattle.sqlite.specs.Effect.{Database}
 use Rattle.sqlite_trees.specs.Tree.{rowid, put_row}
-use Rattle.sqlite_trees.specs.declared.store.Shape.TheVariants as shape
-use Rattle.sqlite_trees.specs.View.{IsShaped}
 use Rattle.sqlite_trees.proofs.ListLemmas.{map-map, IsPermutation-filter}
 use Rattle.sqlite_rules.specs.Cast.{cast_row}
 use Rattle.sqlite_rules.specs.Calls.{ids_of}
 use Rattle.sqlite_rules.specs.declared.error.Rowids.TheVariants.{Chosen, Given}
-use Rattle.sqlite_rules.specs.Edit.{edit_of, numbered, with_rowid, without_all, put_all, id_in}
+use Rattle.sqlite_rules.specs.Edit.{numbered, with_rowid, without_all, put_all, id_in}
 use Rattle.office_rows.specs.Stored.{Holds, columns_of}
 use Rattle.office_rows.proofs.EditLemmas.{put_all_fresh, put_all_shaped, without_all_shaped, updated, deleted}
 use Rattle.office_rows.proofs.WriteLemmas.{passes, Inserts, Updates, Deletes}
@@ -70,8 +68,8 @@ module _ {A : Type 0} (table : Table) (values : A → Row) (records : List A) (o
       record {
         shaped = rw rows (put_all_shaped news _ (rw numbers at applies.keyed) left);
         same = rw rows (IsPermutation-trans _ _ _
-        (subst (λ l. IsPermutation l (map each (map (columns_of table) stored))) (in_records records) (IsPermutation-map each _ _ held.same))
-        (subst (λ l. IsPermutation l (map (columns_of table) (put_all (without_all stored gone) news))) (in_columns stored) whole));
+            (subst (λ l. IsPermutation l (map each (map (columns_of table) stored))) (in_records records) (IsPermutation-map each _ _ held.same))
+            (subst (λ l. IsPermutation l (map (columns_of table) (put_all (without_all stored gone) news))) (in_columns stored) whole));
       }
     where
       in_records : (xs : List A) → map (λ c. cond (test c) (change c) c) (map values xs) ≡ map values (map (λ a. cond (chosen a) (changed a) a) xs)
@@ -80,6 +78,7 @@ module _ {A : Type 0} (table : Table) (values : A → Row) (records : List A) (o
         | inl here ↦ rw (choosing x, here, changing x, in_records xs)
         | inr other ↦ rw (choosing x, other, in_records xs)
       ]
+
       in_columns : (rows : List Row) → map (columns_of table) (map (λ r. cond (passes params tests r) (rewritten table params shown r) r) rows) ≡ map (λ c. cond (test c) (change c) c) (map (columns_of table) rows)
       in_columns [] = refl
       in_columns (r ∷ rows) = elim (cases_Bool (test (columns_of table r))) [
@@ -102,7 +101,7 @@ module _ {A : Type 0} (table : Table) (values : A → Row) (records : List A) (o
       record {
         shaped = rw applies.rows (without_all_shaped gone stored held.shaped);
         same = rw rows (subst (λ l. IsPermutation l (map (columns_of table) (filter (λ r. not (p r)) stored))) (in_records records)
-        (subst (IsPermutation (filter (λ c. not (test c)) (map values records))) (sym (in_columns stored)) (IsPermutation-filter (λ c. not (test c)) _ _ held.same)));
+            (subst (IsPermutation (filter (λ c. not (test c)) (map values records))) (sym (in_columns stored)) (IsPermutation-filter (λ c. not (test c)) _ _ held.same)));
       }
     where
       in_records : (xs : List A) → filter (λ c. not (test c)) (map values xs) ≡ map values (filter (λ a. not (chosen a)) xs)
@@ -111,6 +110,7 @@ module _ {A : Type 0} (table : Table) (values : A → Row) (records : List A) (o
         | inl here ↦ rw (choosing x, here, in_records xs)
         | inr other ↦ rw (choosing x, other, in_records xs)
       ]
+
       in_columns : (rows : List Row) → map (columns_of table) (filter (λ r. not (passes params tests r)) rows) ≡ filter (λ c. not (test c)) (map (columns_of table) rows)
       in_columns [] = refl
       in_columns (r ∷ rows) = elim (cases_Bool (test (columns_of table r))) [
@@ -135,6 +135,7 @@ module _ {A : Type 0} (table : Table) (values : A → Row) (records : List A) (s
         | inl here ↦ rw (choosing x, here, viewing x, in_records xs)
         | inr other ↦ rw (choosing x, other, in_records xs)
       ]
+
       in_columns : (rows : List Row) → map (λ r. eval_all shown (params ∷ r ∷ [])) (filter (passes params tests) rows) ≡ map show (filter test (map (columns_of table) rows))
       in_columns [] = refl
       in_columns (r ∷ rows) = elim (cases_Bool (test (columns_of table r))) [

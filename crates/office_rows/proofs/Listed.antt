@@ -1,10 +1,9 @@
 -- What each query of all rows of a table shows.
-use Rattle.std.proofs.Common.{◌≡◌, ℕ, zero, suc, ◌+◌, ◌<◌, ◌≤◌, List, [], ◌∷◌, Bool, true, false, map, filter, length, set, slice_index_or, refl, sym, ap, subst, ◌∙◌, arith}
+use Rattle.std.proofs.Common.{◌≡◌, ℕ, zero, suc, ◌+◌, ◌<◌, List, [], ◌∷◌, Bool, false, map, filter, length, set, slice_index_or, refl, sym, ap, subst, ◌∙◌, arith}
 use Rattle.std.specs.List.{swap}
-use Rattle.std.specs.Ordering.{on, is_lt}
+use Rattle.std.specs.Ordering.{is_lt}
 use Rattle.std.specs.List.Sorted.{IsPermutation, IsSortedBy}
 use Rattle.std.proofs.lemmas.List.{length-map, map-set}
-use Rattle.std.proofs.lemmas.List.Edits.{swap_is}
 use Rattle.std.proofs.lemmas.List.Sorted.{IsPermutation-refl, IsPermutation-trans, IsPermutation-map, IsPermutation-swap, IsPermutation-keeps}
 use Rattle.sqlite.specs.declared.types.Value.TheVariants.{Null}
 use Rattle.sqlite.specs.Collation.TheVariants.{Binary}
@@ -47,10 +46,10 @@ pub unmapped : {A B : Type 0} (f : A → B) (xs : List A) (ys : List B) → IsPe
 unmapped {A} {B} f xs ys same =
     IsPermutation-keeps (map f xs) (λ l. (zs : List A) × IsPermutation xs zs × (l ≡ map f zs)) (xs, IsPermutation-refl xs, refl)
     (λ l i j p q h.
-      let long : length l ≡ length h.0 = ap length h.2 ∙ length-map h.0 f in
-      let a : i < length h.0 = omega arith in
-      let b : j < length h.0 = omega arith in
-      (swap h.0 i j, IsPermutation-trans _ _ _ h.1 (IsPermutation-swap h.0 (swap h.0 i j) i j a b refl), ap (λ m. swap m i j) h.2 ∙ sym (map_swap f h.0 i j a b))) ys same
+    let long : length l ≡ length h.0 = ap length h.2 ∙ length-map h.0 f in
+    let a : i < length h.0 = omega arith in
+    let b : j < length h.0 = omega arith in
+    (swap h.0 i j, IsPermutation-trans _ _ _ h.1 (IsPermutation-swap h.0 (swap h.0 i j) i j a b refl), ap (λ m. swap m i j) h.2 ∙ sym (map_swap f h.0 i j a b))) ys same
 
 -- lists that a function gives each are sorted alike where their elements compare alike
 pub sorted_as : {A B C : Type 0} (f : A → B) (h : A → C) (lt : B → B → Bool) (less : C → C → Bool) → ((x y : A) → less (h x) (h y) ≡ lt (f x) (f y)) → (l : List A) → IsSortedBy lt (map f l) → IsSortedBy less (map h l)
@@ -115,4 +114,3 @@ module _ (old new : State) (has : old.now.schema ≡ office_schema) (answer : Li
 
   pub lists_block : Shown texts.select_block [] old new answer → ShowsTable block (0 ∷ 1 ∷ 2 ∷ 3 ∷ []) (0 ∷ []) old.now answer
   lists_block h = lists block texts.select_block texts.select_block_shown texts.select_block_order texts.select_block_names (0 ∷ 1 ∷ 2 ∷ 3 ∷ []) (0 ∷ []) texts.select_block_is texts.select_block_plain (λ trees. refl) (λ r. refl) (λ r. refl) refl h
-

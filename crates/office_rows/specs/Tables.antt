@@ -153,4 +153,3 @@ schema_of tables = fold created no_schema tables
 
 abbrev pub office_schema : Schema
 office_schema = schema_of office_tables
-

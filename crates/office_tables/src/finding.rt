@@ -55,11 +55,7 @@ fn read_kept(row: &Row) -> Result<Kept, TableFault>
 {
     let text = row.get(0)?;
     let reply: String = row.get(1)?;
-    let reply = if reply.is_empty() {
-        None
-    } else {
-        Some(reply)
-    };
+    let reply = if reply.is_empty() { None } else { Some(reply) };
     Ok(Kept { text, reply })
 }
 
@@ -78,10 +74,7 @@ pub fn next_of<S: Alter>(conn: &mut Connection<S>, partner: u16) -> Result<u32, 
     }
 }
 
-fn select_next<S: Alter>(
-    conn: &mut Connection<S>,
-    partner: u16,
-) -> Result<Vec<Row>, TableFault>
+fn select_next<S: Alter>(conn: &mut Connection<S>, partner: u16) -> Result<Vec<Row>, TableFault>
     ensures shown { HasCleanDisk (state S.Store conn.new) → IfOk result (λ answer. (rows : _) → HasRows rows (state S.Store conn.old).now → IsPermutation (map next_values (filter (has_id partner) rows.partners)) answer.items) }
     ensures same { HasCleanDisk (state S.Store conn.new) → (state S.Store conn.old).now.schema ≡ office_schema → OnOk result (IsUnchanged (state S.Store conn.old) (state S.Store conn.new)) }
     ensures keeps { HasCleanDisk (state S.Store conn.new) → (state S.Store conn.old).now.schema ≡ office_schema → KeepsCommit (state S.Store conn.old) (state S.Store conn.new) }

@@ -75,10 +75,7 @@ pub(crate) fn set_next<S: Alter>(
 {
     tx.execute(
         "UPDATE partner SET next = ?2 WHERE id = ?1",
-        &[
-            integer(u32::from(partner)),
-            integer(next),
-        ],
+        &[integer(u32::from(partner)), integer(next)],
     )?;
     Ok(())
 }

@@ -28,11 +28,7 @@ pub(crate) fn insert_place<S: Alter>(
     let slot = slot.text();
     tx.execute(
         "INSERT INTO place (box, visit, slot) VALUES (?1, ?2, ?3)",
-        &[
-            characters(&container),
-            integer(visit),
-            characters(&slot),
-        ],
+        &[characters(&container), integer(visit), characters(&slot)],
     )?;
     Ok(())
 }

@@ -16,8 +16,5 @@ pub(crate) fn select_partner<S: Alter>(conn: &mut Connection<S>) -> Result<Vec<R
     ensures mode { conn.old.in_transaction ≡ false → conn.new.in_transaction ≡ false }
     ensures survives { (state S.Store conn.old).now.schema ≡ office_schema → Survives (state S.Store conn.old) (state S.Store conn.new) (λ _. ⊥) }
 {
-    Ok(conn.query_all(
-        "SELECT id, code, kind, next FROM partner ORDER BY id",
-        &[],
-    )?)
+    Ok(conn.query_all("SELECT id, code, kind, next FROM partner ORDER BY id", &[])?)
 }

@@ -32,10 +32,7 @@ pub(crate) fn insert_settings<S: Alter>(
 }
 
 // Each code of a document name under its own name.
-fn insert_codes<S: Alter>(
-    tx: &mut Transaction<'_, S>,
-    codes: &CodeTable,
-) -> Result<(), TableFault>
+fn insert_codes<S: Alter>(tx: &mut Transaction<'_, S>, codes: &CodeTable) -> Result<(), TableFault>
     ensures same_reference { tx.new.conn.ghost_name ≡ tx.old.conn.ghost_name }
     ensures steps { HasCleanDisk (state S.Store tx.new.conn.now) → IsTrue (state S.Store tx.old.conn.now).in_transaction → IsTrue (state S.Store tx.old.conn.now).is_open
         → OnOk result (Steps (with_settings (code_settings codes.now)) (state S.Store tx.old.conn.now) (state S.Store tx.new.conn.now)) }

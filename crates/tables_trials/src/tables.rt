@@ -138,6 +138,6 @@ fn an_interchange_waits_until_it_is_taken(rt: HostRuntime) -> Result<(), Fail> {
         assert!(rt; next_of(&mut conn, partner)? == next);
     }
     let all = nexts(rt.alloc(), &mut conn)?;
-    assert!(rt; all.as_slice() == [2, 1]);
+    assert!(rt; all.as_slice() == [2, 1].as_slice());
     Ok(())
 }

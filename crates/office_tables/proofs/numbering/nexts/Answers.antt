@@ -1,4 +1,4 @@
-use Rattle.std.proofs.Common.{◌≡◌, map, ap, ◌∙◌}
+use Rattle.std.proofs.Common.{map, ap, ◌∙◌}
 use Rattle.sqlite.specs.Order.{column}
 use Rattle.sqlite.specs.Held.{state}
 use Rattle.office_rows.proofs.NextLemmas.{nexts_listed}

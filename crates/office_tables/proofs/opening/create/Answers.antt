@@ -8,7 +8,7 @@ use Rattle.office_rows.specs.Tables.{office_tables}
 use Rattle.office_rows.specs.Stored.{HasRows, HasEmpty}
 use Rattle.office_rows.specs.Steps.{Turns}
 use Rattle.office_rows.specs.Opening.{opening_rows}
-use Rattle.office_tables.specs.Opened.{Opens, IsOpening}
+use Rattle.office_tables.specs.Opened.{IsOpening}
 use Rattle.office_tables.proofs.OpenedLemmas.{opened, made_rows}
 use Rattle.office_tables.proofs.opening.create.Goals as goal
 
@@ -71,7 +71,7 @@ returns-clause-ok g c clean =
     let alone : (db : _) → (state g.S.Store c.conn-2-1.given.0).may_leave db → db ≡ (state g.S.Store c.conn-2-1.given.0).committed.trees = λ db left. g.met.S.Store.settled c.conn-2-1.given.0.store db open_now left in
     record {
       rows = λ none. subst (λ h. HasRows (opening_rows content) (state g.S.Store h).committed) same
-      (subst (HasRows (opening_rows content)) (sym shows.committed_is) (made_rows content (state g.S.Store old) (state g.S.Store begun) (state g.S.Store last) settled turns none));
+          (subst (HasRows (opening_rows content)) (sym shows.committed_is) (made_rows content (state g.S.Store old) (state g.S.Store begun) (state g.S.Store last) settled turns none));
       settled = subst (λ h. (state g.S.Store h).now ≡ (state g.S.Store h).committed) same (shows.now_is ∙ sym shows.committed_is);
       is_open = open_now;
       alone = alone;

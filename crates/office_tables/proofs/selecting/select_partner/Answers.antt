@@ -1,10 +1,9 @@
-use Rattle.std.proofs.Common.{◌≡◌, [], ◌∷◌, sym, subst}
+use Rattle.std.proofs.Common.{[], sym, subst}
 use Rattle.sqlite.specs.Order.{Row}
 use Rattle.sqlite.specs.Listing.{understood}
 use Rattle.sqlite.specs.Held.{state}
 use Rattle.sqlite.specs.State.{Shown, CommitsShowing, Survives}
 use Rattle.sqlite.proofs.Callers.{IsPlain}
-use Rattle.office_rows.specs.Values.{number}
 use Rattle.office_rows.proofs.Reading as texts
 use Rattle.office_rows.proofs.ReadLemmas.{shown_same, shown_keeps, failed_keeps, query_survives}
 use Rattle.office_rows.proofs.Listed.{lists_partner}
