@@ -2,7 +2,7 @@
 use Rattle.std.proofs.Common.{◌≡◌, ℕ, ◌==◌, ◌&&◌, List, [], ◌∷◌, Bool, true, false, map, filter, refl, ap₂, ◌∙◌}
 use Rattle.std.specs.List.Sorted.{IsPermutation}
 use Rattle.std.proofs.lemmas.List.Sorted.{IsPermutation-trans}
-use Rattle.sqlite.specs.declared.types.Value.TheVariants.{Null, Text, Blob}
+use Rattle.sqlite.specs.declared.types.Value.TheVariants.{Null}
 use Rattle.sqlite.specs.Order.{Row, column}
 use Rattle.sqlite.specs.Collation.TheVariants.{Binary}
 use Rattle.sqlite.specs.Ops.{binary, is_true}
@@ -12,7 +12,7 @@ use Rattle.sqlite.specs.Command.TheVariants.{Select}
 use Rattle.sqlite.specs.State.{State, Shown}
 use Rattle.sqlite.proofs.Callers.{reads_as}
 use Rattle.office_rows.specs.Tables.{partner, interchange, office_schema}
-use Rattle.office_rows.specs.Rows.{Partner, Interchange, Rows}
+use Rattle.office_rows.specs.Rows.{Rows}
 use Rattle.office_rows.specs.Values.{number, partner_values, interchange_values, kept_values, next_values}
 use Rattle.office_rows.specs.Stored.{HasRows}
 use Rattle.office_rows.specs.Effects.{is_pair}

@@ -1,5 +1,5 @@
 -- What a write makes of the records of its table.
-use Rattle.std.proofs.Common.{◌≡◌, inl, inr, ℕ, ℤ, List, [], ◌∷◌, ◌++◌, append-nil, map, filter, drop, Bool, true, false, not, cond, refl, sym, ap, subst, ◌∙◌}
+use Rattle.std.proofs.Common.{◌≡◌, inl, inr, List, [], ◌∷◌, ◌++◌, append-nil, map, filter, drop, Bool, not, cond, refl, sym, ap, subst, ◌∙◌}
 use Rattle.std.specs.List.Sorted.{IsPermutation}
 use Rattle.std.proofs.lemmas.Bool.{cases_Bool}
 use Rattle.std.proofs.lemmas.List.Sorted.{IsPermutation-trans, IsPermutation-cons, IsPermutation-map, IsPermutation-middle}
@@ -8,13 +8,11 @@ use Rattle.sqlite.specs.Term.{Term, eval_all}
 use Rattle.sqlite.specs.Table.{Table}
 use Rattle.sqlite.specs.Effect.{Database}
 use Rattle.sqlite_trees.specs.Tree.{rowid, put_row}
-use Rattle.sqlite_trees.specs.declared.store.Shape.TheVariants as shape
-use Rattle.sqlite_trees.specs.View.{IsShaped}
 use Rattle.sqlite_trees.proofs.ListLemmas.{map-map, IsPermutation-filter}
 use Rattle.sqlite_rules.specs.Cast.{cast_row}
 use Rattle.sqlite_rules.specs.Calls.{ids_of}
 use Rattle.sqlite_rules.specs.declared.error.Rowids.TheVariants.{Chosen, Given}
-use Rattle.sqlite_rules.specs.Edit.{edit_of, numbered, with_rowid, without_all, put_all, id_in}
+use Rattle.sqlite_rules.specs.Edit.{numbered, with_rowid, without_all, put_all, id_in}
 use Rattle.office_rows.specs.Stored.{Holds, columns_of}
 use Rattle.office_rows.proofs.EditLemmas.{put_all_fresh, put_all_shaped, without_all_shaped, updated, deleted}
 use Rattle.office_rows.proofs.WriteLemmas.{passes, Inserts, Updates, Deletes}

@@ -11,3 +11,5 @@ pub mod Written
 pub mod Created
 pub mod OpeningLemmas
 pub mod Found
+pub mod Listed
+pub mod NextLemmas

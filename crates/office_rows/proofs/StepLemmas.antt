@@ -1,5 +1,5 @@
 -- Calls in a transaction, one after the other.
-use Rattle.std.proofs.Common.{◌≡◌, ◌⊎◌, inl, inr, IsTrue, Result, Ok, Err, true, OnOk, IfOk, refl, sym, ap, subst, ◌∙◌}
+use Rattle.std.proofs.Common.{◌≡◌, ◌⊎◌, inl, inr, IsTrue, Result, Ok, Err, true, OnOk, IfOk, refl, subst, ◌∙◌}
 use Rattle.sqlite.specs.State.{State, Shows, IsUnchanged, IsRolledBack, KeepsCommit, Survives}
 use Rattle.office_rows.specs.Stored.{HasRows}
 use Rattle.sqlite.proofs.StateLemmas.{survives_then}

@@ -1,5 +1,5 @@
 -- A write to one table leaves the rows of the others.
-use Rattle.std.proofs.Common.{◌≡◌, ℕ, ℤ, List, arith}
+use Rattle.std.proofs.Common.{ℕ, ℤ, List, arith}
 use Rattle.sqlite.specs.Order.{Row}
 use Rattle.sqlite.specs.Effect.{Database}
 use Rattle.sqlite_rules.specs.declared.error.Rowids.{Rowids}

@@ -1,6 +1,5 @@
 -- What each statement that writes makes of the rows.
-use Rattle.std.proofs.Common.{◌≡◌, ℕ, pos, List, [], ◌∷◌, ◌++◌, Bool, true, false, ◌&&◌, ◌==◌, not, cond, Ok, Some, map, filter, drop, refl, ap, ap₂, ◌∙◌}
-use Rattle.std.specs.Str.{bytes_eq}
+use Rattle.std.proofs.Common.{◌≡◌, ℕ, List, [], ◌∷◌, ◌++◌, Bool, true, false, ◌&&◌, ◌==◌, not, cond, Ok, Some, map, filter, drop, refl, ap₂, ◌∙◌}
 use Rattle.box6346.specs.declared.box_number.BoxNumber.{BoxNumber}
 use Rattle.box6346.specs.declared.slot.Slot.{Slot}
 use Rattle.box6346.specs.SlotName.{slot_text}
@@ -10,9 +9,9 @@ use Rattle.yard_core.specs.declared.block.Block.{Block}
 use Rattle.terminal_core.specs.declared.departure.Departure.{Departure}
 use Rattle.terminal_core.specs.declared.line_state.LineState.TheVariants.{Done}
 use Rattle.terminal_core.specs.declared.side.Side.{Side}
-use Rattle.terminal_core.specs.Rows.{VisitContent, visit_opened, visit_closed, placed_at, moved_to, removed_from, listed_on, line_done}
+use Rattle.terminal_core.specs.Rows.{VisitContent, visit_closed, moved_to, removed_from, line_done}
 use Rattle.terminal_core.specs.State.{side_code}
-use Rattle.sqlite.specs.declared.types.Value.TheVariants.{Null, Int, Text, Blob}
+use Rattle.sqlite.specs.declared.types.Value.TheVariants.{Null, Text, Blob}
 use Rattle.sqlite.specs.Order.{Row, column}
 use Rattle.sqlite.specs.Collation.TheVariants.{Binary}
 use Rattle.sqlite.specs.Kind.TheVariants as kind

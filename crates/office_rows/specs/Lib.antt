@@ -5,3 +5,4 @@ pub mod Stored
 pub mod Effects
 pub mod Opening
 pub mod Steps
+pub mod Shown

@@ -1,11 +1,11 @@
 -- What making the tables commits.
-use Rattle.std.proofs.Common.{◌≡◌, sym, ap, subst, ◌∙◌, take}
+use Rattle.std.proofs.Common.{◌≡◌, ap, ◌∙◌, take}
 use Rattle.sqlite.specs.Effect.{Database}
 use Rattle.sqlite.specs.State.{State}
 use Rattle.sqlite.specs.Tree.{Trees}
 use Rattle.office_setup.specs.Setups.{SetupContent}
 use Rattle.office_rows.specs.Tables.{office_tables, no_schema}
-use Rattle.office_rows.specs.Stored.{HasRows, HasEmpty, AreRows}
+use Rattle.office_rows.specs.Stored.{HasRows, HasEmpty}
 use Rattle.office_rows.specs.Steps.{Turns}
 use Rattle.office_rows.specs.Opening.{opening_rows}
 use Rattle.office_tables.specs.Opened.{IsOpening}

@@ -1,6 +1,5 @@
 -- What the calls that read answer.
-use Rattle.std.specs.Prelude.{◌≡◌, ◌≢◌, ◌==◌, ℕ, Bool, List, [], filter, map, Contains, Option, Some, None, String, string_bytes}
-use Rattle.std.specs.List.Sorted.{IsPermutation}
+use Rattle.std.specs.Prelude.{◌≡◌, ◌≢◌, ◌==◌, ℕ, Bool, List, [], filter, Contains, Option, Some, None, String, string_bytes}
 use Rattle.office_rows.specs.Rows.{Partner, Interchange, Rows}
 use Rattle.office_rows.specs.Effects.{is_pair}
 use Rattle.office_tables.specs.declared.kept_interchange.Kept.{Kept}

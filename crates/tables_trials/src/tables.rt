@@ -6,7 +6,7 @@ mod changes;
 
 use edi_messages::{CodeTable, PartnerKind};
 use office_setup::{Account, Setup};
-use office_tables::{Kept, create, keep, kept, mark_taken, next_of};
+use office_tables::{Kept, create, keep, kept, mark_taken, next_of, nexts};
 use sqlite::{Alter, Connection, Error, MemStore};
 use std::alloc::{AllocError, Global};
 use std::process::Abort;
@@ -134,5 +134,7 @@ fn an_interchange_waits_until_it_is_taken(rt: HostRuntime) -> Result<(), Fail> {
     for (partner, next) in [(1, 2), (2, 1)] {
         assert!(rt; next_of(&mut conn, partner)? == next);
     }
+    let all = nexts(rt.alloc(), &mut conn)?;
+    assert!(rt; all.as_slice() == [2, 1].as_slice());
     Ok(())
 }

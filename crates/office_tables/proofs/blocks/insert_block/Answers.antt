@@ -1,4 +1,4 @@
-use Rattle.std.proofs.Common.{◌≡◌, [], ◌∷◌, Ok}
+use Rattle.std.proofs.Common.{[], ◌∷◌, Ok}
 use Rattle.sqlite.specs.Held.{state}
 use Rattle.sqlite.specs.State.{Executes}
 use Rattle.office_rows.specs.Values.{block_values}

@@ -1,13 +1,11 @@
-use Rattle.std.proofs.Common.{◌≡◌, refl, sym, ap, subst, ◌∙◌, ◌+◌, arith, rules, take, map, slice_get, Some, [], ◌∷◌, ◌++◌, string_bytes, length}
+use Rattle.std.proofs.Common.{sym, subst, arith, rules, take}
 use Rattle.std.proofs.lemmas.List.{take_more}
 use Rattle.sqlite.specs.State.{HasCleanDisk}
 use Rattle.sqlite.specs.Held.{state}
-use Rattle.edi_messages.specs.Codes.{table_texts}
-use Rattle.office_setup.specs.Setups.{account_contents}
-use Rattle.office_rows.specs.Opening.{partners_from, code_names, code_settings, setting, with_partners, with_settings, with_blocks}
+use Rattle.office_rows.specs.Opening.{with_blocks}
 use Rattle.office_rows.specs.Steps.{Steps}
 use Rattle.office_rows.proofs.StepLemmas.{quiet_then}
-use Rattle.office_rows.proofs.OpeningLemmas.{take_at, setting_at, partners_then, more_settings, more_partners, more_blocks}
+use Rattle.office_rows.proofs.OpeningLemmas.{more_blocks}
 use Rattle.office_tables.proofs.blocks.insert_blocks.Goals as goal
 
 pub loop-block-preserved : goal.loop-block-preserved

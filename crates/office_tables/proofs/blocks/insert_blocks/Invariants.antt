@@ -1,8 +1,7 @@
-use Rattle.std.proofs.Common.{◌≡◌, ◌+◌, IsTrue, take}
+use Rattle.std.proofs.Common.{◌≡◌, IsTrue, take}
 use Rattle.sqlite.specs.State.{HasCleanDisk, Survives}
 use Rattle.sqlite.specs.Held.{state}
-use Rattle.office_setup.specs.Setups.{account_contents}
-use Rattle.office_rows.specs.Opening.{partners_from, code_settings, with_partners, with_settings, with_blocks}
+use Rattle.office_rows.specs.Opening.{with_blocks}
 use Rattle.office_rows.specs.Steps.{Steps}
 use Rattle.office_tables.proofs.blocks.insert_blocks.Given as goal
 

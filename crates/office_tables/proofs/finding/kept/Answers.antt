@@ -1,7 +1,7 @@
 use Rattle.std.proofs.Common.{◌≡◌, sym, subst}
-use Rattle.office_rows.specs.Values.{kept_values, next_values}
+use Rattle.office_rows.specs.Values.{kept_values}
 use Rattle.office_rows.proofs.ReadLemmas.{none_first, some_first}
-use Rattle.office_tables.specs.Answers.{pair_of, has_id, RepliesAs}
+use Rattle.office_tables.specs.Answers.{pair_of, RepliesAs}
 use Rattle.office_tables.proofs.finding.kept.Goals as goal
 
 pub returns-in-None-clause-answer : goal.returns-in-None-clause-answer

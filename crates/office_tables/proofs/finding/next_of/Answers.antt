@@ -1,8 +1,8 @@
-use Rattle.std.proofs.Common.{◌≡◌, sym, subst}
-use Rattle.office_rows.specs.Values.{kept_values, next_values}
-use Rattle.office_rows.proofs.ReadLemmas.{none_first, some_first}
-use Rattle.office_tables.specs.Answers.{pair_of, has_id, RepliesAs}
-use Rattle.std.proofs.Common.{pos, filter}
+use Rattle.std.proofs.Common.{◌≡◌, sym}
+use Rattle.office_rows.specs.Values.{next_values}
+use Rattle.office_rows.proofs.ReadLemmas.{some_first}
+use Rattle.office_tables.specs.Answers.{has_id}
+use Rattle.std.proofs.Common.{filter}
 use Rattle.office_rows.proofs.StepLemmas.{if_ok}
 use Rattle.office_tables.proofs.finding.next_of.Goals as goal
 

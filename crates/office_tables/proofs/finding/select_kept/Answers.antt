@@ -1,5 +1,4 @@
-use Rattle.std.proofs.Common.{◌≡◌, [], ◌∷◌, sym, subst}
-use Rattle.sqlite.specs.Order.{Row}
+use Rattle.std.proofs.Common.{[], ◌∷◌, sym, subst}
 use Rattle.sqlite.specs.Listing.{understood}
 use Rattle.sqlite.specs.Held.{state}
 use Rattle.sqlite.specs.State.{Shown, CommitsShowing, Survives}

@@ -1,17 +1,11 @@
-use Rattle.std.proofs.Common.{◌≡◌, pos, [], ◌∷◌, Ok, string_bytes}
-use Rattle.sqlite.specs.declared.types.Value.TheVariants.{Int, Text, Blob}
+use Rattle.std.proofs.Common.{[], ◌∷◌, Ok}
+use Rattle.sqlite.specs.declared.types.Value.TheVariants.{Blob}
 use Rattle.sqlite.specs.Held.{state}
 use Rattle.sqlite.specs.State.{Executes}
-use Rattle.edi_messages.specs.Owned.{call_content}
-use Rattle.box6346.specs.SlotName.{slot_text}
-use Rattle.edi_moments.specs.Moments.{moment_digits}
-use Rattle.terminal_core.specs.State.{side_code}
-use Rattle.terminal_core.specs.Rows.{visit_content, visit_opened, visit_closed, placed_at, moved_to, removed_from, listed_on, line_done}
-use Rattle.office_rows.specs.Rows.{Partner, PlaceContent, ListingContent}
-use Rattle.office_rows.specs.Values.{number, kind_code, way_code, partner_values, visit_values, place_values, line_values}
-use Rattle.office_rows.specs.Effects.{with_kept, with_reply, with_next, with_partner, with_taken, with_change}
+use Rattle.office_rows.specs.Values.{number}
+use Rattle.office_rows.specs.Effects.{with_kept}
 use Rattle.office_rows.proofs.Writing as texts
-use Rattle.office_rows.proofs.Written.{inserted_partner, inserted_interchange, inserted_visit, inserted_place, inserted_listed, update_replyd, update_nextd, update_exitd, update_slotd, update_doned, delete_placed}
+use Rattle.office_rows.proofs.Written.{inserted_interchange}
 use Rattle.office_rows.proofs.StepLemmas.{steps_on}
 use Rattle.office_tables.proofs.interchanges.keep.Goals as goal
 

@@ -8,7 +8,7 @@ use Rattle.office_rows.specs.Tables.{office_tables}
 use Rattle.office_rows.specs.Stored.{HasRows, HasEmpty}
 use Rattle.office_rows.specs.Steps.{Turns}
 use Rattle.office_rows.specs.Opening.{opening_rows}
-use Rattle.office_tables.specs.Opened.{Opens, IsOpening}
+use Rattle.office_tables.specs.Opened.{IsOpening}
 use Rattle.office_tables.proofs.OpenedLemmas.{opened, made_rows}
 use Rattle.office_tables.proofs.opening.create.Goals as goal
 

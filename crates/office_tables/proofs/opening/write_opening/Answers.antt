@@ -1,11 +1,11 @@
-use Rattle.std.proofs.Common.{◌≡◌, take, arith, OnOk}
+use Rattle.std.proofs.Common.{take, arith, OnOk}
 use Rattle.sqlite.specs.State.{HasCleanDisk}
 use Rattle.sqlite.specs.Held.{state}
 use Rattle.office_rows.specs.Tables.{office_tables}
 use Rattle.office_rows.specs.Stored.{HasRows, HasEmpty}
 use Rattle.office_rows.specs.Steps.{Steps, Turns}
 use Rattle.office_rows.specs.Rows.{no_rows}
-use Rattle.office_rows.specs.Opening.{opening_rows, settings_of, partners_from, with_settings, with_partners, with_blocks}
+use Rattle.office_rows.specs.Opening.{settings_of, partners_from, with_settings, with_partners, with_blocks}
 use Rattle.office_setup.specs.Setups.{setup_content}
 use Rattle.office_rows.proofs.StepLemmas.{steps_turn, on_ok}
 use Rattle.office_tables.proofs.opening.write_opening.Goals as goal

@@ -1,15 +1,14 @@
-use Rattle.std.proofs.Common.{◌≡◌, refl, sym, ap, subst, ◌∙◌, ◌+◌, arith, rules, take, map, slice_get, Some, [], ◌∷◌, ◌++◌, string_bytes, length, length-take}
+use Rattle.std.proofs.Common.{◌≡◌, sym, ap, subst, ◌∙◌, ◌+◌, arith, rules, take, [], ◌∷◌, ◌++◌, string_bytes, length, length-take}
 use Rattle.std.proofs.lemmas.List.{length-map, map-append}
 use Rattle.office_rows.specs.Rows.{Partner}
 use Rattle.std.proofs.lemmas.List.{take_more}
 use Rattle.sqlite.specs.State.{HasCleanDisk}
 use Rattle.sqlite.specs.Held.{state}
-use Rattle.edi_messages.specs.Codes.{table_texts}
 use Rattle.office_setup.specs.Setups.{account_contents}
-use Rattle.office_rows.specs.Opening.{partners_from, code_names, code_settings, setting, with_partners, with_settings, with_blocks}
+use Rattle.office_rows.specs.Opening.{partners_from, with_partners}
 use Rattle.office_rows.specs.Steps.{Steps}
 use Rattle.office_rows.proofs.StepLemmas.{quiet_then}
-use Rattle.office_rows.proofs.OpeningLemmas.{take_at, setting_at, partners_then, more_settings, more_partners, more_blocks}
+use Rattle.office_rows.proofs.OpeningLemmas.{partners_then, more_partners}
 use Rattle.office_tables.proofs.partners.insert_partners.Goals as goal
 
 pub loop-account-preserved : goal.loop-account-preserved

@@ -1,9 +1,9 @@
-use Rattle.std.proofs.Common.{◌≡◌, [], ◌∷◌, codes, decimal, arith, string_bytes}
+use Rattle.std.proofs.Common.{[], ◌∷◌, codes, decimal, arith, string_bytes}
 use Rattle.sqlite.specs.State.{HasCleanDisk}
 use Rattle.sqlite.specs.Held.{state}
 use Rattle.office_rows.specs.Opening.{code_settings, setting, with_settings}
 use Rattle.office_rows.specs.Steps.{Steps}
-use Rattle.office_rows.proofs.StepLemmas.{steps_then, on_ok}
+use Rattle.office_rows.proofs.StepLemmas.{on_ok}
 use Rattle.office_rows.proofs.OpeningLemmas.{more_settings}
 use Rattle.office_tables.proofs.settings.insert_settings.Goals as goal
 

@@ -1,0 +1,116 @@
+-- What each query of all rows of a table shows.
+use Rattle.std.proofs.Common.{◌≡◌, ℕ, zero, suc, ◌+◌, ◌<◌, List, [], ◌∷◌, Bool, false, map, filter, length, set, slice_index_or, refl, sym, ap, subst, ◌∙◌, arith}
+use Rattle.std.specs.List.{swap}
+use Rattle.std.specs.Ordering.{is_lt}
+use Rattle.std.specs.List.Sorted.{IsPermutation, IsSortedBy}
+use Rattle.std.proofs.lemmas.List.{length-map, map-set}
+use Rattle.std.proofs.lemmas.List.Sorted.{IsPermutation-refl, IsPermutation-trans, IsPermutation-map, IsPermutation-swap, IsPermutation-keeps}
+use Rattle.sqlite.specs.declared.types.Value.TheVariants.{Null}
+use Rattle.sqlite.specs.Collation.TheVariants.{Binary}
+use Rattle.sqlite.specs.Order.{Row}
+use Rattle.sqlite.specs.Table.{Table}
+use Rattle.sqlite.specs.Term.{Term, eval_all}
+use Rattle.sqlite.specs.Query.{Output, key_cmp}
+use Rattle.sqlite.specs.Program.{overlay}
+use Rattle.sqlite.specs.Tree.{Trees}
+use Rattle.sqlite.specs.Command.TheVariants.{Select}
+use Rattle.sqlite.specs.Listing.{understood, reads_listing}
+use Rattle.sqlite.specs.State.{State, Shown}
+use Rattle.sqlite.proofs.Callers.{IsPlain, command_of, reads_as}
+use Rattle.sqlite_trees.proofs.ListLemmas.{map-map, filter_all, all_of}
+use Rattle.sqlite_value.specs.Keys.{ascending}
+use Rattle.sqlite_value.specs.declared.keys.Key.{Key}
+use Rattle.office_rows.specs.Tables.{partner, interchange, visit, place, listed, setting, block, office_schema}
+use Rattle.office_rows.specs.Stored.{columns_of}
+use Rattle.office_rows.specs.Shown.{columns_at, ShowsTable}
+use Rattle.office_rows.proofs.Reading as texts
+use Rattle.office_rows.proofs.WriteLemmas.{rows_of, passes, answer_in_order}
+
+-- ---- lists
+
+within : {A C : Type 0} (h : A → C) (l : List A) (k : ℕ) (d : C) (z : A) → k < length l → slice_index_or (map h l) k d ≡ h (slice_index_or l k z)
+within h [] k d z p = absurd (omega arith)
+within h (x ∷ l) zero d z p = refl
+within h (x ∷ l) (suc k) d z p = within h l k d z (omega arith)
+
+pub map_swap : {A B : Type 0} (f : A → B) (l : List A) (i j : ℕ) → i < length l → j < length l → map f (swap l i j) ≡ swap (map f l) i j
+map_swap f [] i j p q = refl
+map_swap f (d ∷ ys) i j p q =
+    let l = d ∷ ys in
+    let a = slice_index_or l j d in
+    let b = slice_index_or l i d in
+    map-set f (set l i a) j b ∙ ap (λ m. set m j (f b)) (map-set f l i a) ∙ rw (← within f l j (f d) d q, ← within f l i (f d) d p) refl
+
+-- a permutation of what a function gives is given by a permutation
+pub unmapped : {A B : Type 0} (f : A → B) (xs : List A) (ys : List B) → IsPermutation (map f xs) ys → (zs : List A) × IsPermutation xs zs × (ys ≡ map f zs)
+unmapped {A} {B} f xs ys same =
+    IsPermutation-keeps (map f xs) (λ l. (zs : List A) × IsPermutation xs zs × (l ≡ map f zs)) (xs, IsPermutation-refl xs, refl)
+    (λ l i j p q h.
+    let long : length l ≡ length h.0 = ap length h.2 ∙ length-map h.0 f in
+    let a : i < length h.0 = omega arith in
+    let b : j < length h.0 = omega arith in
+    (swap h.0 i j, IsPermutation-trans _ _ _ h.1 (IsPermutation-swap h.0 (swap h.0 i j) i j a b refl), ap (λ m. swap m i j) h.2 ∙ sym (map_swap f h.0 i j a b))) ys same
+
+-- lists that a function gives each are sorted alike where their elements compare alike
+pub sorted_as : {A B C : Type 0} (f : A → B) (h : A → C) (lt : B → B → Bool) (less : C → C → Bool) → ((x y : A) → less (h x) (h y) ≡ lt (f x) (f y)) → (l : List A) → IsSortedBy lt (map f l) → IsSortedBy less (map h l)
+sorted_as f h lt less alike [] sorted = λ k d low high. absurd (omega arith)
+sorted_as f h lt less alike (z ∷ zs) sorted = λ k d low high.
+    let l = z ∷ zs in
+    let n : length (map h l) ≡ length l = length-map l h in
+    let m : length (map f l) ≡ length l = length-map l f in
+    let more : k + 1 < length l = omega arith in
+    let this : k < length l = omega arith in
+    let there : k + 1 < length (map f l) = omega arith in
+    let before = rw (within f l (k + 1) (f z) z more, within f l k (f z) z this) at (sorted k (f z) low there) in
+    rw (within h l (k + 1) d z more, within h l k d z this, alike (slice_index_or l (k + 1) z) (slice_index_or l k z)) before
+
+-- ---- queries
+
+module _ (old new : State) (has : old.now.schema ≡ office_schema) (answer : List Row) where
+  lists : (table : Table) (sql : List ℕ) (shown : List Term) (order : List (Term × Key)) (names : List (List ℕ)) (columns key : List ℕ)
+      → (command_of (understood office_schema sql) ≡ Select (record { lets = []; body = record (rows_of table.tree [] shown) { order = order } }) names) × (reads_listing office_schema sql ≡ false)
+      → IsPlain (understood office_schema sql) → ((trees : Trees) → overlay trees [] table.tree ≡ trees table.tree)
+      → ((r : Row) → eval_all shown ([] ∷ r ∷ []) ≡ columns_at columns (columns_of table r))
+      → ((r : Row) → eval_all (map (λ (k : Term × Key). k.0) order) ([] ∷ r ∷ []) ≡ columns_at key (columns_of table r))
+      → map (λ (k : Term × Key). k.1) order ≡ map (λ (n : ℕ). ascending Binary) key
+      → Shown sql [] old new answer → ShowsTable table columns key old.now answer
+  lists table sql shown order names columns key is plain seen shows keys ascends h =
+      let q = record (rows_of table.tree [] shown) { order = order } in
+      let read = reads_as sql [] old new office_schema has (Select (record { lets = []; body = q }) names) is.0 plain is.1 answer h in
+      let stored = old.now.trees table.tree in
+      let keyed : Row → Output = λ r. (eval_all (map (λ (k : Term × Key). k.0) order) ([] ∷ r ∷ []), eval_all shown ([] ∷ r ∷ [])) in
+      let given = answer_in_order [] [] table.tree shown order old.now.trees answer (seen old.now.trees) (read.answer Null) in
+      let all : filter (passes [] []) stored ≡ stored = filter_all _ stored (all_of _ (λ r. refl) stored) in
+      let placed = unmapped keyed stored (read.answer Null).ordered (subst (λ l. IsPermutation (map keyed l) (read.answer Null).ordered) all given.0) in
+      let compare = key_cmp 0 (map (λ (k : Term × Key). k.1) order) in
+      let lt : Output → Output → Bool = λ x y. is_lt (compare x.0 y.0) in
+      let less : Row → Row → Bool = λ x y. is_lt (key_cmp 0 (map (λ (n : ℕ). ascending Binary) key) (columns_at key x) (columns_at key y)) in
+      let alike : (x y : Row) → less (columns_of table x) (columns_of table y) ≡ lt (keyed x) (keyed y) = λ x y. rw (← keys x, ← keys y, ← ascends) refl in
+      let sorted : IsSortedBy lt (map keyed placed.0) = subst (IsSortedBy lt) placed.2 given.1 in
+      record {
+        by_key = map (columns_of table) placed.0;
+        same = IsPermutation-map (columns_of table) _ _ placed.1;
+        ordered = sorted_as keyed (columns_of table) lt less alike placed.0 sorted;
+        is = given.2 ∙ ap (map (λ (o : Output). o.1)) placed.2 ∙ map-map (λ (o : Output). o.1) keyed placed.0 ∙ (λ i. map (λ r. shows r i) placed.0) ∙ sym (map-map (columns_at columns) (columns_of table) placed.0);
+      }
+
+  pub lists_partner : Shown texts.select_partner [] old new answer → ShowsTable partner (0 ∷ 1 ∷ 2 ∷ 3 ∷ []) (0 ∷ []) old.now answer
+  lists_partner h = lists partner texts.select_partner texts.select_partner_shown texts.select_partner_order texts.select_partner_names (0 ∷ 1 ∷ 2 ∷ 3 ∷ []) (0 ∷ []) texts.select_partner_is texts.select_partner_plain (λ trees. refl) (λ r. refl) (λ r. refl) refl h
+
+  pub lists_interchange : Shown texts.select_interchange [] old new answer → ShowsTable interchange (0 ∷ 1 ∷ 3 ∷ []) (0 ∷ 1 ∷ []) old.now answer
+  lists_interchange h = lists interchange texts.select_interchange texts.select_interchange_shown texts.select_interchange_order texts.select_interchange_names (0 ∷ 1 ∷ 3 ∷ []) (0 ∷ 1 ∷ []) texts.select_interchange_is texts.select_interchange_plain (λ trees. refl) (λ r. refl) (λ r. refl) refl h
+
+  pub lists_visit : Shown texts.select_visit [] old new answer → ShowsTable visit (0 ∷ 1 ∷ 2 ∷ 3 ∷ 4 ∷ 5 ∷ 6 ∷ 7 ∷ 8 ∷ 9 ∷ 10 ∷ 11 ∷ 12 ∷ 13 ∷ []) (0 ∷ []) old.now answer
+  lists_visit h = lists visit texts.select_visit texts.select_visit_shown texts.select_visit_order texts.select_visit_names (0 ∷ 1 ∷ 2 ∷ 3 ∷ 4 ∷ 5 ∷ 6 ∷ 7 ∷ 8 ∷ 9 ∷ 10 ∷ 11 ∷ 12 ∷ 13 ∷ []) (0 ∷ []) texts.select_visit_is texts.select_visit_plain (λ trees. refl) (λ r. refl) (λ r. refl) refl h
+
+  pub lists_place : Shown texts.select_place [] old new answer → ShowsTable place (0 ∷ 1 ∷ 2 ∷ []) (0 ∷ []) old.now answer
+  lists_place h = lists place texts.select_place texts.select_place_shown texts.select_place_order texts.select_place_names (0 ∷ 1 ∷ 2 ∷ []) (0 ∷ []) texts.select_place_is texts.select_place_plain (λ trees. refl) (λ r. refl) (λ r. refl) refl h
+
+  pub lists_listed : Shown texts.select_listed [] old new answer → ShowsTable listed (0 ∷ 1 ∷ 2 ∷ 3 ∷ 4 ∷ 5 ∷ []) (0 ∷ 1 ∷ 2 ∷ 3 ∷ []) old.now answer
+  lists_listed h = lists listed texts.select_listed texts.select_listed_shown texts.select_listed_order texts.select_listed_names (0 ∷ 1 ∷ 2 ∷ 3 ∷ 4 ∷ 5 ∷ []) (0 ∷ 1 ∷ 2 ∷ 3 ∷ []) texts.select_listed_is texts.select_listed_plain (λ trees. refl) (λ r. refl) (λ r. refl) refl h
+
+  pub lists_setting : Shown texts.select_setting [] old new answer → ShowsTable setting (0 ∷ 1 ∷ []) (0 ∷ []) old.now answer
+  lists_setting h = lists setting texts.select_setting texts.select_setting_shown texts.select_setting_order texts.select_setting_names (0 ∷ 1 ∷ []) (0 ∷ []) texts.select_setting_is texts.select_setting_plain (λ trees. refl) (λ r. refl) (λ r. refl) refl h
+
+  pub lists_block : Shown texts.select_block [] old new answer → ShowsTable block (0 ∷ 1 ∷ 2 ∷ 3 ∷ []) (0 ∷ []) old.now answer
+  lists_block h = lists block texts.select_block texts.select_block_shown texts.select_block_order texts.select_block_names (0 ∷ 1 ∷ 2 ∷ 3 ∷ []) (0 ∷ []) texts.select_block_is texts.select_block_plain (λ trees. refl) (λ r. refl) (λ r. refl) refl h

@@ -1,0 +1,63 @@
+use Rattle.std.proofs.Common.{[], sym, subst}
+use Rattle.sqlite.specs.Order.{Row}
+use Rattle.sqlite.specs.Listing.{understood}
+use Rattle.sqlite.specs.Held.{state}
+use Rattle.sqlite.specs.State.{Shown, CommitsShowing, Survives}
+use Rattle.sqlite.proofs.Callers.{IsPlain}
+use Rattle.office_rows.proofs.Reading as texts
+use Rattle.office_rows.proofs.ReadLemmas.{shown_same, shown_keeps, failed_keeps, query_survives}
+use Rattle.office_rows.proofs.Listed.{lists_partner}
+use Rattle.office_tables.proofs.selecting.select_partner.Goals as goal
+
+pub returns-in_err-query_all-clause-keeps : goal.returns-in_err-query_all-clause-keeps
+returns-in_err-query_all-clause-keeps g c clean is =
+    let old = state g.S.Store c.args.conn.now in
+    let new = state g.S.Store c.query_all.new.self in
+    let params : Row = [] in
+    let plain : IsPlain (understood old.now.schema texts.select_partner) = subst (λ s. IsPlain (understood s texts.select_partner)) (sym is) texts.select_partner_plain in
+    let h = c.in_err-query_all.ensures.err clean in
+    failed_keeps texts.select_partner params old new _ plain h
+
+pub returns-in_err-query_all-clause-survives : goal.returns-in_err-query_all-clause-survives
+returns-in_err-query_all-clause-survives g c is =
+    let old = state g.S.Store c.args.conn.now in
+    let new = state g.S.Store c.query_all.new.self in
+    let params : Row = [] in
+    let plain : IsPlain (understood old.now.schema texts.select_partner) = subst (λ s. IsPlain (understood s texts.select_partner)) (sym is) texts.select_partner_plain in
+    let h : Survives old new (CommitsShowing texts.select_partner params old) = c.query_all.ensures.survives in
+    query_survives texts.select_partner params old new plain h
+
+pub returns-clause-survives : goal.returns-clause-survives
+returns-clause-survives g c is =
+    let old = state g.S.Store c.args.conn.now in
+    let new = state g.S.Store c.query_all.new.self in
+    let params : Row = [] in
+    let plain : IsPlain (understood old.now.schema texts.select_partner) = subst (λ s. IsPlain (understood s texts.select_partner)) (sym is) texts.select_partner_plain in
+    let h : Survives old new (CommitsShowing texts.select_partner params old) = c.query_all.ensures.survives in
+    query_survives texts.select_partner params old new plain h
+
+pub returns-clause-shown : goal.returns-clause-shown
+returns-clause-shown g c clean is =
+    let old = state g.S.Store c.args.conn.now in
+    let new = state g.S.Store c.query_all.new.self in
+    let params : Row = [] in
+    let h : Shown texts.select_partner params old new c.in_ok-query_all.field-0.items = c.in_ok-query_all.ensures.ok clean in
+    lists_partner old new is c.in_ok-query_all.field-0.items h
+
+pub returns-clause-same : goal.returns-clause-same
+returns-clause-same g c clean is =
+    let old = state g.S.Store c.args.conn.now in
+    let new = state g.S.Store c.query_all.new.self in
+    let params : Row = [] in
+    let plain : IsPlain (understood old.now.schema texts.select_partner) = subst (λ s. IsPlain (understood s texts.select_partner)) (sym is) texts.select_partner_plain in
+    let h : Shown texts.select_partner params old new c.in_ok-query_all.field-0.items = c.in_ok-query_all.ensures.ok clean in
+    shown_same texts.select_partner params old new c.in_ok-query_all.field-0.items plain h
+
+pub returns-clause-keeps : goal.returns-clause-keeps
+returns-clause-keeps g c clean is =
+    let old = state g.S.Store c.args.conn.now in
+    let new = state g.S.Store c.query_all.new.self in
+    let params : Row = [] in
+    let plain : IsPlain (understood old.now.schema texts.select_partner) = subst (λ s. IsPlain (understood s texts.select_partner)) (sym is) texts.select_partner_plain in
+    let h : Shown texts.select_partner params old new c.in_ok-query_all.field-0.items = c.in_ok-query_all.ensures.ok clean in
+    shown_keeps texts.select_partner params old new c.in_ok-query_all.field-0.items plain h
