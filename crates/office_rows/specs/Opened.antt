@@ -1,5 +1,5 @@
 -- The rows of all tables as the queries of all rows show them.
-use Rattle.std.specs.Prelude.{◌≡◌, ℕ, not, Bool, List, [], ◌∷◌, map, is_empty}
+use Rattle.std.specs.Prelude.{◌≡◌, ℕ, ◌==◌, not, Bool, List, [], ◌∷◌, length, map}
 use Rattle.sqlite.specs.declared.types.Value.TheVariants.{Text}
 use Rattle.sqlite.specs.Order.{Row}
 use Rattle.sqlite.specs.Effect.{Database}
@@ -17,7 +17,7 @@ pub record Numbered : Type 0 where
   pub is_taken : Bool
 
 abbrev pub numbered : Interchange → Numbered
-numbered i = record { partner = i.partner; number = i.number; is_taken = not (is_empty i.reply) }
+numbered i = record { partner = i.partner; number = i.number; is_taken = not (length i.reply == 0) }
 
 -- the columns of an interchange without its body
 abbrev pub reply_values : Interchange → Row
