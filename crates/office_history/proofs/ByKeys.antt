@@ -312,7 +312,7 @@ many_mapped p f same [] = refl
 many_mapped p f same (x ∷ xs) =
     many_first p (f x) (map f xs) (p x) (same x) ∙ ap (λ n. cond (p x) 1 0 + n) (many_mapped p f same xs) ∙ sym (many_first p x xs (p x) refl)
 
-count_mapped : {A : Type 0} (p : A → Bool) (f : A → A) → ((x : A) → p (f x) ≡ p x) → (xs : List A) → count_by p (map f xs) ≡ count_by p xs
+pub count_mapped : {A : Type 0} (p : A → Bool) (f : A → A) → ((x : A) → p (f x) ≡ p x) → (xs : List A) → count_by p (map f xs) ≡ count_by p xs
 count_mapped p f same xs = sym (length-filter p (map f xs)) ∙ many_mapped p f same xs ∙ length-filter p xs
 
 left_one : {A : Type 0} (p : A → Bool) (x : A) (xs all : List A) (b : Bool) → many p xs ≤ many p all → many p (cond b (x ∷ xs) xs) ≤ cond (p x) 1 0 + many p all
@@ -357,6 +357,14 @@ no_line call side container (line ∷ lines) e =
     let first : many (is_line call side container) (line ∷ lines) ≡ 0 + many (is_line call side container) lines = many_first (is_line call side container) line lines false is.0 in
     let rest = no_line call side container lines is.1 in
     omega arith
+
+pub find_mapped : {A : Type 0} (p : A → Bool) (f : A → A) → ((x : A) → p (f x) ≡ p x) → (xs : List A) → find p (map f xs) ≡ option_map f (find p xs)
+find_mapped p f same [] = refl
+find_mapped p f same (x ∷ xs) = ap (λ b. cond b (Some (f x)) (find p (map f xs))) (same x) ∙ ap (cond (p x) (Some (f x))) (find_mapped p f same xs) ∙ out (p x) f x (find p xs)
+  where
+    out : {A : Type 0} (b : Bool) (f : A → A) (x : A) (o : Option A) → cond b (Some (f x)) (option_map f o) ≡ option_map f (cond b (Some x) o)
+    out true f x o = refl
+    out false f x o = refl
 
 -- ---- a change
 

@@ -1,1 +1,2 @@
 pub mod ByKeys
+pub mod Runs
