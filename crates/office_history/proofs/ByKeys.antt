@@ -295,7 +295,7 @@ many_first : {A : Type 0} (p : A → Bool) (x : A) (xs : List A) (is : Bool) →
 many_first p x xs true e = ap (λ b. length (cond b (x ∷ filter p xs) (filter p xs))) e ∙ omega arith
 many_first p x xs false e = ap (λ b. length (cond b (x ∷ filter p xs) (filter p xs))) e ∙ omega arith
 
-once_more : {A : Type 0} (p : A → Bool) (xs : List A) (x : A) (is : Bool) → p x ≡ is → count_by p xs ≤ 1 → (is ≡ true → many p xs ≡ 0) → count_by p (xs ++ x ∷ []) ≤ 1
+pub once_more : {A : Type 0} (p : A → Bool) (xs : List A) (x : A) (is : Bool) → p x ≡ is → count_by p xs ≤ 1 → (is ≡ true → many p xs ≡ 0) → count_by p (xs ++ x ∷ []) ≤ 1
 once_more p xs x true e few none =
     let zero_ : many p xs ≡ 0 = none refl in
     let one : many p (x ∷ []) ≡ 1 = many_first p x [] true e in
@@ -357,6 +357,18 @@ no_line call side container (line ∷ lines) e =
     let first : many (is_line call side container) (line ∷ lines) ≡ 0 + many (is_line call side container) lines = many_first (is_line call side container) line lines false is.0 in
     let rest = no_line call side container lines is.1 in
     omega arith
+
+pub none_found : {A : Type 0} (p : A → Bool) (xs : List A) → find p xs ≡ None → length (filter p xs) ≡ 0
+none_found p [] e = refl
+none_found p (x ∷ xs) e =
+    let is = unfound (p x) x (find p xs) e in
+    let first : many p (x ∷ xs) ≡ 0 + many p xs = many_first p x xs false is.0 in
+    let rest = none_found p xs is.1 in
+    omega arith
+  where
+    unfound : {A : Type 0} (b : Bool) (x : A) (o : Option A) → cond b (Some x) o ≡ None → (b ≡ false) × (o ≡ None)
+    unfound true x o e = cc
+    unfound false x o e = (refl, e)
 
 pub find_mapped : {A : Type 0} (p : A → Bool) (f : A → A) → ((x : A) → p (f x) ≡ p x) → (xs : List A) → find p (map f xs) ≡ option_map f (find p xs)
 find_mapped p f same [] = refl

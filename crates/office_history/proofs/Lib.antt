@@ -1,2 +1,3 @@
 pub mod ByKeys
 pub mod Runs
+pub mod Afters
