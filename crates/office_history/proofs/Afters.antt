@@ -1,7 +1,7 @@
 -- The rows after one delivery more.
-use Rattle.std.proofs.Common.{◌≡◌, ◌≢◌, ℕ, zero, suc, ◌+◌, ◌<◌, ◌≤◌, inl, inr, List, [], ◌∷◌, ◌++◌, length, map, Bool, true, false, cond, Option, None, Some, is_some, Result, Ok, Err, refl, sym, ap, subst, ◌∙◌, arith}
+use Rattle.std.proofs.Common.{◌≡◌, ◌≢◌, ℕ, zero, suc, ◌+◌, ◌-◌, ◌<◌, ◌≤◌, inl, inr, List, [], ◌∷◌, ◌++◌, length, map, Bool, true, false, cond, Option, None, Some, is_some, Result, Ok, Err, refl, sym, ap, subst, ◌∙◌, arith}
 use Rattle.std.specs.Prelude.{find, ◌&&◌, ◌==◌, count_by, if◌then◌else◌}
-use Rattle.std.specs.Option.{option_map, option_and_then, option_or}
+use Rattle.std.specs.Option.{option_map, option_and_then, option_or, unwrap_or}
 use Rattle.std.specs.FinMap as finite_map
 use Rattle.std.proofs.lemmas.Bool.{eq-eqb, eqb-true, eqb-false, ne_eqb, cond-true, cond-false, and_left, and_right, cases_eq}
 use Rattle.std.proofs.lemmas.List.{append-nil, length-map}
@@ -11,12 +11,12 @@ use Rattle.edi_segments.specs.declared.syntax_fault.SyntaxFault.{SyntaxFault}
 use Rattle.edi_syntax.specs.Envelope.{header_of}
 use Rattle.edi_syntax.specs.Faults.{fault_of}
 use Rattle.partner_core.specs.Deliveries.{Delivery, delivery, first_text, is_under, run}
-use Rattle.partner_core.specs.Order.{state, reply_of}
+use Rattle.partner_core.specs.Order.{state, reply_of, numbers_above, numbers_between, reply_among}
 use Rattle.partner_core.specs.Answers.{answer_of, answer_by}
 use Rattle.partner_core.specs.Standings.{standing_of, standing_at}
 use Rattle.partner_core.specs.declared.standing.Standing.TheVariants.{Known, Other, Early, Next}
 use Rattle.partner_core.specs.Keeping.{Holdings, Keeps, KeepsAll, KeepsText, TakesRun}
-use Rattle.partner_core.specs.Cascade.{TakesTexts}
+use Rattle.partner_core.specs.Cascade.{TakesTexts, for_each_partner}
 use Rattle.partner_core.specs.Growth.{AddsNothing}
 use Rattle.partner_core.proofs.Cascades.{takes_none}
 use Rattle.partner_core.proofs.Firsts.{none_of}
@@ -312,6 +312,39 @@ module _ (content : SetupContent) (D : List Delivery) (p k : ℕ) (text : List �
     machine = keeps.state_is;
     ends = ap (λ n. n + 1) (sym (keeps.runs p) ∙ counts_here) ∙ omega (arith, is_next);
   }
+
+-- the reply to the first of the run
+pub first_reply : (content : SetupContent) (D : List Delivery) (p k : ℕ) (text : List ℕ) (rows : Rows) (first : TakenContent) (later : List TakenContent) (machine' : MachineState)
+    → IsGiven content → (are : AreAfterThese content D rows) → (free : text_in rows p k ≡ None) → (is_next : k ≡ run D p + 1)
+    → (from : AreTakenFrom p (texts_with rows p k text) k (state interchange_taken (opening_of content) D) (first ∷ later) machine')
+    → reply_of interchange_taken (opening_of content) (D ++ delivery p k text ∷ []) p k ≡ Some first.reply
+first_reply content D p k text rows first later machine' given are free is_next from =
+    let taken : List TakenContent = first ∷ later in
+    let machine = state interchange_taken (opening_of content) D in
+    let texts = texts_with rows p k text in
+    let whole = leaves content D p k text rows taken machine' given are free is_next from in
+    let kept_all = keeps content D p k text rows taken machine' given are free is_next from in
+    let low = run D p in
+    let here : (p == p) && (low + 1 == k) ≡ true = ap (λ b. b && (low + 1 == k)) (eq-eqb p p refl) ∙ eq-eqb (low + 1) k (sym is_next) in
+    let many : low + length taken - low ≡ suc (length later) = omega arith in
+    let own : texts k ≡ Some text = cond-true (k == k) (Some text) (text_in rows p k) (eq-eqb k k refl) in
+    let given_text : text ≡ from.0 = same_some text from.0 (sym own ∙ from.1) in
+    let among : reply_among interchange_taken (for_each_partner texts) (numbers_between p low (low + length taken)) machine p k ≡ Some first.reply =
+    ap (λ n. reply_among interchange_taken (for_each_partner texts) (numbers_above p low n) machine p k) many
+    ∙ cond-true ((p == p) && (low + 1 == k)) (Some (interchange_taken machine p (for_each_partner texts p (low + 1))).1)
+    (reply_among interchange_taken (for_each_partner texts) (numbers_above p (low + 1) (length later)) (interchange_taken machine p (for_each_partner texts p (low + 1))).0 p k) here
+    ∙ ap (λ n. Some (interchange_taken machine p (unwrap_or (texts n) [])).1) (sym is_next)
+    ∙ ap (λ o. Some (interchange_taken machine p (unwrap_or o [])).1) own
+    ∙ ap (λ t. Some (interchange_taken machine p t).1) given_text
+    ∙ ap Some (sym from.3) in
+    let none : reply_in (with_kept p k text rows) p k ≡ None = reply_with rows p k text p k ∙ unreplied content D rows p k are (omega (arith, is_next)) in
+    sym (kept_all.replies_are p k)
+    ∙ whole.takes.replies_are k
+    ∙ ap (λ o. option_or o (reply_among interchange_taken (for_each_partner texts) (numbers_between p low (low + length taken)) machine p k)) none
+    ∙ among
+  where
+    same_some : (a b : List ℕ) → Some a ≡ Some b → a ≡ b
+    same_some a b e = cc
 
 -- ---- answers
 

@@ -1,3 +1,4 @@
 pub mod ByKeys
 pub mod Runs
 pub mod Afters
+pub mod Telling
