@@ -176,7 +176,7 @@ once_with rows p k text free once q j =
     once_more (is_pair q j) rows.interchanges (waiting p k text) ((p == q) && (k == j)) refl (once q j)
     (λ e. let is = pair_is p k q j e in none_found (is_pair q j) rows.interchanges (ap (λ r. find (is_pair r j) rows.interchanges) is.0 ∙ ap (λ r. find (is_pair p r) rows.interchanges) is.1 ∙ none_many (find (is_pair p k) rows.interchanges) free))
 
-early_keeps : (content : SetupContent) (D : List Delivery) (p k : ℕ) (text : List ℕ) (rows : Rows) → AreAfterThese content D rows → text_in rows p k ≡ None → run D p + 1 < k
+pub early_keeps : (content : SetupContent) (D : List Delivery) (p k : ℕ) (text : List ℕ) (rows : Rows) → AreAfterThese content D rows → text_in rows p k ≡ None → run D p + 1 < k
     → AreAfterThese content (D ++ delivery p k text ∷ []) (with_kept p k text rows)
 early_keeps content D p k text rows are free early =
     let d = delivery p k text in

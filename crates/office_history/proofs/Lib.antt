@@ -2,3 +2,4 @@ pub mod ByKeys
 pub mod Runs
 pub mod Afters
 pub mod Telling
+pub mod Lawful

@@ -1,6 +1,6 @@
 -- What the rows tell: of the numbers, and of the next answer.
 use Rattle.std.proofs.Common.{◌≡◌, ℕ, zero, suc, ◌+◌, ◌<◌, ◌≤◌, List, [], ◌∷◌, ◌++◌, length, map, Bool, true, false, cond, Option, None, Some, is_some, Result, Ok, Err, refl, sym, ap, subst, ◌∙◌, arith}
-use Rattle.std.specs.Prelude.{◌==◌, ◌&&◌, slice_get, Contains, nat_lt}
+use Rattle.std.specs.Prelude.{◌==◌, ◌&&◌, slice_index_or, Contains, nat_lt}
 use Rattle.std.specs.Option.{option_map}
 use Rattle.std.specs.Str.{bytes_eq}
 use Rattle.std.specs.Cmp.Lexicographic.{bytes_decides}
@@ -112,10 +112,17 @@ text_within content ds rows p k t are e =
 
 -- ---- accounts
 
-pub next_in : (id : ℕ) (f : ℕ → ℕ) (accounts : List (List ℕ × PartnerKind)) (account : Partner) (i : ℕ) → slice_get (accounts_from id f accounts) i ≡ Some account → account.next ≡ f account.id
-next_in id f [] account i e = cc
-next_in id f (a ∷ accounts) account zero e = let same : (record { id = id; code = a.0; kind = a.1; next = f id }) ≡ account = cc in ap (λ (p : Partner). p.next) (sym same) ∙ ap (λ (p : Partner). f p.id) same
-next_in id f (a ∷ accounts) account (suc i) e = next_in (id + 1) f accounts account i e
+next_in : (id : ℕ) (f : ℕ → ℕ) (accounts : List (List ℕ × PartnerKind)) (account : Partner) (i : ℕ) → i < length (accounts_from id f accounts) → slice_index_or (accounts_from id f accounts) i account ≡ account
+    → account.next ≡ f account.id
+next_in id f [] account i low e = absurd (omega arith)
+next_in id f (a ∷ accounts) account zero low e = ap (λ (p : Partner). p.next) (sym e) ∙ ap (λ (p : Partner). f p.id) e
+next_in id f (a ∷ accounts) account (suc i) low e = next_in (id + 1) f accounts account i (omega arith) e
+
+pub next_follows : (content : SetupContent) (ds : List (List ℕ)) (rows : Rows) (account : Partner) → AreAfter content ds rows → Contains rows.partners account → account.next ≡ run (delivered_to content ds) account.id + 1
+next_follows content ds rows account are there =
+    let f : ℕ → ℕ = λ p. run (delivered_to content ds) p + 1 in
+    let here : Contains (accounts_from 1 f content.partners) account = subst (λ l. Contains l account) are.partners there in
+    next_in 1 f content.partners account here.0 here.1 here.2
 
 -- ---- answers
 
