@@ -3,3 +3,4 @@ pub mod Runs
 pub mod Afters
 pub mod Telling
 pub mod Lawful
+pub mod Ground
