@@ -84,16 +84,26 @@ pub record AreAfterThese (content : SetupContent) (D : List Delivery) (rows : Ro
 
 pub these : (content : SetupContent) (ds : List (List ℕ)) (rows : Rows) → AreAfter content ds rows → AreAfterThese content (delivered_to content ds) rows
 these content ds rows are = record {
-  partners = are.partners; texts = are.texts; replies = are.replies; kept_once = are.kept_once;
+  partners = are.partners;
+  texts = are.texts;
+  replies = are.replies;
+  kept_once = are.kept_once;
   by_key = record { same = are.terminal; placed_once = are.placed_once; listed_once = are.listed_once };
-  settings = are.settings; blocks = are.blocks;
+  settings = are.settings;
+  blocks = are.blocks;
 }
 
 pub those : (content : SetupContent) (ds : List (List ℕ)) (rows : Rows) → AreAfterThese content (delivered_to content ds) rows → AreAfter content ds rows
 those content ds rows are = record {
-  partners = are.partners; texts = are.texts; replies = are.replies; kept_once = are.kept_once;
-  terminal = are.by_key.same; placed_once = are.by_key.placed_once; listed_once = are.by_key.listed_once;
-  settings = are.settings; blocks = are.blocks;
+  partners = are.partners;
+  texts = are.texts;
+  replies = are.replies;
+  kept_once = are.kept_once;
+  terminal = are.by_key.same;
+  placed_once = are.by_key.placed_once;
+  listed_once = are.by_key.listed_once;
+  settings = are.settings;
+  blocks = are.blocks;
 }
 
 abbrev held : SetupContent → List Delivery → Rows → Holdings MachineState
@@ -153,6 +163,7 @@ pair_is p k q j e = (sym (eqb-true p q (left (p == q) (k == j) e)), sym (eqb-tru
     left : (a b : Bool) → (a && b) ≡ true → a ≡ true
     left true b e = refl
     left false b e = cc
+
     right : (a b : Bool) → (a && b) ≡ true → b ≡ true
     right true b e = e
     right false b e = cc

@@ -159,22 +159,22 @@ removed_by container places i q = removed_at container q places i
 
 -- ---- lines
 
-abbrev order : LineKey → LineKey → Ordering
+abbrev pub order : LineKey → LineKey → Ordering
 order = slice_cmp (slice_cmp nat_cmp)
 
-keys_total : IsTotalOrder order
+pub keys_total : IsTotalOrder order
 keys_total = lists_total nat_list_cmp_total
 
-keys_apart : finite_map.IsAntisymmetric order
+pub keys_apart : finite_map.IsAntisymmetric order
 keys_apart = finite_map.slice_cmp-IsAntisymmetric (finite_map.slice_cmp-IsAntisymmetric finite_map.nat_cmp-IsAntisymmetric)
 
-abbrev key_of : ListingContent → LineKey
+abbrev pub key_of : ListingContent → LineKey
 key_of line = line_key line.call line.side line.container
 
-abbrev said : ListingContent → LineContent
+abbrev pub said : ListingContent → LineContent
 said line = record { port = line.port; state = line.state }
 
-abbrev finds : LineKey → List ListingContent → Option LineContent
+abbrev pub finds : LineKey → List ListingContent → Option LineContent
 finds q lines = finite_map.find order q (map line_entry lines)
 
 is_equal : (r : Ordering) → is_eq r ≡ true → r ≡ Equal
@@ -182,7 +182,7 @@ is_equal Less e = cc
 is_equal Equal e = refl
 is_equal Greater e = cc
 
-same_key : (j k : LineKey) → eq_by_cmp order j k ≡ true → j ≡ k
+pub same_key : (j k : LineKey) → eq_by_cmp order j k ≡ true → j ≡ k
 same_key j k e = keys_apart j k (is_equal (order j k) e)
 
 both : (a b : Ordering) → is_eq (ordering_then a b) ≡ (is_eq a && is_eq b)
@@ -204,7 +204,7 @@ turned : (a b : List ℕ) → is_eq (slice_cmp nat_cmp a b) ≡ bytes_eq b a
 turned a b = (eq_by_cmp_equiv nat_list_cmp_total).symm a b ∙ sym (texts_ties b a)
 
 -- the line is that of the key
-line_tied : (call : CallContent) (side : Side) (container : BoxNumber) (line : ListingContent) → eq_by_cmp order (line_key call side container) (key_of line) ≡ is_line call side container line
+pub line_tied : (call : CallContent) (side : Side) (container : BoxNumber) (line : ListingContent) → eq_by_cmp order (line_key call side container) (key_of line) ≡ is_line call side container line
 line_tied call side container line =
     let vessel : Ordering = slice_cmp nat_cmp call.vessel line.call.vessel in
     let voyage : Ordering = slice_cmp nat_cmp call.voyage line.call.voyage in
@@ -353,7 +353,7 @@ no_line : (call : CallContent) (side : Side) (container : BoxNumber) (lines : Li
 no_line call side container [] e = refl
 no_line call side container (line ∷ lines) e =
     let is = lined (is_line call side container line) (said line) (finds (line_key call side container) lines)
-        (sym (ap (λ b. cond b (Some (said line)) (finds (line_key call side container) lines)) (line_tied call side container line)) ∙ e) in
+    (sym (ap (λ b. cond b (Some (said line)) (finds (line_key call side container) lines)) (line_tied call side container line)) ∙ e) in
     let first : many (is_line call side container) (line ∷ lines) ≡ 0 + many (is_line call side container) lines = many_first (is_line call side container) line lines false is.0 in
     let rest = no_line call side container lines is.1 in
     omega arith

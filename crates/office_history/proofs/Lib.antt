@@ -4,3 +4,5 @@ pub mod Afters
 pub mod Telling
 pub mod Lawful
 pub mod Ground
+pub mod Shown
+pub mod Loads

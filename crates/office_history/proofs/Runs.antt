@@ -85,6 +85,7 @@ pair_of p n i e = (eqb-true i.partner p (and_true_left (i.partner == p) (i.numbe
     and_true_left : (a b : Bool) → (a && b) ≡ true → a ≡ true
     and_true_left true b e = refl
     and_true_left false b e = cc
+
     and_true_right : (a b : Bool) → (a && b) ≡ true → b ≡ true
     and_true_right true b e = e
     and_true_right false b e = cc
@@ -257,10 +258,10 @@ run_leaves (t ∷ taken) p texts count last replies first machine machine' accou
     let takes1 = takes_one_more interchange_taken p texts count last replies (reply_in rows p) (reply_in rows1 p) first machine text takes there (free (last + 1) (omega arith)) replies1 in
     let next1 : ℕ → ℕ = λ q. if q == p then t.number + 1 else next q in
     let rest = run_leaves taken p texts count (last + 1) replies first machine1 machine' accounts next1 rows1 takes1 from.5 (interchange_leads machine p text whole).whole one.by_key one.once
-        (λ k. one.texts p k ∙ same k)
-        (λ k later. replies1 k ∙ cond-false (last + 1 == k) (Some (interchange_taken machine p text).1) (reply_in rows p k) (ne_eqb (last + 1) k (λ e. absurd (omega arith))) ∙ free k (omega arith))
-        (one.partners ∙ ap (map (λ (a : Partner). cond (a.id == p) (record a { next = t.number + 1 }) a)) partners ∙ with_next_from 1 p (t.number + 1) next accounts)
-        (cond-true (p == p) (t.number + 1) (next p) (eq-eqb p p refl) ∙ ap (λ n. n + 1) number) in
+    (λ k. one.texts p k ∙ same k)
+    (λ k later. replies1 k ∙ cond-false (last + 1 == k) (Some (interchange_taken machine p text).1) (reply_in rows p k) (ne_eqb (last + 1) k (λ e. absurd (omega arith))) ∙ free k (omega arith))
+    (one.partners ∙ ap (map (λ (a : Partner). cond (a.id == p) (record a { next = t.number + 1 }) a)) partners ∙ with_next_from 1 p (t.number + 1) next accounts)
+    (cond-true (p == p) (t.number + 1) (next p) (eq-eqb p p refl) ∙ ap (λ n. n + 1) number) in
     let end : last + 1 + length taken ≡ last + length (t ∷ taken) = omega arith in
     subst (λ n. RunLeaves p texts count n replies first accounts next rows (with_interchanges p (t ∷ taken) rows) machine') end
     (record {

@@ -89,9 +89,11 @@ first_of P text (Ok place) later p k t is e rest = at ((place.0 == p) && (place.
     left : (a b : Bool) → (a && b) ≡ true → a ≡ true
     left true b e = refl
     left false b e = cc
+
     right : (a b : Bool) → (a && b) ≡ true → b ≡ true
     right true b e = e
     right false b e = cc
+
     at : (b : Bool) → ((place.0 == p) && (place.1 == k)) ≡ b → IsWithin (length P.partners) p k
     at true here =
         let own = within P text place.0 place.1 is in

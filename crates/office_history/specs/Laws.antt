@@ -7,7 +7,12 @@ use Rattle.terminal_core.specs.Rows.{ChangeContent}
 use Rattle.terminal_core.specs.Changes.{TerminalRows, all_changed, AreApplicable}
 use Rattle.office_admission.specs.Admission.{admission}
 use Rattle.office_replies.specs.declared.fault.Fault.{Fault}
+use Rattle.sqlite.specs.Effect.{Database}
+use Rattle.terminal_core.specs.State.{TerminalState}
 use Rattle.office_rows.specs.Rows.{Partner, Rows}
+use Rattle.office_rows.specs.Stored.{HasRows}
+use Rattle.office_rows.specs.Opened.{OpenedRows, Shows}
+use Rattle.office_rows.specs.Office.{IsOffice}
 use Rattle.office_rows.specs.Effects.{with_kept}
 use Rattle.office_rows.specs.Opening.{opening_rows}
 use Rattle.office_rows.specs.ByKey.{terminal_rows, ArePlacedOnce, AreListedOnce}
@@ -131,3 +136,12 @@ abbrev pub RowsAnswer : Type 0
 RowsAnswer =
     (content : SetupContent) (ds : List (List ℕ)) (rows : Rows) (delivered : List ℕ) (partner number : ℕ) → AreAfter content ds rows → IsFor content delivered partner number
     → AnswersBy content ds rows delivered partner number
+
+-- ---- opening again
+
+-- what the queries of all rows show gives the terminal back that the deliveries left
+abbrev pub LoadingGivesState : Type 0
+LoadingGivesState =
+    (content : SetupContent) (ds : List (List ℕ)) (rows : Rows) (db : Database) (shown : OpenedRows) (other : SetupContent) (state : TerminalState)
+    → IsGiven content → AreAfter content ds rows → HasRows rows db → Shows db shown → IsOffice shown other state
+    → state ≡ (machine_after content ds).terminal

@@ -2,7 +2,7 @@
 //! law: a call brings it into the caller's proof.
 
 ghost use Rattle.office_history.specs.Laws.{ChangesAgree, OpeningIsAfterNone, DeliveriesLeaveSound, NumbersAreWithin, NextFollowsRun};
-ghost use Rattle.office_history.specs.Laws.{RefusedAddsNoRow, UsedAddsNoRow, EarlyAddsWaiting, NextAddsRun, RowsAnswer};
+ghost use Rattle.office_history.specs.Laws.{RefusedAddsNoRow, UsedAddsNoRow, EarlyAddsWaiting, NextAddsRun, RowsAnswer, LoadingGivesState};
 
 /// Changes that find the rows that they need make of the tables' rows, by key, what they make of the terminal's.
 pub fn changes_agree()
@@ -52,4 +52,9 @@ pub fn next_adds_run()
 /// The rows tell how a delivery is answered.
 pub fn rows_answer()
     ensures { RowsAnswer }
+{}
+
+/// A store that is opened again, after whatever deliveries, gives the terminal that they left.
+pub fn loading_gives_state()
+    ensures { LoadingGivesState }
 {}
