@@ -19,6 +19,9 @@ use Rattle.box6346.specs.SlotName.{IsNamed, slot_of, slot_text}
 use Rattle.box6346.proofs.SlotNames.{names_are_read_again_lem}
 use Rattle.edi_moments.specs.Moments.{CivilMoment, is_moment, moment_of, moment_digits}
 use Rattle.edi_moments.proofs.DigitLemmas.{read_back}
+use Rattle.edi_messages.specs.declared.partner_kind.PartnerKind.{PartnerKind}
+use Rattle.edi_messages.specs.declared.partner_kind.PartnerKind.TheVariants.{Gate, Line, Quay, Yard}
+use Rattle.edi_messages.specs.Codes.{table_texts}
 use Rattle.yard_core.specs.declared.block.Block.{Block}
 use Rattle.yard_core.specs.declared.placement.Placement.{Placement}
 use Rattle.yard_core.specs.Plan.{AreApart}
@@ -30,7 +33,7 @@ use Rattle.terminal_core.specs.declared.side.Side.{Side}
 use Rattle.terminal_core.specs.declared.side.Side.TheVariants.{Load, Discharge}
 use Rattle.terminal_core.specs.declared.source.Source.{Source}
 use Rattle.terminal_core.specs.declared.way.Way.{Way}
-use Rattle.terminal_core.specs.declared.way.Way.TheVariants.{Gate, Ship}
+use Rattle.terminal_core.specs.declared.way.Way.TheVariants as way
 use Rattle.terminal_core.specs.Changes.{Standing, standing_in, standing_of, TerminalRows, rows_of}
 use Rattle.terminal_core.specs.Forms.{IsFormedVisit, IsFormedDeparture, IsFormedExit, IsWellFormed}
 use Rattle.terminal_core.specs.Rows.{VisitContent}
@@ -41,16 +44,18 @@ use Rattle.terminal_core.proofs.Counted.{found_is}
 use Rattle.terminal_core.proofs.Formed.{state_of_rows}
 use Rattle.office_setup.specs.Given.{IsGiven}
 use Rattle.office_setup.specs.Setups.{SetupContent}
-use Rattle.office_rows.specs.Rows.{PlaceContent, ListingContent, Setting, Rows}
-use Rattle.office_rows.specs.Values.{number, way_code, laden_code, state_code, out_by, out_partner, out_number, out_at, visit_values, place_values, line_values, setting_values, block_values}
+use Rattle.partner_core.specs.Deliveries.{run}
+use Rattle.std.specs.Str.{bytes_eq}
+use Rattle.office_rows.specs.Rows.{Partner, PlaceContent, ListingContent, Setting, Rows}
+use Rattle.office_rows.specs.Values.{number, kind_code, partner_values, way_code, laden_code, state_code, out_by, out_partner, out_number, out_at, visit_values, place_values, line_values, setting_values, block_values}
 use Rattle.office_rows.specs.Stored.{HasRows}
 use Rattle.office_rows.specs.Effects.{stands_for, is_line}
 use Rattle.office_rows.specs.ByKey.{standing_by, lines_by, line_entry, ArePlacedOnce, AreListedOnce}
 use Rattle.office_rows.specs.Opening.{setting, settings_of}
 use Rattle.office_rows.specs.Opened.{OpenedRows, Shows}
-use Rattle.office_rows.specs.Office.{settings_by_name, IsOffice}
-use Rattle.office_rows.specs.Tables.{visit, place, listed, block, setting as settings_table}
-use Rattle.office_history.specs.After.{AreAfter, machine_after, delivered_to, opening_of}
+use Rattle.office_rows.specs.Office.{settings_by_name, AreAccounts, IsOffice}
+use Rattle.office_rows.specs.Tables.{partner, visit, place, listed, block, setting as settings_table}
+use Rattle.office_history.specs.After.{AreAfter, accounts_from, machine_after, delivered_to, opening_of}
 use Rattle.office_history.proofs.Afters.{state_sound}
 use Rattle.office_history.proofs.ByKeys.{order, keys_total, keys_apart, key_of, said, finds, same_key, line_tied, none_found}
 use Rattle.office_history.proofs.Ground.{state_on_ground}
@@ -74,10 +79,10 @@ slot_one : (s t : Slot) → IsNamed s → IsNamed t → slot_text s ≡ slot_tex
 slot_one s t a b e = let both : Some s ≡ Some t = sym (names_are_read_again_lem s a) ∙ ap slot_of e ∙ names_are_read_again_lem t b in cc
 
 way_one : (a b : Way) → way_code a ≡ way_code b → a ≡ b
-way_one Gate Gate e = refl
-way_one Gate Ship e = absurd (omega (arith, e))
-way_one Ship Gate e = absurd (omega (arith, e))
-way_one Ship Ship e = refl
+way_one way.Gate way.Gate e = refl
+way_one way.Gate way.Ship e = absurd (omega (arith, e))
+way_one way.Ship way.Gate e = absurd (omega (arith, e))
+way_one way.Ship way.Ship e = refl
 
 laden_one : (a b : Bool) → laden_code a ≡ laden_code b → a ≡ b
 laden_one true true e = refl
@@ -98,8 +103,8 @@ done_one Done Pending e = absurd (omega (arith, e))
 done_one Done Done e = refl
 
 by_way : (w : Way) → way_code w ≡ 0 → ⊥
-by_way Gate e = absurd (omega (arith, e))
-by_way Ship e = absurd (omega (arith, e))
+by_way way.Gate e = absurd (omega (arith, e))
+by_way way.Ship e = absurd (omega (arith, e))
 
 exit_one : (a b : Option Departure) → IsFormedExit a → IsFormedExit b → out_by a ≡ out_by b → out_partner a ≡ out_partner b → out_number a ≡ out_number b → out_at a ≡ out_at b → a ≡ b
 exit_one None None fa fb by partner number_ moment = refl
@@ -171,7 +176,51 @@ block_one a b fa fb e =
     let tiers = number_one a.tiers b.tiers (at 3 ra rb e) in
     λ i. record { letter = letter i; bays = bays i; rows = rows i; tiers = tiers i }
 
+kind_one : (a b : PartnerKind) → kind_code a ≡ kind_code b → a ≡ b
+kind_one Gate Gate e = refl
+kind_one Gate Line e = absurd (omega (arith, e))
+kind_one Gate Quay e = absurd (omega (arith, e))
+kind_one Gate Yard e = absurd (omega (arith, e))
+kind_one Line Gate e = absurd (omega (arith, e))
+kind_one Line Line e = refl
+kind_one Line Quay e = absurd (omega (arith, e))
+kind_one Line Yard e = absurd (omega (arith, e))
+kind_one Quay Gate e = absurd (omega (arith, e))
+kind_one Quay Line e = absurd (omega (arith, e))
+kind_one Quay Quay e = refl
+kind_one Quay Yard e = absurd (omega (arith, e))
+kind_one Yard Gate e = absurd (omega (arith, e))
+kind_one Yard Line e = absurd (omega (arith, e))
+kind_one Yard Quay e = absurd (omega (arith, e))
+kind_one Yard Yard e = refl
+
+partner_one : (a b : Partner) → Unit {0} → Unit {0} → partner_values a ≡ partner_values b → a ≡ b
+partner_one a b fa fb e =
+    let ra = partner_values a in
+    let rb = partner_values b in
+    let id = number_one a.id b.id (at 0 ra rb e) in
+    let code = text_one a.code b.code (at 1 ra rb e) in
+    let kind = kind_one a.kind b.kind (number_one _ _ (at 2 ra rb e)) in
+    let next = number_one a.next b.next (at 3 ra rb e) in
+    λ i. record { id = id i; code = code i; kind = kind i; next = next i }
+
 -- ---- rising keys
+
+accounts_rise : (id low : ℕ) (next : ℕ → ℕ) (accounts : List (List ℕ × PartnerKind)) → low + 1 ≡ id → Rises (λ (p : Partner). p.id) low (accounts_from id next accounts)
+accounts_rise id low next [] e = tt
+accounts_rise id low next (a ∷ accounts) e = (omega arith, accounts_rise (id + 1) id next accounts refl)
+
+given_rise : (id low : ℕ) (partners : List Partner) (accounts : List (List ℕ × PartnerKind)) → low + 1 ≡ id → AreAccounts id partners accounts → Rises (λ (p : Partner). p.id) low partners
+given_rise id low [] accounts e are = tt
+given_rise id low (p ∷ partners) [] e are = absurd are
+given_rise id low (p ∷ partners) (a ∷ accounts) e are = let own : p.id ≡ id = are.0 in (omega arith, given_rise (id + 1) p.id partners accounts (ap (λ n. n + 1) own) are.5)
+
+accounts_same : (id : ℕ) (next : ℕ → ℕ) (mine theirs : List (List ℕ × PartnerKind)) → AreAccounts id (accounts_from id next mine) theirs → theirs ≡ mine
+accounts_same id next [] [] are = refl
+accounts_same id next [] (b ∷ theirs) are = absurd are
+accounts_same id next (a ∷ mine) [] are = absurd are
+accounts_same id next (a ∷ mine) (b ∷ theirs) are =
+    ap₂ ◌∷◌ (λ i. (sym are.1 i, sym are.2 i)) (accounts_same (id + 1) next mine theirs are.5)
 
 numbered_rise : (next low : ℕ) (visits : List VisitContent) → low + 1 ≡ next → AreNumbered next visits → Rises (λ (v : VisitContent). v.number) low visits
 numbered_rise next low [] e are = tt
@@ -259,21 +308,16 @@ lines_same xs ys once same =
 
 -- ---- the limit
 
-limit_at : (content : SetupContent) (value : List ℕ) (k : ℕ) → k < length (settings_of content) → slice_index_or (settings_of content) k (setting (codes "visits") value) ≡ setting (codes "visits") value → value ≡ decimal content.visit_limit
-limit_at content value zero below e = absurd (let bad : codes "version" ≡ codes "visits" = ap (λ (s : Setting). s.name) e in cc)
-limit_at content value (suc zero) below e = absurd (let bad : codes "terminal" ≡ codes "visits" = ap (λ (s : Setting). s.name) e in cc)
-limit_at content value (suc (suc zero)) below e = sym (ap (λ (s : Setting). s.value) e)
-limit_at content value (suc (suc (suc zero))) below e = absurd (let bad : codes "gate-in" ≡ codes "visits" = ap (λ (s : Setting). s.name) e in cc)
-limit_at content value (suc (suc (suc (suc zero)))) below e = absurd (let bad : codes "gate-out" ≡ codes "visits" = ap (λ (s : Setting). s.name) e in cc)
-limit_at content value (suc (suc (suc (suc (suc zero))))) below e = absurd (let bad : codes "yard-move" ≡ codes "visits" = ap (λ (s : Setting). s.name) e in cc)
-limit_at content value (suc (suc (suc (suc (suc (suc zero)))))) below e = absurd (let bad : codes "discharge-list" ≡ codes "visits" = ap (λ (s : Setting). s.name) e in cc)
-limit_at content value (suc (suc (suc (suc (suc (suc (suc zero))))))) below e = absurd (let bad : codes "load-list" ≡ codes "visits" = ap (λ (s : Setting). s.name) e in cc)
-limit_at content value (suc (suc (suc (suc (suc (suc (suc (suc zero)))))))) below e = absurd (let bad : codes "discharge-report" ≡ codes "visits" = ap (λ (s : Setting). s.name) e in cc)
-limit_at content value (suc (suc (suc (suc (suc (suc (suc (suc (suc zero))))))))) below e = absurd (let bad : codes "load-report" ≡ codes "visits" = ap (λ (s : Setting). s.name) e in cc)
-limit_at content value (suc (suc (suc (suc (suc (suc (suc (suc (suc (suc k)))))))))) below e = absurd (omega arith)
+abbrev is_named : List ℕ → Setting → Bool
+is_named name s = bytes_eq s.name name
 
-limit_in : (other : SetupContent) → Contains (settings_by_name other) (setting (codes "visits") (decimal other.visit_limit))
-limit_in other = (8, omega arith, refl)
+-- the setting of a name is the same in whatever order
+named_same : (content other : SetupContent) (name : List ℕ) → IsPermutation (settings_of content) (settings_by_name other) → count_by (is_named name) (settings_of content) ≤ 1
+    → find (is_named name) (settings_by_name other) ≡ find (is_named name) (settings_of content)
+named_same content other name shuffled once = found_same (is_named name) (settings_of content) (settings_by_name other) once shuffled
+
+value_one : (name v w : List ℕ) → ◌≡◌ {A = Option Setting} (Some (setting name v)) (Some (setting name w)) → v ≡ w
+value_one name v w e = let same : setting name v ≡ setting name w = cc in ap (λ (s : Setting). s.value) same
 
 -- ---- all
 
@@ -334,16 +378,41 @@ module _ (content : SetupContent) (ds : List (List ℕ)) (rows : Rows) (db : Dat
       sym (rising_same letter_key 0 content.blocks other.blocks (blocks_rise 0 content.blocks given.by_letter given.plan.apart (any_head content.blocks))
       (blocks_rise 0 other.blocks office.given.by_letter office.given.plan.apart (any_head other.blocks)) shuffled)
 
-  limit_same : other.visit_limit ≡ content.visit_limit
-  limit_same =
+  settings_shuffled : IsPermutation (settings_of content) (settings_by_name other)
+  settings_shuffled =
       let in_order = shown_in settings_table (0 ∷ 1 ∷ []) (0 ∷ []) setting_values rows.settings db (map setting_values shown.settings) (λ s. refl) has.rows_are.settings shows.settings in
       let same : shown.settings ≡ in_order.0 = same_records (λ _. Unit {0}) setting_values setting_one shown.settings in_order.0 (λ _ _. tt) (λ _ _. tt) in_order.2 in
-      let shuffled : IsPermutation (settings_of content) (settings_by_name other) = subst (IsPermutation (settings_of content)) (sym same ∙ office.settings) (subst (λ l. IsPermutation l in_order.0) are.settings in_order.1) in
-      let inside = Contains-permutation (settings_by_name other) (settings_of content) (setting (codes "visits") (decimal other.visit_limit)) (IsPermutation-sym _ _ shuffled) (limit_in other) in
-      let written : decimal other.visit_limit ≡ decimal content.visit_limit = limit_at content (decimal other.visit_limit) inside.0 inside.1 inside.2 in
+      subst (IsPermutation (settings_of content)) (sym same ∙ office.settings) (subst (λ l. IsPermutation l in_order.0) are.settings in_order.1)
+
+  limit_same : other.visit_limit ≡ content.visit_limit
+  limit_same =
+      let written : decimal other.visit_limit ≡ decimal content.visit_limit = value_one (codes "visits") _ _ (named_same content other (codes "visits") settings_shuffled (omega arith)) in
       let low : other.visit_limit ≤ 999999999 = office.given.limit.1 in
       let high : content.visit_limit ≤ 999999999 = given.limit.1 in
       decimal_injective other.visit_limit content.visit_limit (omega arith) (omega arith) written
+
+  terminal_same : other.terminal ≡ content.terminal
+  terminal_same = value_one (codes "terminal") _ _ (named_same content other (codes "terminal") settings_shuffled (omega arith))
+
+  texts_same : table_texts other.codes ≡ table_texts content.codes
+  texts_same i =
+      value_one (codes "gate-in") _ _ (named_same content other (codes "gate-in") settings_shuffled (omega arith)) i
+      ∷ value_one (codes "gate-out") _ _ (named_same content other (codes "gate-out") settings_shuffled (omega arith)) i
+      ∷ value_one (codes "yard-move") _ _ (named_same content other (codes "yard-move") settings_shuffled (omega arith)) i
+      ∷ value_one (codes "discharge-list") _ _ (named_same content other (codes "discharge-list") settings_shuffled (omega arith)) i
+      ∷ value_one (codes "load-list") _ _ (named_same content other (codes "load-list") settings_shuffled (omega arith)) i
+      ∷ value_one (codes "discharge-report") _ _ (named_same content other (codes "discharge-report") settings_shuffled (omega arith)) i
+      ∷ value_one (codes "load-report") _ _ (named_same content other (codes "load-report") settings_shuffled (omega arith)) i ∷ []
+
+  partners_same : other.partners ≡ content.partners
+  partners_same =
+      let next : ℕ → ℕ = λ p. run (delivered_to content ds) p + 1 in
+      let in_order = shown_in partner (0 ∷ 1 ∷ 2 ∷ 3 ∷ []) (0 ∷ []) partner_values rows.partners db (map partner_values shown.partners) (λ p. refl) has.rows_are.partners shows.partners in
+      let same : shown.partners ≡ in_order.0 = same_records (λ _. Unit {0}) partner_values partner_one shown.partners in_order.0 (λ _ _. tt) (λ _ _. tt) in_order.2 in
+      let mine : Rises (λ (p : Partner). p.id) 0 rows.partners = subst (Rises (λ (p : Partner). p.id) 0) (sym are.partners) (accounts_rise 1 0 next content.partners refl) in
+      let theirs : Rises (λ (p : Partner). p.id) 0 shown.partners = given_rise 1 0 shown.partners other.partners refl office.accounts in
+      let one : rows.partners ≡ shown.partners = rising_same (λ (p : Partner). p.id) 0 rows.partners shown.partners mine theirs (subst (IsPermutation rows.partners) (sym same) in_order.1) in
+      accounts_same 1 next content.partners other.partners (subst (λ l. AreAccounts 1 l other.partners) (sym one ∙ are.partners) office.accounts)
 
   pub state_given : state ≡ own
   state_given =
