@@ -1,35 +1,29 @@
 -- The rows after one delivery more.
-use Rattle.std.proofs.Common.{◌≡◌, ◌≢◌, ℕ, zero, suc, ◌+◌, ◌-◌, ◌<◌, ◌≤◌, inl, inr, List, [], ◌∷◌, ◌++◌, length, map, Bool, true, false, cond, Option, None, Some, is_some, Result, Ok, Err, refl, sym, ap, subst, ◌∙◌, arith}
-use Rattle.std.specs.Prelude.{find, ◌&&◌, ◌==◌, count_by, if◌then◌else◌}
+use Rattle.std.proofs.Common.{◌≡◌, ℕ, suc, ◌+◌, ◌-◌, ◌<◌, ◌≤◌, inl, inr, List, [], ◌∷◌, ◌++◌, length, Bool, true, false, cond, Option, None, Some, is_some, Result, Ok, Err, refl, sym, ap, subst, ◌∙◌, arith}
+use Rattle.std.specs.Prelude.{find, ◌&&◌, ◌==◌, if◌then◌else◌}
 use Rattle.std.specs.Option.{option_map, option_and_then, option_or, unwrap_or}
-use Rattle.std.specs.FinMap as finite_map
-use Rattle.std.proofs.lemmas.Bool.{eq-eqb, eqb-true, eqb-false, ne_eqb, cond-true, cond-false, and_left, and_right, cases_eq}
+use Rattle.std.proofs.lemmas.Bool.{eq-eqb, eqb-true, ne_eqb, cond-true, cond-false, cases_eq}
 use Rattle.std.proofs.lemmas.List.{append-nil, length-map}
-use Rattle.edi_messages.specs.declared.partner_kind.PartnerKind.{PartnerKind}
 use Rattle.edi_segments.specs.Interchange.{interchange_of, segments_in}
 use Rattle.edi_segments.specs.declared.syntax_fault.SyntaxFault.{SyntaxFault}
 use Rattle.edi_syntax.specs.Envelope.{header_of}
-use Rattle.edi_syntax.specs.Faults.{fault_of}
-use Rattle.partner_core.specs.Deliveries.{Delivery, delivery, first_text, is_under, run}
+use Rattle.partner_core.specs.Deliveries.{Delivery, delivery, first_text, run}
 use Rattle.partner_core.specs.Order.{state, reply_of, numbers_above, numbers_between, reply_among}
 use Rattle.partner_core.specs.Answers.{answer_of, answer_by}
-use Rattle.partner_core.specs.Standings.{standing_of, standing_at}
-use Rattle.partner_core.specs.declared.standing.Standing.TheVariants.{Known, Other, Early, Next}
-use Rattle.partner_core.specs.Keeping.{Holdings, Keeps, KeepsAll, KeepsText, TakesRun}
+use Rattle.partner_core.specs.Standings.{standing_of}
+use Rattle.partner_core.specs.Keeping.{Holdings, Keeps, TakesRun}
 use Rattle.partner_core.specs.Cascade.{TakesTexts, for_each_partner}
 use Rattle.partner_core.specs.Growth.{AddsNothing}
 use Rattle.partner_core.proofs.Cascades.{takes_none}
 use Rattle.partner_core.proofs.Firsts.{none_of}
 use Rattle.partner_core.proofs.Growths.{adds_nothing, adds_text}
-use Rattle.partner_core.proofs.Keepings.{keeps_on, keeps_one_more, keeps_run}
+use Rattle.partner_core.proofs.Keepings.{keeps_run}
 use Rattle.partner_core.proofs.OnceEach.{replied_within}
-use Rattle.partner_core.proofs.OnePartner.{run_of_none}
 use Rattle.partner_core.proofs.Answering.{answer-kept}
-use Rattle.terminal_core.specs.State.{IsWhole, empty_state}
 use Rattle.terminal_core.specs.Changes.{rows_of}
 use Rattle.terminal_core.proofs.Keeping.{empty_whole}
 use Rattle.terminal_core.proofs.Forming.{empty_formed}
-use Rattle.office_admission.specs.Admission.{admission, admitted, addressed, sender_of, number_in}
+use Rattle.office_admission.specs.Admission.{admission, admitted}
 use Rattle.office_admission.specs.Deliveries.{added, deliveries_of}
 use Rattle.office_replies.specs.declared.fault.Fault.{Fault}
 use Rattle.office_setup.specs.Parties.{Parties}
@@ -38,11 +32,10 @@ use Rattle.office_setup.specs.Given.{IsGiven}
 use Rattle.office_taking.specs.Taking.{MachineState, interchange_taken}
 use Rattle.office_taking.specs.Laws.{IsSoundMachine}
 use Rattle.office_taking.proofs.Reaching.{run_sound}
-use Rattle.office_taking.proofs.Forming.{number_within}
-use Rattle.office_rows.specs.Rows.{Partner, Interchange, Rows}
+use Rattle.office_rows.specs.Rows.{Interchange, Rows}
 use Rattle.office_rows.specs.Effects.{is_pair, with_kept}
 use Rattle.office_rows.specs.Opening.{settings_of}
-use Rattle.office_history.specs.After.{parties_in, opening_of, empty_yard, delivered_to, machine_after, accounts_from, reply_if_any, reply_in, AreKeptOnce, AreAfter}
+use Rattle.office_history.specs.After.{parties_in, opening_of, empty_yard, delivered_to, accounts_from, reply_if_any, reply_in, AreKeptOnce, AreAfter}
 use Rattle.office_history.specs.Cascade.{text_in, TakenContent, texts_with, with_run, AreTakenFrom}
 use Rattle.office_history.specs.Laws.{AreRowsByKey}
 use Rattle.office_history.proofs.ByKeys.{once_more, none_found}

@@ -1,6 +1,6 @@
 -- The tables' rows by their keys, as changes go over them.
-use Rattle.std.proofs.Common.{◌≡◌, ◌≢◌, ℕ, ◌+◌, ◌≤◌, List, [], ◌∷◌, ◌++◌, length, map, Bool, true, false, cond, Option, None, Some, is_some, refl, sym, ap, subst, ◌∙◌, arith}
-use Rattle.std.specs.Prelude.{find, filter, ◌&&◌, not, ◌==◌, count_by, fold}
+use Rattle.std.proofs.Common.{◌≡◌, ℕ, ◌+◌, ◌≤◌, List, [], ◌∷◌, ◌++◌, length, map, Bool, true, false, cond, Option, None, Some, refl, sym, ap, subst, ◌∙◌, arith}
+use Rattle.std.specs.Prelude.{find, filter, ◌&&◌, not, ◌==◌, count_by}
 use Rattle.std.specs.Option.{option_map}
 use Rattle.std.specs.Str.{bytes_eq}
 use Rattle.std.specs.Map.{update}
@@ -23,7 +23,7 @@ use Rattle.terminal_core.specs.declared.side.Side.TheVariants.{Load, Discharge}
 use Rattle.terminal_core.specs.Rows.{ChangeContent, visit_opened, visit_closed, placed_at, moved_to, removed_from, listed_on, line_done}
 use Rattle.terminal_core.specs.State.{LineContent, LineKey, Lines, line_key, side_code}
 use Rattle.terminal_core.specs.Changes.{Standing, standing_in, standing_elsewhere, TerminalRows, with_line_done, changed, all_changed, IsApplicable, AreApplicable}
-use Rattle.terminal_core.proofs.Boxes.{same_bytes, same_self, bytes_turned}
+use Rattle.terminal_core.proofs.Boxes.{same_bytes}
 use Rattle.office_rows.specs.Rows.{PlaceContent, ListingContent, Rows}
 use Rattle.office_rows.specs.Effects.{stands_for, is_line, with_change}
 use Rattle.office_rows.specs.ByKey.{standing_by, line_entry, lines_by, terminal_rows, ArePlacedOnce, AreListedOnce}

@@ -1,5 +1,5 @@
 -- The plan of the yard and the limit of visits, which no delivery changes.
-use Rattle.std.proofs.Common.{◌≡◌, ℕ, List, [], ◌∷◌, Bool, true, false, cond, Option, None, Some, is_some, Result, Ok, Err, refl, sym, ap, ◌∙◌}
+use Rattle.std.proofs.Common.{◌≡◌, ℕ, List, [], ◌∷◌, Option, None, Some, is_some, Result, Ok, Err, refl, ◌∙◌}
 use Rattle.std.specs.FinMap as finite_map
 use Rattle.box6346.specs.SizeCode.{length_of}
 use Rattle.box6346.specs.declared.box_number.BoxNumber.{BoxNumber}
@@ -21,7 +21,7 @@ use Rattle.partner_core.specs.Deliveries.{Delivery}
 use Rattle.partner_core.specs.Numbered.{with_number}
 use Rattle.partner_core.specs.Order.{state, state_after, order, text_under}
 use Rattle.yard_core.specs.declared.placement.Placement.{Placement}
-use Rattle.yard_core.specs.Decisions.{Refusal, present, misfit_of, first_fit, blocker_of, unless_buried, with_misfit, with_slot as with_first_slot, placed, placed_first, removed, removed_at, shifted, shifted_at}
+use Rattle.yard_core.specs.Decisions.{Refusal, present, misfit_of, first_fit, blocker_of, unless_buried, with_misfit, with_slot as with_first_slot, placed, removed, removed_at, shifted, shifted_at}
 use Rattle.yard_core.specs.YardMap.{Boxes, YardMap, yard_map, placement}
 use Rattle.terminal_core.specs.declared.departure.Departure.{Departure}
 use Rattle.terminal_core.specs.declared.line_state.LineState.{LineState}

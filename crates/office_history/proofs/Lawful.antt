@@ -1,5 +1,5 @@
 -- The laws of one delivery more, of the rows after deliveries.
-use Rattle.std.proofs.Common.{◌≡◌, ℕ, zero, suc, ◌+◌, ◌<◌, ◌≤◌, inl, inr, List, [], ◌∷◌, ◌++◌, length, map, Option, None, Some, Result, Ok, Err, refl, sym, ap, subst, ◌∙◌, arith}
+use Rattle.std.proofs.Common.{◌≡◌, ℕ, ◌+◌, ◌<◌, List, [], ◌∷◌, ◌++◌, length, None, Some, Err, refl, sym, ap, subst, ◌∙◌, arith}
 use Rattle.std.specs.Prelude.{is_some}
 use Rattle.std.specs.Cmp.Lexicographic.{slice_cmp}
 use Rattle.std.specs.Ordering.{nat_cmp}
@@ -11,14 +11,13 @@ use Rattle.partner_core.specs.Deliveries.{Delivery, delivery, run}
 use Rattle.partner_core.specs.Order.{state, order, reply_of}
 use Rattle.partner_core.proofs.Growths.{adds_nothing, adds_text, other_run-stays}
 use Rattle.partner_core.proofs.OnePartner.{run_of_none}
-use Rattle.box6346.specs.declared.box_number.BoxNumber.{BoxNumber}
-use Rattle.terminal_core.specs.Changes.{Standing, standing_in, TerminalRows, rows_of}
+use Rattle.terminal_core.specs.Changes.{standing_in, rows_of}
 use Rattle.yard_core.specs.declared.placement.Placement.{Placement}
 use Rattle.terminal_core.specs.Step.{number_of_visit}
 use Rattle.terminal_core.specs.State.{open_visit}
 use Rattle.office_admission.specs.Admission.{admission}
 use Rattle.office_replies.specs.declared.fault.Fault.{Fault}
-use Rattle.office_rows.specs.Rows.{Partner, Rows}
+use Rattle.office_rows.specs.Rows.{Rows}
 use Rattle.office_rows.specs.Effects.{with_kept}
 use Rattle.office_rows.specs.Opening.{partners_from, opening_rows}
 use Rattle.office_setup.specs.Given.{IsGiven}
@@ -27,7 +26,7 @@ use Rattle.office_taking.specs.Taking.{MachineState, interchange_taken}
 use Rattle.office_history.specs.After.{parties_in, opening_of, delivered_to, machine_after, accounts_from, AreAfter}
 use Rattle.office_history.specs.Cascade.{text_in, TakenContent, texts_with, with_run, AreTakenFrom}
 use Rattle.office_history.specs.Laws.{IsFor, AddsNoRow, AddsWaiting, AddsRun}
-use Rattle.office_history.proofs.Afters.{AreAfterThese, these, those, admitted_more, refused_more, known_adds, early_keeps, RunMore, run_more}
+use Rattle.office_history.proofs.Afters.{AreAfterThese, these, those, admitted_more, refused_more, known_adds, early_keeps, run_more}
 
 -- ---- nothing delivered
 

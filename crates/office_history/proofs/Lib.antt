@@ -6,3 +6,4 @@ pub mod Lawful
 pub mod Ground
 pub mod Shown
 pub mod Loads
+pub mod Alike

@@ -1,6 +1,6 @@
 -- The state that the rows of an office give, of rows after deliveries.
-use Rattle.std.proofs.Common.{◌≡◌, ℕ, pos, zero, suc, ◌+◌, ◌<◌, ◌≤◌, inl, inr, List, [], ◌∷◌, length, map, Bool, true, false, cond, Option, None, Some, is_some, refl, sym, ap, ap₂, subst, ◌∙◌, arith}
-use Rattle.std.specs.Prelude.{find, filter, count_by, Contains, slice_get, slice_index_or, All, IsTrue, codes, decimal}
+use Rattle.std.proofs.Common.{◌≡◌, ℕ, suc, ◌+◌, ◌<◌, ◌≤◌, inl, inr, List, [], ◌∷◌, length, map, Bool, true, false, cond, Option, None, Some, refl, sym, ap, ap₂, subst, ◌∙◌, arith}
+use Rattle.std.specs.Prelude.{find, filter, count_by, Contains, IsTrue, codes, decimal}
 use Rattle.std.specs.Option.{option_map}
 use Rattle.std.specs.List.Sorted.{IsPermutation, IsNonDecreasingBy}
 use Rattle.std.specs.FinMap as finite_map
@@ -10,10 +10,9 @@ use Rattle.std.proofs.lemmas.Fmt.{decimal_injective}
 use Rattle.std.proofs.lemmas.List.Sums.{length-filter}
 use Rattle.std.proofs.lemmas.List.Sorted.{IsPermutation-sym, Contains-permutation}
 use Rattle.sqlite.specs.declared.types.Value.{Value}
-use Rattle.sqlite.specs.declared.types.Value.TheVariants.{Int, Text}
+use Rattle.sqlite.specs.declared.types.Value.TheVariants.{Text}
 use Rattle.sqlite.specs.Order.{Row, column}
 use Rattle.sqlite.specs.Effect.{Database}
-use Rattle.box6346.specs.declared.box_number.BoxNumber.{BoxNumber}
 use Rattle.box6346.specs.declared.slot.Slot.{Slot}
 use Rattle.box6346.specs.SlotName.{IsNamed, slot_of, slot_text}
 use Rattle.box6346.proofs.SlotNames.{names_are_read_again_lem}
@@ -25,19 +24,17 @@ use Rattle.edi_messages.specs.Codes.{table_texts}
 use Rattle.yard_core.specs.declared.block.Block.{Block}
 use Rattle.yard_core.specs.declared.placement.Placement.{Placement}
 use Rattle.yard_core.specs.Plan.{AreApart}
-use Rattle.terminal_core.specs.declared.arrival.Arrival.{Arrival}
 use Rattle.terminal_core.specs.declared.departure.Departure.{Departure}
 use Rattle.terminal_core.specs.declared.line_state.LineState.{LineState}
 use Rattle.terminal_core.specs.declared.line_state.LineState.TheVariants.{Pending, Done}
 use Rattle.terminal_core.specs.declared.side.Side.{Side}
 use Rattle.terminal_core.specs.declared.side.Side.TheVariants.{Load, Discharge}
-use Rattle.terminal_core.specs.declared.source.Source.{Source}
 use Rattle.terminal_core.specs.declared.way.Way.{Way}
 use Rattle.terminal_core.specs.declared.way.Way.TheVariants as way
-use Rattle.terminal_core.specs.Changes.{Standing, standing_in, standing_of, TerminalRows, rows_of}
-use Rattle.terminal_core.specs.Forms.{IsFormedVisit, IsFormedDeparture, IsFormedExit, IsWellFormed}
+use Rattle.terminal_core.specs.Changes.{Standing, standing_in, standing_of, TerminalRows}
+use Rattle.terminal_core.specs.Forms.{IsFormedVisit, IsFormedExit, IsWellFormed}
 use Rattle.terminal_core.specs.Rows.{VisitContent}
-use Rattle.terminal_core.specs.State.{TerminalState, LineContent, LineKey, Lines, AreNumbered, IsWhole, line_key, side_code, open_visit}
+use Rattle.terminal_core.specs.State.{TerminalState, LineKey, AreNumbered, IsWhole, side_code, open_visit}
 use Rattle.terminal_core.specs.Step.{number_of_visit}
 use Rattle.terminal_core.proofs.Boxes.{same_self}
 use Rattle.terminal_core.proofs.Counted.{found_is}
@@ -55,7 +52,7 @@ use Rattle.office_rows.specs.Opening.{setting, settings_of}
 use Rattle.office_rows.specs.Opened.{OpenedRows, Shows}
 use Rattle.office_rows.specs.Office.{settings_by_name, AreAccounts, IsOffice}
 use Rattle.office_rows.specs.Tables.{partner, visit, place, listed, block, setting as settings_table}
-use Rattle.office_history.specs.After.{AreAfter, accounts_from, machine_after, delivered_to, opening_of}
+use Rattle.office_history.specs.After.{SaysSame, AreAfter, accounts_from, machine_after, delivered_to, opening_of}
 use Rattle.office_history.proofs.Afters.{state_sound}
 use Rattle.office_history.proofs.ByKeys.{order, keys_total, keys_apart, key_of, said, finds, same_key, line_tied, none_found}
 use Rattle.office_history.proofs.Ground.{state_on_ground}
@@ -419,3 +416,6 @@ module _ (content : SetupContent) (ds : List (List ℕ)) (rows : Rows) (db : Dat
       let ground = state_on_ground (opening_of content) (delivered_to content ds) in
       state_of_rows state own office.whole sound_whole (office.plan ∙ blocks_same ∙ sym ground.plan) (office.limit ∙ limit_same ∙ sym ground.limit)
       (sym office.terminal ∙ (λ i. record { visits = visits_same i; places = standing_same i; lines = listing_same i }) ∙ are.terminal)
+
+  pub says_same : SaysSame other content
+  says_same = record { terminal = terminal_same; codes = texts_same; partners = partners_same; blocks = blocks_same; limit = limit_same }

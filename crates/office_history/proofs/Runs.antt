@@ -1,9 +1,8 @@
 -- What taking a run of interchanges makes of the rows.
-use Rattle.std.proofs.Common.{◌≡◌, ◌≢◌, ℕ, zero, suc, ◌+◌, ◌≤◌, List, [], ◌∷◌, ◌++◌, length, map, Bool, true, false, cond, Option, None, Some, is_some, refl, sym, ap, subst, ◌∙◌, arith}
+use Rattle.std.proofs.Common.{◌≡◌, ◌≢◌, ℕ, ◌+◌, ◌≤◌, List, [], ◌∷◌, length, map, Bool, true, false, cond, Option, None, Some, is_some, refl, sym, ap, subst, ◌∙◌, arith}
 use Rattle.std.specs.Prelude.{find, ◌&&◌, ◌==◌, count_by, if◌then◌else◌}
 use Rattle.std.specs.Option.{option_map, option_and_then}
-use Rattle.std.proofs.lemmas.Bool.{eq-eqb, eqb-true, eqb-false, ne_eqb, cond-true, cond-false, and_left, and_right, cases_eq}
-use Rattle.std.proofs.lemmas.List.{length-append}
+use Rattle.std.proofs.lemmas.Bool.{eq-eqb, eqb-true, eqb-false, ne_eqb, cond-true, cond-false}
 use Rattle.edi_moments.specs.Moments.{CivilMoment}
 use Rattle.edi_messages.specs.declared.partner_kind.PartnerKind.{PartnerKind}
 use Rattle.edi_segments.specs.Text.{Content}
@@ -19,11 +18,10 @@ use Rattle.terminal_core.specs.Changes.{TerminalRows, rows_of, all_changed, AreA
 use Rattle.terminal_core.proofs.Counted.{found_is}
 use Rattle.office_admission.specs.Admission.{admission, is_for}
 use Rattle.office_replies.proofs.Ready.{reply_is_some}
-use Rattle.office_setup.specs.Setups.{SetupContent}
 use Rattle.office_taking.specs.Taking.{MachineState, interchange_taken, interchange_changes, nothing_taken, taken_of, taken_at}
 use Rattle.office_taking.proofs.Turning.{interchange_leads}
 use Rattle.office_rows.specs.Rows.{Partner, Interchange, Rows}
-use Rattle.office_rows.specs.Effects.{is_pair, with_kept, with_reply, with_next, with_taken, with_change}
+use Rattle.office_rows.specs.Effects.{is_pair, with_change}
 use Rattle.office_history.specs.After.{accounts_from, reply_if_any, reply_in, AreKeptOnce}
 use Rattle.office_history.specs.Cascade.{text_in, TakenContent, with_changes, with_interchange, with_interchanges, AreTakenFrom}
 use Rattle.office_history.specs.Laws.{AreRowsByKey}

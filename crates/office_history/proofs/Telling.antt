@@ -1,26 +1,22 @@
 -- What the rows tell: of the numbers, and of the next answer.
-use Rattle.std.proofs.Common.{◌≡◌, ℕ, zero, suc, ◌+◌, ◌<◌, ◌≤◌, List, [], ◌∷◌, ◌++◌, length, map, Bool, true, false, cond, Option, None, Some, is_some, Result, Ok, Err, refl, sym, ap, subst, ◌∙◌, arith}
+use Rattle.std.proofs.Common.{◌≡◌, ℕ, zero, suc, ◌+◌, ◌<◌, ◌≤◌, List, [], ◌∷◌, ◌++◌, length, Bool, true, false, cond, Option, None, Some, Result, Ok, Err, refl, sym, ap, subst, ◌∙◌, arith}
 use Rattle.std.specs.Prelude.{◌==◌, ◌&&◌, slice_index_or, Contains, nat_lt}
-use Rattle.std.specs.Option.{option_map}
 use Rattle.std.specs.Str.{bytes_eq}
 use Rattle.std.specs.Cmp.Lexicographic.{bytes_decides}
-use Rattle.std.specs.FinMap as finite_map
-use Rattle.std.proofs.lemmas.Bool.{eq-eqb, eqb-true, lt-ltb, ltb-true, cond-true, cond-false}
+use Rattle.std.proofs.lemmas.Bool.{eqb-true, lt-ltb, ltb-true}
 use Rattle.std.proofs.lemmas.List.{length-map}
 use Rattle.edi_messages.specs.declared.partner_kind.PartnerKind.{PartnerKind}
 use Rattle.edi_segments.specs.Interchange.{interchange_of, segments_in}
-use Rattle.edi_segments.specs.Text.{Content}
 use Rattle.edi_segments.specs.declared.syntax_fault.SyntaxFault.{SyntaxFault}
 use Rattle.edi_syntax.specs.Envelope.{header_of}
 use Rattle.edi_syntax.specs.Faults.{fault_of}
 use Rattle.edi_syntax.specs.Header.{recipient}
-use Rattle.partner_core.specs.Deliveries.{Delivery, delivery, first_text, is_under, run}
-use Rattle.partner_core.specs.Order.{state, order, reply_of}
-use Rattle.partner_core.specs.Answers.{answer_of, answer_by, Taken, Repeat, Waiting, Clash}
+use Rattle.partner_core.specs.Deliveries.{Delivery, delivery, first_text, run}
+use Rattle.partner_core.specs.Order.{reply_of}
+use Rattle.partner_core.specs.Answers.{answer_by, Taken}
 use Rattle.partner_core.specs.Standings.{standing_of, is_same_text}
 use Rattle.partner_core.specs.declared.standing.Standing.{Standing}
 use Rattle.partner_core.specs.declared.standing.Standing.TheVariants.{Known, Other, Early, Next}
-use Rattle.partner_core.proofs.OnePartner.{run_of_none}
 use Rattle.office_admission.specs.Admission.{admission, admitted, addressed, sender_of, number_in}
 use Rattle.office_admission.specs.Deliveries.{added, deliveries_of}
 use Rattle.office_replies.specs.declared.fault.Fault.{Fault}
@@ -34,7 +30,7 @@ use Rattle.office_rows.specs.Rows.{Partner, Rows}
 use Rattle.office_history.specs.After.{parties_in, opening_of, delivered_to, machine_after, accounts_from, reply_in, AreAfter}
 use Rattle.office_history.specs.Cascade.{text_in, TakenContent, texts_with, AreTakenFrom}
 use Rattle.office_history.specs.Laws.{IsFor, told_of, AnswersBy}
-use Rattle.office_history.proofs.Afters.{deliveries_more, AreAfterThese, these, answered, first_reply}
+use Rattle.office_history.proofs.Afters.{these, answered, first_reply}
 
 -- ---- a partner that is found
 

@@ -1,8 +1,9 @@
 -- Rows(ds): the rows after a list of deliveries.
-use Rattle.std.specs.Prelude.{◌≡◌, ℕ, ◌+◌, ◌≤◌, ◌&&◌, ◌==◌, List, [], ◌∷◌, map, find, count_by, Option, None, Some}
+use Rattle.std.specs.Prelude.{◌≡◌, ℕ, ◌+◌, ◌≤◌, List, [], ◌∷◌, map, find, count_by, Option, None, Some}
 use Rattle.std.specs.Option.{option_and_then}
 use Rattle.std.specs.FinMap as finite_map
 use Rattle.edi_messages.specs.declared.partner_kind.PartnerKind.{PartnerKind}
+use Rattle.edi_messages.specs.Codes.{table_texts}
 use Rattle.yard_core.specs.YardMap.{YardMap}
 use Rattle.partner_core.specs.Deliveries.{Delivery, first_text, run}
 use Rattle.partner_core.specs.Order.{state, reply_of}
@@ -39,6 +40,14 @@ empty_yard content = record { plan = content.blocks; boxes = finite_map.empty }
 -- the terminal before anything was delivered
 abbrev pub opening_of : SetupContent → MachineState
 opening_of content = machine_with content (empty_state (empty_yard content) content.visit_limit)
+
+-- two set-ups say the same, to the characters of their codes
+pub record SaysSame (one other : SetupContent) : Type 0 where
+  pub terminal : one.terminal ≡ other.terminal
+  pub codes : table_texts one.codes ≡ table_texts other.codes
+  pub partners : one.partners ≡ other.partners
+  pub blocks : one.blocks ≡ other.blocks
+  pub limit : one.visit_limit ≡ other.visit_limit
 
 -- what was delivered, as deliveries of the partners
 abbrev pub delivered_to : SetupContent → List (List ℕ) → List Delivery

@@ -1,7 +1,7 @@
 -- What the rows are after deliveries: the laws.
-use Rattle.std.specs.Prelude.{◌≡◌, ℕ, ◌+◌, ◌<◌, ◌≤◌, List, [], ◌∷◌, ◌++◌, length, slice_get, Contains, Option, None, Some, Result, Ok, Err}
+use Rattle.std.specs.Prelude.{◌≡◌, ℕ, ◌+◌, ◌<◌, ◌≤◌, List, [], ◌∷◌, ◌++◌, length, Contains, None, Some, Ok, Err}
 use Rattle.edi_segments.specs.Interchange.{interchange_of}
-use Rattle.partner_core.specs.Deliveries.{delivery, first_text, run}
+use Rattle.partner_core.specs.Deliveries.{delivery, run}
 use Rattle.partner_core.specs.Answers.{Told, answer_of, Taken, Repeat, Waiting, Clash}
 use Rattle.terminal_core.specs.Rows.{ChangeContent}
 use Rattle.terminal_core.specs.Changes.{TerminalRows, all_changed, AreApplicable}
@@ -21,7 +21,7 @@ use Rattle.office_setup.specs.Given.{IsGiven}
 use Rattle.office_taking.specs.Taking.{MachineState, interchange_taken}
 use Rattle.office_taking.specs.Laws.{IsSoundMachine}
 use Rattle.office_history.specs.Cascade.{text_in, TakenContent, with_changes, texts_with, with_run, AreTakenFrom}
-use Rattle.office_history.specs.After.{parties_in, opening_of, delivered_to, machine_after, reply_in, AreAfter}
+use Rattle.office_history.specs.After.{parties_in, opening_of, delivered_to, machine_after, reply_in, SaysSame, AreAfter}
 
 -- ---- changes of the tables and of the terminal's rows
 
@@ -145,3 +145,14 @@ LoadingGivesState =
     (content : SetupContent) (ds : List (List ℕ)) (rows : Rows) (db : Database) (shown : OpenedRows) (other : SetupContent) (state : TerminalState)
     → IsGiven content → AreAfter content ds rows → HasRows rows db → Shows db shown → IsOffice shown other state
     → state ≡ (machine_after content ds).terminal
+
+-- and a set-up that says the same, after whose deliveries the rows are too
+pub record Reopens (content : SetupContent) (ds : List (List ℕ)) (rows : Rows) (other : SetupContent) : Type 0 where
+  pub says : SaysSame other content
+  pub rows_are : AreAfter other ds rows
+
+abbrev pub LoadingGivesSetup : Type 0
+LoadingGivesSetup =
+    (content : SetupContent) (ds : List (List ℕ)) (rows : Rows) (db : Database) (shown : OpenedRows) (other : SetupContent) (state : TerminalState)
+    → AreAfter content ds rows → IsGiven content → HasRows rows db → Shows db shown → IsOffice shown other state
+    → Reopens content ds rows other

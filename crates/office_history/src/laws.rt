@@ -2,7 +2,7 @@
 //! law: a call brings it into the caller's proof.
 
 ghost use Rattle.office_history.specs.Laws.{ChangesAgree, OpeningIsAfterNone, DeliveriesLeaveSound, NumbersAreWithin, NextFollowsRun};
-ghost use Rattle.office_history.specs.Laws.{RefusedAddsNoRow, UsedAddsNoRow, EarlyAddsWaiting, NextAddsRun, RowsAnswer, LoadingGivesState};
+ghost use Rattle.office_history.specs.Laws.{RefusedAddsNoRow, UsedAddsNoRow, EarlyAddsWaiting, NextAddsRun, RowsAnswer, LoadingGivesState, LoadingGivesSetup};
 
 /// Changes that find the rows that they need make of the tables' rows, by key, what they make of the terminal's.
 pub fn changes_agree()
@@ -57,4 +57,9 @@ pub fn rows_answer()
 /// A store that is opened again, after whatever deliveries, gives the terminal that they left.
 pub fn loading_gives_state()
     ensures { LoadingGivesState }
+{}
+
+/// It gives a set-up that says the same, and its rows are those after the same deliveries to that set-up.
+pub fn loading_gives_setup()
+    ensures { LoadingGivesSetup }
 {}
