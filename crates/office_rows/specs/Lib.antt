@@ -6,3 +6,6 @@ pub mod Effects
 pub mod Opening
 pub mod Steps
 pub mod Shown
+pub mod ByKey
+pub mod Opened
+pub mod Office

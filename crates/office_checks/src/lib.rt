@@ -1,0 +1,12 @@
+//! Whether the rows of opened tables are those of an office, and of which: its set-up and its terminal.
+#![tactic(auto)]
+
+mod number_row;
+mod opened_tables;
+mod partner_row;
+mod setting;
+
+pub use number_row::NumberRow;
+pub use opened_tables::OpenedTables;
+pub use partner_row::PartnerRow;
+pub use setting::Setting;

@@ -1,0 +1,9 @@
+pub mod ByKeys
+pub mod Runs
+pub mod Afters
+pub mod Telling
+pub mod Lawful
+pub mod Ground
+pub mod Shown
+pub mod Loads
+pub mod Alike

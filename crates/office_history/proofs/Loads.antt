@@ -1,0 +1,421 @@
+-- The state that the rows of an office give, of rows after deliveries.
+use Rattle.std.proofs.Common.{◌≡◌, ℕ, suc, ◌+◌, ◌<◌, ◌≤◌, inl, inr, List, [], ◌∷◌, length, map, Bool, true, false, cond, Option, None, Some, refl, sym, ap, ap₂, subst, ◌∙◌, arith}
+use Rattle.std.specs.Prelude.{find, filter, count_by, Contains, IsTrue, codes, decimal}
+use Rattle.std.specs.Option.{option_map}
+use Rattle.std.specs.List.Sorted.{IsPermutation, IsNonDecreasingBy}
+use Rattle.std.specs.FinMap as finite_map
+use Rattle.std.specs.Ordering.{eq_by_cmp}
+use Rattle.std.proofs.lemmas.Bool.{cases_order}
+use Rattle.std.proofs.lemmas.Fmt.{decimal_injective}
+use Rattle.std.proofs.lemmas.List.Sums.{length-filter}
+use Rattle.std.proofs.lemmas.List.Sorted.{IsPermutation-sym, Contains-permutation}
+use Rattle.sqlite.specs.declared.types.Value.{Value}
+use Rattle.sqlite.specs.declared.types.Value.TheVariants.{Text}
+use Rattle.sqlite.specs.Order.{Row, column}
+use Rattle.sqlite.specs.Effect.{Database}
+use Rattle.box6346.specs.declared.slot.Slot.{Slot}
+use Rattle.box6346.specs.SlotName.{IsNamed, slot_of, slot_text}
+use Rattle.box6346.proofs.SlotNames.{names_are_read_again_lem}
+use Rattle.edi_moments.specs.Moments.{CivilMoment, is_moment, moment_of, moment_digits}
+use Rattle.edi_moments.proofs.DigitLemmas.{read_back}
+use Rattle.edi_messages.specs.declared.partner_kind.PartnerKind.{PartnerKind}
+use Rattle.edi_messages.specs.declared.partner_kind.PartnerKind.TheVariants.{Gate, Line, Quay, Yard}
+use Rattle.edi_messages.specs.Codes.{table_texts}
+use Rattle.yard_core.specs.declared.block.Block.{Block}
+use Rattle.yard_core.specs.declared.placement.Placement.{Placement}
+use Rattle.yard_core.specs.Plan.{AreApart}
+use Rattle.terminal_core.specs.declared.departure.Departure.{Departure}
+use Rattle.terminal_core.specs.declared.line_state.LineState.{LineState}
+use Rattle.terminal_core.specs.declared.line_state.LineState.TheVariants.{Pending, Done}
+use Rattle.terminal_core.specs.declared.side.Side.{Side}
+use Rattle.terminal_core.specs.declared.side.Side.TheVariants.{Load, Discharge}
+use Rattle.terminal_core.specs.declared.way.Way.{Way}
+use Rattle.terminal_core.specs.declared.way.Way.TheVariants as way
+use Rattle.terminal_core.specs.Changes.{Standing, standing_in, standing_of, TerminalRows}
+use Rattle.terminal_core.specs.Forms.{IsFormedVisit, IsFormedExit, IsWellFormed}
+use Rattle.terminal_core.specs.Rows.{VisitContent}
+use Rattle.terminal_core.specs.State.{TerminalState, LineKey, AreNumbered, IsWhole, side_code, open_visit}
+use Rattle.terminal_core.specs.Step.{number_of_visit}
+use Rattle.terminal_core.proofs.Boxes.{same_self}
+use Rattle.terminal_core.proofs.Counted.{found_is}
+use Rattle.terminal_core.proofs.Formed.{state_of_rows}
+use Rattle.office_setup.specs.Given.{IsGiven}
+use Rattle.office_setup.specs.Setups.{SetupContent}
+use Rattle.partner_core.specs.Deliveries.{run}
+use Rattle.std.specs.Str.{bytes_eq}
+use Rattle.office_rows.specs.Rows.{Partner, PlaceContent, ListingContent, Setting, Rows}
+use Rattle.office_rows.specs.Values.{number, kind_code, partner_values, way_code, laden_code, state_code, out_by, out_partner, out_number, out_at, visit_values, place_values, line_values, setting_values, block_values}
+use Rattle.office_rows.specs.Stored.{HasRows}
+use Rattle.office_rows.specs.Effects.{stands_for, is_line}
+use Rattle.office_rows.specs.ByKey.{standing_by, lines_by, line_entry, ArePlacedOnce, AreListedOnce}
+use Rattle.office_rows.specs.Opening.{setting, settings_of}
+use Rattle.office_rows.specs.Opened.{OpenedRows, Shows}
+use Rattle.office_rows.specs.Office.{settings_by_name, AreAccounts, IsOffice}
+use Rattle.office_rows.specs.Tables.{partner, visit, place, listed, block, setting as settings_table}
+use Rattle.office_history.specs.After.{SaysSame, AreAfter, accounts_from, machine_after, delivered_to, opening_of}
+use Rattle.office_history.proofs.Afters.{state_sound}
+use Rattle.office_history.proofs.ByKeys.{order, keys_total, keys_apart, key_of, said, finds, same_key, line_tied, none_found}
+use Rattle.office_history.proofs.Ground.{state_on_ground}
+use Rattle.office_history.proofs.Shown.{found_same, found_only, Rises, rising_same, same_records, shown_in}
+
+-- ---- columns
+
+number_one : (m n : ℕ) → number m ≡ number n → m ≡ n
+number_one m n e = cc
+
+text_one : (s t : List ℕ) → ◌≡◌ {A = Value} (Text s) (Text t) → s ≡ t
+text_one s t e = cc
+
+at : (k : ℕ) (a b : Row) → a ≡ b → column a k ≡ column b k
+at k a b e = ap (λ r. column r k) e
+
+moment_one : (m n : CivilMoment) → IsTrue (is_moment m) → IsTrue (is_moment n) → moment_digits m ≡ moment_digits n → m ≡ n
+moment_one m n a b e = let both : Some m ≡ Some n = sym (read_back m a) ∙ ap moment_of e ∙ read_back n b in cc
+
+slot_one : (s t : Slot) → IsNamed s → IsNamed t → slot_text s ≡ slot_text t → s ≡ t
+slot_one s t a b e = let both : Some s ≡ Some t = sym (names_are_read_again_lem s a) ∙ ap slot_of e ∙ names_are_read_again_lem t b in cc
+
+way_one : (a b : Way) → way_code a ≡ way_code b → a ≡ b
+way_one way.Gate way.Gate e = refl
+way_one way.Gate way.Ship e = absurd (omega (arith, e))
+way_one way.Ship way.Gate e = absurd (omega (arith, e))
+way_one way.Ship way.Ship e = refl
+
+laden_one : (a b : Bool) → laden_code a ≡ laden_code b → a ≡ b
+laden_one true true e = refl
+laden_one true false e = absurd (omega (arith, e))
+laden_one false true e = absurd (omega (arith, e))
+laden_one false false e = refl
+
+side_one : (a b : Side) → side_code a ≡ side_code b → a ≡ b
+side_one Load Load e = refl
+side_one Load Discharge e = absurd (omega (arith, e))
+side_one Discharge Load e = absurd (omega (arith, e))
+side_one Discharge Discharge e = refl
+
+done_one : (a b : LineState) → state_code a ≡ state_code b → a ≡ b
+done_one Pending Pending e = refl
+done_one Pending Done e = absurd (omega (arith, e))
+done_one Done Pending e = absurd (omega (arith, e))
+done_one Done Done e = refl
+
+by_way : (w : Way) → way_code w ≡ 0 → ⊥
+by_way way.Gate e = absurd (omega (arith, e))
+by_way way.Ship e = absurd (omega (arith, e))
+
+exit_one : (a b : Option Departure) → IsFormedExit a → IsFormedExit b → out_by a ≡ out_by b → out_partner a ≡ out_partner b → out_number a ≡ out_number b → out_at a ≡ out_at b → a ≡ b
+exit_one None None fa fb by partner number_ moment = refl
+exit_one None (Some b) fa fb by partner number_ moment = absurd (by_way b.way (sym by))
+exit_one (Some a) None fa fb by partner number_ moment = absurd (by_way a.way by)
+exit_one (Some a) (Some b) fa fb by partner number_ moment =
+    let way = way_one a.way b.way by in
+    let when = moment_one a.moment b.moment fa.moment fb.moment moment in
+    λ i. Some (record { way = way i; source = record { partner = partner i; number = number_ i }; moment = when i })
+
+visit_one : (a b : VisitContent) → IsFormedVisit a → IsFormedVisit b → visit_values a ≡ visit_values b → a ≡ b
+visit_one a b fa fb e =
+    let ra = visit_values a in
+    let rb = visit_values b in
+    let n = number_one a.number b.number (at 0 ra rb e) in
+    let container = text_one a.container b.container (at 1 ra rb e) in
+    let size = text_one a.size_type b.size_type (at 2 ra rb e) in
+    let laden = laden_one a.is_laden b.is_laden (number_one _ _ (at 3 ra rb e)) in
+    let booking = text_one a.booking b.booking (at 4 ra rb e) in
+    let way = way_one a.arrival.way b.arrival.way (number_one _ _ (at 5 ra rb e)) in
+    let partner = number_one a.arrival.source.partner b.arrival.source.partner (at 6 ra rb e) in
+    let own = number_one a.arrival.source.number b.arrival.source.number (at 7 ra rb e) in
+    let when = moment_one a.arrival.moment b.arrival.moment fa.moment fb.moment (text_one _ _ (at 8 ra rb e)) in
+    let slot = slot_one a.arrival.slot b.arrival.slot fa.slot fb.slot (text_one _ _ (at 9 ra rb e)) in
+    let exit = exit_one a.departure b.departure fa.exit fb.exit (number_one _ _ (at 10 ra rb e)) (number_one _ _ (at 11 ra rb e)) (number_one _ _ (at 12 ra rb e)) (text_one _ _ (at 13 ra rb e)) in
+    λ i. record {
+      number = n i;
+      container = container i;
+      size_type = size i;
+      is_laden = laden i;
+      booking = booking i;
+      arrival = record { way = way i; source = record { partner = partner i; number = own i }; moment = when i; slot = slot i };
+      departure = exit i;
+    }
+
+place_one : (a b : PlaceContent) → IsNamed a.slot → IsNamed b.slot → place_values a ≡ place_values b → a ≡ b
+place_one a b fa fb e =
+    let container = text_one a.container b.container (at 0 (place_values a) (place_values b) e) in
+    let n = number_one a.visit b.visit (at 1 (place_values a) (place_values b) e) in
+    let slot = slot_one a.slot b.slot fa fb (text_one _ _ (at 2 (place_values a) (place_values b) e)) in
+    λ i. record { container = container i; visit = n i; slot = slot i }
+
+line_one : (a b : ListingContent) → Unit {0} → Unit {0} → line_values a ≡ line_values b → a ≡ b
+line_one a b fa fb e =
+    let ra = line_values a in
+    let rb = line_values b in
+    let vessel = text_one a.call.vessel b.call.vessel (at 0 ra rb e) in
+    let voyage = text_one a.call.voyage b.call.voyage (at 1 ra rb e) in
+    let side = side_one a.side b.side (number_one _ _ (at 2 ra rb e)) in
+    let container = text_one a.container b.container (at 3 ra rb e) in
+    let port = text_one a.port b.port (at 4 ra rb e) in
+    let state = done_one a.state b.state (number_one _ _ (at 5 ra rb e)) in
+    λ i. record { call = record { vessel = vessel i; voyage = voyage i }; side = side i; container = container i; port = port i; state = state i }
+
+setting_one : (a b : Setting) → Unit {0} → Unit {0} → setting_values a ≡ setting_values b → a ≡ b
+setting_one a b fa fb e =
+    let name = text_one a.name b.name (at 0 (setting_values a) (setting_values b) e) in
+    let value = text_one a.value b.value (at 1 (setting_values a) (setting_values b) e) in
+    λ i. record { name = name i; value = value i }
+
+block_one : (a b : Block) → Unit {0} → Unit {0} → block_values a ≡ block_values b → a ≡ b
+block_one a b fa fb e =
+    let ra = block_values a in
+    let rb = block_values b in
+    let letters : a.letter ∷ [] ≡ b.letter ∷ [] = text_one _ _ (at 0 ra rb e) in
+    let letter : a.letter ≡ b.letter = cc in
+    let bays = number_one a.bays b.bays (at 1 ra rb e) in
+    let rows = number_one a.rows b.rows (at 2 ra rb e) in
+    let tiers = number_one a.tiers b.tiers (at 3 ra rb e) in
+    λ i. record { letter = letter i; bays = bays i; rows = rows i; tiers = tiers i }
+
+kind_one : (a b : PartnerKind) → kind_code a ≡ kind_code b → a ≡ b
+kind_one Gate Gate e = refl
+kind_one Gate Line e = absurd (omega (arith, e))
+kind_one Gate Quay e = absurd (omega (arith, e))
+kind_one Gate Yard e = absurd (omega (arith, e))
+kind_one Line Gate e = absurd (omega (arith, e))
+kind_one Line Line e = refl
+kind_one Line Quay e = absurd (omega (arith, e))
+kind_one Line Yard e = absurd (omega (arith, e))
+kind_one Quay Gate e = absurd (omega (arith, e))
+kind_one Quay Line e = absurd (omega (arith, e))
+kind_one Quay Quay e = refl
+kind_one Quay Yard e = absurd (omega (arith, e))
+kind_one Yard Gate e = absurd (omega (arith, e))
+kind_one Yard Line e = absurd (omega (arith, e))
+kind_one Yard Quay e = absurd (omega (arith, e))
+kind_one Yard Yard e = refl
+
+partner_one : (a b : Partner) → Unit {0} → Unit {0} → partner_values a ≡ partner_values b → a ≡ b
+partner_one a b fa fb e =
+    let ra = partner_values a in
+    let rb = partner_values b in
+    let id = number_one a.id b.id (at 0 ra rb e) in
+    let code = text_one a.code b.code (at 1 ra rb e) in
+    let kind = kind_one a.kind b.kind (number_one _ _ (at 2 ra rb e)) in
+    let next = number_one a.next b.next (at 3 ra rb e) in
+    λ i. record { id = id i; code = code i; kind = kind i; next = next i }
+
+-- ---- rising keys
+
+accounts_rise : (id low : ℕ) (next : ℕ → ℕ) (accounts : List (List ℕ × PartnerKind)) → low + 1 ≡ id → Rises (λ (p : Partner). p.id) low (accounts_from id next accounts)
+accounts_rise id low next [] e = tt
+accounts_rise id low next (a ∷ accounts) e = (omega arith, accounts_rise (id + 1) id next accounts refl)
+
+given_rise : (id low : ℕ) (partners : List Partner) (accounts : List (List ℕ × PartnerKind)) → low + 1 ≡ id → AreAccounts id partners accounts → Rises (λ (p : Partner). p.id) low partners
+given_rise id low [] accounts e are = tt
+given_rise id low (p ∷ partners) [] e are = absurd are
+given_rise id low (p ∷ partners) (a ∷ accounts) e are = let own : p.id ≡ id = are.0 in (omega arith, given_rise (id + 1) p.id partners accounts (ap (λ n. n + 1) own) are.5)
+
+accounts_same : (id : ℕ) (next : ℕ → ℕ) (mine theirs : List (List ℕ × PartnerKind)) → AreAccounts id (accounts_from id next mine) theirs → theirs ≡ mine
+accounts_same id next [] [] are = refl
+accounts_same id next [] (b ∷ theirs) are = absurd are
+accounts_same id next (a ∷ mine) [] are = absurd are
+accounts_same id next (a ∷ mine) (b ∷ theirs) are =
+    ap₂ ◌∷◌ (λ i. (sym are.1 i, sym are.2 i)) (accounts_same (id + 1) next mine theirs are.5)
+
+numbered_rise : (next low : ℕ) (visits : List VisitContent) → low + 1 ≡ next → AreNumbered next visits → Rises (λ (v : VisitContent). v.number) low visits
+numbered_rise next low [] e are = tt
+numbered_rise next low (v ∷ visits) e are = let own : v.number ≡ next = are.0 in (omega arith, numbered_rise (next + 1) v.number visits (ap (λ n. n + 1) own) are.1)
+
+abbrev letter_key : Block → ℕ
+letter_key b = b.letter + 1
+
+abbrev HeadAbove : ℕ → List Block → Type 0
+HeadAbove low [] = Unit {0}
+HeadAbove low (b ∷ blocks) = low < letter_key b
+
+head_above : (b : Block) (blocks : List Block) → IsNonDecreasingBy (λ (b : Block). b.letter) (b ∷ blocks) → AreApart (b ∷ blocks) → HeadAbove (letter_key b) blocks
+head_above b [] rise apart = tt
+head_above b (c ∷ blocks) rise apart =
+    let le : b.letter ≤ c.letter = rise 0 1 c (omega arith) (omega arith) in
+    elim (cases_order b.letter c.letter) [
+      | inl e ↦ let bad : ◌≡◌ {A = ℕ} 0 1 = apart 0 1 b c refl refl e in absurd cc
+      | inr o ↦ elim o [ inl l ↦ omega arith | inr g ↦ absurd (omega arith) ]
+    ]
+
+blocks_rise : (low : ℕ) (blocks : List Block) → IsNonDecreasingBy (λ (b : Block). b.letter) blocks → AreApart blocks → HeadAbove low blocks → Rises letter_key low blocks
+blocks_rise low [] rise apart head = tt
+blocks_rise low (b ∷ blocks) rise apart head = (
+  head,
+  blocks_rise (letter_key b) blocks (λ i j d le below. rise (suc i) (suc j) d (omega arith) (omega arith))
+      (λ i j a c one two same. let e : suc i ≡ suc j = apart (suc i) (suc j) a c one two same in omega arith) (head_above b blocks rise apart),
+)
+
+any_head : (blocks : List Block) → HeadAbove 0 blocks
+any_head [] = tt
+any_head (b ∷ blocks) = omega arith
+
+-- ---- places
+
+-- the container of a place stands in a slot that has a name
+named_at : (state : TerminalState) (place : PlaceContent) (o : Option Placement) (n : ℕ) → finite_map.get state.yard.boxes place.container ≡ o
+    → Some (standing_in place.visit place.slot) ≡ option_map (λ (s : Placement). standing_in n s.slot) o → IsWellFormed state → IsNamed place.slot
+named_at state place None n there e formed = cc
+named_at state place (Some s) n there e formed =
+    let same : standing_in place.visit place.slot ≡ standing_in n s.slot = cc in
+    subst IsNamed (sym (ap (λ (t : Standing). t.slot) same)) (formed.slots place.container s there)
+
+named_place : (places : List PlaceContent) (state : TerminalState) → ArePlacedOnce places → standing_by places ≡ standing_of state → IsWellFormed state → (place : PlaceContent) → Contains places place → IsNamed place.slot
+named_place places state once same formed place inside =
+    named_at state place (finite_map.get state.yard.boxes place.container) (number_of_visit (open_visit state place.container)) refl
+    (sym (ap (option_map (λ (p : PlaceContent). standing_in p.visit p.slot)) (found_only (stands_for place.container) places place (once place.container) inside (same_self place.container)))
+    ∙ ap (λ f. f place.container) same) formed
+
+places_same : (xs ys : List PlaceContent) → ArePlacedOnce xs → IsPermutation xs ys → standing_by ys ≡ standing_by xs
+places_same xs ys once same i q = ap (option_map (λ (p : PlaceContent). standing_in p.visit p.slot)) (found_same (stands_for q) xs ys (once q) same) i
+
+-- ---- lines
+
+finds_list : (q : LineKey) (lines : List ListingContent) → finds q lines ≡ option_map said (find (λ (l : ListingContent). eq_by_cmp order q (key_of l)) lines)
+finds_list q [] = refl
+finds_list q (l ∷ lines) = first (eq_by_cmp order q (key_of l)) (finds_list q lines)
+  where
+    first : (b : Bool) → finds q lines ≡ option_map said (find (λ (l : ListingContent). eq_by_cmp order q (key_of l)) lines)
+        → cond b (Some (said l)) (finds q lines) ≡ option_map said (cond b (Some l) (find (λ (l : ListingContent). eq_by_cmp order q (key_of l)) lines))
+    first true e = refl
+    first false e = e
+
+once_by : (q : LineKey) (lines : List ListingContent) (o : Option ListingContent) → AreListedOnce lines → find (λ (l : ListingContent). eq_by_cmp order q (key_of l)) lines ≡ o
+    → count_by (λ (l : ListingContent). eq_by_cmp order q (key_of l)) lines ≤ 1
+once_by q lines None once e =
+    let none : length (filter (λ (l : ListingContent). eq_by_cmp order q (key_of l)) lines) ≡ 0 = none_found (λ (l : ListingContent). eq_by_cmp order q (key_of l)) lines e in
+    let same = length-filter (λ (l : ListingContent). eq_by_cmp order q (key_of l)) lines in
+    omega arith
+once_by q lines (Some l) once e =
+    let here = found_is (λ (l : ListingContent). eq_by_cmp order q (key_of l)) lines l e in
+    let key : q ≡ key_of l = same_key q (key_of l) here.2 in
+    let tests : (λ (x : ListingContent). eq_by_cmp order q (key_of x)) ≡ is_line l.call l.side l.container = λ i x. (ap (λ k. eq_by_cmp order k (key_of x)) key ∙ line_tied l.call l.side l.container x) i in
+    subst (λ f. count_by f lines ≤ 1) (sym tests) (once l.call l.side l.container)
+
+key_once : (q : LineKey) (lines : List ListingContent) → AreListedOnce lines → count_by (λ (l : ListingContent). eq_by_cmp order q (key_of l)) lines ≤ 1
+key_once q lines once = once_by q lines (find (λ (l : ListingContent). eq_by_cmp order q (key_of l)) lines) once refl
+
+lines_same : (xs ys : List ListingContent) → AreListedOnce xs → IsPermutation xs ys → lines_by ys ≡ lines_by xs
+lines_same xs ys once same =
+    finite_map.same_map keys_total keys_apart _ _
+    (λ q. finite_map.get-from_entries keys_total (map line_entry ys) q ∙ finds_list q ys
+    ∙ ap (option_map said) (found_same (λ (l : ListingContent). eq_by_cmp order q (key_of l)) xs ys (key_once q xs once) same)
+    ∙ sym (finds_list q xs) ∙ sym (finite_map.get-from_entries keys_total (map line_entry xs) q))
+
+-- ---- the limit
+
+abbrev is_named : List ℕ → Setting → Bool
+is_named name s = bytes_eq s.name name
+
+-- the setting of a name is the same in whatever order
+named_same : (content other : SetupContent) (name : List ℕ) → IsPermutation (settings_of content) (settings_by_name other) → count_by (is_named name) (settings_of content) ≤ 1
+    → find (is_named name) (settings_by_name other) ≡ find (is_named name) (settings_of content)
+named_same content other name shuffled once = found_same (is_named name) (settings_of content) (settings_by_name other) once shuffled
+
+value_one : (name v w : List ℕ) → ◌≡◌ {A = Option Setting} (Some (setting name v)) (Some (setting name w)) → v ≡ w
+value_one name v w e = let same : setting name v ≡ setting name w = cc in ap (λ (s : Setting). s.value) same
+
+-- ---- all
+
+module _ (content : SetupContent) (ds : List (List ℕ)) (rows : Rows) (db : Database) (shown : OpenedRows) (other : SetupContent) (state : TerminalState)
+    (given : IsGiven content) (are : AreAfter content ds rows) (has : HasRows rows db) (shows : Shows db shown) (office : IsOffice shown other state) where
+  abbrev own : TerminalState
+  own = (machine_after content ds).terminal
+
+  sound_whole : IsWhole own
+  sound_whole = (state_sound content (delivered_to content ds) given).whole
+
+  sound_formed : IsWellFormed own
+  sound_formed = (state_sound content (delivered_to content ds) given).formed
+
+  visits_are : rows.visits ≡ own.visits
+  visits_are = ap (λ (r : TerminalRows). r.visits) are.terminal
+
+  shown_visits_are : shown.visits ≡ state.visits
+  shown_visits_are = ap (λ (r : TerminalRows). r.visits) office.terminal
+
+  visits_same : shown.visits ≡ rows.visits
+  visits_same =
+      let in_order = shown_in visit (0 ∷ 1 ∷ 2 ∷ 3 ∷ 4 ∷ 5 ∷ 6 ∷ 7 ∷ 8 ∷ 9 ∷ 10 ∷ 11 ∷ 12 ∷ 13 ∷ []) (0 ∷ []) visit_values rows.visits db (map visit_values shown.visits) (λ v. refl) has.rows_are.visits shows.visits in
+      let same : shown.visits ≡ in_order.0 = same_records IsFormedVisit visit_values visit_one shown.visits in_order.0
+      (λ v inside. office.formed.visits v (subst (λ l. Contains l v) shown_visits_are inside))
+      (λ v inside. sound_formed.visits v (subst (λ l. Contains l v) visits_are (Contains-permutation in_order.0 rows.visits v (IsPermutation-sym rows.visits in_order.0 in_order.1) inside)))
+      in_order.2 in
+      let mine : Rises (λ (v : VisitContent). v.number) 0 rows.visits = subst (Rises (λ (v : VisitContent). v.number) 0) (sym visits_are) (numbered_rise 1 0 own.visits refl sound_whole.numbered) in
+      let theirs : Rises (λ (v : VisitContent). v.number) 0 shown.visits = subst (Rises (λ (v : VisitContent). v.number) 0) (sym shown_visits_are) (numbered_rise 1 0 state.visits refl office.whole.numbered) in
+      sym (rising_same (λ (v : VisitContent). v.number) 0 rows.visits shown.visits mine theirs (subst (IsPermutation rows.visits) (sym same) in_order.1))
+
+  places_are : standing_by rows.places ≡ standing_of own
+  places_are = ap (λ (r : TerminalRows). r.places) are.terminal
+
+  shown_places_are : standing_by shown.places ≡ standing_of state
+  shown_places_are = ap (λ (r : TerminalRows). r.places) office.terminal
+
+  standing_same : standing_by shown.places ≡ standing_by rows.places
+  standing_same =
+      let in_order = shown_in place (0 ∷ 1 ∷ 2 ∷ []) (0 ∷ []) place_values rows.places db (map place_values shown.places) (λ p. refl) has.rows_are.places shows.places in
+      let same : shown.places ≡ in_order.0 = same_records (λ (p : PlaceContent). IsNamed p.slot) place_values place_one shown.places in_order.0
+      (named_place shown.places state office.placed_once shown_places_are office.formed)
+      (λ p inside. named_place rows.places own are.placed_once places_are sound_formed p (Contains-permutation in_order.0 rows.places p (IsPermutation-sym rows.places in_order.0 in_order.1) inside))
+      in_order.2 in
+      ap standing_by same ∙ places_same rows.places in_order.0 are.placed_once in_order.1
+
+  listing_same : lines_by shown.lines ≡ lines_by rows.lines
+  listing_same =
+      let in_order = shown_in listed (0 ∷ 1 ∷ 2 ∷ 3 ∷ 4 ∷ 5 ∷ []) (0 ∷ 1 ∷ 2 ∷ 3 ∷ []) line_values rows.lines db (map line_values shown.lines) (λ l. refl) has.rows_are.lines shows.lines in
+      let same : shown.lines ≡ in_order.0 = same_records (λ _. Unit {0}) line_values line_one shown.lines in_order.0 (λ _ _. tt) (λ _ _. tt) in_order.2 in
+      ap lines_by same ∙ lines_same rows.lines in_order.0 are.listed_once in_order.1
+
+  blocks_same : other.blocks ≡ content.blocks
+  blocks_same =
+      let in_order = shown_in block (0 ∷ 1 ∷ 2 ∷ 3 ∷ []) (0 ∷ []) block_values rows.blocks db (map block_values shown.blocks) (λ b. refl) has.rows_are.blocks shows.blocks in
+      let same : shown.blocks ≡ in_order.0 = same_records (λ _. Unit {0}) block_values block_one shown.blocks in_order.0 (λ _ _. tt) (λ _ _. tt) in_order.2 in
+      let shuffled : IsPermutation content.blocks other.blocks = subst (IsPermutation content.blocks) (sym same ∙ office.blocks) (subst (λ l. IsPermutation l in_order.0) are.blocks in_order.1) in
+      sym (rising_same letter_key 0 content.blocks other.blocks (blocks_rise 0 content.blocks given.by_letter given.plan.apart (any_head content.blocks))
+      (blocks_rise 0 other.blocks office.given.by_letter office.given.plan.apart (any_head other.blocks)) shuffled)
+
+  settings_shuffled : IsPermutation (settings_of content) (settings_by_name other)
+  settings_shuffled =
+      let in_order = shown_in settings_table (0 ∷ 1 ∷ []) (0 ∷ []) setting_values rows.settings db (map setting_values shown.settings) (λ s. refl) has.rows_are.settings shows.settings in
+      let same : shown.settings ≡ in_order.0 = same_records (λ _. Unit {0}) setting_values setting_one shown.settings in_order.0 (λ _ _. tt) (λ _ _. tt) in_order.2 in
+      subst (IsPermutation (settings_of content)) (sym same ∙ office.settings) (subst (λ l. IsPermutation l in_order.0) are.settings in_order.1)
+
+  limit_same : other.visit_limit ≡ content.visit_limit
+  limit_same =
+      let written : decimal other.visit_limit ≡ decimal content.visit_limit = value_one (codes "visits") _ _ (named_same content other (codes "visits") settings_shuffled (omega arith)) in
+      let low : other.visit_limit ≤ 999999999 = office.given.limit.1 in
+      let high : content.visit_limit ≤ 999999999 = given.limit.1 in
+      decimal_injective other.visit_limit content.visit_limit (omega arith) (omega arith) written
+
+  terminal_same : other.terminal ≡ content.terminal
+  terminal_same = value_one (codes "terminal") _ _ (named_same content other (codes "terminal") settings_shuffled (omega arith))
+
+  texts_same : table_texts other.codes ≡ table_texts content.codes
+  texts_same i =
+      value_one (codes "gate-in") _ _ (named_same content other (codes "gate-in") settings_shuffled (omega arith)) i
+      ∷ value_one (codes "gate-out") _ _ (named_same content other (codes "gate-out") settings_shuffled (omega arith)) i
+      ∷ value_one (codes "yard-move") _ _ (named_same content other (codes "yard-move") settings_shuffled (omega arith)) i
+      ∷ value_one (codes "discharge-list") _ _ (named_same content other (codes "discharge-list") settings_shuffled (omega arith)) i
+      ∷ value_one (codes "load-list") _ _ (named_same content other (codes "load-list") settings_shuffled (omega arith)) i
+      ∷ value_one (codes "discharge-report") _ _ (named_same content other (codes "discharge-report") settings_shuffled (omega arith)) i
+      ∷ value_one (codes "load-report") _ _ (named_same content other (codes "load-report") settings_shuffled (omega arith)) i ∷ []
+
+  partners_same : other.partners ≡ content.partners
+  partners_same =
+      let next : ℕ → ℕ = λ p. run (delivered_to content ds) p + 1 in
+      let in_order = shown_in partner (0 ∷ 1 ∷ 2 ∷ 3 ∷ []) (0 ∷ []) partner_values rows.partners db (map partner_values shown.partners) (λ p. refl) has.rows_are.partners shows.partners in
+      let same : shown.partners ≡ in_order.0 = same_records (λ _. Unit {0}) partner_values partner_one shown.partners in_order.0 (λ _ _. tt) (λ _ _. tt) in_order.2 in
+      let mine : Rises (λ (p : Partner). p.id) 0 rows.partners = subst (Rises (λ (p : Partner). p.id) 0) (sym are.partners) (accounts_rise 1 0 next content.partners refl) in
+      let theirs : Rises (λ (p : Partner). p.id) 0 shown.partners = given_rise 1 0 shown.partners other.partners refl office.accounts in
+      let one : rows.partners ≡ shown.partners = rising_same (λ (p : Partner). p.id) 0 rows.partners shown.partners mine theirs (subst (IsPermutation rows.partners) (sym same) in_order.1) in
+      accounts_same 1 next content.partners other.partners (subst (λ l. AreAccounts 1 l other.partners) (sym one ∙ are.partners) office.accounts)
+
+  pub state_given : state ≡ own
+  state_given =
+      let ground = state_on_ground (opening_of content) (delivered_to content ds) in
+      state_of_rows state own office.whole sound_whole (office.plan ∙ blocks_same ∙ sym ground.plan) (office.limit ∙ limit_same ∙ sym ground.limit)
+      (sym office.terminal ∙ (λ i. record { visits = visits_same i; places = standing_same i; lines = listing_same i }) ∙ are.terminal)
+
+  pub says_same : SaysSame other content
+  says_same = record { terminal = terminal_same; codes = texts_same; partners = partners_same; blocks = blocks_same; limit = limit_same }

@@ -1,0 +1,5 @@
+use Rattle.office_history.proofs.Loads.{state_given}
+use Rattle.office_history.proofs.laws.loading_gives_state.Goals as goal
+
+pub returns : goal.returns
+returns c = state_given
