@@ -3,7 +3,7 @@ use Rattle.sqlite.specs.Order.{column}
 use Rattle.sqlite.specs.Held.{state}
 use Rattle.office_rows.proofs.NextLemmas.{nexts_listed}
 use Rattle.office_rows.proofs.StepLemmas.{if_ok}
-use Rattle.office_tables.proofs.numbering.nexts.Goals as goal
+use Rattle.office_loading.proofs.numbering.nexts.Goals as goal
 
 pub returns-clause-answer : goal.returns-clause-answer
 returns-clause-answer g c clean =

@@ -1,4 +1,4 @@
-ghost use Rattle.std.specs.Prelude.{◌≡◌, IfOk, OnOk, false, map, ◌++◌, [], ◌∷◌};
+ghost use Rattle.std.specs.Prelude.{◌≡◌, IfOk, OnOk, false, map};
 ghost use Rattle.sqlite.specs.Order.{column};
 ghost use Rattle.sqlite.specs.Held.{state};
 ghost use Rattle.sqlite.specs.State.{HasCleanDisk, IsUnchanged, KeepsCommit, Survives};
@@ -7,10 +7,12 @@ ghost use Rattle.office_rows.specs.Stored.{HasRows};
 ghost use Rattle.office_rows.specs.Values.{number};
 ghost use Rattle.office_rows.specs.Shown.{AreNexts};
 
-use crate::selecting::select_partner;
-use crate::table_fault::TableFault;
+use crate::columns::number_at;
+use crate::record::append;
+use crate::selecting::select_partners;
+use office_tables::TableFault;
 use sqlite::{Alter, Connection, Row};
-use std::alloc::{AllocError, Global};
+use std::alloc::Global;
 
 /// The number that each partner's next interchange has, in the order of the accounts' ids. It changes nothing.
 pub fn nexts<S: Alter>(alloc: Global, conn: &mut Connection<S>) -> Result<Vec<u32>, TableFault>
@@ -20,7 +22,7 @@ pub fn nexts<S: Alter>(alloc: Global, conn: &mut Connection<S>) -> Result<Vec<u3
     ensures mode { conn.old.in_transaction ≡ false → conn.new.in_transaction ≡ false }
     ensures survives { (state S.Store conn.old).now.schema ≡ office_schema → Survives (state S.Store conn.old) (state S.Store conn.new) (λ _. ⊥) }
 {
-    let rows = select_partner(conn)?;
+    let rows = select_partners(conn)?;
     read_nexts(alloc, &rows)
 }
 
@@ -29,21 +31,8 @@ fn read_nexts(alloc: Global, rows: &[Row]) -> Result<Vec<u32>, TableFault>
 {
     let mut nexts = Vec::new(alloc);
     for row in rows {
-        let next = read_next(row)?;
+        let next = number_at(row, 3)?;
         append(&mut nexts, next)?;
     }
     Ok(nexts)
-}
-
-fn append(nexts: &mut Vec<u32>, next: u32) -> Result<(), AllocError>
-    ensures { OnOk result (nexts.new.items ≡ nexts.old.items ++ next ∷ []) }
-{
-    nexts.push(next)?;
-    Ok(())
-}
-
-fn read_next(row: &Row) -> Result<u32, TableFault>
-    ensures { IfOk result (λ next. column row.now 3 ≡ number next) }
-{
-    Ok(row.get(3)?)
 }

@@ -1,0 +1,4 @@
+pub mod Reads
+pub mod Decoded
+pub mod Fits
+pub mod Columns

@@ -1,0 +1,19 @@
+//! Loads the office from its opened tables.
+#![tactic(auto)]
+
+mod block_rows;
+mod codes;
+mod columns;
+mod formats;
+mod line_rows;
+mod number_rows;
+mod numbering;
+mod partner_rows;
+mod place_rows;
+mod record;
+mod selecting;
+mod setting_rows;
+mod stays;
+mod visit_rows;
+
+pub use numbering::nexts;
