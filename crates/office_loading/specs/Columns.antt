@@ -1,5 +1,6 @@
 -- Which columns and rows say what.
-use Rattle.std.specs.Prelude.{◌≡◌, ℕ, ◌+◌, ◌<◌, Bool, List, [], ◌∷◌, Option, IsTrue, IsUtf8}
+use Rattle.std.specs.Prelude.{◌≡◌, ℕ, ◌+◌, ◌<◌, Bool, false, ◌&&◌, List, [], ◌∷◌, Option, IsTrue, IsUtf8, codes}
+use Rattle.std.specs.Str.{bytes_eq}
 use Rattle.box6346.specs.NumberText.{is_number}
 use Rattle.box6346.specs.SizeText.{is_size}
 use Rattle.box6346.specs.SlotName.{slot_text}
@@ -8,7 +9,7 @@ use Rattle.edi_moments.specs.Moments.{CivilMoment, moment_digits}
 use Rattle.edi_messages.specs.declared.partner_kind.PartnerKind.{PartnerKind}
 use Rattle.sqlite.specs.declared.types.Value.{Value}
 use Rattle.sqlite.specs.declared.types.Value.TheVariants.{Text}
-use Rattle.sqlite.specs.Order.{Row}
+use Rattle.sqlite.specs.Order.{Row, column}
 use Rattle.terminal_core.specs.declared.arrival.Arrival.{Arrival}
 use Rattle.terminal_core.specs.declared.departure.Departure.{Departure}
 use Rattle.terminal_core.specs.declared.line_state.LineState.{LineState}
@@ -112,3 +113,13 @@ SaysSetting row setting = (columns_at (0 ∷ 1 ∷ []) row ≡ setting_values se
 
 abbrev pub SaysBlock : Row → Block → Type 0
 SaysBlock row block = (columns_at (0 ∷ 1 ∷ 2 ∷ 3 ∷ []) row ≡ block_values block) × FitsBlock block
+
+-- ---- the version
+
+abbrev pub is_text : List ℕ → Value → Bool
+is_text text (Text other) = bytes_eq other text
+is_text text value = false
+
+-- the setting that names the version of these tables
+abbrev pub is_version : Row → Bool
+is_version row = is_text (codes "version") (column row 0) && is_text (codes "1") (column row 1)

@@ -2,3 +2,4 @@ pub mod Reads
 pub mod Decoded
 pub mod Fits
 pub mod Columns
+pub mod Tables

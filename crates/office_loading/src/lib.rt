@@ -10,10 +10,12 @@ mod number_rows;
 mod numbering;
 mod partner_rows;
 mod place_rows;
+mod reading;
 mod record;
 mod selecting;
 mod setting_rows;
 mod stays;
+mod version;
 mod visit_rows;
 
 pub use numbering::nexts;
