@@ -5,3 +5,4 @@ pub mod OrderLemmas
 pub mod ShownLemmas
 pub mod TableLemmas
 pub mod VersionLemmas
+pub mod ChainLemmas

@@ -8,6 +8,7 @@ mod formats;
 mod line_rows;
 mod number_rows;
 mod numbering;
+mod opening;
 mod partner_rows;
 mod place_rows;
 mod reading;
