@@ -1,0 +1,4 @@
+pub mod Lists
+pub mod Kept
+pub mod Accounted
+pub mod Told
