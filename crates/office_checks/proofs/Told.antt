@@ -71,16 +71,16 @@ named_as row name value e f = λ i. record { name = e i; value = f i }
 
 pub settings_so : (rows : List Setting) (content : SetupContent) → names_of rows ≡ setting_names → slice_get (values_of rows) 6 ≡ Some content.terminal → slice_get (values_of rows) 7 ≡ Some (codes "1")
     → slice_get (values_of rows) 8 ≡ Some (decimal content.visit_limit) → table_texts content.codes ≡ code_values (values_of rows) → rows ≡ settings_by_name content
-settings_so [] content named terminal version limit table = let ten : 0 ≡ 10 = ap length named in absurd (omega arith)
-settings_so (r0 ∷ []) content named terminal version limit table = let ten : 1 ≡ 10 = ap length named in absurd (omega arith)
-settings_so (r0 ∷ r1 ∷ []) content named terminal version limit table = let ten : 2 ≡ 10 = ap length named in absurd (omega arith)
-settings_so (r0 ∷ r1 ∷ r2 ∷ []) content named terminal version limit table = let ten : 3 ≡ 10 = ap length named in absurd (omega arith)
-settings_so (r0 ∷ r1 ∷ r2 ∷ r3 ∷ []) content named terminal version limit table = let ten : 4 ≡ 10 = ap length named in absurd (omega arith)
-settings_so (r0 ∷ r1 ∷ r2 ∷ r3 ∷ r4 ∷ []) content named terminal version limit table = let ten : 5 ≡ 10 = ap length named in absurd (omega arith)
-settings_so (r0 ∷ r1 ∷ r2 ∷ r3 ∷ r4 ∷ r5 ∷ []) content named terminal version limit table = let ten : 6 ≡ 10 = ap length named in absurd (omega arith)
-settings_so (r0 ∷ r1 ∷ r2 ∷ r3 ∷ r4 ∷ r5 ∷ r6 ∷ []) content named terminal version limit table = let ten : 7 ≡ 10 = ap length named in absurd (omega arith)
-settings_so (r0 ∷ r1 ∷ r2 ∷ r3 ∷ r4 ∷ r5 ∷ r6 ∷ r7 ∷ []) content named terminal version limit table = let ten : 8 ≡ 10 = ap length named in absurd (omega arith)
-settings_so (r0 ∷ r1 ∷ r2 ∷ r3 ∷ r4 ∷ r5 ∷ r6 ∷ r7 ∷ r8 ∷ []) content named terminal version limit table = let ten : 9 ≡ 10 = ap length named in absurd (omega arith)
+settings_so [] content named terminal version limit table = let ten = ten_long [] named in absurd (omega (arith, ten))
+settings_so (r0 ∷ []) content named terminal version limit table = let ten = ten_long (r0 ∷ []) named in absurd (omega (arith, ten))
+settings_so (r0 ∷ r1 ∷ []) content named terminal version limit table = let ten = ten_long (r0 ∷ r1 ∷ []) named in absurd (omega (arith, ten))
+settings_so (r0 ∷ r1 ∷ r2 ∷ []) content named terminal version limit table = let ten = ten_long (r0 ∷ r1 ∷ r2 ∷ []) named in absurd (omega (arith, ten))
+settings_so (r0 ∷ r1 ∷ r2 ∷ r3 ∷ []) content named terminal version limit table = let ten = ten_long (r0 ∷ r1 ∷ r2 ∷ r3 ∷ []) named in absurd (omega (arith, ten))
+settings_so (r0 ∷ r1 ∷ r2 ∷ r3 ∷ r4 ∷ []) content named terminal version limit table = let ten = ten_long (r0 ∷ r1 ∷ r2 ∷ r3 ∷ r4 ∷ []) named in absurd (omega (arith, ten))
+settings_so (r0 ∷ r1 ∷ r2 ∷ r3 ∷ r4 ∷ r5 ∷ []) content named terminal version limit table = let ten = ten_long (r0 ∷ r1 ∷ r2 ∷ r3 ∷ r4 ∷ r5 ∷ []) named in absurd (omega (arith, ten))
+settings_so (r0 ∷ r1 ∷ r2 ∷ r3 ∷ r4 ∷ r5 ∷ r6 ∷ []) content named terminal version limit table = let ten = ten_long (r0 ∷ r1 ∷ r2 ∷ r3 ∷ r4 ∷ r5 ∷ r6 ∷ []) named in absurd (omega (arith, ten))
+settings_so (r0 ∷ r1 ∷ r2 ∷ r3 ∷ r4 ∷ r5 ∷ r6 ∷ r7 ∷ []) content named terminal version limit table = let ten = ten_long (r0 ∷ r1 ∷ r2 ∷ r3 ∷ r4 ∷ r5 ∷ r6 ∷ r7 ∷ []) named in absurd (omega (arith, ten))
+settings_so (r0 ∷ r1 ∷ r2 ∷ r3 ∷ r4 ∷ r5 ∷ r6 ∷ r7 ∷ r8 ∷ []) content named terminal version limit table = let ten = ten_long (r0 ∷ r1 ∷ r2 ∷ r3 ∷ r4 ∷ r5 ∷ r6 ∷ r7 ∷ r8 ∷ []) named in absurd (omega (arith, ten))
 settings_so (r0 ∷ r1 ∷ r2 ∷ r3 ∷ r4 ∷ r5 ∷ r6 ∷ r7 ∷ r8 ∷ r9 ∷ []) content named terminal version limit table =
     let n0 : r0.name ≡ codes "discharge-list" = ap (λ (l : List (List ℕ)). get_or l 0 []) named in
     let n1 : r1.name ≡ codes "discharge-report" = ap (λ (l : List (List ℕ)). get_or l 1 []) named in
@@ -104,4 +104,4 @@ settings_so (r0 ∷ r1 ∷ r2 ∷ r3 ∷ r4 ∷ r5 ∷ r6 ∷ r7 ∷ r8 ∷ r9 �
     let s9 : r9 ≡ record { name = codes "yard-move"; value = r9.value } = named_as r9 (codes "yard-move") r9.value n9 refl in
     let all : r0 ∷ r1 ∷ r2 ∷ r3 ∷ r4 ∷ r5 ∷ r6 ∷ r7 ∷ r8 ∷ r9 ∷ [] ≡ settings_with content (code_values (values_of (r0 ∷ r1 ∷ r2 ∷ r3 ∷ r4 ∷ r5 ∷ r6 ∷ r7 ∷ r8 ∷ r9 ∷ []))) = λ i. s0 i ∷ s1 i ∷ s2 i ∷ s3 i ∷ s4 i ∷ s5 i ∷ s6 i ∷ s7 i ∷ s8 i ∷ s9 i ∷ [] in
     all ∙ ap (settings_with content) (sym table)
-settings_so (r0 ∷ r1 ∷ r2 ∷ r3 ∷ r4 ∷ r5 ∷ r6 ∷ r7 ∷ r8 ∷ r9 ∷ r ∷ rows) content named terminal version limit table = let ten : length (r0 ∷ r1 ∷ r2 ∷ r3 ∷ r4 ∷ r5 ∷ r6 ∷ r7 ∷ r8 ∷ r9 ∷ r ∷ rows) ≡ 10 = ap length named in absurd (omega (arith, ten))
+settings_so (r0 ∷ r1 ∷ r2 ∷ r3 ∷ r4 ∷ r5 ∷ r6 ∷ r7 ∷ r8 ∷ r9 ∷ r ∷ rows) content named terminal version limit table = let ten = ten_long (r0 ∷ r1 ∷ r2 ∷ r3 ∷ r4 ∷ r5 ∷ r6 ∷ r7 ∷ r8 ∷ r9 ∷ r ∷ rows) named in absurd (omega (arith, ten))
