@@ -2,6 +2,7 @@
 #![tactic(auto)]
 
 mod accounts;
+mod forms;
 mod number_row;
 mod numbers;
 mod opened_tables;
