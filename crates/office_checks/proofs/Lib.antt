@@ -2,3 +2,4 @@ pub mod Lists
 pub mod Kept
 pub mod Accounted
 pub mod Told
+pub mod Keyed

@@ -3,7 +3,7 @@ ghost use Rattle.std.specs.List.{list_all};
 ghost use Rattle.office_setup.specs.Given.{is_party_code, AreDistinct};
 ghost use Rattle.office_setup.specs.Setups.{account_contents};
 ghost use Rattle.office_rows.specs.Office.{AreAccounts};
-ghost use Rattle.office_checks.specs.Accounts.{accounts_in};
+ghost use Rattle.office_checks.specs.Accounts.{accounts_in, AreWholeAccounts};
 ghost use Rattle.office_checks.specs.Contents.{partner_content};
 ghost use Rattle.office_checks.specs.declared.partner_row.PartnerRow.{PartnerRow};
 
@@ -12,8 +12,22 @@ use crate::texts::{are_same, is_party_code};
 use office_setup::Account;
 use std::alloc::{AllocError, Global};
 
-/// Whether accounts are numbered 1, 2, .. as they stand, each with a next number from 1 to 1,000,000,000.
-pub(crate) fn are_numbered(partners: &[PartnerRow]) -> bool
+/// Whether these are 1 to 999 accounts, numbered 1, 2, .. as they stand, with codes of partners, no two alike, and next
+/// numbers.
+pub(crate) fn are_accounts(partners: &[PartnerRow]) -> bool
+    ensures { IsTrue result ↔ AreWholeAccounts partners.now }
+{
+    is_counted(partners) && are_numbered(partners) && are_coded(partners) && are_distinct(partners)
+}
+
+fn is_counted(partners: &[PartnerRow]) -> bool
+    ensures { IsTrue result ↔ ((1 ≤ length partners.now) × (length partners.now ≤ 999)) }
+{
+    1 <= partners.len() && partners.len() <= 999
+}
+
+// Whether accounts are numbered 1, 2, .. as they stand, each with a next number from 1 to 1,000,000,000.
+fn are_numbered(partners: &[PartnerRow]) -> bool
     ensures { IsTrue result ↔ AreAccounts 1 (map partner_content partners.now) (accounts_in partners.now) }
 {
     for (index, partner) in partners.iter().enumerate() {
@@ -31,15 +45,15 @@ fn is_account(id: usize, partner: &PartnerRow) -> bool
     partner.id as usize == id && 1 <= partner.next && partner.next <= 1_000_000_000
 }
 
-/// Whether each account has the code of a partner.
-pub(crate) fn are_coded(partners: &[PartnerRow]) -> bool
+// Whether each account has the code of a partner.
+fn are_coded(partners: &[PartnerRow]) -> bool
     ensures { result ≡ list_all (λ (row : PartnerRow). is_party_code (string_bytes row.code)) partners.now }
 {
     partners.iter().all(|partner| is_party_code(partner.code.as_str()))
 }
 
-/// Whether no two accounts have one code.
-pub(crate) fn are_distinct(partners: &[PartnerRow]) -> bool
+// Whether no two accounts have one code.
+fn are_distinct(partners: &[PartnerRow]) -> bool
     ensures { IsTrue result ↔ AreDistinct (accounts_in partners.now) }
 {
     for (index, partner) in partners.iter().enumerate() {
