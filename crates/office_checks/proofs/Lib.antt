@@ -3,3 +3,4 @@ pub mod Kept
 pub mod Accounted
 pub mod Told
 pub mod Keyed
+pub mod Offices

@@ -17,7 +17,13 @@ use std::alloc::{AllocError, Global};
 pub(crate) fn are_accounts(partners: &[PartnerRow]) -> bool
     ensures { IsTrue result ↔ AreWholeAccounts partners.now }
 {
-    is_counted(partners) && are_numbered(partners) && are_coded(partners) && are_distinct(partners)
+    if !is_counted(partners) {
+        return false;
+    }
+    if !are_numbered(partners) {
+        return false;
+    }
+    are_coded(partners) && are_distinct(partners)
 }
 
 fn is_counted(partners: &[PartnerRow]) -> bool
