@@ -1,11 +1,10 @@
 -- Accounts by their places.
-use Rattle.std.proofs.Common.{◌≡◌, ◌≢◌, ℕ, ◌+◌, ◌<◌, ◌≤◌, zero, suc, List, [], ◌∷◌, length, map, take, Some, None, Option, string_bytes, refl, sym, ap, ◌∙◌, arith, subst, inl, inr, ◌⊎◌}
+use Rattle.std.proofs.Common.{◌≡◌, ◌≢◌, ℕ, ◌+◌, ◌<◌, ◌≤◌, zero, suc, List, [], ◌∷◌, map, take, Some, string_bytes, refl, sym, ap, ◌∙◌, arith, subst, inl, inr, ◌⊎◌}
 use Rattle.std.specs.Prelude.{slice_get}
 use Rattle.std.specs.Option.{option_map}
 use Rattle.std.proofs.lemmas.Option.{same_Some, slice_get-map}
 use Rattle.edi_messages.specs.declared.partner_kind.PartnerKind.{PartnerKind}
 use Rattle.office_setup.specs.Given.{AreDistinct}
-use Rattle.office_rows.specs.Rows.{Partner}
 use Rattle.office_rows.specs.Office.{AreAccounts}
 use Rattle.office_checks.specs.Accounts.{accounts_in}
 use Rattle.office_checks.specs.Contents.{partner_content}
@@ -94,5 +93,5 @@ rows_more P rows i row at here before k r low there =
           let R : ℕ → Type 0 = λ n. P n row in
           subst Q e (subst R (sym same) here))
     ] where
-  cases : (k i : ℕ) → k < i + 1 → (k < i) ⊎ (k ≡ i)
-  cases k i h = grind arith
+      cases : (k i : ℕ) → k < i + 1 → (k < i) ⊎ (k ≡ i)
+      cases k i h = grind arith

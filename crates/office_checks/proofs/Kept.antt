@@ -1,5 +1,5 @@
 -- The interchanges that are kept, partner after partner.
-use Rattle.std.proofs.Common.{◌≡◌, ◌≢◌, ℕ, ◌+◌, ◌-◌, ◌<◌, ◌≤◌, zero, suc, List, [], ◌∷◌, ◌++◌, length, take, drop, map, get_or, length-append, Bool, true, false, IsTrue, refl, sym, ap, ◌∙◌, arith, subst, ◌↔◌}
+use Rattle.std.proofs.Common.{◌≡◌, ◌≢◌, ℕ, ◌+◌, ◌-◌, ◌<◌, ◌≤◌, List, [], ◌∷◌, ◌++◌, length, take, drop, map, get_or, length-append, Bool, true, false, IsTrue, refl, sym, ap, ◌∙◌, arith, subst, ◌↔◌}
 use Rattle.std.specs.List.{range_with_len}
 use Rattle.std.proofs.lemmas.List.{map-append, get_or-map, take-map, drop-map, take-append-drop, length-map}
 use Rattle.std.proofs.lemmas.List.FromFn.{map-range_with_len_more, get_or-map-range_with_len, length-map-range_with_len}
@@ -92,8 +92,8 @@ else_of id (r ∷ rows) f = λ e. absurd (omega (arith, e, f))
 -- ---- row after row
 
 module _ (partner next : ℕ) (rows : List NumberRow) (above i : ℕ) (d row : NumberRow) (low : i < length rows) (at : row ≡ get_or rows i d) (test : Bool)
-  (tells : IsTrue test ↔ ((row.partner ≡ partner) × (row.is_taken ≡ false) × (above < row.number) × (row.number ≤ 999999999)))
-  (so : AreWaiting partner next (map number_content rows) ↔ AreWaiting partner above (map number_content (drop i rows))) where
+    (tells : IsTrue test ↔ ((row.partner ≡ partner) × (row.is_taken ≡ false) × (above < row.number) × (row.number ≤ 999999999)))
+    (so : AreWaiting partner next (map number_content rows) ↔ AreWaiting partner above (map number_content (drop i rows))) where
   abbrev Rest : List NumberRow → Type 0
   Rest r = AreWaiting partner above (map number_content r)
 
@@ -113,7 +113,7 @@ abbrev taken_from : ℕ → ℕ → ℕ → List Numbered
 taken_from partner first count = map (λ number. record { partner = partner; number = number; is_taken = true }) (range_with_len first count)
 
 module _ (partner : ℕ) (rows : List NumberRow) (i : ℕ) (d row : NumberRow) (low : i < length rows) (at : row ≡ get_or rows i d) (test : Bool)
-  (tells : IsTrue test ↔ ((row.partner ≡ partner) × (row.number ≡ i + 1) × (row.is_taken ≡ true))) where
+    (tells : IsTrue test ↔ ((row.partner ≡ partner) × (row.number ≡ i + 1) × (row.is_taken ≡ true))) where
   pub taken_more : map number_content (take i rows) ≡ taken_from partner 1 i → test ≡ true → map number_content (take (i + 1) rows) ≡ taken_from partner 1 (i + 1)
   taken_more so is =
       let facts = tells.0 is in
@@ -146,7 +146,7 @@ module _ (p : Partner) (rows taken waiting : List NumberRow) where
     waiting = map number_content waiting;
     wait = wait;
     are = ap (map number_content) (sym (take-append-drop (p.next - 1) rows) ∙ ap (λ (l : List NumberRow). l ++ drop (p.next - 1) rows) (sym front) ∙ ap (λ (l : List NumberRow). taken ++ l) (sym back))
-    ∙ map-append number_content taken waiting ∙ ap (λ (l : List Numbered). l ++ map number_content waiting) (are ∙ ap (taken_from p.id 1) long);
+        ∙ map-append number_content taken waiting ∙ ap (λ (l : List Numbered). l ++ map number_content waiting) (are ∙ ap (taken_from p.id 1) long);
   }
 
   pub parts_of : length taken ≡ p.next - 1 → taken ≡ take (p.next - 1) rows → waiting ≡ drop (p.next - 1) rows → IsKeptFor p (map number_content rows)
@@ -172,9 +172,9 @@ step_to id p partners a accounts own others are x y kept =
     (subst P cut.0 kept.3, subst Q cut.1 kept.4)
 
 module _ (partners : List PartnerRow) (numbers rest own others : List NumberRow) (i n : ℕ) (d partner : PartnerRow) (low : i < length partners) (at : partner ≡ get_or partners i d)
-  (front : own ≡ take n rest) (back : others ≡ drop n rest) (are_own : AreOwn partner.id (map number_content (take n rest))) (begins : BeginsElse partner.id (map number_content (drop n rest)))
-  (accounts : AreAccounts (i + 1) (map partner_content (drop i partners)) (accounts_in (drop i partners)))
-  (so : AreKept (map partner_content partners) (map number_content numbers) ↔ AreKept (map partner_content (drop i partners)) (map number_content rest)) where
+    (front : own ≡ take n rest) (back : others ≡ drop n rest) (are_own : AreOwn partner.id (map number_content (take n rest))) (begins : BeginsElse partner.id (map number_content (drop n rest)))
+    (accounts : AreAccounts (i + 1) (map partner_content (drop i partners)) (accounts_in (drop i partners)))
+    (so : AreKept (map partner_content partners) (map number_content numbers) ↔ AreKept (map partner_content (drop i partners)) (map number_content rest)) where
   abbrev Accounts : List PartnerRow → Type 0
   Accounts l = AreAccounts (i + 1) (map partner_content l) (accounts_in l)
 

@@ -1,6 +1,6 @@
 -- The rows of places and lines by their keys, typed or as contents.
-use Rattle.std.proofs.Common.{◌≡◌, ℕ, ◌+◌, ◌<◌, ◌≤◌, zero, suc, List, [], ◌∷◌, length, map, Bool, true, false, cond, Option, None, Some, refl, sym, ap, ◌∙◌, arith, inl, inr, ◌⊎◌, get_or, string_bytes}
-use Rattle.std.specs.Prelude.{slice_get, Contains, find, count_by, ◌&&◌, ◌==◌}
+use Rattle.std.proofs.Common.{◌≡◌, ℕ, ◌+◌, ◌<◌, ◌≤◌, zero, suc, List, [], ◌∷◌, length, map, Bool, true, false, cond, Option, Some, refl, sym, ap, ◌∙◌, arith, inl, inr, ◌⊎◌, string_bytes}
+use Rattle.std.specs.Prelude.{slice_get, find, count_by, ◌&&◌, ◌==◌}
 use Rattle.std.specs.FinMap as finite_map
 use Rattle.std.specs.Option.{option_map}
 use Rattle.std.specs.Str.{bytes_eq}
@@ -17,15 +17,15 @@ use Rattle.terminal_core.specs.declared.side.Side.{Side}
 use Rattle.terminal_core.specs.declared.side.Side.TheVariants.{Load, Discharge}
 use Rattle.terminal_core.specs.declared.visit.Visit.{Visit}
 use Rattle.terminal_core.specs.Rows.{visit_content}
-use Rattle.terminal_core.specs.State.{TerminalState, LineContent, LineKey, line_key, side_code}
-use Rattle.terminal_core.specs.Changes.{Standing, standing_in, TerminalRows}
+use Rattle.terminal_core.specs.State.{line_key, side_code}
+use Rattle.terminal_core.specs.Changes.{Standing, standing_in}
 use Rattle.terminal_core.specs.Listings as typed
 use Rattle.terminal_core.specs.Restoring.{AreOnce}
 use Rattle.terminal_core.specs.RowForms as forms
-use Rattle.terminal_core.proofs.Lined.{keys_total, same_key, line_tied, line_first, line_none}
+use Rattle.terminal_core.proofs.Lined.{keys_total, same_key, line_tied, line_first}
 use Rattle.terminal_core.proofs.Counted.{counts, one_passes}
 use Rattle.terminal_core.proofs.Numbered.{contained}
-use Rattle.office_rows.specs.Rows.{PlaceContent, ListingContent, listing_content}
+use Rattle.office_rows.specs.Rows.{PlaceContent, listing_content}
 use Rattle.office_rows.specs.Effects.{stands_for, is_line}
 use Rattle.office_rows.specs.ByKey.{standing_by, line_entry, lines_by, ArePlacedOnce, AreListedOnce}
 use Rattle.office_checks.specs.Contents.{place_content}

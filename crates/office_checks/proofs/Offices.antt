@@ -1,6 +1,6 @@
 -- What the rows of an office are, part by part.
-use Rattle.std.proofs.Common.{◌≡◌, ℕ, ◌+◌, ◌<◌, ◌≤◌, List, [], ◌∷◌, length, map, true, IsTrue, Option, None, Some, All, refl, sym, ap, ◌∙◌, arith, subst, inl, inr, ◌⊎◌, get_or, string_bytes, decimal}
-use Rattle.std.specs.Prelude.{slice_get, Contains}
+use Rattle.std.proofs.Common.{◌≡◌, ℕ, ◌<◌, ◌≤◌, List, [], length, map, true, IsTrue, None, Some, All, refl, sym, ap, ◌∙◌, arith, subst, inl, inr, get_or, string_bytes, decimal}
+use Rattle.std.specs.Prelude.{Contains}
 use Rattle.std.specs.List.{list_all}
 use Rattle.std.specs.FinMap as finite_map
 use Rattle.std.proofs.lemmas.Fmt.{decimal_injective}
@@ -18,17 +18,14 @@ use Rattle.box6346.specs.SizeCode.{length_of}
 use Rattle.yard_core.specs.Plan.{IsPlan}
 use Rattle.yard_core.specs.YardMap.{placement}
 use Rattle.yard_core.specs.declared.placement.Placement.{Placement}
-use Rattle.terminal_core.specs.declared.departure.Departure.{Departure}
 use Rattle.terminal_core.specs.declared.listing.Listing.{Listing}
 use Rattle.terminal_core.specs.declared.place.Place.{Place}
 use Rattle.terminal_core.specs.declared.restore_fault.RestoreFault.{RestoreFault}
 use Rattle.terminal_core.specs.declared.restore_fault.RestoreFault.TheVariants.{Unsound, Memory}
 use Rattle.terminal_core.specs.declared.side.Side.{Side}
-use Rattle.terminal_core.specs.declared.visit.Visit.{Visit}
 use Rattle.terminal_core.specs.Rows.{VisitContent, visit_content}
-use Rattle.terminal_core.specs.State.{TerminalState, LineContent, Lines, LineKey, line_key, line_of}
-use Rattle.terminal_core.specs.Changes.{TerminalRows, rows_of}
-use Rattle.terminal_core.specs.Forms.{IsFormedVisit, IsFormedLine, IsWellFormed}
+use Rattle.terminal_core.specs.State.{TerminalState, LineContent, Lines, LineKey, line_key}
+use Rattle.terminal_core.specs.Forms.{IsFormedLine}
 use Rattle.terminal_core.specs.Listings.{line_content, key_of, lines_of}
 use Rattle.terminal_core.specs.Restoring.{AreRowsOf}
 use Rattle.terminal_core.proofs.Formed.{by_key_lists, lists_by_key}
@@ -38,7 +35,7 @@ use Rattle.office_setup.specs.Setups.{SetupContent}
 use Rattle.office_setup.specs.Given.{is_party_code, AreDistinct}
 use Rattle.office_rows.specs.Office.{AreAccounts, AreKept, HasAccounts, IsOffice}
 use Rattle.office_checks.specs.Accounts.{accounts_in, AreWholeAccounts}
-use Rattle.office_checks.specs.Contents.{partner_content, number_content, place_content, setting_content, opened_rows}
+use Rattle.office_checks.specs.Contents.{partner_content, number_content, setting_content, opened_rows}
 use Rattle.office_checks.specs.Formed.{IsSoundVisit, IsSoundLine, AreSoundVisits, AreSoundLines, AreNamedPlaces, AreByLetter, AreTerminal, RefusesTerminal}
 use Rattle.office_checks.specs.Said.{AreSettings, RefusesSettings}
 use Rattle.office_checks.specs.Refusals.{RefusesTables}
@@ -190,9 +187,9 @@ settings_refused tables Unsound refuses = λ content state office. refuses conte
 -- ---- the office
 
 module _ (tables : OpenedTables) (content : SetupContent) (state : TerminalState) (settings : AreSettings (map setting_content tables.settings.items) content) (accounts : AreWholeAccounts tables.partners.items)
-  (partners : content.partners ≡ accounts_in tables.partners.items) (blocks : content.blocks ≡ tables.blocks.items) (kept : AreKept (map partner_content tables.partners.items) (map number_content tables.numbers.items))
-  (by_letter : AreByLetter tables.blocks.items)
-  (terminal : AreTerminal (length tables.partners.items) content.visit_limit tables.blocks.items tables.visits.items tables.places.items tables.lines.items state) where
+    (partners : content.partners ≡ accounts_in tables.partners.items) (blocks : content.blocks ≡ tables.blocks.items) (kept : AreKept (map partner_content tables.partners.items) (map number_content tables.numbers.items))
+    (by_letter : AreByLetter tables.blocks.items)
+    (terminal : AreTerminal (length tables.partners.items) content.visit_limit tables.blocks.items tables.visits.items tables.places.items tables.lines.items state) where
   count_is : length content.partners ≡ length tables.partners.items
   count_is = ap length partners ∙ length-map tables.partners.items coded_row
 
@@ -248,5 +245,5 @@ module _ (tables : OpenedTables) (content : SetupContent) (state : TerminalState
         placed_once = placed_once tables.places.items terminal.rows.places_are.once;
         listed_once = listed_once tables.lines.items terminal.rows.lines_once;
         terminal = rows_same tables.visits.items tables.places.items tables.lines.items
-        ∙ lists_by_key tables.blocks.items content.visit_limit tables.visits.items tables.places.items tables.lines.items state terminal.rows;
+            ∙ lists_by_key tables.blocks.items content.visit_limit tables.visits.items tables.places.items tables.lines.items state terminal.rows;
       }

@@ -1,5 +1,5 @@
 -- The forms of rows.
-use Rattle.std.specs.Prelude.{◌≡◌, ℕ, ◌≤◌, List, Option, None, Some, IsTrue, All}
+use Rattle.std.specs.Prelude.{ℕ, ◌≤◌, List, Option, None, Some, IsTrue, All}
 use Rattle.std.specs.List.Sorted.{IsNonDecreasingBy}
 use Rattle.box6346.specs.SlotName.{IsNamed}
 use Rattle.yard_core.specs.declared.block.Block.{Block}

@@ -55,7 +55,9 @@ fn is_account(id: usize, partner: &PartnerRow) -> bool
 fn are_coded(partners: &[PartnerRow]) -> bool
     ensures { result ≡ list_all (λ (row : PartnerRow). is_party_code (string_bytes row.code)) partners.now }
 {
-    partners.iter().all(|partner| is_party_code(partner.code.as_str()))
+    partners
+        .iter()
+        .all(|partner| is_party_code(partner.code.as_str()))
 }
 
 // Whether no two accounts have one code.
@@ -85,7 +87,10 @@ fn has_code(partners: &[PartnerRow], code: &str) -> bool
 }
 
 /// The accounts of a set-up.
-pub(crate) fn accounts_of(alloc: Global, partners: Vec<PartnerRow>) -> Result<Vec<Account>, AllocError>
+pub(crate) fn accounts_of(
+    alloc: Global,
+    partners: Vec<PartnerRow>,
+) -> Result<Vec<Account>, AllocError>
     ensures { IfOk result (λ accounts. account_contents accounts.items ≡ accounts_in partners.items) }
 {
     let mut accounts = Vec::with_capacity(alloc, partners.len())?;

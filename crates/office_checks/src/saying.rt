@@ -13,10 +13,7 @@ use std::alloc::Global;
 use terminal_core::RestoreFault;
 
 /// What settings say. Unsound where they are those of no set-up, and Memory.
-pub(crate) fn read_settings(
-    alloc: Global,
-    settings: &[Setting],
-) -> Result<Settings, RestoreFault>
+pub(crate) fn read_settings(alloc: Global, settings: &[Setting]) -> Result<Settings, RestoreFault>
     ensures ok { IfOk result (λ said. AreSettings (map setting_content settings.now) (set_up_with said)) }
     ensures refused { IfErr result (RefusesSettings (map setting_content settings.now)) }
 {

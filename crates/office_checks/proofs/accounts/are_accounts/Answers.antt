@@ -1,4 +1,4 @@
-use Rattle.std.proofs.Common.{◌≡◌, true, sym, ◌∙◌}
+use Rattle.std.proofs.Common.{sym, ◌∙◌}
 use Rattle.office_checks.proofs.accounts.are_accounts.Goals as goal
 
 pub returns-then-are_coded : goal.returns-then-are_coded

@@ -22,7 +22,7 @@ loop-index-preserved c j k a b less low e f =
     let P : ℕ → PartnerRow → Type 0 = λ n row. (m : ℕ) (other : PartnerRow) → m < n → slice_get c.args.partners.now m ≡ Some other → string_bytes other.code ≢ string_bytes row.code in
     rows_more P c.args.partners.now c.loop-index.index c.index-partners-index.result here
     (λ m other before there same. (let is : c.has_code.result ≡ true = c.has_code.ensures.1 (m, other, ap (λ (l : List PartnerRow). slice_get l m) c.split_at.ensures.front ∙ before_of c.args.partners.now c.loop-index.index m other before there, same ∙ sym c.as_str.ensures.value) in
-        absurd (cc)))
+    absurd (cc)))
     (λ n row near there m other before at. c.loop-index.invariant m n other row before near at there) k b low f j a less e
 
 pub returns : goal.returns

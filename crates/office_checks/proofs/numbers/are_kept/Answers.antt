@@ -12,8 +12,8 @@ returns-then-not-is_kept_for c = (
 pub loop-partner-preserved : goal.loop-partner-preserved
 loop-partner-preserved c = record {
   accounts = accounts_more c.args.partners.now c.args.numbers.now c.loop-partner.rest.now c.split_at.result.0.now c.split_at.result.1.now c.loop-partner.partner-index c.own_count.result c.partner-item.result c.partner-item.result c.loop-partner-test.true
-  c.partner-item.is c.split_at.ensures.front c.split_at.ensures.back c.own_count.ensures.own c.own_count.ensures.others c.loop-partner.invariant.accounts c.loop-partner.invariant.same;
+      c.partner-item.is c.split_at.ensures.front c.split_at.ensures.back c.own_count.ensures.own c.own_count.ensures.others c.loop-partner.invariant.accounts c.loop-partner.invariant.same;
   same = kept_more c.args.partners.now c.args.numbers.now c.loop-partner.rest.now c.split_at.result.0.now c.split_at.result.1.now c.loop-partner.partner-index c.own_count.result c.partner-item.result c.partner-item.result c.loop-partner-test.true
-  c.partner-item.is c.split_at.ensures.front c.split_at.ensures.back c.own_count.ensures.own c.own_count.ensures.others c.loop-partner.invariant.accounts c.loop-partner.invariant.same c.is_kept_for.result c.is_kept_for.ensures
-  c.if-not-is_kept_for.false;
+      c.partner-item.is c.split_at.ensures.front c.split_at.ensures.back c.own_count.ensures.own c.own_count.ensures.others c.loop-partner.invariant.accounts c.loop-partner.invariant.same c.is_kept_for.result c.is_kept_for.ensures
+      c.if-not-is_kept_for.false;
 }

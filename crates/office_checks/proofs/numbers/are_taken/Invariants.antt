@@ -1,4 +1,4 @@
-use Rattle.std.proofs.Common.{◌≡◌, ◌+◌, map, take, true}
+use Rattle.std.proofs.Common.{◌≡◌, map, take, true}
 use Rattle.std.specs.List.{range_with_len}
 use Rattle.office_checks.specs.Contents.{number_content}
 use Rattle.office_checks.proofs.numbers.are_taken.Given as goal

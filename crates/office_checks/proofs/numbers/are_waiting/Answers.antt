@@ -1,4 +1,4 @@
-use Rattle.std.proofs.Common.{◌≡◌, List, false, map, refl, sym, subst, get_or}
+use Rattle.std.proofs.Common.{List, false, map, refl, sym, subst, get_or}
 use Rattle.office_rows.specs.Office.{AreWaiting}
 use Rattle.office_checks.specs.Contents.{number_content}
 use Rattle.office_checks.specs.declared.number_row.NumberRow.{NumberRow}

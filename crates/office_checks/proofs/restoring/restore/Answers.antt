@@ -1,7 +1,5 @@
-use Rattle.std.proofs.Common.{rules, ◌≡◌, ℕ, List, length, map, true, sym, ap, ◌∙◌, refl, subst, string_bytes}
+use Rattle.std.proofs.Common.{rules, ◌≡◌, ℕ, List, length, map, true, sym, ap, ◌∙◌, refl, subst}
 use Rattle.yard_core.specs.declared.block.Block.{Block}
-use Rattle.terminal_core.specs.State.{TerminalState}
-use Rattle.office_setup.specs.Setups.{account_contents}
 use Rattle.office_rows.specs.Office.{AreKept}
 use Rattle.office_checks.specs.Accounts.{AreWholeAccounts}
 use Rattle.office_checks.specs.Contents.{partner_content, number_content, setting_content, opened_rows}
@@ -11,7 +9,7 @@ use Rattle.office_checks.specs.Said.{set_up_with, AreSettings}
 use Rattle.office_checks.specs.declared.number_row.NumberRow.{NumberRow}
 use Rattle.office_checks.specs.declared.partner_row.PartnerRow.{PartnerRow}
 use Rattle.office_checks.specs.declared.setting.Setting.{Setting}
-use Rattle.office_checks.proofs.Offices.{accounts_of_office, by_letter_of_office, tables_refused, settings_refused, office_of}
+use Rattle.office_checks.proofs.Offices.{accounts_of_office, by_letter_of_office, tables_refused, office_of}
 use Rattle.office_checks.proofs.restoring.restore.Goals as goal
 
 pub returns-then-not-are_accounts-clause-refused : goal.returns-then-not-are_accounts-clause-refused

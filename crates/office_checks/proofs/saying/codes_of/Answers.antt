@@ -1,9 +1,9 @@
-use Rattle.std.proofs.Common.{◌≡◌, List, [], ◌∷◌, ℕ, Some, length, map, sym, ap, ◌∙◌}
+use Rattle.std.proofs.Common.{◌≡◌, Some, length, map, sym, ap, ◌∙◌}
 use Rattle.std.proofs.lemmas.List.{length-map}
 use Rattle.edi_messages.specs.CodeText.{table_fault}
 use Rattle.office_rows.specs.Rows.{Setting}
 use Rattle.office_checks.specs.Contents.{setting_content}
-use Rattle.office_checks.specs.Said.{values_of, code_values}
+use Rattle.office_checks.specs.Said.{values_of}
 use Rattle.office_checks.proofs.Told.{seven_codes}
 use Rattle.office_checks.proofs.saying.codes_of.Goals as goal
 

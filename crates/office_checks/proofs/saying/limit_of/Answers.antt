@@ -1,4 +1,4 @@
-use Rattle.std.proofs.Common.{◌≡◌, ℕ, ◌≤◌, Ok, sym, ◌∙◌, arith, true, subst, decimal}
+use Rattle.std.proofs.Common.{◌≡◌, ℕ, ◌≤◌, Ok, arith, true, subst, decimal}
 use Rattle.std.proofs.lemmas.Fmt.{parse-decimal}
 use Rattle.office_checks.proofs.saying.limit_of.Goals as goal
 

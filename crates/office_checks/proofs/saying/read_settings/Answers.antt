@@ -1,12 +1,9 @@
-use Rattle.std.proofs.Common.{◌≡◌, ℕ, ◌<◌, List, Some, length, map, true, IsTrue, sym, ap, ◌∙◌, arith, subst, decimal}
-use Rattle.std.proofs.lemmas.List.{length-map}
-use Rattle.std.proofs.lemmas.Option.{same_Some}
-use Rattle.edi_messages.specs.CodeText.{table_fault}
+use Rattle.std.proofs.Common.{◌≡◌, ℕ, List, Some, map, true, IsTrue, sym, ap, ◌∙◌, subst}
 use Rattle.office_setup.specs.Given.{is_party_code}
 use Rattle.office_checks.specs.Contents.{setting_content}
 use Rattle.office_checks.specs.Said.{set_up_with}
 use Rattle.office_checks.specs.Said.{set_up_with}
-use Rattle.office_checks.proofs.Told.{names_so, terminal_so, version_so, limit_so, codes_so, ten_long, settings_so}
+use Rattle.office_checks.proofs.Told.{names_so, settings_so}
 use Rattle.office_checks.proofs.saying.read_settings.Goals as goal
 
 pub returns-then-not-are_named-clause-refused : goal.returns-then-not-are_named-clause-refused
@@ -24,5 +21,5 @@ returns-clause-ok c =
       codes = c.in-Some.ensures.0;
       limit = (c.in-Some-limit_of.ensures.0, c.in-Some-limit_of.ensures.1);
       are = settings_so (map setting_content c.args.settings.now) (set_up_with (record { terminal = c.in_ok-terminal.terminal; codes = c.in-Some.codes; visit_limit = c.in-Some-limit_of.visit_limit })) (c.are_named.ensures.0 c.if-not-are_named.false) (c.value-name.ensures ∙ ap Some (sym name)) (c.value.ensures ∙ ap Some (c.are_same.ensures.0 c.if-not-are_same.false))
-      (c.value-2.ensures ∙ ap Some c.in-Some-limit_of.ensures.2) c.in-Some.ensures.1;
+          (c.value-2.ensures ∙ ap Some c.in-Some-limit_of.ensures.2) c.in-Some.ensures.1;
     }
