@@ -12,7 +12,7 @@ use Rattle.office_tables.specs.declared.table_fault.TableFault.TheVariants.{Stor
 use Rattle.office_loading.specs.Decoded.{itself}
 use Rattle.office_loading.specs.Fits.{FitsSetting}
 use Rattle.office_loading.specs.Reads.{OnlyReads}
-use Rattle.office_loading.specs.Tables.{FailsTable, FailsTables, FailsSettings, HasVersion, FitsRows}
+use Rattle.office_loading.specs.Tables.{FailsTable, FailsTables, FailsSettings, FailsToLoad, HasVersion, FitsRows}
 
 -- a call that read and did not fail
 pub record After (a b : State) : Type 0 where
@@ -44,11 +44,11 @@ unchanged_then a b c p q = (
 pub reads_then : (a b c : State) → After a b → OnlyReads b c → OnlyReads a c
 reads_then a b c p q = record {
   keeps = λ clean is.
-    let before = clean_before b c q clean in
-    keep_then a b c (stops_keep a b (inl (p.same before is))) (q.keeps clean (schema_is a b p before is));
+      let before = clean_before b c q clean in
+      keep_then a b c (stops_keep a b (inl (p.same before is))) (q.keeps clean (schema_is a b p before is));
   mode = λ h. q.mode (p.reads.mode h);
   survives = survives_then a b c (λ _. a.now.schema ≢ office_schema) (λ _. b.now.schema ≢ office_schema) (λ _. a.now.schema ≢ office_schema) (λ _ db other. other)
-  (λ clean db other. λ is. other (schema_is a b p (clean_before b c q clean) is)) p.reads.survives q.survives;
+      (λ clean db other. λ is. other (schema_is a b p (clean_before b c q clean) is)) p.reads.survives q.survives;
 }
 
 pub after : (a b c : State) → After a b → After b c → After a c
@@ -81,3 +81,9 @@ settings_fail db Damaged h = (h.0, λ rows shows fit. h.1 rows.settings shows.se
 settings_fail db Version h = h
 settings_fail db Memory h = h
 settings_fail db (Store error) h = h
+
+pub tables_fail : (db : Database) (fault : TableFault) → FailsTables db fault → FailsToLoad db fault
+tables_fail db Damaged h = (h.0, inl h.1)
+tables_fail db Version h = h
+tables_fail db Memory h = h
+tables_fail db (Store error) h = h

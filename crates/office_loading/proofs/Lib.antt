@@ -6,3 +6,4 @@ pub mod ShownLemmas
 pub mod TableLemmas
 pub mod VersionLemmas
 pub mod ChainLemmas
+pub mod KeyLemmas

@@ -1,5 +1,5 @@
 -- What reading the tables answers.
-use Rattle.std.specs.Prelude.{List, [], ◌∷◌, map, Contains, codes, Result, Ok, Err, Vec}
+use Rattle.std.specs.Prelude.{◌⊎◌, List, [], ◌∷◌, map, Contains, codes, Result, Ok, Err, Vec}
 use Rattle.std.specs.List.{AllByRecursion}
 use Rattle.sqlite.specs.Effect.{Database}
 use Rattle.terminal_core.specs.Rows.{VisitContent}
@@ -92,9 +92,19 @@ ReadsTables db (Err fault) = FailsTables db fault
 
 -- ---- the office
 
--- no office has the rows of the tables, though the version is this one; or it is another
+-- the tables show no rows that the types of rows can hold, or show those of no office
+abbrev pub ShowsNoOffice : Database → Type 0
+ShowsNoOffice db =
+    ((rows : OpenedRows) → Shows db rows → ¬ FitsRows rows)
+    ⊎ ((rows : OpenedRows) × Shows db rows × ((content : SetupContent) (state : TerminalState) → ¬ IsOffice rows content state))
+
+-- the version is another one; or it is this and the tables show no office
 abbrev pub FailsToLoad : Database → TableFault → Type 0
 FailsToLoad db Version = ¬ HasVersion db
-FailsToLoad db Damaged = HasVersion db × ((rows : OpenedRows) (content : SetupContent) (state : TerminalState) → Shows db rows → ¬ IsOffice rows content state)
+FailsToLoad db Damaged = HasVersion db × ShowsNoOffice db
 FailsToLoad db Memory = Unit {0}
 FailsToLoad db (Store error) = Unit {0}
+
+-- the set-up and the terminal are those of the rows that the tables show
+abbrev pub Loads : Database → SetupContent → TerminalState → Type 0
+Loads db content state = (rows : OpenedRows) × Shows db rows × IsOffice rows content state

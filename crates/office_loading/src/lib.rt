@@ -6,6 +6,7 @@ mod codes;
 mod columns;
 mod formats;
 mod line_rows;
+mod loading;
 mod number_rows;
 mod numbering;
 mod opening;
@@ -19,4 +20,5 @@ mod stays;
 mod version;
 mod visit_rows;
 
+pub use loading::load;
 pub use numbering::nexts;

@@ -319,8 +319,7 @@ returns-clause-read g c clean is =
     let r5 = from_first (λ (db : Database). ReadsTable listing_content FitsLine (ShowsLines db) (Ok c.in_ok-lines.lines)) s0 s5 s6 a5 c.read_lines.ensures.reads c.in_ok-lines.ensures.read clean6 is in
     let r6 = from_first (λ (db : Database). ReadsTable itself FitsBlock (ShowsBlocks db) (Ok c.in_ok-blocks.blocks)) s0 s6 s7 a6 c.read_blocks.ensures.reads c.in_ok-blocks.ensures.read clean7 is in
     let said = c.in_ok-settings.ensures.read clean1 is in
-    let blocks = same_items c.in_ok-blocks.blocks.items in
-    (
+    let blocks = same_items c.in_ok-blocks.blocks.items in (
       said.0,
       record { partners = r1.0; numbers = r2.0; visits = r3.0; places = r4.0; lines = r5.0; settings = said.1.0; blocks = subst (ShowsBlocks s0.now) blocks r6.0 },
       record { partners = r1.1; numbers = r2.1; visits = r3.1; places = r4.1; lines = r5.1; settings = said.1.1; blocks = subst (AllByRecursion FitsBlock) blocks r6.1 },
