@@ -7,3 +7,5 @@ pub mod TableLemmas
 pub mod VersionLemmas
 pub mod ChainLemmas
 pub mod KeyLemmas
+pub mod FitLemmas
+pub mod RowLemmas
