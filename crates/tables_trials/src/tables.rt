@@ -6,7 +6,8 @@ mod changes;
 
 use edi_messages::{CodeTable, PartnerKind};
 use office_setup::{Account, Setup};
-use office_tables::{Kept, create, keep, kept, mark_taken, next_of, nexts};
+use office_loading::nexts;
+use office_tables::{Kept, create, keep, kept, mark_taken, next_of};
 use sqlite::{Alter, Connection, Error, MemStore};
 use std::alloc::{AllocError, Global};
 use std::process::Abort;

@@ -1,0 +1,170 @@
+-- The rows of places and lines by their keys, typed or as contents.
+use Rattle.std.proofs.Common.{◌≡◌, ℕ, ◌+◌, ◌<◌, ◌≤◌, zero, suc, List, [], ◌∷◌, length, map, Bool, true, false, cond, Option, Some, refl, sym, ap, ◌∙◌, arith, inl, inr, ◌⊎◌, string_bytes}
+use Rattle.std.specs.Prelude.{slice_get, find, count_by, ◌&&◌, ◌==◌}
+use Rattle.std.specs.FinMap as finite_map
+use Rattle.std.specs.Option.{option_map}
+use Rattle.std.specs.Str.{bytes_eq}
+use Rattle.std.specs.Cmp.{eq_by_cmp_equiv}
+use Rattle.std.proofs.lemmas.List.Sums.{sum_by-cons}
+use Rattle.std.proofs.lemmas.Simd.{map-map}
+use Rattle.std.proofs.lemmas.Option.{same_Some, slice_get_within}
+use Rattle.box6346.specs.declared.box_number.BoxNumber.{BoxNumber}
+use Rattle.edi_messages.specs.Purposes.{CallContent}
+use Rattle.edi_messages.specs.Owned.{call_content}
+use Rattle.terminal_core.specs.declared.listing.Listing.{Listing}
+use Rattle.terminal_core.specs.declared.place.Place.{Place}
+use Rattle.terminal_core.specs.declared.side.Side.{Side}
+use Rattle.terminal_core.specs.declared.side.Side.TheVariants.{Load, Discharge}
+use Rattle.terminal_core.specs.declared.visit.Visit.{Visit}
+use Rattle.terminal_core.specs.Rows.{visit_content}
+use Rattle.terminal_core.specs.State.{line_key, side_code}
+use Rattle.terminal_core.specs.Changes.{Standing, standing_in}
+use Rattle.terminal_core.specs.Listings as typed
+use Rattle.terminal_core.specs.Restoring.{AreOnce}
+use Rattle.terminal_core.specs.RowForms as forms
+use Rattle.terminal_core.proofs.Lined.{keys_total, same_key, line_tied, line_first}
+use Rattle.terminal_core.proofs.Counted.{counts, one_passes}
+use Rattle.terminal_core.proofs.Numbered.{contained}
+use Rattle.office_rows.specs.Rows.{PlaceContent, listing_content}
+use Rattle.office_rows.specs.Effects.{stands_for, is_line}
+use Rattle.office_rows.specs.ByKey.{standing_by, line_entry, lines_by, ArePlacedOnce, AreListedOnce}
+use Rattle.office_checks.specs.Contents.{place_content}
+
+-- ---- places
+
+abbrev at_place : BoxNumber → Place → Bool
+at_place container place = bytes_eq place.container container
+
+abbrev shown : Option PlaceContent → Option Standing
+shown o = option_map (λ (place : PlaceContent). standing_in place.visit place.slot) o
+
+abbrev typed_shown : Option Place → Option Standing
+typed_shown o = option_map (λ (place : Place). standing_in place.visit place.slot) o
+
+chosen : (test : Bool) (place : Place) (a : Option PlaceContent) (b : Option Place) → shown a ≡ typed_shown b → shown (cond test (Some (place_content place)) a) ≡ typed_shown (cond test (Some place) b)
+chosen true place a b e = refl
+chosen false place a b e = e
+
+standing_same : (places : List Place) (container : BoxNumber) → standing_by (map place_content places) container ≡ forms.standing_by places container
+standing_same [] container = refl
+standing_same (p ∷ places) container = chosen (bytes_eq p.container container) p (find (stands_for container) (map place_content places)) (find (at_place container) places) (standing_same places container)
+
+placed_count : (container : BoxNumber) (places : List Place) → count_by (stands_for container) (map place_content places) ≡ count_by (at_place container) places
+placed_count container [] = refl
+placed_count container (p ∷ places) =
+    sum_by-cons (λ q. counts (stands_for container q)) (place_content p) (map place_content places) ∙ ap (λ n. counts (bytes_eq p.container container) + n) (placed_count container places)
+    ∙ sym (sum_by-cons (λ q. counts (at_place container q)) p places)
+
+pub placed_once : (places : List Place) → forms.ArePlacedOnce places → ArePlacedOnce (map place_content places)
+placed_once places once container =
+    let same : count_by (stands_for container) (map place_content places) ≡ count_by (at_place container) places = placed_count container places in
+    let few : count_by (at_place container) places ≤ 1 = once container in
+    omega arith
+
+pub typed_placed_once : (places : List Place) → ArePlacedOnce (map place_content places) → forms.ArePlacedOnce places
+typed_placed_once places once container =
+    let same : count_by (stands_for container) (map place_content places) ≡ count_by (at_place container) places = placed_count container places in
+    let few : count_by (stands_for container) (map place_content places) ≤ 1 = once container in
+    omega arith
+
+-- ---- lines
+
+turned : (a b c d : Bool) → (a && (b && (c && d))) ≡ (((d && c) && b) && a)
+turned true true true true = refl
+turned true true true false = refl
+turned true true false true = refl
+turned true true false false = refl
+turned true false true true = refl
+turned true false true false = refl
+turned true false false true = refl
+turned true false false false = refl
+turned false true true true = refl
+turned false true true false = refl
+turned false true false true = refl
+turned false true false false = refl
+turned false false true true = refl
+turned false false true false = refl
+turned false false false true = refl
+turned false false false false = refl
+
+same_test : (call : CallContent) (side : Side) (container : BoxNumber) (row : Listing) → is_line call side container (listing_content row) ≡ typed.is_line call side container row
+same_test call side container row = turned (bytes_eq (string_bytes row.call.vessel) call.vessel) (bytes_eq (string_bytes row.call.voyage) call.voyage) (side_code row.side == side_code side) (bytes_eq row.container container)
+
+listed_count : (call : CallContent) (side : Side) (container : BoxNumber) (lines : List Listing) → count_by (is_line call side container) (map listing_content lines) ≡ count_by (typed.is_line call side container) lines
+listed_count call side container [] = refl
+listed_count call side container (l ∷ lines) =
+    sum_by-cons (λ m. counts (is_line call side container m)) (listing_content l) (map listing_content lines) ∙ ap (λ n. counts (is_line call side container (listing_content l)) + n) (listed_count call side container lines)
+    ∙ ap (λ t. counts t + count_by (typed.is_line call side container) lines) (same_test call side container l) ∙ sym (sum_by-cons (λ m. counts (typed.is_line call side container m)) l lines)
+
+pub listed_once : (lines : List Listing) → AreOnce lines → AreListedOnce (map listing_content lines)
+listed_once lines once call side container =
+    let same : count_by (is_line call side container) (map listing_content lines) ≡ count_by (typed.is_line call side container) lines = listed_count call side container lines in
+    let few : count_by (typed.is_line call side container) lines ≤ 1 = once call side container in
+    omega arith
+
+pub typed_listed_once : (lines : List Listing) → AreListedOnce (map listing_content lines) → AreOnce lines
+typed_listed_once lines once call side container =
+    let same : count_by (is_line call side container) (map listing_content lines) ≡ count_by (typed.is_line call side container) lines = listed_count call side container lines in
+    let few : count_by (is_line call side container) (map listing_content lines) ≤ 1 = once call side container in
+    omega arith
+
+lines_same : (lines : List Listing) → lines_by (map listing_content lines) ≡ typed.lines_of lines
+lines_same lines = ap finite_map.from_entries (map-map line_entry listing_content lines)
+
+-- ---- all of them
+
+pub rows_same : (visits : List Visit) (places : List Place) (lines : List Listing)
+    → record { visits = map visit_content visits; places = standing_by (map place_content places); lines = lines_by (map listing_content lines) } ≡ forms.rows_by_key visits places lines
+rows_same visits places lines = λ i. record { visits = map visit_content visits; places = λ container. standing_same places container i; lines = lines_same lines i }
+
+-- ---- a line and its row
+
+module _ (call : CallContent) (side : Side) (container : BoxNumber) where
+  abbrev First : List Listing → Type 0
+  First rows = (place : ℕ) × typed.IsFirstAt call side container rows place
+
+  abbrev None_ : List Listing → Type 0
+  None_ rows = typed.NoneBefore call side container rows (length rows)
+
+  none_more : (row : Listing) (rows : List Listing) (n : ℕ) → typed.is_line call side container row ≡ false → typed.NoneBefore call side container rows n → typed.NoneBefore call side container (row ∷ rows) (suc n)
+  none_more row rows n isnt none zero r low at = ap (typed.is_line call side container) (sym (same_Some row r at)) ∙ isnt
+  none_more row rows n isnt none (suc k) r low at = none k r (omega arith) at
+
+  first_more : (row : Listing) (rows : List Listing) → typed.is_line call side container row ≡ false → First rows ⊎ None_ rows → First (row ∷ rows) ⊎ None_ (row ∷ rows)
+  first_more row rows isnt found = elim found [
+    | inl first ↦ inl (suc first.0, record { row = first.1.row; at = first.1.at; is = first.1.is; before = none_more row rows first.0 isnt first.1.before })
+    | inr none ↦ inr (none_more row rows (length rows) isnt none)
+  ]
+
+  pub first_or_none : (rows : List Listing) → First rows ⊎ None_ rows
+  first_or_none [] = inr (λ k r low at. cc)
+  first_or_none (row ∷ rows) =
+      elim (typed.is_line call side container row) as (λ v. typed.is_line call side container row ≡ v → First (row ∷ rows) ⊎ None_ (row ∷ rows)) [
+        | true ↦ λ is. inl (0, record { row = row; at = refl; is = is; before = λ k r low at. absurd (omega arith) })
+        | false ↦ λ isnt. first_more row rows isnt (first_or_none rows)
+      ] refl
+
+  -- the key of a row that is this line
+  pub key_is : (row : Listing) → typed.is_line call side container row ≡ true → line_key call side container ≡ typed.key_of row
+  key_is row is = same_key (line_key call side container) (typed.key_of row) (line_tied call side container row ∙ is)
+
+pub side_is : (a b : Side) → side_code a ≡ side_code b → a ≡ b
+side_is Load Load e = refl
+side_is Load Discharge e = absurd (omega (arith, e))
+side_is Discharge Load e = absurd (omega (arith, e))
+side_is Discharge Discharge e = refl
+
+pub own_line : (row : Listing) → typed.is_line (call_content row.call) row.side row.container row ≡ true
+own_line row = sym (line_tied (call_content row.call) row.side row.container row) ∙ (eq_by_cmp_equiv keys_total).refl (typed.key_of row)
+
+-- each row of lines that stand once is there under its key
+pub line_there : (rows : List Listing) (k : ℕ) (row : Listing) → AreOnce rows → slice_get rows k ≡ Some row → finite_map.get (typed.lines_of rows) (typed.key_of row) ≡ Some (typed.line_content row)
+line_there rows k row once at = elim (first_or_none (call_content row.call) row.side row.container rows) [
+  | inl first ↦ (let same : first.1.row ≡ row = one_passes (typed.is_line (call_content row.call) row.side row.container) rows first.1.row row (once (call_content row.call) row.side row.container) (contained rows first.0 first.1.row first.1.at)
+      (contained rows k row at) first.1.is (own_line row) in
+      line_first (call_content row.call) row.side row.container rows first.0 first.1 ∙ ap (λ (r : Listing). Some (typed.line_content r)) same)
+  | inr none ↦ (let low : k < length rows = slice_get_within rows k row at in
+      let isnt : typed.is_line (call_content row.call) row.side row.container row ≡ false = none k row low at in
+      let is = own_line row in
+      cc)
+]

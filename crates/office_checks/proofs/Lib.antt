@@ -1,0 +1,6 @@
+pub mod Lists
+pub mod Kept
+pub mod Accounted
+pub mod Told
+pub mod Keyed
+pub mod Offices

@@ -1,0 +1,12 @@
+use Rattle.std.proofs.Common.{map, drop, ◌+◌, ◌↔◌}
+use Rattle.office_rows.specs.Office.{AreAccounts, AreKept}
+use Rattle.office_checks.specs.Accounts.{accounts_in}
+use Rattle.office_checks.specs.Contents.{number_content, partner_content}
+use Rattle.office_checks.proofs.numbers.are_kept.Given as goal
+
+abbrev pub invariant-loop-partner : goal.invariant-loop-partner
+invariant-loop-partner l =
+    record {
+      accounts : AreAccounts (l.partner-index + 1) (map partner_content (drop l.partner-index l.partners)) (accounts_in (drop l.partner-index l.partners));
+      same : AreKept (map partner_content l.partners) (map number_content l.numbers) ↔ AreKept (map partner_content (drop l.partner-index l.partners)) (map number_content l.rest);
+    }

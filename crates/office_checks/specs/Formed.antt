@@ -1,0 +1,68 @@
+-- The forms of rows.
+use Rattle.std.specs.Prelude.{ℕ, ◌≤◌, List, Option, None, Some, IsTrue, All}
+use Rattle.std.specs.List.Sorted.{IsNonDecreasingBy}
+use Rattle.box6346.specs.SlotName.{IsNamed}
+use Rattle.yard_core.specs.declared.block.Block.{Block}
+use Rattle.edi_moments.specs.Moments.{is_moment}
+use Rattle.terminal_core.specs.declared.arrival.Arrival.{Arrival}
+use Rattle.terminal_core.specs.declared.departure.Departure.{Departure}
+use Rattle.terminal_core.specs.declared.source.Source.{Source}
+use Rattle.terminal_core.specs.declared.listing.Listing.{Listing}
+use Rattle.terminal_core.specs.declared.place.Place.{Place}
+use Rattle.terminal_core.specs.declared.restore_fault.RestoreFault.{RestoreFault}
+use Rattle.terminal_core.specs.declared.restore_fault.RestoreFault.TheVariants.{Unsound, Memory}
+use Rattle.terminal_core.specs.declared.visit.Visit.{Visit}
+use Rattle.terminal_core.specs.Forms.{IsSource, IsFormedVisit, IsFormedLine}
+use Rattle.terminal_core.specs.Listings.{line_content}
+use Rattle.terminal_core.specs.Restoring.{AreRowsOf}
+use Rattle.terminal_core.specs.Rows.{VisitContent, visit_content}
+use Rattle.terminal_core.specs.State.{TerminalState}
+use Rattle.edi_messages.specs.Owned.{call_content}
+use Rattle.office_rows.specs.Office.{HasAccounts}
+
+-- the source has its form, and its partner is among so many
+abbrev pub IsSoundSource : ℕ → Source → Type 0
+IsSoundSource count source = IsSource source × (source.partner ≤ count)
+
+abbrev pub IsSoundArrival : ℕ → Arrival → Type 0
+IsSoundArrival count arrival = IsSoundSource count arrival.source × IsTrue (is_moment arrival.moment) × IsNamed arrival.slot
+
+abbrev pub IsSoundDeparture : ℕ → Departure → Type 0
+IsSoundDeparture count departure = IsSoundSource count departure.source × IsTrue (is_moment departure.moment)
+
+abbrev pub IsSoundExit : ℕ → Option Departure → Type 0
+IsSoundExit count None = Unit {0}
+IsSoundExit count (Some departure) = IsSoundDeparture count departure
+
+-- the visit has its form, and those who opened and closed it are among so many partners
+pub record IsSoundVisit (count : ℕ) (visit : VisitContent) : Type 0 where
+  pub formed : IsFormedVisit visit
+  pub accounted : HasAccounts count visit
+
+abbrev pub IsSoundLine : Listing → Type 0
+IsSoundLine line = IsFormedLine (call_content line.call) line.side line.container (line_content line)
+
+abbrev pub AreSoundVisits : ℕ → List Visit → Type 0
+AreSoundVisits count visits = All (λ (visit : Visit). IsSoundVisit count (visit_content visit)) visits
+
+abbrev pub AreSoundLines : List Listing → Type 0
+AreSoundLines lines = All IsSoundLine lines
+
+abbrev pub AreNamedPlaces : List Place → Type 0
+AreNamedPlaces places = All (λ (place : Place). IsNamed place.slot) places
+
+-- the blocks stand by their letters
+abbrev pub AreByLetter : List Block → Type 0
+AreByLetter blocks = IsNonDecreasingBy (λ (block : Block). block.letter) blocks
+
+-- the rows of visits, places and lines are those of the state, and have their forms
+pub record AreTerminal (count limit : ℕ) (blocks : List Block) (visits : List Visit) (places : List Place) (lines : List Listing) (state : TerminalState) : Type 0 where
+  pub visits_sound : AreSoundVisits count visits
+  pub places_named : AreNamedPlaces places
+  pub lines_sound : AreSoundLines lines
+  pub rows : AreRowsOf blocks limit visits places lines state
+
+-- why they are not: they are those of no state, or memory was refused
+abbrev pub RefusesTerminal : ℕ → ℕ → List Block → List Visit → List Place → List Listing → RestoreFault → Type 0
+RefusesTerminal count limit blocks visits places lines Unsound = (state : TerminalState) → ¬ AreTerminal count limit blocks visits places lines state
+RefusesTerminal count limit blocks visits places lines Memory = Unit {0}

@@ -1,0 +1,13 @@
+-- Whose interchanges a list of them begins with.
+use Rattle.std.specs.Prelude.{◌≡◌, ◌≢◌, ℕ, List, [], ◌∷◌}
+use Rattle.office_rows.specs.Opened.{Numbered}
+
+-- all are the partner's
+abbrev pub AreOwn : ℕ → List Numbered → Type 0
+AreOwn partner [] = Unit {0}
+AreOwn partner (row ∷ rows) = (row.partner ≡ partner) × AreOwn partner rows
+
+-- the first, if there is one, is another's
+abbrev pub BeginsElse : ℕ → List Numbered → Type 0
+BeginsElse partner [] = Unit {0}
+BeginsElse partner (row ∷ rows) = row.partner ≢ partner

@@ -1,0 +1,90 @@
+ghost use Rattle.std.specs.Prelude.{IfOk, IfErr, length};
+ghost use Rattle.office_setup.specs.Setups.{setup_content};
+ghost use Rattle.office_rows.specs.Office.{IsOffice};
+ghost use Rattle.office_checks.specs.Contents.{opened_rows};
+ghost use Rattle.office_checks.specs.Formed.{AreTerminal, RefusesTerminal};
+ghost use Rattle.office_checks.specs.Refusals.{RefusesTables};
+
+use crate::accounts::{accounts_of, are_accounts};
+use crate::forms::{are_by_letter, are_named_places, are_sound_lines, are_sound_visits};
+use crate::numbers::are_kept;
+use crate::opened_tables::OpenedTables;
+use crate::saying::read_settings;
+use office_setup::Setup;
+use std::alloc::Global;
+use terminal_core::{Listing, Place, RestoreFault, Terminal, Visit};
+use yard_core::{Block, Plan};
+
+/// The set-up and the terminal of an office, whose rows these are. Unsound where they are those of no office, and
+/// Memory. What was handed in is given up.
+pub fn restore(alloc: Global, tables: OpenedTables) -> Result<(Setup, Terminal), RestoreFault>
+    ensures ok { IfOk result (λ p. IsOffice (opened_rows tables) (setup_content p.0) p.1) }
+    ensures refused { IfErr result (RefusesTables (opened_rows tables)) }
+{
+    let OpenedTables {
+        partners,
+        numbers,
+        visits,
+        places,
+        lines,
+        settings,
+        blocks,
+    } = tables;
+    let said = read_settings(alloc, &settings)?;
+    if !are_accounts(&partners) {
+        return Err(RestoreFault::Unsound);
+    }
+    if !are_kept(&partners, &numbers) {
+        return Err(RestoreFault::Unsound);
+    }
+    if !are_by_letter(&blocks) {
+        return Err(RestoreFault::Unsound);
+    }
+    let terminal = restore_terminal(
+        alloc,
+        partners.len(),
+        said.visit_limit,
+        &blocks,
+        visits,
+        places,
+        lines,
+    )?;
+    let partners = accounts_of(alloc, partners)?;
+    let setup = Setup {
+        terminal: said.terminal,
+        codes: said.codes,
+        partners,
+        blocks,
+        visit_limit: said.visit_limit,
+    };
+    Ok((setup, terminal))
+}
+
+// The terminal of rows that have their forms.
+fn restore_terminal(
+    alloc: Global,
+    count: usize,
+    visit_limit: u32,
+    blocks: &[Block],
+    visits: Vec<Visit>,
+    places: Vec<Place>,
+    lines: Vec<Listing>,
+) -> Result<Terminal, RestoreFault>
+    ensures ok { IfOk result (AreTerminal count visit_limit blocks.now visits.items places.items lines.items) }
+    ensures refused { IfErr result (RefusesTerminal count visit_limit blocks.now visits.items places.items lines.items) }
+{
+    if !are_sound_visits(count, &visits) {
+        return Err(RestoreFault::Unsound);
+    }
+    if !are_named_places(&places) {
+        return Err(RestoreFault::Unsound);
+    }
+    if !are_sound_lines(&lines) {
+        return Err(RestoreFault::Unsound);
+    }
+    let plan = match Plan::new(blocks) {
+        Ok(plan) => plan,
+        Err(_) => return Err(RestoreFault::Unsound),
+    };
+    Terminal::restore(alloc, plan, visit_limit, visits, places, lines)
+}

@@ -1,0 +1,65 @@
+ghost use Rattle.std.specs.Prelude.{◌≡◌, ◌↔◌, IsTrue};
+ghost use Rattle.std.specs.List.{list_all};
+ghost use Rattle.edi_messages.specs.Forms.{is_name_if_any};
+ghost use Rattle.edi_messages.specs.Texts.{is_name};
+ghost use Rattle.edi_segments.specs.Characters.{is_printable};
+ghost use Rattle.office_setup.specs.Given.{is_party_byte, is_party_code};
+
+/// Whether a text is the code of a terminal or of a partner: 1 to 35 letters, digits, hyphens, dots and underscores.
+pub(crate) fn is_party_code(text: &str) -> bool
+    ensures { result ≡ is_party_code text.now }
+{
+    let bytes = text.as_bytes();
+    1 <= bytes.len() && bytes.len() <= 35 && are_party_bytes(bytes)
+}
+
+fn are_party_bytes(bytes: &[u8]) -> bool
+    ensures { result ≡ list_all is_party_byte bytes.now }
+{
+    bytes.iter().all(|byte| is_party_byte(*byte))
+}
+
+fn is_party_byte(byte: u8) -> bool
+    ensures { result ≡ is_party_byte byte }
+{
+    byte.is_ascii_uppercase()
+        || byte.is_ascii_lowercase()
+        || byte.is_ascii_digit()
+        || byte == b'-'
+        || byte == b'.'
+        || byte == b'_'
+}
+
+/// Whether a text is a name: 1 to 35 bytes from space to tilde.
+pub(crate) fn is_name(text: &str) -> bool
+    ensures { result ≡ is_name text.now }
+{
+    let bytes = text.as_bytes();
+    1 <= bytes.len() && bytes.len() <= 35 && are_printable(bytes)
+}
+
+fn are_printable(bytes: &[u8]) -> bool
+    ensures { result ≡ list_all is_printable bytes.now }
+{
+    bytes.iter().all(|byte| is_printable(*byte))
+}
+
+fn is_printable(byte: u8) -> bool
+    ensures { result ≡ is_printable byte }
+{
+    32 <= byte && byte <= 126
+}
+
+/// Whether a text is a name, or empty.
+pub(crate) fn is_name_if_any(text: &str) -> bool
+    ensures { result ≡ is_name_if_any text.now }
+{
+    text.is_empty() || is_name(text)
+}
+
+/// Whether two texts are the same.
+pub(crate) fn are_same(one: &str, other: &str) -> bool
+    ensures { IsTrue result ↔ (one.now ≡ other.now) }
+{
+    one == other
+}

@@ -1,0 +1,142 @@
+-- The rows of an office fit the types of a row.
+use Rattle.std.proofs.Common.{◌≡◌, ◌⊎◌, ℕ, zero, suc, ◌+◌, ◌-◌, ◌<◌, ◌≤◌, ◌^◌, Bool, true, false, ◌&&◌, ◌||◌, ◌==◌, List, [], ◌∷◌, ◌++◌, map, length, Option, None, Some, IsTrue, inl, inr, refl, sym, ap, subst, ◌∙◌, arith, slice_index_or}
+use Rattle.std.specs.Prelude.{IsUtf8}
+use Rattle.std.specs.Str.{IsAscii}
+use Rattle.std.specs.List.{AllByRecursion, list_all, range_with_len}
+use Rattle.std.specs.Char.{is_ascii_uppercase, is_ascii_lowercase, is_ascii_digit}
+use Rattle.std.proofs.lemmas.Bool.{and_parts, cases_Bool}
+use Rattle.std.proofs.lemmas.Bool.Decides.{nat_tests}
+use Rattle.std.proofs.lemmas.Str.{IsUtf8-from_ascii, IsUtf8-nil}
+use Rattle.edi_segments.specs.Characters.{is_printable, is_tag_byte}
+use Rattle.edi_messages.specs.Forms.{is_name_if_any}
+use Rattle.edi_messages.specs.Texts.{is_name}
+use Rattle.edi_messages.specs.declared.partner_kind.PartnerKind.{PartnerKind}
+use Rattle.edi_moments.specs.Moments.{CivilMoment, is_moment}
+use Rattle.edi_moments.proofs.DigitLemmas.{read_back}
+use Rattle.box6346.proofs.SlotNames.{names_are_read_again_lem}
+use Rattle.box6346.specs.SlotName.{IsNamed}
+use Rattle.box6346.specs.declared.slot.Slot.{Slot}
+use Rattle.terminal_core.specs.declared.departure.Departure.{Departure}
+use Rattle.terminal_core.specs.declared.source.Source.{Source}
+use Rattle.terminal_core.specs.Forms.{IsSource, IsFormedDeparture, IsFormedExit, IsFormedVisit}
+use Rattle.terminal_core.specs.Rows.{VisitContent}
+use Rattle.terminal_core.specs.State.{AreNumbered}
+use Rattle.yard_core.specs.declared.block.Block.{Block}
+use Rattle.yard_core.specs.Plan.{IsSized}
+use Rattle.office_setup.specs.Given.{is_party_byte, is_party_code}
+use Rattle.office_rows.specs.Rows.{Partner}
+use Rattle.office_rows.specs.Opened.{Numbered}
+use Rattle.office_rows.specs.Office.{AreAccounts, AreWaiting, AreKept, taken_numbers}
+use Rattle.office_loading.specs.Fits.{IsSlot, IsMoment, FitsPartner, FitsNumber, FitsSource, FitsDeparture, FitsExit, FitsVisit, FitsBlock}
+
+-- ---- texts
+
+ascii_from : (p : ℕ → Bool) → ((c : ℕ) → p c ≡ true → c < 128) → (text : List ℕ) → list_all p text ≡ true → IsAscii text
+ascii_from p small [] all i = omega arith
+ascii_from p small (c ∷ cs) all zero = small c (and_parts (p c) (list_all p cs) all).0
+ascii_from p small (c ∷ cs) all (suc i) = ascii_from p small cs (and_parts (p c) (list_all p cs) all).1 i
+
+utf8_from : (p : ℕ → Bool) → ((c : ℕ) → p c ≡ true → c < 128) → (text : List ℕ) → list_all p text ≡ true → IsUtf8 text
+utf8_from p small text all = IsUtf8-from_ascii text (ascii_from p small text all)
+
+party_small : (c : ℕ) → is_party_byte c ≡ true → c < 128
+party_small c h = grind (arith, nat_tests)
+
+printable_small : (c : ℕ) → is_printable c ≡ true → c < 128
+printable_small c h = grind (arith, nat_tests)
+
+pub party_text : (code : List ℕ) → IsTrue (is_party_code code) → IsUtf8 code
+party_text code h = utf8_from is_party_byte party_small code (and_parts _ _ h).1
+
+pub name_text : (text : List ℕ) → IsTrue (is_name text) → IsUtf8 text
+name_text text h = utf8_from is_printable printable_small text (and_parts _ _ h).1
+
+second_of : (a b : Bool) → a ≡ false → (a || b) ≡ true → b ≡ true
+second_of true b none h = absurd cc
+second_of false b none h = h
+
+long : (c : ℕ) (cs : List ℕ) → (length (c ∷ cs) == 0) ≡ false
+long c cs = grind (arith, nat_tests)
+
+pub any_name_text : (text : List ℕ) → IsTrue (is_name_if_any text) → IsUtf8 text
+any_name_text [] h = IsUtf8-nil
+any_name_text (c ∷ cs) h = name_text (c ∷ cs) (second_of (length (c ∷ cs) == 0) (is_name (c ∷ cs)) (long c cs) h)
+
+-- ---- accounts
+
+pub partners_fit : (id : ℕ) (partners : List Partner) (accounts : List (List ℕ × PartnerKind)) → AreAccounts id partners accounts → id + length accounts ≤ 1000
+    → ((k : ℕ) (d : List ℕ × PartnerKind) → k < length accounts → IsTrue (is_party_code (slice_index_or accounts k d).0)) → AllByRecursion FitsPartner partners
+partners_fit id [] [] are few coded = tt
+partners_fit id [] (a ∷ accounts) are few coded = absurd are
+partners_fit id (p ∷ partners) [] are few coded = absurd are
+partners_fit id (p ∷ partners) (a ∷ accounts) are few coded =
+    let is = are.0 in
+    let high = are.4 in
+    let code = subst IsUtf8 (sym are.1) (party_text a.0 (coded 0 a (omega arith))) in
+    (record { id = omega arith; code = code; next = omega arith }, partners_fit (id + 1) partners accounts are.5 (omega arith) (λ k d low. coded (suc k) d (omega arith)))
+
+-- ---- interchanges
+
+taken_fit : (partner from count : ℕ) → partner ≤ 1000 → from + count ≤ 1000000000 → AllByRecursion FitsNumber (map (λ (number : ℕ). record { partner = partner; number = number; is_taken = true }) (range_with_len from count))
+taken_fit partner from zero small few = tt
+taken_fit partner from (suc count) small few = (record { partner = omega arith; number = omega arith }, taken_fit partner (from + 1) count small (omega arith))
+
+waiting_fit : (partner above : ℕ) (numbers : List Numbered) → partner ≤ 1000 → AreWaiting partner above numbers → AllByRecursion FitsNumber numbers
+waiting_fit partner above [] small wait = tt
+waiting_fit partner above (n ∷ numbers) small wait =
+    let is = wait.0 in
+    let high = wait.3 in
+    (record { partner = omega arith; number = omega arith }, waiting_fit partner n.number numbers small wait.4)
+
+all_joined : {X : Type 0} (P : X → Type 0) (xs ys : List X) → AllByRecursion P xs → AllByRecursion P ys → AllByRecursion P (xs ++ ys)
+all_joined P [] ys p q = q
+all_joined P (x ∷ xs) ys p q = (p.0, all_joined P xs ys p.1 q)
+
+pub numbers_fit : (id : ℕ) (partners : List Partner) (accounts : List (List ℕ × PartnerKind)) (numbers : List Numbered) → AreAccounts id partners accounts → id + length accounts ≤ 1000 → AreKept partners numbers → AllByRecursion FitsNumber numbers
+numbers_fit id [] accounts numbers are few kept = subst (AllByRecursion FitsNumber) (sym kept) tt
+numbers_fit id (p ∷ partners) [] numbers are few kept = absurd are
+numbers_fit id (p ∷ partners) (a ∷ accounts) numbers are few kept =
+    let own = kept.0 in
+    let others = kept.1 in
+    let held = kept.3 in
+    let is = are.0 in
+    let low = are.3 in
+    let high = are.4 in
+    let taken = taken_fit p.id 1 (p.next - 1) (omega arith) (omega arith) in
+    let wait = waiting_fit p.id p.next held.waiting (omega arith) held.wait in
+    let mine : AllByRecursion FitsNumber own = subst (AllByRecursion FitsNumber) (sym held.are) (all_joined FitsNumber (taken_numbers p) held.waiting taken wait) in
+    subst (AllByRecursion FitsNumber) (sym kept.2) (all_joined FitsNumber own others mine (numbers_fit (id + 1) partners accounts others are.5 (omega arith) kept.4))
+
+-- ---- blocks
+
+pub blocks_fit : (blocks : List Block) → ((k : ℕ) (d : Block) → k < length blocks → IsSized (slice_index_or blocks k d)) → AllByRecursion FitsBlock blocks
+blocks_fit [] sized = tt
+blocks_fit (b ∷ blocks) sized =
+    let one = sized 0 b (omega arith) in
+    (record { bays = omega (arith, one); rows = omega (arith, one); tiers = omega (arith, one) }, blocks_fit blocks (λ k d low. sized (suc k) d (omega arith)))
+
+-- ---- visits
+
+source_fit : (source : Source) → IsSource source → FitsSource source
+source_fit source is = record { partner = omega (arith, is.partner_high); number = omega (arith, is.number_high) }
+
+exit_fit : (exit : Option Departure) → IsFormedExit exit → FitsExit exit
+exit_fit None is = tt
+exit_fit (Some departure) is = record { source = source_fit departure.source is.source; moment = read_back departure.moment is.moment }
+
+pub visit_fit : (visit : VisitContent) → visit.number < 2 ^ 32 → IsFormedVisit visit → FitsVisit visit
+visit_fit visit small is = record {
+  number = small;
+  container = is.container;
+  size_type = is.size_type;
+  booking = any_name_text visit.booking is.booking;
+  arrival = record { source = source_fit visit.arrival.source is.source; moment = read_back visit.arrival.moment is.moment; slot = names_are_read_again_lem visit.arrival.slot is.slot };
+  exit = exit_fit visit.departure is.exit;
+}
+
+pub visits_fit : (from : ℕ) (visits : List VisitContent) → AreNumbered from visits → from + length visits ≤ 1000000000 → AllByRecursion IsFormedVisit visits → AllByRecursion FitsVisit visits
+visits_fit from [] numbered few formed = tt
+visits_fit from (v ∷ visits) numbered few formed =
+    let is = numbered.0 in
+    let small : v.number < 2 ^ 32 = omega arith in
+    (visit_fit v small formed.0, visits_fit (from + 1) visits numbered.1 (omega arith) formed.1)

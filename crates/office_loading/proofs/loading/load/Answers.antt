@@ -1,0 +1,23 @@
+use Rattle.std.proofs.Common.{inr}
+use Rattle.std.proofs.lemmas.Result.{err_from_is_err_and}
+use Rattle.sqlite.specs.Held.{state}
+use Rattle.office_checks.specs.Contents.{opened_rows}
+use Rattle.office_loading.proofs.ReadLemmas.{quiet}
+use Rattle.office_loading.proofs.ChainLemmas.{tables_fail}
+use Rattle.office_loading.proofs.loading.load.Goals as goal
+
+pub returns-in_err-tables-clause-refused : goal.returns-in_err-tables-clause-refused
+returns-in_err-tables-clause-refused g c clean is =
+    let p = err_from_is_err_and c.from_residual.result c.from_residual.ensures.1 in
+    rw (p.1, p.2) (tables_fail (state g.S.Store c.args.conn.now).now c.in_err-tables.field-0.0 (c.in_err-tables.ensures.read clean is))
+
+pub returns-in_err-tables-clause-survives : goal.returns-in_err-tables-clause-survives
+returns-in_err-tables-clause-survives g c is = quiet (state g.S.Store c.args.conn.now) (state g.S.Store c.read_tables.new.conn) c.read_tables.ensures.reads is
+
+pub returns-in-Ok-clause-survives : goal.returns-in-Ok-clause-survives
+returns-in-Ok-clause-survives g c is = quiet (state g.S.Store c.args.conn.now) (state g.S.Store c.read_tables.new.conn) c.read_tables.ensures.reads is
+
+pub returns-in-Ok-clause-loaded : goal.returns-in-Ok-clause-loaded
+returns-in-Ok-clause-loaded g c clean is =
+    let read = c.in_ok-tables.ensures.read clean is in
+    (opened_rows c.in_ok-tables.tables, read.1, c.in-Ok.ensures.ok)

@@ -1,0 +1,13 @@
+use Rattle.std.proofs.Common.{map, ap, ◌∙◌}
+use Rattle.sqlite.specs.Order.{column}
+use Rattle.sqlite.specs.Held.{state}
+use Rattle.office_rows.proofs.NextLemmas.{nexts_listed}
+use Rattle.office_rows.proofs.StepLemmas.{if_ok}
+use Rattle.office_loading.proofs.numbering.nexts.Goals as goal
+
+pub returns-clause-answer : goal.returns-clause-answer
+returns-clause-answer g c clean =
+    let old = state g.S.Store c.args.conn.now in
+    let answer = c.in_ok-rows.rows.items in
+    if_ok c.read_nexts.result (λ nexts read. λ rows has.
+    nexts_listed rows old.now answer nexts.items has (c.in_ok-rows.ensures.shown clean has.schema) (read ∙ ap (map (λ row. column row 3)) c.deref.ensures.value)) c.read_nexts.ensures

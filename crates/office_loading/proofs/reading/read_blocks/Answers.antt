@@ -1,0 +1,14 @@
+use Rattle.std.proofs.Common.{[], ◌∷◌, refl}
+use Rattle.sqlite.specs.Held.{state}
+use Rattle.office_loading.specs.Decoded.{itself}
+use Rattle.office_rows.specs.Tables.{block}
+use Rattle.office_rows.specs.Values.{block_values}
+use Rattle.office_loading.specs.Fits.{FitsBlock}
+use Rattle.office_loading.proofs.TableLemmas.{reads_table}
+use Rattle.office_loading.proofs.reading.read_blocks.Goals as goal
+
+pub returns-clause-read : goal.returns-clause-read
+returns-clause-read g c clean is =
+    let old = state g.S.Store c.args.conn.now in
+    reads_table (0 ∷ 1 ∷ 2 ∷ 3 ∷ []) (0 ∷ 1 ∷ 2 ∷ 3 ∷ []) (λ r. refl) block (0 ∷ []) (λ r. refl) old.now c.in_ok-rows.rows.items (c.in_ok-rows.ensures.shown clean is) _ itself block_values FitsBlock
+    c.deref.result.now c.deref.ensures.value c.read_all.result c.read_all.ensures

@@ -1,0 +1,14 @@
+use Rattle.sqlite.specs.Held.{state}
+use Rattle.office_rows.proofs.Reading.{select_interchange_plain}
+use Rattle.office_rows.proofs.Listed.{lists_interchange}
+use Rattle.office_rows.proofs.StepLemmas.{if_ok}
+use Rattle.office_loading.proofs.selecting.select_interchanges.Goals as goal
+
+pub select-requires : goal.select-requires
+select-requires g c = record { plain = select_interchange_plain }
+
+pub returns-clause-shown : goal.returns-clause-shown
+returns-clause-shown g c clean is =
+    let old = state g.S.Store c.args.conn.now in
+    let new = state g.S.Store c.select.new.conn in
+    if_ok c.select.result (λ answer shown. lists_interchange old new is answer.items shown) (c.select.ensures.shown clean)

@@ -1,0 +1,27 @@
+use Rattle.std.proofs.Common.{◌≡◌, true, false, [], ◌∷◌, refl, sym, ap, ◌∙◌}
+use Rattle.std.specs.List.{list_any}
+use Rattle.sqlite.specs.Held.{state}
+use Rattle.office_rows.specs.Tables.{setting}
+use Rattle.office_rows.specs.Values.{setting_values}
+use Rattle.office_checks.specs.Contents.{setting_content}
+use Rattle.office_loading.specs.Columns.{is_version}
+use Rattle.office_loading.specs.Fits.{FitsSetting}
+use Rattle.office_loading.proofs.TableLemmas.{reads_table}
+use Rattle.office_loading.proofs.VersionLemmas.{version_there, version_absent, reads_settings}
+use Rattle.office_loading.proofs.version.read_settings.Goals as goal
+
+pub returns-then-not-has_version-clause-read : goal.returns-then-not-has_version-clause-read
+returns-then-not-has_version-clause-read g c clean is =
+    let old = state g.S.Store c.args.conn.now in
+    let none : list_any is_version c.in_ok-rows.rows.items ≡ false = sym (ap (list_any is_version) c.deref.ensures.value) ∙ sym c.has_version.ensures ∙ c.if-not-has_version.true in
+    version_absent old.now c.in_ok-rows.rows.items (c.in_ok-rows.ensures.shown clean is) none
+
+pub returns-clause-read : goal.returns-clause-read
+returns-clause-read g c clean is =
+    let old = state g.S.Store c.args.conn.now in
+    let rows = c.in_ok-rows.rows.items in
+    let shown = c.in_ok-rows.ensures.shown clean is in
+    let some : list_any is_version rows ≡ true = sym (ap (list_any is_version) c.deref.ensures.value) ∙ sym c.has_version.ensures ∙ c.if-not-has_version.false in
+    reads_settings setting_content old.now c.read_all.result (version_there old.now rows shown some)
+    (reads_table (0 ∷ 1 ∷ []) (0 ∷ 1 ∷ []) (λ r. refl) setting (0 ∷ []) (λ r. refl) old.now rows shown _ setting_content setting_values FitsSetting
+    c.deref-2.result.now c.deref-2.ensures.value c.read_all.result c.read_all.ensures)

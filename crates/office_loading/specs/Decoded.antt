@@ -1,0 +1,43 @@
+-- What reading a row, or a column, answers.
+use Rattle.std.specs.Prelude.{List, Contains, Result, Ok, Err, Vec}
+use Rattle.std.specs.List.{AllZip}
+use Rattle.office_tables.specs.declared.table_fault.TableFault.{TableFault}
+use Rattle.office_tables.specs.declared.table_fault.TableFault.TheVariants.{Store, Damaged, Version, Memory}
+
+-- something says what is given
+abbrev pub Said : {A C : Type 0} → (A → C → Type 0) → A → Type 0
+Said {A} {C} Says given = (c : C) × Says given c
+
+-- nothing says what is given, or memory was refused
+abbrev pub Fails : {A : Type 0} → (A → Type 0) → A → TableFault → Type 0
+Fails is_said given Damaged = ¬ is_said given
+Fails is_said given Memory = Unit {0}
+Fails is_said given Version = ⊥
+Fails is_said given (Store error) = ⊥
+
+-- what is read says what is given
+abbrev pub Decodes : {A X : Type 0} → (A → X → Type 0) → (A → Type 0) → A → Result X TableFault → Type 0
+Decodes says is_said given (Ok read) = says given read
+Decodes says is_said given (Err fault) = Fails is_said given fault
+
+-- the same, where of what is read the content counts
+abbrev pub Reads : {A X C : Type 0} → (X → C) → (A → C → Type 0) → A → Result X TableFault → Type 0
+Reads content Says = Decodes (λ given read. Says given (content read)) (Said Says)
+
+-- a value that is its own content
+abbrev pub itself : {X : Type 0} → X → X
+itself x = x
+
+-- ---- all rows
+
+-- nothing says one of them, or memory was refused
+abbrev pub FailsOne : {A : Type 0} → (A → Type 0) → List A → TableFault → Type 0
+FailsOne {A} is_said given Damaged = (one : A) × Contains given one × ¬ is_said one
+FailsOne is_said given Memory = Unit {0}
+FailsOne is_said given Version = ⊥
+FailsOne is_said given (Store error) = ⊥
+
+-- what is read says them, one after the other
+abbrev pub DecodesAll : {A X Z : Type 0} → (A → X → Type 0) → (A → Type 0) → List A → Result (Vec X Z) TableFault → Type 0
+DecodesAll says is_said given (Ok read) = AllZip says given read.items
+DecodesAll says is_said given (Err fault) = FailsOne is_said given fault

@@ -1,0 +1,5 @@
+pub mod Reads
+pub mod Decoded
+pub mod Fits
+pub mod Columns
+pub mod Tables

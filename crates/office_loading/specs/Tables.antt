@@ -1,0 +1,110 @@
+-- What reading the tables answers.
+use Rattle.std.specs.Prelude.{◌⊎◌, List, [], ◌∷◌, map, Contains, codes, Result, Ok, Err, Vec}
+use Rattle.std.specs.List.{AllByRecursion}
+use Rattle.sqlite.specs.Effect.{Database}
+use Rattle.terminal_core.specs.Rows.{VisitContent}
+use Rattle.terminal_core.specs.State.{TerminalState}
+use Rattle.yard_core.specs.declared.block.Block.{Block}
+use Rattle.office_setup.specs.Setups.{SetupContent}
+use Rattle.office_rows.specs.Tables as table
+use Rattle.office_rows.specs.Rows.{Partner, PlaceContent, ListingContent, Setting}
+use Rattle.office_rows.specs.Values.{partner_values, visit_values, place_values, line_values, setting_values, block_values}
+use Rattle.office_rows.specs.Opening.{setting}
+use Rattle.office_rows.specs.Stored.{columns_of}
+use Rattle.office_rows.specs.Shown.{ShowsTable}
+use Rattle.office_rows.specs.Opened.{Numbered, ShowsNumbers, OpenedRows, Shows}
+use Rattle.office_rows.specs.Office.{IsOffice}
+use Rattle.office_checks.specs.Contents.{opened_rows}
+use Rattle.office_checks.specs.declared.opened_tables.OpenedTables.{OpenedTables}
+use Rattle.office_tables.specs.declared.table_fault.TableFault.{TableFault}
+use Rattle.office_tables.specs.declared.table_fault.TableFault.TheVariants.{Store, Damaged, Version, Memory}
+use Rattle.office_loading.specs.Fits.{FitsPartner, FitsNumber, FitsVisit, FitsPlace, FitsLine, FitsSetting, FitsBlock}
+
+-- ---- one table
+
+abbrev pub ShowsPartners : Database → List Partner → Type 0
+ShowsPartners db all = ShowsTable table.partner (0 ∷ 1 ∷ 2 ∷ 3 ∷ []) (0 ∷ []) db (map partner_values all)
+
+abbrev pub ShowsVisits : Database → List VisitContent → Type 0
+ShowsVisits db all = ShowsTable table.visit (0 ∷ 1 ∷ 2 ∷ 3 ∷ 4 ∷ 5 ∷ 6 ∷ 7 ∷ 8 ∷ 9 ∷ 10 ∷ 11 ∷ 12 ∷ 13 ∷ []) (0 ∷ []) db (map visit_values all)
+
+abbrev pub ShowsPlaces : Database → List PlaceContent → Type 0
+ShowsPlaces db all = ShowsTable table.place (0 ∷ 1 ∷ 2 ∷ []) (0 ∷ []) db (map place_values all)
+
+abbrev pub ShowsLines : Database → List ListingContent → Type 0
+ShowsLines db all = ShowsTable table.listed (0 ∷ 1 ∷ 2 ∷ 3 ∷ 4 ∷ 5 ∷ []) (0 ∷ 1 ∷ 2 ∷ 3 ∷ []) db (map line_values all)
+
+abbrev pub ShowsSettings : Database → List Setting → Type 0
+ShowsSettings db all = ShowsTable table.setting (0 ∷ 1 ∷ []) (0 ∷ []) db (map setting_values all)
+
+abbrev pub ShowsBlocks : Database → List Block → Type 0
+ShowsBlocks db all = ShowsTable table.block (0 ∷ 1 ∷ 2 ∷ 3 ∷ []) (0 ∷ []) db (map block_values all)
+
+-- some record that the table shows doesn't fit the types of a row, or the store failed
+abbrev pub FailsTable : {C : Type 0} → (C → Type 0) → (List C → Type 0) → TableFault → Type 0
+FailsTable {C} Fits Shown Damaged = (all : List C) → Shown all → ¬ AllByRecursion Fits all
+FailsTable Fits Shown Memory = Unit {0}
+FailsTable Fits Shown (Store error) = Unit {0}
+FailsTable Fits Shown Version = ⊥
+
+-- what is read is what the table shows, and fits
+abbrev pub ReadsTable : {X C Z : Type 0} → (X → C) → (C → Type 0) → (List C → Type 0) → Result (Vec X Z) TableFault → Type 0
+ReadsTable content Fits Shown (Ok read) = Shown (map content read.items) × AllByRecursion Fits (map content read.items)
+ReadsTable content Fits Shown (Err fault) = FailsTable Fits Shown fault
+
+-- ---- the version
+
+-- the table of settings has the version that this office reads
+abbrev pub HasVersion : Database → Type 0
+HasVersion db = Contains (map (columns_of table.setting) (db.trees table.setting.tree)) (setting_values (setting (codes "version") (codes "1")))
+
+-- the version is another one, or it is this and the settings can't be read
+abbrev pub FailsSettings : Database → TableFault → Type 0
+FailsSettings db Version = ¬ HasVersion db
+FailsSettings db Damaged = HasVersion db × FailsTable FitsSetting (ShowsSettings db) Damaged
+FailsSettings db Memory = Unit {0}
+FailsSettings db (Store error) = Unit {0}
+
+abbrev pub ReadsSettings : {X Z : Type 0} → (X → Setting) → Database → Result (Vec X Z) TableFault → Type 0
+ReadsSettings content db (Ok read) = HasVersion db × ReadsTable content FitsSetting (ShowsSettings db) (Ok read)
+ReadsSettings content db (Err fault) = FailsSettings db fault
+
+-- ---- all tables
+
+pub record FitsRows (rows : OpenedRows) : Type 0 where
+  pub partners : AllByRecursion FitsPartner rows.partners
+  pub numbers : AllByRecursion FitsNumber rows.numbers
+  pub visits : AllByRecursion FitsVisit rows.visits
+  pub places : AllByRecursion FitsPlace rows.places
+  pub lines : AllByRecursion FitsLine rows.lines
+  pub settings : AllByRecursion FitsSetting rows.settings
+  pub blocks : AllByRecursion FitsBlock rows.blocks
+
+abbrev pub FailsTables : Database → TableFault → Type 0
+FailsTables db Version = ¬ HasVersion db
+FailsTables db Damaged = HasVersion db × ((rows : OpenedRows) → Shows db rows → ¬ FitsRows rows)
+FailsTables db Memory = Unit {0}
+FailsTables db (Store error) = Unit {0}
+
+abbrev pub ReadsTables : Database → Result OpenedTables TableFault → Type 0
+ReadsTables db (Ok tables) = HasVersion db × Shows db (opened_rows tables) × FitsRows (opened_rows tables)
+ReadsTables db (Err fault) = FailsTables db fault
+
+-- ---- the office
+
+-- the tables show no rows that the types of rows can hold, or show those of no office
+abbrev pub ShowsNoOffice : Database → Type 0
+ShowsNoOffice db =
+    ((rows : OpenedRows) → Shows db rows → ¬ FitsRows rows)
+    ⊎ ((rows : OpenedRows) × Shows db rows × ((content : SetupContent) (state : TerminalState) → ¬ IsOffice rows content state))
+
+-- the version is another one; or it is this and the tables show no office
+abbrev pub FailsToLoad : Database → TableFault → Type 0
+FailsToLoad db Version = ¬ HasVersion db
+FailsToLoad db Damaged = HasVersion db × ShowsNoOffice db
+FailsToLoad db Memory = Unit {0}
+FailsToLoad db (Store error) = Unit {0}
+
+-- the set-up and the terminal are those of the rows that the tables show
+abbrev pub Loads : Database → SetupContent → TerminalState → Type 0
+Loads db content state = (rows : OpenedRows) × Shows db rows × IsOffice rows content state

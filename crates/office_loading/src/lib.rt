@@ -1,0 +1,24 @@
+//! Loads the office from its opened tables.
+#![tactic(auto)]
+
+mod block_rows;
+mod codes;
+mod columns;
+mod formats;
+mod line_rows;
+mod loading;
+mod number_rows;
+mod numbering;
+mod opening;
+mod partner_rows;
+mod place_rows;
+mod reading;
+mod record;
+mod selecting;
+mod setting_rows;
+mod stays;
+mod version;
+mod visit_rows;
+
+pub use loading::load;
+pub use numbering::nexts;

@@ -1,0 +1,37 @@
+ghost use Rattle.std.specs.Prelude.{◌≡◌, IfOk, IfErr, OnOk, false};
+ghost use Rattle.sqlite.specs.Held.{state};
+ghost use Rattle.sqlite.specs.State.{HasCleanDisk, IsUnchanged, KeepsCommit, Survives};
+ghost use Rattle.office_setup.specs.Setups.{setup_content};
+ghost use Rattle.office_rows.specs.Tables.{office_schema};
+ghost use Rattle.office_loading.specs.Tables.{Loads, FailsToLoad};
+
+use crate::opening::read_tables;
+use office_checks::restore;
+use office_setup::Setup;
+use office_tables::TableFault;
+use sqlite::{Alter, Connection};
+use std::alloc::Global;
+use terminal_core::{RestoreFault, Terminal};
+
+/// The office that the tables hold: its set-up and its terminal. It changes nothing.
+///
+/// Version where no setting names this version; Damaged where the rows are those of no office; Store and Memory say
+/// nothing of the rows.
+pub fn load<S: Alter>(
+    alloc: Global,
+    conn: &mut Connection<S>,
+) -> Result<(Setup, Terminal), TableFault>
+    ensures loaded { HasCleanDisk (state S.Store conn.new) → (state S.Store conn.old).now.schema ≡ office_schema → IfOk result (λ p. Loads (state S.Store conn.old).now (setup_content p.0) p.1) }
+    ensures refused { HasCleanDisk (state S.Store conn.new) → (state S.Store conn.old).now.schema ≡ office_schema → IfErr result (FailsToLoad (state S.Store conn.old).now) }
+    ensures same { HasCleanDisk (state S.Store conn.new) → (state S.Store conn.old).now.schema ≡ office_schema → OnOk result (IsUnchanged (state S.Store conn.old) (state S.Store conn.new)) }
+    ensures keeps { HasCleanDisk (state S.Store conn.new) → (state S.Store conn.old).now.schema ≡ office_schema → KeepsCommit (state S.Store conn.old) (state S.Store conn.new) }
+    ensures mode { conn.old.in_transaction ≡ false → conn.new.in_transaction ≡ false }
+    ensures survives { (state S.Store conn.old).now.schema ≡ office_schema → Survives (state S.Store conn.old) (state S.Store conn.new) (λ _. ⊥) }
+{
+    let tables = read_tables(alloc, conn)?;
+    match restore(alloc, tables) {
+        Ok(office) => Ok(office),
+        Err(RestoreFault::Unsound) => Err(TableFault::Damaged),
+        Err(RestoreFault::Memory) => Err(TableFault::Memory),
+    }
+}

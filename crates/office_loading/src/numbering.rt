@@ -1,0 +1,38 @@
+ghost use Rattle.std.specs.Prelude.{◌≡◌, IfOk, OnOk, false, map};
+ghost use Rattle.sqlite.specs.Order.{column};
+ghost use Rattle.sqlite.specs.Held.{state};
+ghost use Rattle.sqlite.specs.State.{HasCleanDisk, IsUnchanged, KeepsCommit, Survives};
+ghost use Rattle.office_rows.specs.Tables.{office_schema};
+ghost use Rattle.office_rows.specs.Stored.{HasRows};
+ghost use Rattle.office_rows.specs.Values.{number};
+ghost use Rattle.office_rows.specs.Shown.{AreNexts};
+
+use crate::columns::number_at;
+use crate::record::append;
+use crate::selecting::select_partners;
+use office_tables::TableFault;
+use sqlite::{Alter, Connection, Row};
+use std::alloc::Global;
+
+/// The number that each partner's next interchange has, in the order of the accounts' ids. It changes nothing.
+pub fn nexts<S: Alter>(alloc: Global, conn: &mut Connection<S>) -> Result<Vec<u32>, TableFault>
+    ensures answer { HasCleanDisk (state S.Store conn.new) → IfOk result (λ nexts. (rows : _) → HasRows rows (state S.Store conn.old).now → AreNexts rows nexts.items) }
+    ensures same { HasCleanDisk (state S.Store conn.new) → (state S.Store conn.old).now.schema ≡ office_schema → OnOk result (IsUnchanged (state S.Store conn.old) (state S.Store conn.new)) }
+    ensures keeps { HasCleanDisk (state S.Store conn.new) → (state S.Store conn.old).now.schema ≡ office_schema → KeepsCommit (state S.Store conn.old) (state S.Store conn.new) }
+    ensures mode { conn.old.in_transaction ≡ false → conn.new.in_transaction ≡ false }
+    ensures survives { (state S.Store conn.old).now.schema ≡ office_schema → Survives (state S.Store conn.old) (state S.Store conn.new) (λ _. ⊥) }
+{
+    let rows = select_partners(conn)?;
+    read_nexts(alloc, &rows)
+}
+
+fn read_nexts(alloc: Global, rows: &[Row]) -> Result<Vec<u32>, TableFault>
+    ensures { IfOk result (λ nexts. map number nexts.items ≡ map (λ row. column row 3) rows.now) }
+{
+    let mut nexts = Vec::new(alloc);
+    for row in rows {
+        let next = number_at(row, 3)?;
+        append(&mut nexts, next)?;
+    }
+    Ok(nexts)
+}

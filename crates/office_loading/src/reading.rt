@@ -1,0 +1,101 @@
+ghost use Rattle.std.specs.Prelude.{◌≡◌, OnOk};
+ghost use Rattle.sqlite.specs.Held.{state};
+ghost use Rattle.sqlite.specs.State.{HasCleanDisk, IsUnchanged};
+ghost use Rattle.terminal_core.specs.Rows.{visit_content};
+ghost use Rattle.office_rows.specs.Tables.{office_schema};
+ghost use Rattle.office_rows.specs.Rows.{listing_content};
+ghost use Rattle.office_rows.specs.Opened.{ShowsNumbers};
+ghost use Rattle.office_checks.specs.Contents.{partner_content, number_content, place_content};
+ghost use Rattle.office_loading.specs.Decoded.{itself};
+ghost use Rattle.office_loading.specs.Fits.{FitsPartner, FitsNumber, FitsVisit, FitsPlace, FitsLine, FitsBlock};
+ghost use Rattle.office_loading.specs.Reads.{OnlyReads};
+ghost use Rattle.office_loading.specs.Tables.{ReadsTable, ShowsPartners, ShowsVisits, ShowsPlaces, ShowsLines, ShowsBlocks};
+
+use crate::record::read_all;
+use crate::selecting::{
+    select_blocks, select_interchanges, select_lines, select_partners, select_places, select_visits,
+};
+use office_checks::{NumberRow, PartnerRow};
+use office_tables::TableFault;
+use sqlite::{Alter, Connection};
+use std::alloc::Global;
+use terminal_core::{Listing, Place, Visit};
+use yard_core::Block;
+
+/// All accounts, by their key.
+pub(crate) fn read_partners<S: Alter>(
+    alloc: Global,
+    conn: &mut Connection<S>,
+) -> Result<Vec<PartnerRow>, TableFault>
+    ensures read { HasCleanDisk (state S.Store conn.new) → (state S.Store conn.old).now.schema ≡ office_schema → ReadsTable partner_content FitsPartner (ShowsPartners (state S.Store conn.old).now) result }
+    ensures same { HasCleanDisk (state S.Store conn.new) → (state S.Store conn.old).now.schema ≡ office_schema → OnOk result (IsUnchanged (state S.Store conn.old) (state S.Store conn.new)) }
+    ensures reads { OnlyReads (state S.Store conn.old) (state S.Store conn.new) }
+{
+    let rows = select_partners(conn)?;
+    read_all(alloc, &rows)
+}
+
+/// All interchanges that are kept, by their key.
+pub(crate) fn read_numbers<S: Alter>(
+    alloc: Global,
+    conn: &mut Connection<S>,
+) -> Result<Vec<NumberRow>, TableFault>
+    ensures read { HasCleanDisk (state S.Store conn.new) → (state S.Store conn.old).now.schema ≡ office_schema → ReadsTable number_content FitsNumber (ShowsNumbers (state S.Store conn.old).now) result }
+    ensures same { HasCleanDisk (state S.Store conn.new) → (state S.Store conn.old).now.schema ≡ office_schema → OnOk result (IsUnchanged (state S.Store conn.old) (state S.Store conn.new)) }
+    ensures reads { OnlyReads (state S.Store conn.old) (state S.Store conn.new) }
+{
+    let rows = select_interchanges(conn)?;
+    read_all(alloc, &rows)
+}
+
+/// All visits, by their key.
+pub(crate) fn read_visits<S: Alter>(
+    alloc: Global,
+    conn: &mut Connection<S>,
+) -> Result<Vec<Visit>, TableFault>
+    ensures read { HasCleanDisk (state S.Store conn.new) → (state S.Store conn.old).now.schema ≡ office_schema → ReadsTable visit_content FitsVisit (ShowsVisits (state S.Store conn.old).now) result }
+    ensures same { HasCleanDisk (state S.Store conn.new) → (state S.Store conn.old).now.schema ≡ office_schema → OnOk result (IsUnchanged (state S.Store conn.old) (state S.Store conn.new)) }
+    ensures reads { OnlyReads (state S.Store conn.old) (state S.Store conn.new) }
+{
+    let rows = select_visits(conn)?;
+    read_all(alloc, &rows)
+}
+
+/// All containers in the yard, by their key.
+pub(crate) fn read_places<S: Alter>(
+    alloc: Global,
+    conn: &mut Connection<S>,
+) -> Result<Vec<Place>, TableFault>
+    ensures read { HasCleanDisk (state S.Store conn.new) → (state S.Store conn.old).now.schema ≡ office_schema → ReadsTable place_content FitsPlace (ShowsPlaces (state S.Store conn.old).now) result }
+    ensures same { HasCleanDisk (state S.Store conn.new) → (state S.Store conn.old).now.schema ≡ office_schema → OnOk result (IsUnchanged (state S.Store conn.old) (state S.Store conn.new)) }
+    ensures reads { OnlyReads (state S.Store conn.old) (state S.Store conn.new) }
+{
+    let rows = select_places(conn)?;
+    read_all(alloc, &rows)
+}
+
+/// All lines of vessels' lists, by their key.
+pub(crate) fn read_lines<S: Alter>(
+    alloc: Global,
+    conn: &mut Connection<S>,
+) -> Result<Vec<Listing>, TableFault>
+    ensures read { HasCleanDisk (state S.Store conn.new) → (state S.Store conn.old).now.schema ≡ office_schema → ReadsTable listing_content FitsLine (ShowsLines (state S.Store conn.old).now) result }
+    ensures same { HasCleanDisk (state S.Store conn.new) → (state S.Store conn.old).now.schema ≡ office_schema → OnOk result (IsUnchanged (state S.Store conn.old) (state S.Store conn.new)) }
+    ensures reads { OnlyReads (state S.Store conn.old) (state S.Store conn.new) }
+{
+    let rows = select_lines(conn)?;
+    read_all(alloc, &rows)
+}
+
+/// All blocks of the yard, by their key.
+pub(crate) fn read_blocks<S: Alter>(
+    alloc: Global,
+    conn: &mut Connection<S>,
+) -> Result<Vec<Block>, TableFault>
+    ensures read { HasCleanDisk (state S.Store conn.new) → (state S.Store conn.old).now.schema ≡ office_schema → ReadsTable itself FitsBlock (ShowsBlocks (state S.Store conn.old).now) result }
+    ensures same { HasCleanDisk (state S.Store conn.new) → (state S.Store conn.old).now.schema ≡ office_schema → OnOk result (IsUnchanged (state S.Store conn.old) (state S.Store conn.new)) }
+    ensures reads { OnlyReads (state S.Store conn.old) (state S.Store conn.new) }
+{
+    let rows = select_blocks(conn)?;
+    read_all(alloc, &rows)
+}

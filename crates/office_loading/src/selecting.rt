@@ -1,0 +1,126 @@
+ghost use Rattle.std.specs.Prelude.{◌≡◌, IfOk, IfErr, OnOk, false, [], ◌∷◌};
+ghost use Rattle.sqlite.specs.Held.{state};
+ghost use Rattle.sqlite.specs.Given.{IsPlain};
+ghost use Rattle.sqlite.specs.Listing.{understood};
+ghost use Rattle.sqlite.specs.State.{HasCleanDisk, IsUnchanged, Shown};
+ghost use Rattle.office_rows.specs.Tables.{partner, interchange, visit, place, listed, setting, block, office_schema};
+ghost use Rattle.office_rows.specs.Shown.{ShowsTable};
+ghost use Rattle.office_loading.specs.Reads.{OnlyReads, IsOfStore};
+
+use office_tables::TableFault;
+use sqlite::{Alter, Connection, Error, ErrorCode, Row};
+
+/// What a query that fails is to a caller of the tables: no fault of it speaks of rows.
+fn query_fault(error: Error) -> TableFault
+    ensures { IsOfStore result }
+{
+    match error {
+        Error::SqliteFailure(ErrorCode::OutOfMemory) => TableFault::Memory,
+        other => TableFault::Store(other),
+    }
+}
+
+/// The rows that a query shows.
+fn select<S: Alter>(conn: &mut Connection<S>, query: &str) -> Result<Vec<Row>, TableFault>
+    requires plain { IsPlain (understood office_schema query.now) }
+    ensures shown { HasCleanDisk (state S.Store conn.new) → IfOk result (λ answer. Shown query.now [] (state S.Store conn.old) (state S.Store conn.new) answer.items) }
+    ensures same { HasCleanDisk (state S.Store conn.new) → (state S.Store conn.old).now.schema ≡ office_schema → OnOk result (IsUnchanged (state S.Store conn.old) (state S.Store conn.new)) }
+    ensures reads { OnlyReads (state S.Store conn.old) (state S.Store conn.new) }
+    ensures fault { IfErr result IsOfStore }
+{
+    match conn.query_all(query, &[]) {
+        Ok(rows) => Ok(rows),
+        Err(error) => Err(query_fault(error)),
+    }
+}
+
+/// The rows of all accounts, by their ids.
+pub(crate) fn select_partners<S: Alter>(conn: &mut Connection<S>) -> Result<Vec<Row>, TableFault>
+    ensures shown { HasCleanDisk (state S.Store conn.new) → (state S.Store conn.old).now.schema ≡ office_schema
+        → IfOk result (λ answer. ShowsTable partner (0 ∷ 1 ∷ 2 ∷ 3 ∷ []) (0 ∷ []) (state S.Store conn.old).now answer.items) }
+    ensures same { HasCleanDisk (state S.Store conn.new) → (state S.Store conn.old).now.schema ≡ office_schema → OnOk result (IsUnchanged (state S.Store conn.old) (state S.Store conn.new)) }
+    ensures reads { OnlyReads (state S.Store conn.old) (state S.Store conn.new) }
+    ensures fault { IfErr result IsOfStore }
+{
+    select(conn, "SELECT id, code, kind, next FROM partner ORDER BY id")
+}
+
+/// The rows of all interchanges that are kept, without their bodies, by partner and number.
+pub(crate) fn select_interchanges<S: Alter>(
+    conn: &mut Connection<S>,
+) -> Result<Vec<Row>, TableFault>
+    ensures shown { HasCleanDisk (state S.Store conn.new) → (state S.Store conn.old).now.schema ≡ office_schema
+        → IfOk result (λ answer. ShowsTable interchange (0 ∷ 1 ∷ 3 ∷ []) (0 ∷ 1 ∷ []) (state S.Store conn.old).now answer.items) }
+    ensures same { HasCleanDisk (state S.Store conn.new) → (state S.Store conn.old).now.schema ≡ office_schema → OnOk result (IsUnchanged (state S.Store conn.old) (state S.Store conn.new)) }
+    ensures reads { OnlyReads (state S.Store conn.old) (state S.Store conn.new) }
+    ensures fault { IfErr result IsOfStore }
+{
+    select(
+        conn,
+        "SELECT partner, number, reply FROM interchange ORDER BY partner, number",
+    )
+}
+
+/// The rows of all visits, by their numbers.
+pub(crate) fn select_visits<S: Alter>(conn: &mut Connection<S>) -> Result<Vec<Row>, TableFault>
+    ensures shown { HasCleanDisk (state S.Store conn.new) → (state S.Store conn.old).now.schema ≡ office_schema
+        → IfOk result (λ answer. ShowsTable visit (0 ∷ 1 ∷ 2 ∷ 3 ∷ 4 ∷ 5 ∷ 6 ∷ 7 ∷ 8 ∷ 9 ∷ 10 ∷ 11 ∷ 12 ∷ 13 ∷ []) (0 ∷ []) (state S.Store conn.old).now answer.items) }
+    ensures same { HasCleanDisk (state S.Store conn.new) → (state S.Store conn.old).now.schema ≡ office_schema → OnOk result (IsUnchanged (state S.Store conn.old) (state S.Store conn.new)) }
+    ensures reads { OnlyReads (state S.Store conn.old) (state S.Store conn.new) }
+    ensures fault { IfErr result IsOfStore }
+{
+    select(
+        conn,
+        "SELECT visit, box, size, laden, booking, in_by, in_partner, in_number, in_at, in_slot, out_by, out_partner, out_number, out_at FROM visit ORDER BY visit",
+    )
+}
+
+/// The rows of all containers in the yard, by their numbers.
+pub(crate) fn select_places<S: Alter>(conn: &mut Connection<S>) -> Result<Vec<Row>, TableFault>
+    ensures shown { HasCleanDisk (state S.Store conn.new) → (state S.Store conn.old).now.schema ≡ office_schema
+        → IfOk result (λ answer. ShowsTable place (0 ∷ 1 ∷ 2 ∷ []) (0 ∷ []) (state S.Store conn.old).now answer.items) }
+    ensures same { HasCleanDisk (state S.Store conn.new) → (state S.Store conn.old).now.schema ≡ office_schema → OnOk result (IsUnchanged (state S.Store conn.old) (state S.Store conn.new)) }
+    ensures reads { OnlyReads (state S.Store conn.old) (state S.Store conn.new) }
+    ensures fault { IfErr result IsOfStore }
+{
+    select(conn, "SELECT box, visit, slot FROM place ORDER BY box")
+}
+
+/// The rows of all lines of vessels' lists, by call, side and container.
+pub(crate) fn select_lines<S: Alter>(conn: &mut Connection<S>) -> Result<Vec<Row>, TableFault>
+    ensures shown { HasCleanDisk (state S.Store conn.new) → (state S.Store conn.old).now.schema ≡ office_schema
+        → IfOk result (λ answer. ShowsTable listed (0 ∷ 1 ∷ 2 ∷ 3 ∷ 4 ∷ 5 ∷ []) (0 ∷ 1 ∷ 2 ∷ 3 ∷ []) (state S.Store conn.old).now answer.items) }
+    ensures same { HasCleanDisk (state S.Store conn.new) → (state S.Store conn.old).now.schema ≡ office_schema → OnOk result (IsUnchanged (state S.Store conn.old) (state S.Store conn.new)) }
+    ensures reads { OnlyReads (state S.Store conn.old) (state S.Store conn.new) }
+    ensures fault { IfErr result IsOfStore }
+{
+    select(
+        conn,
+        "SELECT vessel, voyage, side, box, port, done FROM listed ORDER BY vessel, voyage, side, box",
+    )
+}
+
+/// The rows of all settings, by their names.
+pub(crate) fn select_settings<S: Alter>(conn: &mut Connection<S>) -> Result<Vec<Row>, TableFault>
+    ensures shown { HasCleanDisk (state S.Store conn.new) → (state S.Store conn.old).now.schema ≡ office_schema
+        → IfOk result (λ answer. ShowsTable setting (0 ∷ 1 ∷ []) (0 ∷ []) (state S.Store conn.old).now answer.items) }
+    ensures same { HasCleanDisk (state S.Store conn.new) → (state S.Store conn.old).now.schema ≡ office_schema → OnOk result (IsUnchanged (state S.Store conn.old) (state S.Store conn.new)) }
+    ensures reads { OnlyReads (state S.Store conn.old) (state S.Store conn.new) }
+    ensures fault { IfErr result IsOfStore }
+{
+    select(conn, "SELECT name, value FROM setting ORDER BY name")
+}
+
+/// The rows of all blocks of the yard, by their letters.
+pub(crate) fn select_blocks<S: Alter>(conn: &mut Connection<S>) -> Result<Vec<Row>, TableFault>
+    ensures shown { HasCleanDisk (state S.Store conn.new) → (state S.Store conn.old).now.schema ≡ office_schema
+        → IfOk result (λ answer. ShowsTable block (0 ∷ 1 ∷ 2 ∷ 3 ∷ []) (0 ∷ []) (state S.Store conn.old).now answer.items) }
+    ensures same { HasCleanDisk (state S.Store conn.new) → (state S.Store conn.old).now.schema ≡ office_schema → OnOk result (IsUnchanged (state S.Store conn.old) (state S.Store conn.new)) }
+    ensures reads { OnlyReads (state S.Store conn.old) (state S.Store conn.new) }
+    ensures fault { IfErr result IsOfStore }
+{
+    select(
+        conn,
+        "SELECT letter, bays, lanes, tiers FROM block ORDER BY letter",
+    )
+}

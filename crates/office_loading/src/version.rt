@@ -1,0 +1,58 @@
+ghost use Rattle.std.specs.Prelude.{◌≡◌, OnOk};
+ghost use Rattle.std.specs.List.{list_any};
+ghost use Rattle.sqlite.specs.Held.{state};
+ghost use Rattle.sqlite.specs.Order.{column};
+ghost use Rattle.sqlite.specs.State.{HasCleanDisk, IsUnchanged};
+ghost use Rattle.office_rows.specs.Tables.{office_schema};
+ghost use Rattle.office_checks.specs.Contents.{setting_content};
+ghost use Rattle.office_loading.specs.Columns.{is_text, is_version};
+ghost use Rattle.office_loading.specs.Reads.{OnlyReads};
+ghost use Rattle.office_loading.specs.Tables.{ReadsSettings};
+
+use crate::record::read_all;
+use crate::selecting::select_settings;
+use office_checks::Setting;
+use office_tables::TableFault;
+use sqlite::types::ValueRef;
+use sqlite::{Alter, Connection, Row};
+use std::alloc::Global;
+
+/// All settings, by their names, where they say that the tables are of this version.
+pub(crate) fn read_settings<S: Alter>(
+    alloc: Global,
+    conn: &mut Connection<S>,
+) -> Result<Vec<Setting>, TableFault>
+    ensures read { HasCleanDisk (state S.Store conn.new) → (state S.Store conn.old).now.schema ≡ office_schema → ReadsSettings setting_content (state S.Store conn.old).now result }
+    ensures same { HasCleanDisk (state S.Store conn.new) → (state S.Store conn.old).now.schema ≡ office_schema → OnOk result (IsUnchanged (state S.Store conn.old) (state S.Store conn.new)) }
+    ensures reads { OnlyReads (state S.Store conn.old) (state S.Store conn.new) }
+{
+    let rows = select_settings(conn)?;
+    if !has_version(&rows) {
+        return Err(TableFault::Version);
+    }
+    read_all(alloc, &rows)
+}
+
+/// Whether one of the rows names this version.
+fn has_version(rows: &[Row]) -> bool
+    ensures { result ≡ list_any is_version rows.now }
+{
+    rows.iter().any(|row| is_version(row))
+}
+
+/// Whether a row names this version.
+fn is_version(row: &Row) -> bool
+    ensures { result ≡ is_version row.now }
+{
+    is_text(row, 0, b"version") && is_text(row, 1, b"1")
+}
+
+/// Whether a column is this text.
+fn is_text(row: &Row, at: usize, text: &[u8]) -> bool
+    ensures { result ≡ is_text text.now (column row.now at) }
+{
+    match row.get_ref(at) {
+        Ok(ValueRef::Text(bytes)) => bytes == text,
+        _ => false,
+    }
+}
