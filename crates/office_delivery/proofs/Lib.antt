@@ -1,1 +1,3 @@
-pub mod Writes
+pub mod ReadLemmas
+pub mod RunLemmas
+pub mod WriteLemmas

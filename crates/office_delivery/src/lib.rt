@@ -2,8 +2,11 @@
 #![tactic(auto)]
 
 mod committing;
+mod running;
 mod taken;
+mod taking;
 mod writing;
 
 pub use committing::{write_early, write_run};
+pub use running::take_run;
 pub use taken::Taken;

@@ -8,7 +8,7 @@ use Rattle.office_rows.proofs.StepLemmas.{on_ok}
 use Rattle.office_history.specs.Cascade.{with_run}
 use Rattle.office_delivery.specs.Taken.{taken_contents}
 use Rattle.office_delivery.specs.Writing.{Commits, IsWhole}
-use Rattle.office_delivery.proofs.Writes.{whole, committed}
+use Rattle.office_delivery.proofs.WriteLemmas.{whole, committed}
 use Rattle.office_delivery.proofs.committing.write_run.Goals as goal
 
 pub returns-clause-crash : goal.returns-clause-crash

@@ -5,7 +5,7 @@ use Rattle.sqlite.specs.Held.{state}
 use Rattle.terminal_core.specs.Rows.{change_content}
 use Rattle.office_rows.specs.Effects.{with_change}
 use Rattle.office_rows.proofs.StepLemmas.{quiet_then}
-use Rattle.office_delivery.proofs.Writes.{steps_more}
+use Rattle.office_delivery.proofs.WriteLemmas.{steps_more}
 use Rattle.office_delivery.proofs.writing.apply_all.Goals as goal
 
 pub loop-change-preserved : goal.loop-change-preserved

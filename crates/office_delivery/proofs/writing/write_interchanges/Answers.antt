@@ -5,7 +5,7 @@ use Rattle.sqlite.specs.Held.{state}
 use Rattle.office_delivery.specs.Taken.{taken_content}
 use Rattle.office_history.specs.Cascade.{with_interchange}
 use Rattle.office_rows.proofs.StepLemmas.{quiet_then}
-use Rattle.office_delivery.proofs.Writes.{steps_more}
+use Rattle.office_delivery.proofs.WriteLemmas.{steps_more}
 use Rattle.office_delivery.proofs.writing.write_interchanges.Goals as goal
 
 pub loop-item-preserved : goal.loop-item-preserved
