@@ -1,9 +1,55 @@
 //! What follows from the definitions of rows and deliveries alone. Each function has an empty body, and its contract is the
 //! law: a call brings it into the caller's proof.
 
-ghost use Rattle.office_history.specs.Laws.{ChangesAgree};
+ghost use Rattle.office_history.specs.Laws.{ChangesAgree, OpeningIsAfterNone, DeliveriesLeaveSound, NumbersAreWithin, NextFollowsRun};
+ghost use Rattle.office_history.specs.Laws.{RefusedAddsNoRow, UsedAddsNoRow, EarlyAddsWaiting, NextAddsRun, RowsAnswer};
 
 /// Changes that find the rows that they need make of the tables' rows, by key, what they make of the terminal's.
 pub fn changes_agree()
     ensures { ChangesAgree }
+{}
+
+/// The rows that opening a store writes are those after no delivery.
+pub fn opening_is_after_none()
+    ensures { OpeningIsAfterNone }
+{}
+
+/// Whatever is delivered, the terminal stays whole, and each of its values in its form.
+pub fn deliveries_leave_sound()
+    ensures { DeliveriesLeaveSound }
+{}
+
+/// A text is kept for an account alone, under a number from 1 to 999,999,999.
+pub fn numbers_are_within()
+    ensures { NumbersAreWithin }
+{}
+
+/// The next number of an account is the one after its partner's run.
+pub fn next_follows_run()
+    ensures { NextFollowsRun }
+{}
+
+/// A text that is not admitted adds nothing to the rows.
+pub fn refused_adds_no_row()
+    ensures { RefusedAddsNoRow }
+{}
+
+/// A text under a number that is used adds nothing to the rows, whether it is the one that is kept or another.
+pub fn used_adds_no_row()
+    ensures { UsedAddsNoRow }
+{}
+
+/// A text before its time adds the row that keeps it.
+pub fn early_adds_waiting()
+    ensures { EarlyAddsWaiting }
+{}
+
+/// The text that is next, and each that becomes next by it, add what taking them in turn does.
+pub fn next_adds_run()
+    ensures { NextAddsRun }
+{}
+
+/// The rows tell how a delivery is answered.
+pub fn rows_answer()
+    ensures { RowsAnswer }
 {}

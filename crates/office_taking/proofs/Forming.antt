@@ -71,6 +71,12 @@ has_number text none =
     let six = past_first (applies text Version) Version _ five.1 in
     (past_first (applies text Number) Number _ six.1).0
 
+-- which is one of an interchange
+pub number_within : (text : List ℕ) → fault_of text ≡ None → (1 ≤ unwrap_or (control_number (header_of (segments_in text))) 0) × (unwrap_or (control_number (header_of (segments_in text))) 0 ≤ 999999999)
+number_within text none =
+    let header : Content = header_of (segments_in text) in
+    unwrapped (control_number header) (has_number text none) (control_in_range header)
+
 -- what is admitted has no fault
 faultless : (parties : Parties) (header : Content) (o : Option SyntaxFault) (partner : ℕ) → is_for partner (admitted parties header o) ≡ true → o ≡ None
 faultless parties header None partner e = refl
@@ -117,7 +123,7 @@ formed_of : (machine : MachineState) (partner : ℕ) (text : List ℕ) (kind : O
 formed_of machine partner text None few whole formed none e = formed
 formed_of machine partner text (Some kind) few whole formed none e =
     let header : Content = header_of (segments_in text) in
-    let number : IsControl (unwrap_or (control_number header) 0) = unwrapped (control_number header) (has_number text none) (control_in_range header) in
+    let number : IsControl (unwrap_or (control_number header) 0) = number_within text none in
     let within = partner_in machine.kinds partner kind e in
     let low : 1 ≤ partner = within.0 in
     let high : partner ≤ length machine.kinds = within.1 in

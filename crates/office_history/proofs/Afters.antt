@@ -1,0 +1,360 @@
+-- The rows after one delivery more.
+use Rattle.std.proofs.Common.{◌≡◌, ◌≢◌, ℕ, zero, suc, ◌+◌, ◌-◌, ◌<◌, ◌≤◌, inl, inr, List, [], ◌∷◌, ◌++◌, length, map, Bool, true, false, cond, Option, None, Some, is_some, Result, Ok, Err, refl, sym, ap, subst, ◌∙◌, arith}
+use Rattle.std.specs.Prelude.{find, ◌&&◌, ◌==◌, count_by, if◌then◌else◌}
+use Rattle.std.specs.Option.{option_map, option_and_then, option_or, unwrap_or}
+use Rattle.std.specs.FinMap as finite_map
+use Rattle.std.proofs.lemmas.Bool.{eq-eqb, eqb-true, eqb-false, ne_eqb, cond-true, cond-false, and_left, and_right, cases_eq}
+use Rattle.std.proofs.lemmas.List.{append-nil, length-map}
+use Rattle.edi_messages.specs.declared.partner_kind.PartnerKind.{PartnerKind}
+use Rattle.edi_segments.specs.Interchange.{interchange_of, segments_in}
+use Rattle.edi_segments.specs.declared.syntax_fault.SyntaxFault.{SyntaxFault}
+use Rattle.edi_syntax.specs.Envelope.{header_of}
+use Rattle.edi_syntax.specs.Faults.{fault_of}
+use Rattle.partner_core.specs.Deliveries.{Delivery, delivery, first_text, is_under, run}
+use Rattle.partner_core.specs.Order.{state, reply_of, numbers_above, numbers_between, reply_among}
+use Rattle.partner_core.specs.Answers.{answer_of, answer_by}
+use Rattle.partner_core.specs.Standings.{standing_of, standing_at}
+use Rattle.partner_core.specs.declared.standing.Standing.TheVariants.{Known, Other, Early, Next}
+use Rattle.partner_core.specs.Keeping.{Holdings, Keeps, KeepsAll, KeepsText, TakesRun}
+use Rattle.partner_core.specs.Cascade.{TakesTexts, for_each_partner}
+use Rattle.partner_core.specs.Growth.{AddsNothing}
+use Rattle.partner_core.proofs.Cascades.{takes_none}
+use Rattle.partner_core.proofs.Firsts.{none_of}
+use Rattle.partner_core.proofs.Growths.{adds_nothing, adds_text}
+use Rattle.partner_core.proofs.Keepings.{keeps_on, keeps_one_more, keeps_run}
+use Rattle.partner_core.proofs.OnceEach.{replied_within}
+use Rattle.partner_core.proofs.OnePartner.{run_of_none}
+use Rattle.partner_core.proofs.Answering.{answer-kept}
+use Rattle.terminal_core.specs.State.{IsWhole, empty_state}
+use Rattle.terminal_core.specs.Changes.{rows_of}
+use Rattle.terminal_core.proofs.Keeping.{empty_whole}
+use Rattle.terminal_core.proofs.Forming.{empty_formed}
+use Rattle.office_admission.specs.Admission.{admission, admitted, addressed, sender_of, number_in}
+use Rattle.office_admission.specs.Deliveries.{added, deliveries_of}
+use Rattle.office_replies.specs.declared.fault.Fault.{Fault}
+use Rattle.office_setup.specs.Parties.{Parties}
+use Rattle.office_setup.specs.Setups.{SetupContent}
+use Rattle.office_setup.specs.Given.{IsGiven}
+use Rattle.office_taking.specs.Taking.{MachineState, interchange_taken}
+use Rattle.office_taking.specs.Laws.{IsSoundMachine}
+use Rattle.office_taking.proofs.Reaching.{run_sound}
+use Rattle.office_taking.proofs.Forming.{number_within}
+use Rattle.office_rows.specs.Rows.{Partner, Interchange, Rows}
+use Rattle.office_rows.specs.Effects.{is_pair, with_kept}
+use Rattle.office_rows.specs.Opening.{settings_of}
+use Rattle.office_history.specs.After.{parties_in, opening_of, empty_yard, delivered_to, machine_after, accounts_from, reply_if_any, reply_in, AreKeptOnce, AreAfter}
+use Rattle.office_history.specs.Cascade.{text_in, TakenContent, texts_with, with_run, AreTakenFrom}
+use Rattle.office_history.specs.Laws.{AreRowsByKey}
+use Rattle.office_history.proofs.ByKeys.{once_more, none_found}
+use Rattle.office_history.proofs.Runs.{RunLeaves, run_leaves}
+
+-- ---- one delivery more
+
+added_on : (text : List ℕ) (place : Result (ℕ × ℕ) Fault) (later more : List Delivery) → added text place (later ++ more) ≡ added text place later ++ more
+added_on text (Ok place) later more = refl
+added_on text (Err fault) later more = refl
+
+pub deliveries_more : (P : Parties) (ds : List (List ℕ)) (delivered : List ℕ)
+    → deliveries_of P (ds ++ delivered ∷ []) ≡ deliveries_of P ds ++ added (interchange_of delivered) (admission P (interchange_of delivered)) []
+deliveries_more P [] delivered = refl
+deliveries_more P (first ∷ ds) delivered =
+    ap (added (interchange_of first) (admission P (interchange_of first))) (deliveries_more P ds delivered)
+    ∙ added_on (interchange_of first) (admission P (interchange_of first)) (deliveries_of P ds) _
+
+pub admitted_more : (content : SetupContent) (ds : List (List ℕ)) (delivered : List ℕ) (p k : ℕ) → admission (parties_in content) (interchange_of delivered) ≡ Ok (p, k)
+    → delivered_to content (ds ++ delivered ∷ []) ≡ delivered_to content ds ++ delivery p k (interchange_of delivered) ∷ []
+admitted_more content ds delivered p k is = deliveries_more (parties_in content) ds delivered ∙ ap (λ place. delivered_to content ds ++ added (interchange_of delivered) place []) is
+
+pub refused_more : (content : SetupContent) (ds : List (List ℕ)) (delivered : List ℕ) (fault : Fault) → admission (parties_in content) (interchange_of delivered) ≡ Err fault
+    → delivered_to content (ds ++ delivered ∷ []) ≡ delivered_to content ds
+refused_more content ds delivered fault is =
+    deliveries_more (parties_in content) ds delivered ∙ ap (λ place. delivered_to content ds ++ added (interchange_of delivered) place []) is ∙ append-nil (delivered_to content ds)
+
+-- ---- the rows after deliveries of partners
+
+-- the same of a list of the partners' deliveries
+pub record AreAfterThese (content : SetupContent) (D : List Delivery) (rows : Rows) : Type 0 where
+  pub partners : rows.partners ≡ accounts_from 1 (λ partner. run D partner + 1) content.partners
+  pub texts : (partner number : ℕ) → text_in rows partner number ≡ first_text D partner number
+  pub replies : (partner number : ℕ) → reply_in rows partner number ≡ reply_of interchange_taken (opening_of content) D partner number
+  pub kept_once : AreKeptOnce rows.interchanges
+  pub by_key : AreRowsByKey rows (rows_of (state interchange_taken (opening_of content) D).terminal)
+  pub settings : rows.settings ≡ settings_of content
+  pub blocks : rows.blocks ≡ content.blocks
+
+pub these : (content : SetupContent) (ds : List (List ℕ)) (rows : Rows) → AreAfter content ds rows → AreAfterThese content (delivered_to content ds) rows
+these content ds rows are = record {
+  partners = are.partners; texts = are.texts; replies = are.replies; kept_once = are.kept_once;
+  by_key = record { same = are.terminal; placed_once = are.placed_once; listed_once = are.listed_once };
+  settings = are.settings; blocks = are.blocks;
+}
+
+pub those : (content : SetupContent) (ds : List (List ℕ)) (rows : Rows) → AreAfterThese content (delivered_to content ds) rows → AreAfter content ds rows
+those content ds rows are = record {
+  partners = are.partners; texts = are.texts; replies = are.replies; kept_once = are.kept_once;
+  terminal = are.by_key.same; placed_once = are.by_key.placed_once; listed_once = are.by_key.listed_once;
+  settings = are.settings; blocks = are.blocks;
+}
+
+abbrev held : SetupContent → List Delivery → Rows → Holdings MachineState
+held content D rows = record { texts = text_in rows; counts = run D; replies = reply_in rows; state_now = state interchange_taken (opening_of content) D }
+
+held_keeps : (content : SetupContent) (D : List Delivery) (rows : Rows) → AreAfterThese content D rows → Keeps interchange_taken (opening_of content) D (held content D rows)
+held_keeps content D rows are = record { firsts = are.texts; runs = λ p. refl; replies_are = are.replies; state_is = refl }
+
+-- ---- nothing more
+
+nothing_more : (content : SetupContent) (D : List Delivery) (d : Delivery) (rows : Rows) → AreAfterThese content D rows → AddsNothing interchange_taken (opening_of content) D d → AreAfterThese content (D ++ d ∷ []) rows
+nothing_more content D d rows are adds = record {
+  partners = are.partners ∙ sym (λ i. accounts_from 1 (λ p. adds.runs p i + 1) content.partners);
+  texts = λ p k. are.texts p k ∙ sym (adds.first p k);
+  replies = λ p k. are.replies p k ∙ sym (adds.replies p k);
+  kept_once = are.kept_once;
+  by_key = subst (λ (m : MachineState). AreRowsByKey rows (rows_of m.terminal)) (sym adds.state_is) are.by_key;
+  settings = are.settings;
+  blocks = are.blocks;
+}
+
+pub known_adds : (content : SetupContent) (D : List Delivery) (d : Delivery) (rows : Rows) (kept : List ℕ) → AreAfterThese content D rows → text_in rows d.partner d.number ≡ Some kept → AreAfterThese content (D ++ d ∷ []) rows
+known_adds content D d rows kept are there =
+    nothing_more content D d rows are (adds_nothing interchange_taken (opening_of content) D d (ap is_some (sym (are.texts d.partner d.number) ∙ there)))
+
+-- ---- a text more
+
+find_end : {A : Type 0} (test : A → Bool) (xs : List A) (x : A) → find test (xs ++ x ∷ []) ≡ option_or (find test xs) (cond (test x) (Some x) None)
+find_end test [] x = refl
+find_end test (y ∷ xs) x = first (test y) (find_end test xs x)
+  where
+    first : (b : Bool) → find test (xs ++ x ∷ []) ≡ option_or (find test xs) (cond (test x) (Some x) None)
+        → cond b (Some y) (find test (xs ++ x ∷ [])) ≡ option_or (cond b (Some y) (find test xs)) (cond (test x) (Some x) None)
+    first true rest = refl
+    first false rest = rest
+
+abbrev waiting : ℕ → ℕ → List ℕ → Interchange
+waiting p k text = record { partner = p; number = k; body = text; reply = [] }
+
+text_end : (is : Bool) (text : List ℕ) (p k : ℕ) (o : Option Interchange) → (is ≡ true → option_map (λ (i : Interchange). i.body) o ≡ None)
+    → option_map (λ (i : Interchange). i.body) (option_or o (cond is (Some (waiting p k text)) None)) ≡ cond is (Some text) (option_map (λ (i : Interchange). i.body) o)
+text_end true text p k None free = refl
+text_end true text p k (Some i) free = let bad : Some i.body ≡ None = free refl in cc
+text_end false text p k None free = refl
+text_end false text p k (Some i) free = refl
+
+reply_end : (is : Bool) (text : List ℕ) (p k : ℕ) (o : Option Interchange)
+    → option_and_then (λ (i : Interchange). reply_if_any i.reply) (option_or o (cond is (Some (waiting p k text)) None)) ≡ option_and_then (λ (i : Interchange). reply_if_any i.reply) o
+reply_end true text p k None = refl
+reply_end true text p k (Some i) = refl
+reply_end false text p k None = refl
+reply_end false text p k (Some i) = refl
+
+pair_is : (p k q j : ℕ) → ((p == q) && (k == j)) ≡ true → (q ≡ p) × (j ≡ k)
+pair_is p k q j e = (sym (eqb-true p q (left (p == q) (k == j) e)), sym (eqb-true k j (right (p == q) (k == j) e)))
+  where
+    left : (a b : Bool) → (a && b) ≡ true → a ≡ true
+    left true b e = refl
+    left false b e = cc
+    right : (a b : Bool) → (a && b) ≡ true → b ≡ true
+    right true b e = e
+    right false b e = cc
+
+text_with : (rows : Rows) (p k : ℕ) (text : List ℕ) → text_in rows p k ≡ None → (q j : ℕ) → text_in (with_kept p k text rows) q j ≡ (if (p == q) && (k == j) then Some text else text_in rows q j)
+text_with rows p k text free q j =
+    ap (option_map (λ (i : Interchange). i.body)) (find_end (is_pair q j) rows.interchanges (waiting p k text))
+    ∙ text_end ((p == q) && (k == j)) text p k (find (is_pair q j) rows.interchanges) (λ e. let is = pair_is p k q j e in ap (λ r. text_in rows r j) is.0 ∙ ap (text_in rows p) is.1 ∙ free)
+
+reply_with : (rows : Rows) (p k : ℕ) (text : List ℕ) (q j : ℕ) → reply_in (with_kept p k text rows) q j ≡ reply_in rows q j
+reply_with rows p k text q j =
+    ap (option_and_then (λ (i : Interchange). reply_if_any i.reply)) (find_end (is_pair q j) rows.interchanges (waiting p k text))
+    ∙ reply_end ((p == q) && (k == j)) text p k (find (is_pair q j) rows.interchanges)
+
+none_many : (o : Option Interchange) → option_map (λ (i : Interchange). i.body) o ≡ None → o ≡ None
+none_many None e = refl
+none_many (Some i) e = cc
+
+once_with : (rows : Rows) (p k : ℕ) (text : List ℕ) → text_in rows p k ≡ None → AreKeptOnce rows.interchanges → AreKeptOnce (rows.interchanges ++ waiting p k text ∷ [])
+once_with rows p k text free once q j =
+    once_more (is_pair q j) rows.interchanges (waiting p k text) ((p == q) && (k == j)) refl (once q j)
+    (λ e. let is = pair_is p k q j e in none_found (is_pair q j) rows.interchanges (ap (λ r. find (is_pair r j) rows.interchanges) is.0 ∙ ap (λ r. find (is_pair p r) rows.interchanges) is.1 ∙ none_many (find (is_pair p k) rows.interchanges) free))
+
+pub early_keeps : (content : SetupContent) (D : List Delivery) (p k : ℕ) (text : List ℕ) (rows : Rows) → AreAfterThese content D rows → text_in rows p k ≡ None → run D p + 1 < k
+    → AreAfterThese content (D ++ delivery p k text ∷ []) (with_kept p k text rows)
+early_keeps content D p k text rows are free early =
+    let d = delivery p k text in
+    let adds = adds_text interchange_taken (opening_of content) D d (ap is_some (sym (are.texts p k) ∙ free)) early in
+    record {
+      partners = are.partners ∙ sym (λ i. accounts_from 1 (λ q. adds.runs q i + 1) content.partners);
+      texts = λ q j. text_with rows p k text free q j ∙ ap (cond ((p == q) && (k == j)) (Some text)) (are.texts q j) ∙ sym (adds.first q j);
+      replies = λ q j. reply_with rows p k text q j ∙ are.replies q j ∙ sym (adds.replies q j);
+      kept_once = once_with rows p k text free are.kept_once;
+      by_key = subst (λ (m : MachineState). AreRowsByKey (with_kept p k text rows) (rows_of m.terminal)) (sym adds.state_is) (record { same = are.by_key.same; placed_once = are.by_key.placed_once; listed_once = are.by_key.listed_once });
+      settings = are.settings;
+      blocks = are.blocks;
+    }
+
+-- ---- a run more
+
+-- the opening is sound, and so is what any run leaves
+opening_sound : (content : SetupContent) → IsGiven content → IsSoundMachine (opening_of content)
+opening_sound content given =
+    let few : length content.partners ≤ 999 = given.counted.1 in
+    let same : length (opening_of content).kinds ≡ length content.partners = length-map content.partners _ in
+    record {
+      few = omega arith;
+      whole = empty_whole (empty_yard content) content.visit_limit given.plan refl;
+      formed = empty_formed (empty_yard content) content.visit_limit refl;
+    }
+
+pub state_sound : (content : SetupContent) (D : List Delivery) → IsGiven content → IsSoundMachine (state interchange_taken (opening_of content) D)
+state_sound content D given = run_sound (opening_of content) D (opening_sound content given)
+
+-- no reply is kept above the run
+unreplied : (content : SetupContent) (D : List Delivery) (rows : Rows) (p k : ℕ) → AreAfterThese content D rows → run D p + 1 ≤ k → reply_in rows p k ≡ None
+unreplied content D rows p k are beyond = none_of (reply_in rows p k) (none (is_some (reply_in rows p k)) refl)
+  where
+    none : (b : Bool) → is_some (reply_in rows p k) ≡ b → is_some (reply_in rows p k) ≡ false
+    none true e =
+        let within = replied_within interchange_taken (opening_of content) D p k (sym (ap is_some (are.replies p k)) ∙ e) in
+        absurd (omega (arith, within.1))
+    none false e = e
+
+-- what is left of a run
+pub record RunMore (content : SetupContent) (D : List Delivery) (p k : ℕ) (text : List ℕ) (count : ℕ) (rows : Rows) (machine' : MachineState) : Type 0 where
+  pub rows_are : AreAfterThese content (D ++ delivery p k text ∷ []) rows
+  pub machine : machine' ≡ state interchange_taken (opening_of content) (D ++ delivery p k text ∷ [])
+  pub ends : run (D ++ delivery p k text ∷ []) p + 1 ≡ k + count
+
+module _ (content : SetupContent) (D : List Delivery) (p k : ℕ) (text : List ℕ) (rows : Rows) (taken : List TakenContent) (machine' : MachineState)
+    (given : IsGiven content) (are : AreAfterThese content D rows) (free : text_in rows p k ≡ None) (is_next : k ≡ run D p + 1)
+    (from : AreTakenFrom p (texts_with rows p k text) k (state interchange_taken (opening_of content) D) taken machine') where
+  abbrev d : Delivery
+  d = delivery p k text
+
+  abbrev kept : Rows
+  kept = with_kept p k text rows
+
+  abbrev machine : MachineState
+  machine = state interchange_taken (opening_of content) D
+
+  abbrev last : ℕ
+  last = run D p + length taken
+
+  itself : (p == p) ≡ true
+  itself = eq-eqb p p refl
+
+  kept_texts : (j : ℕ) → text_in kept p j ≡ texts_with rows p k text j
+  kept_texts j = text_with rows p k text free p j ∙ ap (λ b. cond (b && (k == j)) (Some text) (text_in rows p j)) itself
+
+  leaves : RunLeaves p (texts_with rows p k text) (run D p) last (reply_in kept p) machine content.partners (λ q. run D q + 1) kept (with_run p k text taken rows) machine'
+  leaves = run_leaves taken p (texts_with rows p k text) (run D p) (run D p) (reply_in kept p) machine machine machine' content.partners (λ q. run D q + 1) kept
+      (takes_none interchange_taken p (texts_with rows p k text) (run D p) (reply_in kept p) machine)
+      (subst (λ n. AreTakenFrom p (texts_with rows p k text) n machine taken machine') is_next from)
+      (state_sound content D given).whole
+      (record { same = are.by_key.same; placed_once = are.by_key.placed_once; listed_once = are.by_key.listed_once })
+      (once_with rows p k text free are.kept_once)
+      kept_texts
+      (λ j later. reply_with rows p k text p j ∙ unreplied content D rows p j are later)
+      are.partners refl
+
+  abbrev counts : ℕ → ℕ
+  counts q = if q == p then last else run D q
+
+  abbrev new_held : Holdings MachineState
+  new_held = record { texts = text_in (with_run p k text taken rows); counts = counts; replies = reply_in (with_run p k text taken rows); state_now = machine' }
+
+  texts_now : (q j : ℕ) → text_in (with_run p k text taken rows) q j ≡ (if (p == q) && (k == j) then Some text else text_in rows q j)
+  texts_now q j = leaves.texts_same q j ∙ text_with rows p k text free q j
+
+  own_texts : texts_with rows p k text ≡ text_in (with_run p k text taken rows) p
+  own_texts i j = (sym (kept_texts j) ∙ sym (leaves.texts_same p j)) i
+
+  own_replies : reply_in kept p ≡ reply_in rows p
+  own_replies i j = reply_with rows p k text p j i
+
+  counts_here : counts p ≡ last
+  counts_here = cond-true (p == p) last (run D p) itself
+
+  takes : TakesTexts interchange_taken p (text_in (with_run p k text taken rows) p) (run D p) (counts p) (reply_in rows p) (reply_in (with_run p k text taken rows) p) machine machine'
+  takes =
+      subst (λ n. TakesTexts interchange_taken p (text_in (with_run p k text taken rows) p) (run D p) n (reply_in rows p) (reply_in (with_run p k text taken rows) p) machine machine') (sym counts_here)
+      (subst (λ f. TakesTexts interchange_taken p f (run D p) last (reply_in rows p) (reply_in (with_run p k text taken rows) p) machine machine') own_texts
+      (subst (λ f. TakesTexts interchange_taken p (texts_with rows p k text) (run D p) last f (reply_in (with_run p k text taken rows) p) machine machine') own_replies leaves.takes))
+
+  takes_run : TakesRun interchange_taken (held content D rows) new_held d
+  takes_run = record {
+    texts = texts_now;
+    is_next = is_next;
+    takes = takes;
+    ends = ap (λ n. text_in (with_run p k text taken rows) p (n + 1)) counts_here ∙ ap (λ f. f (last + 1)) (sym own_texts) ∙ leaves.ends;
+    other_counts = λ q apart. cond-false (q == p) last (run D q) (ne_eqb q p apart);
+    other_replies = λ q j apart. leaves.other q j apart ∙ reply_with rows p k text q j;
+  }
+
+  keeps : Keeps interchange_taken (opening_of content) (D ++ d ∷ []) new_held
+  keeps = keeps_run interchange_taken (opening_of content) D d (held content D rows) new_held (held_keeps content D rows are) takes_run
+
+  nexts_at : (q : ℕ) → leaves.nexts q ≡ run (D ++ d ∷ []) q + 1
+  nexts_at q = elim (cases_eq q p) [
+    | inl e ↦ ap leaves.nexts e ∙ leaves.own_next ∙ ap (λ n. n + 1) (sym counts_here ∙ keeps.runs p) ∙ ap (λ r. run (D ++ d ∷ []) r + 1) (sym e)
+    | inr ne ↦ leaves.other_next q ne ∙ ap (λ n. n + 1) (sym (cond-false (q == p) last (run D q) (ne_eqb q p ne)) ∙ keeps.runs q)
+  ]
+
+  pub run_more : RunMore content D p k text (length taken) (with_run p k text taken rows) machine'
+  run_more = record {
+    rows_are = record {
+      partners = leaves.partners ∙ (λ i. accounts_from 1 (λ q. nexts_at q i) content.partners);
+      texts = keeps.firsts;
+      replies = keeps.replies_are;
+      kept_once = leaves.once;
+      by_key = subst (λ (m : MachineState). AreRowsByKey (with_run p k text taken rows) (rows_of m.terminal)) keeps.state_is leaves.by_key;
+      settings = leaves.settings ∙ are.settings;
+      blocks = leaves.blocks ∙ are.blocks;
+    };
+    machine = keeps.state_is;
+    ends = ap (λ n. n + 1) (sym (keeps.runs p) ∙ counts_here) ∙ omega (arith, is_next);
+  }
+
+-- the reply to the first of the run
+pub first_reply : (content : SetupContent) (D : List Delivery) (p k : ℕ) (text : List ℕ) (rows : Rows) (first : TakenContent) (later : List TakenContent) (machine' : MachineState)
+    → IsGiven content → (are : AreAfterThese content D rows) → (free : text_in rows p k ≡ None) → (is_next : k ≡ run D p + 1)
+    → (from : AreTakenFrom p (texts_with rows p k text) k (state interchange_taken (opening_of content) D) (first ∷ later) machine')
+    → reply_of interchange_taken (opening_of content) (D ++ delivery p k text ∷ []) p k ≡ Some first.reply
+first_reply content D p k text rows first later machine' given are free is_next from =
+    let taken : List TakenContent = first ∷ later in
+    let machine = state interchange_taken (opening_of content) D in
+    let texts = texts_with rows p k text in
+    let whole = leaves content D p k text rows taken machine' given are free is_next from in
+    let kept_all = keeps content D p k text rows taken machine' given are free is_next from in
+    let low = run D p in
+    let here : (p == p) && (low + 1 == k) ≡ true = ap (λ b. b && (low + 1 == k)) (eq-eqb p p refl) ∙ eq-eqb (low + 1) k (sym is_next) in
+    let many : low + length taken - low ≡ suc (length later) = omega arith in
+    let own : texts k ≡ Some text = cond-true (k == k) (Some text) (text_in rows p k) (eq-eqb k k refl) in
+    let given_text : text ≡ from.0 = same_some text from.0 (sym own ∙ from.1) in
+    let among : reply_among interchange_taken (for_each_partner texts) (numbers_between p low (low + length taken)) machine p k ≡ Some first.reply =
+    ap (λ n. reply_among interchange_taken (for_each_partner texts) (numbers_above p low n) machine p k) many
+    ∙ cond-true ((p == p) && (low + 1 == k)) (Some (interchange_taken machine p (for_each_partner texts p (low + 1))).1)
+    (reply_among interchange_taken (for_each_partner texts) (numbers_above p (low + 1) (length later)) (interchange_taken machine p (for_each_partner texts p (low + 1))).0 p k) here
+    ∙ ap (λ n. Some (interchange_taken machine p (unwrap_or (texts n) [])).1) (sym is_next)
+    ∙ ap (λ o. Some (interchange_taken machine p (unwrap_or o [])).1) own
+    ∙ ap (λ t. Some (interchange_taken machine p t).1) given_text
+    ∙ ap Some (sym from.3) in
+    let none : reply_in (with_kept p k text rows) p k ≡ None = reply_with rows p k text p k ∙ unreplied content D rows p k are (omega (arith, is_next)) in
+    sym (kept_all.replies_are p k)
+    ∙ whole.takes.replies_are k
+    ∙ ap (λ o. option_or o (reply_among interchange_taken (for_each_partner texts) (numbers_between p low (low + length taken)) machine p k)) none
+    ∙ among
+  where
+    same_some : (a b : List ℕ) → Some a ≡ Some b → a ≡ b
+    same_some a b e = cc
+
+-- ---- answers
+
+pub answered : (content : SetupContent) (D : List Delivery) (p k : ℕ) (text : List ℕ) (rows : Rows) → AreAfterThese content D rows → 1 ≤ k
+    → answer_of interchange_taken (opening_of content) D (delivery p k text)
+    ≡ answer_by (standing_of (run D p + 1) k (text_in rows p k) text) (run D p + 1) (reply_in rows p k) (reply_of interchange_taken (opening_of content) (D ++ delivery p k text ∷ []) p k)
+answered content D p k text rows are one = answer-kept interchange_taken (opening_of content) D (delivery p k text) (held content D rows) (held_keeps content D rows are) one
+
+-- ---- what is admitted has a number
+
+faultless : (found : Option SyntaxFault) (P : Parties) (text : List ℕ) (p k : ℕ) → admitted P (header_of (segments_in text)) found ≡ Ok (p, k) → found ≡ None
+faultless None P text p k e = refl
+faultless (Some fault) P text p k e = cc

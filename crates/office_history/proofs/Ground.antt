@@ -1,0 +1,207 @@
+-- The plan of the yard and the limit of visits, which no delivery changes.
+use Rattle.std.proofs.Common.{◌≡◌, ℕ, List, [], ◌∷◌, Bool, true, false, cond, Option, None, Some, is_some, Result, Ok, Err, refl, sym, ap, ◌∙◌}
+use Rattle.std.specs.FinMap as finite_map
+use Rattle.box6346.specs.SizeCode.{length_of}
+use Rattle.box6346.specs.declared.box_number.BoxNumber.{BoxNumber}
+use Rattle.box6346.specs.declared.length.Length.{Length}
+use Rattle.box6346.specs.declared.slot.Slot.{Slot}
+use Rattle.edi_moments.specs.Moments.{CivilMoment}
+use Rattle.edi_messages.specs.declared.codes.Codes.{Codes}
+use Rattle.edi_messages.specs.declared.message_fault.MessageFault.{MessageFault}
+use Rattle.edi_messages.specs.declared.partner_kind.PartnerKind.{PartnerKind}
+use Rattle.edi_messages.specs.Message.{LineContent as ReadLine, ordered, refused as refused_line, MessageContent, reading}
+use Rattle.edi_messages.specs.Orders.{EntryContent, OrderContent, gate_in, gate_out, move, list_discharge, list_load, discharge, load}
+use Rattle.edi_messages.specs.Purposes.{CallContent}
+use Rattle.edi_segments.specs.Text.{Content}
+use Rattle.edi_segments.specs.Interchange.{segments_in}
+use Rattle.edi_syntax.specs.Envelope.{header_of, messages_of}
+use Rattle.edi_syntax.specs.Header.{preparation}
+use Rattle.edi_syntax.specs.Messages.{Message}
+use Rattle.partner_core.specs.Deliveries.{Delivery}
+use Rattle.partner_core.specs.Numbered.{with_number}
+use Rattle.partner_core.specs.Order.{state, state_after, order, text_under}
+use Rattle.yard_core.specs.declared.placement.Placement.{Placement}
+use Rattle.yard_core.specs.Decisions.{Refusal, present, misfit_of, first_fit, blocker_of, unless_buried, with_misfit, with_slot as with_first_slot, placed, placed_first, removed, removed_at, shifted, shifted_at}
+use Rattle.yard_core.specs.YardMap.{Boxes, YardMap, yard_map, placement}
+use Rattle.terminal_core.specs.declared.departure.Departure.{Departure}
+use Rattle.terminal_core.specs.declared.line_state.LineState.{LineState}
+use Rattle.terminal_core.specs.declared.line_state.LineState.TheVariants.{Pending, Done as LineIsDone}
+use Rattle.terminal_core.specs.declared.outcome.Outcome.{Outcome}
+use Rattle.terminal_core.specs.declared.outcome.Outcome.TheVariants.{Done, Gone, Listed, Refused}
+use Rattle.terminal_core.specs.declared.reason.Reason.TheVariants.{AlreadyIn, NotIn, VisitLimit}
+use Rattle.terminal_core.specs.declared.side.Side.{Side}
+use Rattle.terminal_core.specs.declared.side.Side.TheVariants.{Load, Discharge}
+use Rattle.terminal_core.specs.declared.source.Source.{Source}
+use Rattle.terminal_core.specs.declared.way.Way.{Way}
+use Rattle.terminal_core.specs.declared.way.Way.TheVariants.{Gate, Ship}
+use Rattle.terminal_core.specs.State.{TerminalState, LineContent, line_of, is_in}
+use Rattle.terminal_core.specs.Step.{Stepped, refused, step, settled, settled_in, with_slot, is_full, entered, entered_at, departed, departed_at, departure_by, moved_at, listed_at, then_line_done_at, by_line, by_state}
+use Rattle.terminal_core.proofs.Changing.{either}
+use Rattle.office_admission.specs.Admission.{admission, is_for}
+use Rattle.office_taking.specs.Taking.{MachineState, line_taken, lines_taken, verdict_on, messages_taken, codes_for, source_in, nothing_taken, taken_at, taken_of, interchange_taken}
+
+-- ---- the yard
+
+abbrev IfYard : YardMap → Result YardMap Refusal → Type 0
+IfYard y (Ok new) = new.plan ≡ y.plan
+IfYard y (Err refusal) = Unit {0}
+
+abbrev IfSlot : YardMap → Result (YardMap × Slot) Refusal → Type 0
+IfSlot y (Ok new) = new.0.plan ≡ y.plan
+IfSlot y (Err refusal) = Unit {0}
+
+abbrev IfStood : YardMap → Result (YardMap × Placement) Refusal → Type 0
+IfStood y (Ok new) = new.0.plan ≡ y.plan
+IfStood y (Err refusal) = Unit {0}
+
+misfit_plan : (y : YardMap) (o : Option Refusal) (boxes : Boxes) → IfYard y (with_misfit o (yard_map y.plan boxes))
+misfit_plan y None boxes = refl
+misfit_plan y (Some refusal) boxes = tt
+
+slot_plan : (y : YardMap) (slot : Slot) (r : Result YardMap Refusal) → IfYard y r → IfSlot y (with_slot slot r)
+slot_plan y slot (Ok new) h = h
+slot_plan y slot (Err refusal) h = tt
+
+first_plan : (y : YardMap) (o : Option Slot) (b : BoxNumber) (length : Length) → IfSlot y (with_first_slot o y b length)
+first_plan y None b length = tt
+first_plan y (Some slot) b length = refl
+
+settled_plan : (y : YardMap) (entry : EntryContent) (o : Option Slot) → IfSlot y (settled_in y entry o)
+settled_plan y entry (Some slot) =
+    let s = placement (length_of entry.size_type) slot in
+    slot_plan y slot (placed y entry.number (length_of entry.size_type) slot)
+    (either (IfYard y) (is_some (finite_map.get y.boxes entry.number)) (Err present) (with_misfit (misfit_of y.plan y.boxes s) (yard_map y.plan (finite_map.insert y.boxes entry.number s))) tt
+    (misfit_plan y (misfit_of y.plan y.boxes s) (finite_map.insert y.boxes entry.number s)))
+settled_plan y entry None =
+    either (IfSlot y) (is_some (finite_map.get y.boxes entry.number)) (Err present) (with_first_slot (first_fit y.plan y.boxes (length_of entry.size_type)) y entry.number (length_of entry.size_type)) tt
+    (first_plan y (first_fit y.plan y.boxes (length_of entry.size_type)) entry.number (length_of entry.size_type))
+
+unburied : (y : YardMap) (o : Option BoxNumber) (r : Result (YardMap × Placement) Refusal) → IfStood y r → IfStood y (unless_buried o r)
+unburied y None r h = h
+unburied y (Some blocker) r h = tt
+
+unburied_yard : (y : YardMap) (o : Option BoxNumber) (r : Result YardMap Refusal) → IfYard y r → IfYard y (unless_buried o r)
+unburied_yard y None r h = h
+unburied_yard y (Some blocker) r h = tt
+
+removed_plan : (y : YardMap) (b : BoxNumber) (o : Option Placement) → IfStood y (removed_at o y b)
+removed_plan y b None = tt
+removed_plan y b (Some s) = unburied y (blocker_of y.boxes s) (Ok (yard_map y.plan (finite_map.remove y.boxes b), s)) refl
+
+shifted_plan : (y : YardMap) (b : BoxNumber) (slot : Slot) (o : Option Placement) → IfYard y (shifted_at o y b slot)
+shifted_plan y b slot None = tt
+shifted_plan y b slot (Some s) =
+    unburied_yard y (blocker_of y.boxes s) (with_misfit (misfit_of y.plan (finite_map.remove y.boxes b) (placement s.length slot)) (yard_map y.plan (finite_map.insert y.boxes b (placement s.length slot))))
+    (misfit_plan y (misfit_of y.plan (finite_map.remove y.boxes b) (placement s.length slot)) (finite_map.insert y.boxes b (placement s.length slot)))
+
+-- ---- an order
+
+-- the new state stands on the plan and the limit of the old
+pub record OnGround (old new : TerminalState) : Type 0 where
+  pub plan : new.yard.plan ≡ old.yard.plan
+  pub limit : new.limit ≡ old.limit
+
+abbrev Stays : TerminalState → Stepped → Type 0
+Stays old after = OnGround old after.state
+
+still : (state : TerminalState) → OnGround state state
+still state = record { plan = refl; limit = refl }
+
+entered_stays : (state : TerminalState) (way : Way) (source : Source) (entry : EntryContent) (r : Result (YardMap × Slot) Refusal) → IfSlot state.yard r → Stays state (entered_at state way source entry r)
+entered_stays state way source entry (Ok (y, slot)) h = record { plan = h; limit = refl }
+entered_stays state way source entry (Err refusal) h = still state
+
+enters_stays : (state : TerminalState) (way : Way) (source : Source) (entry : EntryContent) → Stays state (entered state way source entry)
+enters_stays state way source entry =
+    either (Stays state) (is_full state) (refused state VisitLimit) (entered_at state way source entry (settled state.yard entry)) (still state)
+    (entered_stays state way source entry (settled state.yard entry) (settled_plan state.yard entry entry.slot))
+
+departed_stays : (state : TerminalState) (b : BoxNumber) (departure : Departure) (r : Result (YardMap × Placement) Refusal) → IfStood state.yard r → Stays state (departed_at state b departure r)
+departed_stays state b departure (Ok (y, s)) h = record { plan = h; limit = refl }
+departed_stays state b departure (Err refusal) h = still state
+
+departs_stays : (state : TerminalState) (way : Way) (source : Source) (b : BoxNumber) (moment : CivilMoment) → Stays state (departed state way source b moment)
+departs_stays state way source b moment = departed_stays state b (departure_by way source moment) (removed state.yard b) (removed_plan state.yard b (finite_map.get state.yard.boxes b))
+
+moved_stays : (state : TerminalState) (b : BoxNumber) (slot : Slot) (r : Result YardMap Refusal) → IfYard state.yard r → Stays state (moved_at state b slot r)
+moved_stays state b slot (Ok y) h = record { plan = h; limit = refl }
+moved_stays state b slot (Err refusal) h = still state
+
+listed_stays : (state : TerminalState) (call : CallContent) (side : Side) (b : BoxNumber) (port : List ℕ) (o : Option LineContent) → Stays state (listed_at state call side b port o)
+listed_stays state call side b port (Some line) = still state
+listed_stays state call side b port None = record { plan = refl; limit = refl }
+
+then_stays : (state : TerminalState) (call : CallContent) (side : Side) (b : BoxNumber) (line : LineContent) (after : Stepped) (o : Outcome) → Stays state after → Stays state (then_line_done_at call side b line after o)
+then_stays state call side b line after (Refused reason) h = h
+then_stays state call side b line after (Done slot) h = record { plan = h.plan; limit = h.limit }
+then_stays state call side b line after Gone h = record { plan = h.plan; limit = h.limit }
+then_stays state call side b line after Listed h = record { plan = h.plan; limit = h.limit }
+
+state_stays : (state : TerminalState) (call : CallContent) (side : Side) (b : BoxNumber) (line : LineContent) (after : Stepped) (s : LineState) → Stays state after → Stays state (by_state state call side b line after s)
+state_stays state call side b line after LineIsDone h = still state
+state_stays state call side b line after Pending h = then_stays state call side b line after after.outcome h
+
+line_stays : (state : TerminalState) (call : CallContent) (side : Side) (b : BoxNumber) (o : Option LineContent) (after : Stepped) → Stays state after → Stays state (by_line state call side b o after)
+line_stays state call side b None after h = still state
+line_stays state call side b (Some line) after h = state_stays state call side b line after line.state h
+
+step_stays : (state : TerminalState) (source : Source) (order : OrderContent) → Stays state (step state source order)
+step_stays state source (gate_in entry) = either (Stays state) (is_in state entry.number) (refused state AlreadyIn) (entered state Gate source entry) (still state) (enters_stays state Gate source entry)
+step_stays state source (gate_out b moment) = departs_stays state Gate source b moment
+step_stays state source (move b slot) = moved_stays state b slot (shifted state.yard b slot) (shifted_plan state.yard b slot (finite_map.get state.yard.boxes b))
+step_stays state source (list_discharge call b) = listed_stays state call Discharge b [] (line_of state call Discharge b)
+step_stays state source (list_load call b port) = listed_stays state call Load b port (line_of state call Load b)
+step_stays state source (discharge call entry) =
+    either (Stays state) (is_in state entry.number) (refused state AlreadyIn) (by_line state call Discharge entry.number (line_of state call Discharge entry.number) (entered state Ship source entry)) (still state)
+    (line_stays state call Discharge entry.number (line_of state call Discharge entry.number) (entered state Ship source entry) (enters_stays state Ship source entry))
+step_stays state source (load call b moment) =
+    either (Stays state) (is_in state b) (by_line state call Load b (line_of state call Load b) (departed state Ship source b moment)) (refused state NotIn)
+    (line_stays state call Load b (line_of state call Load b) (departed state Ship source b moment) (departs_stays state Ship source b moment)) (still state)
+
+-- ---- an interchange
+
+on : (a b c : TerminalState) → OnGround a b → OnGround b c → OnGround a c
+on a b c one two = record { plan = two.plan ∙ one.plan; limit = two.limit ∙ one.limit }
+
+read_stays : (state : TerminalState) (source : Source) (line : ReadLine) → OnGround state (line_taken state source line).0
+read_stays state source (ordered order) = step_stays state source order
+read_stays state source (refused_line fault number) = still state
+
+lines_stay : (state : TerminalState) (source : Source) (lines : List ReadLine) → OnGround state (lines_taken state source lines).0
+lines_stay state source [] = still state
+lines_stay state source (line ∷ lines) =
+    let next : TerminalState = (line_taken state source line).0 in
+    on state next (lines_taken next source lines).0 (read_stays state source line) (lines_stay next source lines)
+
+verdict_stays : (state : TerminalState) (source : Source) (read : Result MessageContent MessageFault) → OnGround state (verdict_on state source read).0
+verdict_stays state source (Ok content) = lines_stay state source content.lines
+verdict_stays state source (Err fault) = still state
+
+messages_stay : (state : TerminalState) (codes : Codes) (source : Source) (opened : CivilMoment) (messages : List Message) → OnGround state (messages_taken state codes source opened messages).0
+messages_stay state codes source opened [] = still state
+messages_stay state codes source opened (message ∷ messages) =
+    let next : TerminalState = (verdict_on state source (reading codes opened message)).0 in
+    on state next (messages_taken next codes source opened messages).0 (verdict_stays state source (reading codes opened message)) (messages_stay next codes source opened messages)
+
+at_stays : (machine : MachineState) (partner : ℕ) (kind : PartnerKind) (segments : List Content) (opened : Option CivilMoment) → OnGround machine.terminal (taken_at machine partner kind segments opened).0.terminal
+at_stays machine partner kind segments None = still machine.terminal
+at_stays machine partner kind segments (Some opened) = messages_stay machine.terminal (codes_for machine kind) (source_in partner (header_of segments)) opened (messages_of segments)
+
+of_stays : (machine : MachineState) (partner : ℕ) (segments : List Content) (kind : Option PartnerKind) → OnGround machine.terminal (taken_of machine partner segments kind).0.terminal
+of_stays machine partner segments None = still machine.terminal
+of_stays machine partner segments (Some kind) = at_stays machine partner kind segments (preparation (header_of segments))
+
+interchange_stays : (machine : MachineState) (partner : ℕ) (text : List ℕ) → OnGround machine.terminal (interchange_taken machine partner text).0.terminal
+interchange_stays machine partner text =
+    either (λ (taken : MachineState × List ℕ). OnGround machine.terminal taken.0.terminal) (is_for partner (admission machine.parties text)) (taken_of machine partner (segments_in text) (with_number machine.kinds partner)) (nothing_taken machine)
+    (of_stays machine partner (segments_in text) (with_number machine.kinds partner)) (still machine.terminal)
+
+run_stays : (texts : ℕ → ℕ → List ℕ) (numbers : List (ℕ × ℕ)) (machine : MachineState) → OnGround machine.terminal (state_after interchange_taken texts numbers machine).terminal
+run_stays texts [] machine = still machine.terminal
+run_stays texts (e ∷ numbers) machine =
+    let next : MachineState = (interchange_taken machine e.0 (texts e.0 e.1)).0 in
+    on machine.terminal next.terminal (state_after interchange_taken texts numbers next).terminal (interchange_stays machine e.0 (texts e.0 e.1)) (run_stays texts numbers next)
+
+pub state_on_ground : (opening : MachineState) (ds : List Delivery) → OnGround opening.terminal (state interchange_taken opening ds).terminal
+unfolding state
+state_on_ground opening ds = run_stays (text_under ds) (order ds) opening

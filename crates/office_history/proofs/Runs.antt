@@ -1,0 +1,280 @@
+-- What taking a run of interchanges makes of the rows.
+use Rattle.std.proofs.Common.{◌≡◌, ◌≢◌, ℕ, zero, suc, ◌+◌, ◌≤◌, List, [], ◌∷◌, ◌++◌, length, map, Bool, true, false, cond, Option, None, Some, is_some, refl, sym, ap, subst, ◌∙◌, arith}
+use Rattle.std.specs.Prelude.{find, ◌&&◌, ◌==◌, count_by, if◌then◌else◌}
+use Rattle.std.specs.Option.{option_map, option_and_then}
+use Rattle.std.proofs.lemmas.Bool.{eq-eqb, eqb-true, eqb-false, ne_eqb, cond-true, cond-false, and_left, and_right, cases_eq}
+use Rattle.std.proofs.lemmas.List.{length-append}
+use Rattle.edi_moments.specs.Moments.{CivilMoment}
+use Rattle.edi_messages.specs.declared.partner_kind.PartnerKind.{PartnerKind}
+use Rattle.edi_segments.specs.Text.{Content}
+use Rattle.edi_segments.specs.Interchange.{segments_in}
+use Rattle.edi_syntax.specs.Envelope.{header_of}
+use Rattle.edi_syntax.specs.Header.{preparation}
+use Rattle.partner_core.specs.Numbered.{with_number}
+use Rattle.partner_core.specs.Cascade.{TakesTexts}
+use Rattle.partner_core.proofs.Cascades.{takes_one_more}
+use Rattle.terminal_core.specs.Rows.{ChangeContent, visit_opened, visit_closed, placed_at, moved_to, removed_from, listed_on, line_done}
+use Rattle.terminal_core.specs.State.{IsWhole}
+use Rattle.terminal_core.specs.Changes.{TerminalRows, rows_of, all_changed, AreApplicable}
+use Rattle.terminal_core.proofs.Counted.{found_is}
+use Rattle.office_admission.specs.Admission.{admission, is_for}
+use Rattle.office_replies.proofs.Ready.{reply_is_some}
+use Rattle.office_setup.specs.Setups.{SetupContent}
+use Rattle.office_taking.specs.Taking.{MachineState, interchange_taken, interchange_changes, nothing_taken, taken_of, taken_at}
+use Rattle.office_taking.proofs.Turning.{interchange_leads}
+use Rattle.office_rows.specs.Rows.{Partner, Interchange, Rows}
+use Rattle.office_rows.specs.Effects.{is_pair, with_kept, with_reply, with_next, with_taken, with_change}
+use Rattle.office_history.specs.After.{accounts_from, reply_if_any, reply_in, AreKeptOnce}
+use Rattle.office_history.specs.Cascade.{text_in, TakenContent, with_changes, with_interchange, with_interchanges, AreTakenFrom}
+use Rattle.office_history.specs.Laws.{AreRowsByKey}
+use Rattle.office_history.proofs.ByKeys.{changes_agree, count_mapped, find_mapped}
+
+-- ---- what changes leave alone
+
+record SameBeside (old new : Rows) : Type 0 where
+  partners : new.partners ≡ old.partners
+  interchanges : new.interchanges ≡ old.interchanges
+  settings : new.settings ≡ old.settings
+  blocks : new.blocks ≡ old.blocks
+
+one_beside : (rows : Rows) (change : ChangeContent) → SameBeside rows (with_change change rows)
+one_beside rows (visit_opened visit) = record { partners = refl; interchanges = refl; settings = refl; blocks = refl }
+one_beside rows (visit_closed number departure) = record { partners = refl; interchanges = refl; settings = refl; blocks = refl }
+one_beside rows (placed_at container visit slot) = record { partners = refl; interchanges = refl; settings = refl; blocks = refl }
+one_beside rows (moved_to container slot) = record { partners = refl; interchanges = refl; settings = refl; blocks = refl }
+one_beside rows (removed_from container) = record { partners = refl; interchanges = refl; settings = refl; blocks = refl }
+one_beside rows (listed_on call side container port) = record { partners = refl; interchanges = refl; settings = refl; blocks = refl }
+one_beside rows (line_done call side container) = record { partners = refl; interchanges = refl; settings = refl; blocks = refl }
+
+changes_beside : (changes : List ChangeContent) (rows : Rows) → SameBeside rows (with_changes changes rows)
+changes_beside [] rows = record { partners = refl; interchanges = refl; settings = refl; blocks = refl }
+changes_beside (change ∷ changes) rows =
+    let one = one_beside rows change in
+    let rest = changes_beside changes (with_change change rows) in
+    record { partners = rest.partners ∙ one.partners; interchanges = rest.interchanges ∙ one.interchanges; settings = rest.settings ∙ one.settings; blocks = rest.blocks ∙ one.blocks }
+
+-- ---- one interchange with its reply
+
+abbrev replied : ℕ → ℕ → List ℕ → Interchange → Interchange
+replied p n reply i = cond (is_pair p n i) (record i { reply = reply }) i
+
+same_pair : (own : Bool) (reply : List ℕ) (q k : ℕ) (i : Interchange) → is_pair q k (cond own (record i { reply = reply }) i) ≡ is_pair q k i
+same_pair true reply q k i = refl
+same_pair false reply q k i = refl
+
+same_body : (own : Bool) (reply : List ℕ) (i : Interchange) → (cond own (record i { reply = reply }) i).body ≡ i.body
+same_body true reply i = refl
+same_body false reply i = refl
+
+body_of : (o : Option Interchange) (p n : ℕ) (reply : List ℕ) → option_map (λ (i : Interchange). i.body) (option_map (replied p n reply) o) ≡ option_map (λ (i : Interchange). i.body) o
+body_of None p n reply = refl
+body_of (Some i) p n reply = ap Some (same_body (is_pair p n i) reply i)
+
+text_kept : (interchanges : List Interchange) (p n : ℕ) (reply : List ℕ) (q k : ℕ)
+    → option_map (λ (i : Interchange). i.body) (find (is_pair q k) (map (replied p n reply) interchanges)) ≡ option_map (λ (i : Interchange). i.body) (find (is_pair q k) interchanges)
+text_kept interchanges p n reply q k =
+    ap (option_map (λ (i : Interchange). i.body)) (find_mapped (is_pair q k) (replied p n reply) (λ i. same_pair (is_pair p n i) reply q k i) interchanges)
+    ∙ body_of (find (is_pair q k) interchanges) p n reply
+
+abbrev reply_there : Option Interchange → Option (List ℕ)
+reply_there o = option_and_then (λ (i : Interchange). reply_if_any i.reply) o
+
+pair_of : (p n : ℕ) (i : Interchange) → is_pair p n i ≡ true → (i.partner ≡ p) × (i.number ≡ n)
+pair_of p n i e = (eqb-true i.partner p (and_true_left (i.partner == p) (i.number == n) e), eqb-true i.number n (and_true_right (i.partner == p) (i.number == n) e))
+  where
+    and_true_left : (a b : Bool) → (a && b) ≡ true → a ≡ true
+    and_true_left true b e = refl
+    and_true_left false b e = cc
+    and_true_right : (a b : Bool) → (a && b) ≡ true → b ≡ true
+    and_true_right true b e = e
+    and_true_right false b e = cc
+
+is_pair_at : (p n : ℕ) (i : Interchange) → i.partner ≡ p → i.number ≡ n → is_pair p n i ≡ true
+is_pair_at p n i a b = ap (λ v. v && (i.number == n)) (eq-eqb i.partner p a) ∙ eq-eqb i.number n b
+
+some_reply : (reply : List ℕ) → reply ≢ [] → reply_if_any reply ≡ Some reply
+some_reply [] h = absurd (h refl)
+some_reply (b ∷ bytes) h = refl
+
+-- the reply of the one that got it
+own_reply : (interchanges : List Interchange) (p n : ℕ) (reply : List ℕ) (o : Option Interchange) → find (is_pair p n) interchanges ≡ o → is_some o ≡ true → reply ≢ []
+    → reply_there (option_map (replied p n reply) o) ≡ Some reply
+own_reply interchanges p n reply None e there said = cc
+own_reply interchanges p n reply (Some i) e there said =
+    ap (λ b. reply_if_any (cond b (record i { reply = reply }) i).reply) (found_is (is_pair p n) interchanges i e).2 ∙ some_reply reply said
+
+other_reply : (interchanges : List Interchange) (p n : ℕ) (reply : List ℕ) (q k : ℕ) (o : Option Interchange) → find (is_pair q k) interchanges ≡ o → (q ≡ p → k ≡ n → ⊥)
+    → reply_there (option_map (replied p n reply) o) ≡ reply_there o
+other_reply interchanges p n reply q k None e apart = refl
+other_reply interchanges p n reply q k (Some i) e apart = other (is_pair p n i) refl
+  where
+    other : (own : Bool) → is_pair p n i ≡ own → reply_if_any (cond (is_pair p n i) (record i { reply = reply }) i).reply ≡ reply_if_any i.reply
+    other true at =
+        let here = pair_of q k i (found_is (is_pair q k) interchanges i e).2 in
+        let there = pair_of p n i at in
+        absurd (apart (sym here.0 ∙ there.0) (sym here.1 ∙ there.1))
+    other false at = ap (λ b. reply_if_any (cond b (record i { reply = reply }) i).reply) at
+
+replies_found : (interchanges : List Interchange) (p n : ℕ) (reply : List ℕ) (q k : ℕ) → find (is_pair q k) (map (replied p n reply) interchanges) ≡ option_map (replied p n reply) (find (is_pair q k) interchanges)
+replies_found interchanges p n reply q k = find_mapped (is_pair q k) (replied p n reply) (λ i. same_pair (is_pair p n i) reply q k i) interchanges
+
+-- ---- the partners' next numbers
+
+with_next_from : (id p next : ℕ) (f : ℕ → ℕ) (accounts : List (List ℕ × PartnerKind))
+    → map (λ (a : Partner). cond (a.id == p) (record a { next = next }) a) (accounts_from id f accounts) ≡ accounts_from id (λ q. if q == p then next else f q) accounts
+with_next_from id p next f [] = refl
+with_next_from id p next f (account ∷ accounts) =
+    ap (λ a. a ∷ map (λ (a : Partner). cond (a.id == p) (record a { next = next }) a) (accounts_from (id + 1) f accounts)) (one (id == p))
+    ∙ ap (λ l. (record { id = id; code = account.0; kind = account.1; next = if id == p then next else f id }) ∷ l) (with_next_from (id + 1) p next f accounts)
+  where
+    one : (b : Bool) → ◌≡◌ {A = Partner} (cond b (record { id = id; code = account.0; kind = account.1; next = next }) (record { id = id; code = account.0; kind = account.1; next = f id }))
+        (record { id = id; code = account.0; kind = account.1; next = cond b next (f id) })
+    one true = refl
+    one false = refl
+
+-- ---- a reply says something
+
+said_at : (machine : MachineState) (partner : ℕ) (kind : PartnerKind) (segments : List Content) (opened : Option CivilMoment) → (taken_at machine partner kind segments opened).1 ≢ []
+said_at machine partner kind segments None = reply_is_some [] []
+said_at machine partner kind segments (Some opened) = reply_is_some _ _
+
+said_of : (machine : MachineState) (partner : ℕ) (segments : List Content) (kind : Option PartnerKind) → (taken_of machine partner segments kind).1 ≢ []
+said_of machine partner segments None = reply_is_some [] []
+said_of machine partner segments (Some kind) = said_at machine partner kind segments (preparation (header_of segments))
+
+said_if : (machine : MachineState) (is : Bool) (taken : MachineState × List ℕ) → taken.1 ≢ [] → (cond is taken (nothing_taken machine)).1 ≢ []
+said_if machine true taken h = h
+said_if machine false taken h = reply_is_some [] []
+
+pub reply_says : (machine : MachineState) (partner : ℕ) (text : List ℕ) → (interchange_taken machine partner text).1 ≢ []
+reply_says machine partner text =
+    said_if machine (is_for partner (admission machine.parties text)) (taken_of machine partner (segments_in text) (with_number machine.kinds partner)) (said_of machine partner (segments_in text) (with_number machine.kinds partner))
+
+-- ---- an interchange
+
+-- what taking one interchange leaves of the rows
+record LeavesOne (p number : ℕ) (reply : List ℕ) (terminal : TerminalRows) (old new : Rows) : Type 0 where
+  by_key : AreRowsByKey new terminal
+  texts : (q k : ℕ) → text_in new q k ≡ text_in old q k
+  own : (k : ℕ) → reply_in new p k ≡ (if number == k then Some reply else reply_in old p k)
+  other : (q k : ℕ) → q ≢ p → reply_in new q k ≡ reply_in old q k
+  once : AreKeptOnce new.interchanges
+  partners : new.partners ≡ map (λ (a : Partner). cond (a.id == p) (record a { next = number + 1 }) a) old.partners
+  settings : new.settings ≡ old.settings
+  blocks : new.blocks ≡ old.blocks
+
+some_text : (o : Option Interchange) (text : List ℕ) → option_map (λ (i : Interchange). i.body) o ≡ Some text → is_some o ≡ true
+some_text None text e = cc
+some_text (Some i) text e = refl
+
+leaves_one : (p : ℕ) (t : TakenContent) (machine : MachineState) (text : List ℕ) (rows : Rows) → IsWhole machine.terminal → AreRowsByKey rows (rows_of machine.terminal) → AreKeptOnce rows.interchanges
+    → text_in rows p t.number ≡ Some text → t.reply ≡ (interchange_taken machine p text).1 → t.changes ≡ interchange_changes machine p text
+    → LeavesOne p t.number t.reply (rows_of (interchange_taken machine p text).0.terminal) rows (with_interchange p t rows)
+leaves_one p t machine text rows whole are once there replies changes =
+    let beside = changes_beside t.changes rows in
+    let leads = interchange_leads machine p text whole in
+    let after = with_changes t.changes rows in
+    let terminal : TerminalRows = rows_of (interchange_taken machine p text).0.terminal in
+    let by_key : AreRowsByKey after terminal =
+    subst (λ r. AreRowsByKey after r) (ap (all_changed (rows_of machine.terminal)) changes ∙ leads.turned)
+    (changes_agree t.changes rows (rows_of machine.terminal) are (subst (λ c. AreApplicable (rows_of machine.terminal) c) (sym changes) leads.applicable)) in
+    let said : t.reply ≢ [] = λ none. reply_says machine p text (sym replies ∙ none) in
+    let same : (q k : ℕ) → find (is_pair q k) (map (replied p t.number t.reply) after.interchanges) ≡ option_map (replied p t.number t.reply) (find (is_pair q k) rows.interchanges) =
+    λ q k. ap (λ l. find (is_pair q k) (map (replied p t.number t.reply) l)) beside.interchanges ∙ replies_found rows.interchanges p t.number t.reply q k in
+    record {
+      by_key = record { same = by_key.same; placed_once = by_key.placed_once; listed_once = by_key.listed_once };
+      texts = λ q k. ap (λ l. option_map (λ (i : Interchange). i.body) (find (is_pair q k) (map (replied p t.number t.reply) l))) beside.interchanges ∙ text_kept rows.interchanges p t.number t.reply q k;
+      own = λ k. ap reply_there (same p k) ∙ own_at k (t.number == k) refl said;
+      other = λ q k apart. ap reply_there (same q k) ∙ other_reply rows.interchanges p t.number t.reply q k (find (is_pair q k) rows.interchanges) refl (λ a b. apart a);
+      once = λ q k. subst (λ n. n ≤ 1) (sym (ap (λ l. count_by (is_pair q k) (map (replied p t.number t.reply) l)) beside.interchanges ∙ count_mapped (is_pair q k) (replied p t.number t.reply) (λ i. same_pair (is_pair p t.number i) t.reply q k i) rows.interchanges)) (once q k);
+      partners = ap (map (λ (a : Partner). cond (a.id == p) (record a { next = t.number + 1 }) a)) beside.partners;
+      settings = beside.settings;
+      blocks = beside.blocks;
+    }
+  where
+    own_at : (k : ℕ) (is : Bool) → (t.number == k) ≡ is → t.reply ≢ [] → reply_there (option_map (replied p t.number t.reply) (find (is_pair p k) rows.interchanges)) ≡ cond is (Some t.reply) (reply_in rows p k)
+    own_at k true e said =
+        let here : t.number ≡ k = eqb-true t.number k e in
+        ap (λ n. reply_there (option_map (replied p t.number t.reply) (find (is_pair p n) rows.interchanges))) (sym here)
+        ∙ own_reply rows.interchanges p t.number t.reply (find (is_pair p t.number) rows.interchanges) refl (some_text (find (is_pair p t.number) rows.interchanges) text there) said
+    own_at k false e said = other_reply rows.interchanges p t.number t.reply p k (find (is_pair p k) rows.interchanges) refl (λ a b. eqb-false t.number k e (sym b))
+
+-- ---- a run
+
+pub record RunLeaves (p : ℕ) (texts : ℕ → Option (List ℕ)) (count last : ℕ) (replies : ℕ → Option (List ℕ)) (first : MachineState) (accounts : List (List ℕ × PartnerKind)) (next : ℕ → ℕ) (old new : Rows) (machine' : MachineState) : Type 0 where
+  pub by_key : AreRowsByKey new (rows_of machine'.terminal)
+  pub whole : IsWhole machine'.terminal
+  pub texts_same : (q k : ℕ) → text_in new q k ≡ text_in old q k
+  pub takes : TakesTexts interchange_taken p texts count last replies (reply_in new p) first machine'
+  pub other : (q k : ℕ) → q ≢ p → reply_in new q k ≡ reply_in old q k
+  pub once : AreKeptOnce new.interchanges
+  pub nexts : ℕ → ℕ
+  pub partners : new.partners ≡ accounts_from 1 nexts accounts
+  pub own_next : nexts p ≡ last + 1
+  pub other_next : (q : ℕ) → q ≢ p → nexts q ≡ next q
+  pub settings : new.settings ≡ old.settings
+  pub blocks : new.blocks ≡ old.blocks
+  pub ends : texts (last + 1) ≡ None
+
+pub run_leaves : (taken : List TakenContent) (p : ℕ) (texts : ℕ → Option (List ℕ)) (count last : ℕ) (replies : ℕ → Option (List ℕ)) (first machine machine' : MachineState)
+    (accounts : List (List ℕ × PartnerKind)) (next : ℕ → ℕ) (rows : Rows)
+    → TakesTexts interchange_taken p texts count last replies (reply_in rows p) first machine
+    → AreTakenFrom p texts (last + 1) machine taken machine'
+    → IsWhole machine.terminal → AreRowsByKey rows (rows_of machine.terminal) → AreKeptOnce rows.interchanges
+    → ((k : ℕ) → text_in rows p k ≡ texts k) → ((k : ℕ) → last + 1 ≤ k → reply_in rows p k ≡ None)
+    → rows.partners ≡ accounts_from 1 next accounts → next p ≡ last + 1
+    → RunLeaves p texts count (last + length taken) replies first accounts next rows (with_interchanges p taken rows) machine'
+run_leaves [] p texts count last replies first machine machine' accounts next rows takes from whole are once same free partners here =
+    let end : last + 0 ≡ last = omega arith in
+    record {
+      by_key = subst (λ (m : MachineState). AreRowsByKey rows (rows_of m.terminal)) (sym from.1) are;
+      whole = subst (λ (m : MachineState). IsWhole m.terminal) (sym from.1) whole;
+      texts_same = λ q k. refl;
+      takes = subst (λ n. TakesTexts interchange_taken p texts count n replies (reply_in rows p) first machine') (sym end)
+          (subst (λ (m : MachineState). TakesTexts interchange_taken p texts count last replies (reply_in rows p) first m) (sym from.1) takes);
+      other = λ q k apart. refl;
+      once = once;
+      nexts = next;
+      partners = partners;
+      own_next = here ∙ ap (λ n. n + 1) (sym end);
+      other_next = λ q apart. refl;
+      settings = refl;
+      blocks = refl;
+      ends = ap (λ n. texts (n + 1)) end ∙ from.0;
+    }
+run_leaves (t ∷ taken) p texts count last replies first machine machine' accounts next rows takes from whole are once same free partners here =
+    let text : List ℕ = from.0 in
+    let there : texts (last + 1) ≡ Some text = from.1 in
+    let number : t.number ≡ last + 1 = from.2 in
+    let reply : t.reply ≡ (interchange_taken machine p text).1 = from.3 in
+    let changes : t.changes ≡ interchange_changes machine p text = from.4 in
+    let machine1 : MachineState = (interchange_taken machine p text).0 in
+    let held : text_in rows p t.number ≡ Some text = same t.number ∙ ap texts number ∙ there in
+    let one = leaves_one p t machine text rows whole are once held reply changes in
+    let rows1 = with_interchange p t rows in
+    let replies1 : (k : ℕ) → reply_in rows1 p k ≡ (if last + 1 == k then Some (interchange_taken machine p text).1 else reply_in rows p k) =
+    λ k. one.own k ∙ ap (λ n. if n == k then Some t.reply else reply_in rows p k) number ∙ ap (λ r. if last + 1 == k then Some r else reply_in rows p k) reply in
+    let takes1 = takes_one_more interchange_taken p texts count last replies (reply_in rows p) (reply_in rows1 p) first machine text takes there (free (last + 1) (omega arith)) replies1 in
+    let next1 : ℕ → ℕ = λ q. if q == p then t.number + 1 else next q in
+    let rest = run_leaves taken p texts count (last + 1) replies first machine1 machine' accounts next1 rows1 takes1 from.5 (interchange_leads machine p text whole).whole one.by_key one.once
+        (λ k. one.texts p k ∙ same k)
+        (λ k later. replies1 k ∙ cond-false (last + 1 == k) (Some (interchange_taken machine p text).1) (reply_in rows p k) (ne_eqb (last + 1) k (λ e. absurd (omega arith))) ∙ free k (omega arith))
+        (one.partners ∙ ap (map (λ (a : Partner). cond (a.id == p) (record a { next = t.number + 1 }) a)) partners ∙ with_next_from 1 p (t.number + 1) next accounts)
+        (cond-true (p == p) (t.number + 1) (next p) (eq-eqb p p refl) ∙ ap (λ n. n + 1) number) in
+    let end : last + 1 + length taken ≡ last + length (t ∷ taken) = omega arith in
+    subst (λ n. RunLeaves p texts count n replies first accounts next rows (with_interchanges p (t ∷ taken) rows) machine') end
+    (record {
+      by_key = rest.by_key;
+      whole = rest.whole;
+      texts_same = λ q k. rest.texts_same q k ∙ one.texts q k;
+      takes = rest.takes;
+      other = λ q k apart. rest.other q k apart ∙ one.other q k apart;
+      once = rest.once;
+      nexts = rest.nexts;
+      partners = rest.partners;
+      own_next = rest.own_next;
+      other_next = λ q apart. rest.other_next q apart ∙ cond-false (q == p) (t.number + 1) (next q) (ne_eqb q p apart);
+      settings = rest.settings ∙ one.settings;
+      blocks = rest.blocks ∙ one.blocks;
+      ends = rest.ends;
+    })

@@ -1,0 +1,184 @@
+-- What the rows tell: of the numbers, and of the next answer.
+use Rattle.std.proofs.Common.{◌≡◌, ℕ, zero, suc, ◌+◌, ◌<◌, ◌≤◌, List, [], ◌∷◌, ◌++◌, length, map, Bool, true, false, cond, Option, None, Some, is_some, Result, Ok, Err, refl, sym, ap, subst, ◌∙◌, arith}
+use Rattle.std.specs.Prelude.{◌==◌, ◌&&◌, slice_index_or, Contains, nat_lt}
+use Rattle.std.specs.Option.{option_map}
+use Rattle.std.specs.Str.{bytes_eq}
+use Rattle.std.specs.Cmp.Lexicographic.{bytes_decides}
+use Rattle.std.specs.FinMap as finite_map
+use Rattle.std.proofs.lemmas.Bool.{eq-eqb, eqb-true, lt-ltb, ltb-true, cond-true, cond-false}
+use Rattle.std.proofs.lemmas.List.{length-map}
+use Rattle.edi_messages.specs.declared.partner_kind.PartnerKind.{PartnerKind}
+use Rattle.edi_segments.specs.Interchange.{interchange_of, segments_in}
+use Rattle.edi_segments.specs.Text.{Content}
+use Rattle.edi_segments.specs.declared.syntax_fault.SyntaxFault.{SyntaxFault}
+use Rattle.edi_syntax.specs.Envelope.{header_of}
+use Rattle.edi_syntax.specs.Faults.{fault_of}
+use Rattle.edi_syntax.specs.Header.{recipient}
+use Rattle.partner_core.specs.Deliveries.{Delivery, delivery, first_text, is_under, run}
+use Rattle.partner_core.specs.Order.{state, order, reply_of}
+use Rattle.partner_core.specs.Answers.{answer_of, answer_by, Taken, Repeat, Waiting, Clash}
+use Rattle.partner_core.specs.Standings.{standing_of, is_same_text}
+use Rattle.partner_core.specs.declared.standing.Standing.{Standing}
+use Rattle.partner_core.specs.declared.standing.Standing.TheVariants.{Known, Other, Early, Next}
+use Rattle.partner_core.proofs.OnePartner.{run_of_none}
+use Rattle.office_admission.specs.Admission.{admission, admitted, addressed, sender_of, number_in}
+use Rattle.office_admission.specs.Deliveries.{added, deliveries_of}
+use Rattle.office_replies.specs.declared.fault.Fault.{Fault}
+use Rattle.office_replies.specs.declared.fault.Fault.TheVariants.{WrongRecipient}
+use Rattle.office_setup.specs.Parties.{Parties, partner_from}
+use Rattle.office_setup.specs.Setups.{SetupContent}
+use Rattle.office_setup.specs.Given.{IsGiven}
+use Rattle.office_taking.specs.Taking.{MachineState, interchange_taken}
+use Rattle.office_taking.proofs.Forming.{number_within}
+use Rattle.office_rows.specs.Rows.{Partner, Rows}
+use Rattle.office_history.specs.After.{parties_in, opening_of, delivered_to, machine_after, accounts_from, reply_in, AreAfter}
+use Rattle.office_history.specs.Cascade.{text_in, TakenContent, texts_with, AreTakenFrom}
+use Rattle.office_history.specs.Laws.{IsFor, told_of, AnswersBy}
+use Rattle.office_history.proofs.Afters.{deliveries_more, AreAfterThese, these, answered, first_reply}
+
+-- ---- a partner that is found
+
+found_within : (number : ℕ) (code : List ℕ) (partners : List (List ℕ)) (p : ℕ) → partner_from number code partners ≡ Some p → (number ≤ p) × (p < number + length partners)
+found_within number code [] p e = cc
+found_within number code (partner ∷ partners) p e = first (bytes_eq code partner) (λ rest. found_within (number + 1) code partners p rest) e
+  where
+    first : (b : Bool) → (partner_from (number + 1) code partners ≡ Some p → (number + 1 ≤ p) × (p < number + 1 + length partners)) → cond b (Some number) (partner_from (number + 1) code partners) ≡ Some p
+        → (number ≤ p) × (p < number + length (partner ∷ partners))
+    first true rest e = let same : number ≡ p = cc in (omega arith, omega arith)
+    first false rest e = let within = rest e in (omega (arith, within.0), omega (arith, within.1))
+
+-- ---- what is admitted
+
+abbrev IsWithin : ℕ → ℕ → ℕ → Type 0
+IsWithin count p k = (1 ≤ p) × (p ≤ count) × (1 ≤ k) × (k ≤ 999999999)
+
+addressed_within : (P : Parties) (text : List ℕ) (found : Option ℕ) (is : Bool) (p k : ℕ) → fault_of text ≡ None → sender_of P (header_of (segments_in text)) ≡ found
+    → bytes_eq (recipient (header_of (segments_in text)) 1) P.terminal ≡ is → addressed P (header_of (segments_in text)) found ≡ Ok (p, k) → IsWithin (length P.partners) p k
+addressed_within P text None is p k faultless sender to e = cc
+addressed_within P text (Some partner) is p k faultless sender to e = at is to
+  where
+    at : (is : Bool) → bytes_eq (recipient (header_of (segments_in text)) 1) P.terminal ≡ is → IsWithin (length P.partners) p k
+    at true to =
+        let both : ◌≡◌ {A = Result (ℕ × ℕ) Fault} (Ok (partner, number_in (header_of (segments_in text)))) (Ok (p, k)) =
+        sym (ap (λ b. cond b (Ok (partner, number_in (header_of (segments_in text)))) (Err WrongRecipient)) to) ∙ e in
+        let pair : (partner, number_in (header_of (segments_in text))) ≡ (p, k) = cc in
+        let own : partner ≡ p = ap (λ (q : ℕ × ℕ). q.0) pair in
+        let its : number_in (header_of (segments_in text)) ≡ k = ap (λ (q : ℕ × ℕ). q.1) pair in
+        let low = found_within 1 _ P.partners partner sender in
+        let range = number_within text faultless in
+        (omega (arith, low.0, own), omega (arith, low.1, own), omega (arith, range.0, its), omega (arith, range.1, its))
+    at false to =
+        let never : ◌≡◌ {A = Result (ℕ × ℕ) Fault} (Err WrongRecipient) (Ok (p, k)) =
+        sym (ap (λ b. cond b (Ok (partner, number_in (header_of (segments_in text)))) (Err WrongRecipient)) to) ∙ e in
+        cc
+
+admitted_within : (P : Parties) (text : List ℕ) (fault : Option SyntaxFault) (p k : ℕ) → fault_of text ≡ fault → admitted P (header_of (segments_in text)) fault ≡ Ok (p, k) → IsWithin (length P.partners) p k
+admitted_within P text (Some fault) p k is e = cc
+admitted_within P text None p k is e = addressed_within P text (sender_of P (header_of (segments_in text))) (bytes_eq (recipient (header_of (segments_in text)) 1) P.terminal) p k is refl refl e
+
+pub within : (P : Parties) (text : List ℕ) (p k : ℕ) → admission P text ≡ Ok (p, k) → IsWithin (length P.partners) p k
+within P text p k e = admitted_within P text (fault_of text) p k refl e
+
+-- ---- what was delivered
+
+first_of : (P : Parties) (text : List ℕ) (found : Result (ℕ × ℕ) Fault) (later : List Delivery) (p k : ℕ) (t : List ℕ) → admission P text ≡ found → first_text (added text found later) p k ≡ Some t
+    → (first_text later p k ≡ Some t → IsWithin (length P.partners) p k) → IsWithin (length P.partners) p k
+first_of P text (Err fault) later p k t is e rest = rest e
+first_of P text (Ok place) later p k t is e rest = at ((place.0 == p) && (place.1 == k)) refl
+  where
+    left : (a b : Bool) → (a && b) ≡ true → a ≡ true
+    left true b e = refl
+    left false b e = cc
+    right : (a b : Bool) → (a && b) ≡ true → b ≡ true
+    right true b e = e
+    right false b e = cc
+    at : (b : Bool) → ((place.0 == p) && (place.1 == k)) ≡ b → IsWithin (length P.partners) p k
+    at true here =
+        let own = within P text place.0 place.1 is in
+        let one : place.0 ≡ p = eqb-true place.0 p (left (place.0 == p) (place.1 == k) here) in
+        let two : place.1 ≡ k = eqb-true place.1 k (right (place.0 == p) (place.1 == k) here) in
+        subst (λ q. IsWithin (length P.partners) q k) one (subst (λ n. IsWithin (length P.partners) place.0 n) two own)
+    at false here = rest (sym (ap (λ b. cond b (Some text) (first_text later p k)) here) ∙ e)
+
+pub delivered_within : (P : Parties) (ds : List (List ℕ)) (p k : ℕ) (t : List ℕ) → first_text (deliveries_of P ds) p k ≡ Some t → IsWithin (length P.partners) p k
+delivered_within P [] p k t e = cc
+delivered_within P (d ∷ ds) p k t e =
+    first_of P (interchange_of d) (admission P (interchange_of d)) (deliveries_of P ds) p k t refl e (λ rest. delivered_within P ds p k t rest)
+
+pub text_within : (content : SetupContent) (ds : List (List ℕ)) (rows : Rows) (p k : ℕ) (t : List ℕ) → AreAfter content ds rows → text_in rows p k ≡ Some t → IsWithin (length content.partners) p k
+text_within content ds rows p k t are e =
+    let found = delivered_within (parties_in content) ds p k t (sym (are.texts p k) ∙ e) in
+    subst (λ n. IsWithin n p k) (length-map content.partners _) found
+
+-- ---- accounts
+
+next_in : (id : ℕ) (f : ℕ → ℕ) (accounts : List (List ℕ × PartnerKind)) (account : Partner) (i : ℕ) → i < length (accounts_from id f accounts) → slice_index_or (accounts_from id f accounts) i account ≡ account
+    → account.next ≡ f account.id
+next_in id f [] account i low e = absurd (omega arith)
+next_in id f (a ∷ accounts) account zero low e = ap (λ (p : Partner). p.next) (sym e) ∙ ap (λ (p : Partner). f p.id) e
+next_in id f (a ∷ accounts) account (suc i) low e = next_in (id + 1) f accounts account i (omega arith) e
+
+pub next_follows : (content : SetupContent) (ds : List (List ℕ)) (rows : Rows) (account : Partner) → AreAfter content ds rows → Contains rows.partners account → account.next ≡ run (delivered_to content ds) account.id + 1
+next_follows content ds rows account are there =
+    let f : ℕ → ℕ = λ p. run (delivered_to content ds) p + 1 in
+    let here : Contains (accounts_from 1 f content.partners) account = subst (λ l. Contains l account) are.partners there in
+    next_in 1 f content.partners account here.0 here.1 here.2
+
+-- ---- answers
+
+other_bytes : (kept text : List ℕ) → (kept ≡ text → ⊥) → is_same_text kept text ≡ false
+other_bytes kept text apart = at (is_same_text kept text) refl
+  where
+    at : (b : Bool) → is_same_text kept text ≡ b → is_same_text kept text ≡ false
+    at true e = absurd (apart ((bytes_decides kept text).0 e))
+    at false e = e
+
+stands_other : (next k : ℕ) (kept text : List ℕ) → (kept ≡ text → ⊥) → standing_of next k (Some kept) text ≡ Other
+stands_other next k kept text apart = ap (λ b. cond b Known Other) (other_bytes kept text apart)
+
+stands_known : (next k : ℕ) (text : List ℕ) → standing_of next k (Some text) text ≡ Known
+stands_known next k text = ap (λ b. cond b Known Other) ((bytes_decides text text).1 refl)
+
+stands_early : (next k : ℕ) (text : List ℕ) → next < k → standing_of next k None text ≡ Early
+stands_early next k text later = ap (λ b. cond b Early Next) (lt-ltb next k later)
+
+stands_next : (next k : ℕ) (text : List ℕ) → k ≡ next → standing_of next k None text ≡ Next
+stands_next next k text is = ap (λ b. cond b Early Next) (not_less (nat_lt next k) refl)
+  where
+    not_less : (b : Bool) → nat_lt next k ≡ b → nat_lt next k ≡ false
+    not_less true e = absurd (omega (arith, ltb-true next k e, is))
+    not_less false e = e
+
+module _ (content : SetupContent) (ds : List (List ℕ)) (rows : Rows) (delivered : List ℕ) (p k : ℕ) (are : AreAfter content ds rows) (for : IsFor content delivered p k) where
+  abbrev D : List Delivery
+  D = delivered_to content ds
+
+  abbrev text : List ℕ
+  text = interchange_of delivered
+
+  abbrev after : Option (List ℕ)
+  after = reply_of interchange_taken (opening_of content) (D ++ delivery p k text ∷ []) p k
+
+  told : told_of content ds p k delivered ≡ answer_by (standing_of (run D p + 1) k (text_in rows p k) text) (run D p + 1) (reply_in rows p k) after
+  told = answered content D p k text rows (these content ds rows are) (within (parties_in content) text p k for).2
+
+  by_standing : (o : Option (List ℕ)) (standing : Standing) → text_in rows p k ≡ o → standing_of (run D p + 1) k o text ≡ standing
+      → told_of content ds p k delivered ≡ answer_by standing (run D p + 1) (reply_in rows p k) after
+  by_standing o standing is stands =
+      told ∙ ap (λ o. answer_by (standing_of (run D p + 1) k o text) (run D p + 1) (reply_in rows p k) after) is ∙ ap (λ s. answer_by s (run D p + 1) (reply_in rows p k) after) stands
+
+  pub answers : AnswersBy content ds rows delivered p k
+  answers = record {
+    clash = λ kept is apart. by_standing (Some kept) Other is (stands_other (run D p + 1) k kept text apart);
+    repeat = λ reply is has. by_standing (Some text) Known is (stands_known (run D p + 1) k text) ∙ ap (λ o. answer_by Known (run D p + 1) o after) has;
+    waits = λ is has. by_standing (Some text) Known is (stands_known (run D p + 1) k text) ∙ ap (λ o. answer_by Known (run D p + 1) o after) has;
+    early = λ is later. by_standing None Early is (stands_early (run D p + 1) k text later);
+    next = λ first later machine given is next from.
+        by_standing None Next is (stands_next (run D p + 1) k text next)
+        ∙ ap Taken (replied first later machine given is next from);
+  }
+    where
+      replied : (first : TakenContent) (later : List TakenContent) (machine : MachineState) → IsGiven content → text_in rows p k ≡ None → k ≡ run D p + 1
+          → AreTakenFrom p (texts_with rows p k text) k (machine_after content ds) (first ∷ later) machine → after ≡ Some first.reply
+      replied first later machine given is next from =
+          first_reply content D p k text rows first later machine given (these content ds rows are) is next from

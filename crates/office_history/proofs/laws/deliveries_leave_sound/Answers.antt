@@ -1,0 +1,6 @@
+use Rattle.office_history.proofs.Afters.{state_sound}
+use Rattle.office_history.specs.After.{delivered_to}
+use Rattle.office_history.proofs.laws.deliveries_leave_sound.Goals as goal
+
+pub returns : goal.returns
+returns c = λ content ds given. state_sound content (delivered_to content ds) given
