@@ -36,6 +36,7 @@ same_here now = record { now = refl; committed = refl; stays_open = λ was. was 
 pub reads_here : (now : State) → OnlyReads now now
 reads_here now = record {
   clean = λ clean. clean;
+  was_open = λ clean is. is;
   mode = λ was. was;
   keeps = λ clean is. record { was_open = λ was. was; committed = λ was. refl };
   survives = λ clean is. survives_here now;
@@ -50,6 +51,7 @@ reads_then a b c same p q =
     let still : (clean : HasCleanDisk b) → a.now.schema ≡ office_schema → b.now.schema ≡ office_schema = λ clean is. ap (λ db. db.schema) (same clean is).now ∙ is in
     record {
       clean = λ clean. p.clean (q.clean clean);
+      was_open = λ clean is. p.was_open (q.clean clean) (q.was_open clean is);
       mode = λ was. q.mode (p.mode was);
       keeps = λ clean is. keep_then a b c (p.keeps (q.clean clean) is) (q.keeps clean (still (q.clean clean) is));
       survives = λ clean is. quiet_then a b c (p.survives (q.clean clean) is) (q.survives clean (still (q.clean clean) is));

@@ -12,6 +12,7 @@ pub record IsSame (old new : State) : Type 0 where
 -- of an office's tables nothing is committed, and a crash leaves what it left before
 pub record OnlyReads (old new : State) : Type 0 where
   pub clean : HasCleanDisk new → HasCleanDisk old
+  pub was_open : HasCleanDisk new → IsTrue new.is_open → IsTrue old.is_open
   pub mode : old.in_transaction ≡ false → new.in_transaction ≡ false
   pub keeps : HasCleanDisk new → old.now.schema ≡ office_schema → KeepsCommit old new
   pub survives : HasCleanDisk new → old.now.schema ≡ office_schema → Survives old new (λ _. ⊥)
