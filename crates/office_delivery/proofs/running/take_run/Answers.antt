@@ -1,0 +1,85 @@
+use Rattle.std.proofs.Common.{◌≡◌, ◌+◌, ◌++◌, [], ◌∷◌, ◌<◌, All, length, None, Some, ap, subst, sym, ◌∙◌, arith}
+use Rattle.std.proofs.lemmas.List.{length-append}
+use Rattle.std.proofs.lemmas.List.Elements.{All-push}
+use Rattle.sqlite.specs.Held.{state}
+use Rattle.sqlite.specs.State.{HasCleanDisk}
+use Rattle.office_rows.specs.Stored.{HasRows}
+use Rattle.office_history.specs.Cascade.{text_in, texts_with}
+use Rattle.office_delivery.specs.Reading.{IsSame}
+use Rattle.office_delivery.specs.Taken.{taken_contents}
+use Rattle.office_delivery.specs.declared.taken.Taken.{Taken}
+use Rattle.office_delivery.proofs.ReadLemmas.{reads_here, reads_then, same_here, same_then}
+use Rattle.office_delivery.proofs.RunLemmas.{first_pushed, more_pushed, all_taken, texts_behind, below_last}
+use Rattle.office_delivery.proofs.running.take_run.Goals as goal
+
+pub loop-taken-init : goal.loop-taken-init
+loop-taken-init g c =
+    let old = state g.S.Store c.args.conn.now in
+    let pushed : c.append.new.taken.items ≡ c.in_ok-first.first ∷ [] = c.in_ok-append.ensures ∙ ap (λ l. l ++ c.in_ok-first.first ∷ []) c.new-taken.ensures.items in
+    let is = c.in_ok-first.ensures in
+    record {
+      after = omega arith;
+      last = c.requires.number;
+      some = omega (arith, ap length pushed);
+      numbers = subst (All (λ (t : Taken). t.number < 1000000000)) (sym pushed) (All-push (λ (t : Taken). t.number < 1000000000) [] c.in_ok-first.first (λ k d below. absurd (omega (arith, below))) (below_last c.in_ok-first.first.number c.args.number is.number_is c.requires.number));
+      same = λ clean at. same_here old;
+      reads = reads_here old;
+      taken = λ rows clean has numbered. first_pushed rows c.args.partner c.args.number _ _ c.args.text.now c.in_ok-first.first c.append.new.taken.items pushed is;
+    }
+
+pub returns-in_err-text-clause-reads : goal.returns-in_err-text-clause-reads
+returns-in_err-text-clause-reads g c =
+    reads_then (state g.S.Store c.args.conn.now) (state g.S.Store c.loop-taken.conn) (state g.S.Store c.text_behind.new.conn) c.loop-taken.invariant.same c.loop-taken.invariant.reads c.text_behind.ensures.reads
+
+pub returns-in_err-append-2-clause-reads : goal.returns-in_err-append-2-clause-reads
+returns-in_err-append-2-clause-reads g c =
+    reads_then (state g.S.Store c.args.conn.now) (state g.S.Store c.loop-taken.conn) (state g.S.Store c.text_behind.new.conn) c.loop-taken.invariant.same c.loop-taken.invariant.reads c.text_behind.ensures.reads
+
+pub returns-clause-reads : goal.returns-clause-reads
+returns-clause-reads g c =
+    reads_then (state g.S.Store c.args.conn.now) (state g.S.Store c.loop-taken.conn) (state g.S.Store c.text_behind.new.conn) c.loop-taken.invariant.same c.loop-taken.invariant.reads c.text_behind.ensures.reads
+
+pub returns-clause-same : goal.returns-clause-same
+returns-clause-same g c clean at =
+    let old = state g.S.Store c.args.conn.now in
+    let mid = state g.S.Store c.loop-taken.conn in
+    let new = state g.S.Store c.text_behind.new.conn in
+    let first : IsSame old mid = c.loop-taken.invariant.same (c.text_behind.ensures.reads.clean clean) at in
+    same_then old mid new first (c.in_ok-text.ensures.same clean (ap (λ db. db.schema) first.now ∙ at))
+
+pub returns-clause-taken : goal.returns-clause-taken
+returns-clause-taken g c clean rows has numbered =
+    let old = state g.S.Store c.args.conn.now in
+    let mid = state g.S.Store c.loop-taken.conn in
+    let before : HasCleanDisk mid = c.text_behind.ensures.reads.clean clean in
+    let first : IsSame old mid = c.loop-taken.invariant.same before has.schema in
+    let found = c.in_ok-text.ensures.text clean rows (subst (HasRows rows) (sym first.now) has) numbered in
+    let none : text_in rows c.args.partner (c.loop-taken.last + 1) ≡ None = rw c.in_default.is at found in
+    all_taken c.args.partner (texts_with rows c.args.partner c.args.number c.args.text.now) c.args.number (c.loop-taken.last + 1) _ _ (taken_contents c.loop-taken.taken.items)
+    (c.loop-taken.invariant.taken rows before has numbered) (texts_behind rows c.args.partner c.args.number c.loop-taken.last c.args.text.now None c.loop-taken.invariant.after none)
+
+pub loop-taken-preserved : goal.loop-taken-preserved
+loop-taken-preserved g c =
+    let old = state g.S.Store c.args.conn.now in
+    let mid = state g.S.Store c.loop-taken.conn in
+    let new = state g.S.Store c.text_behind.new.conn in
+    let before = c.loop-taken.invariant in
+    let next = c.in_ok-next.next in
+    let pushed : c.append-in-Some.new.taken.items ≡ c.loop-taken.taken.items ++ next ∷ [] = c.in_ok-append-2.ensures in
+    let is = c.in_ok-next.ensures in
+    let below : c.loop-taken.last < 999999999 = rw c.in-Some.is at c.in_ok-text.ensures.last in
+    record {
+      after = omega (arith, before.after);
+      last = omega (arith, below);
+      some = omega (arith, before.some, ap length pushed ∙ length-append c.loop-taken.taken.items (next ∷ []));
+      numbers = subst (All (λ (t : Taken). t.number < 1000000000)) (sym pushed) (All-push (λ (t : Taken). t.number < 1000000000) c.loop-taken.taken.items next before.numbers (below_last next.number (c.loop-taken.last + 1) is.number_is (omega (arith, below))));
+      same = λ clean at.
+          let first : IsSame old mid = before.same (c.text_behind.ensures.reads.clean clean) at in
+          same_then old mid new first (c.in_ok-text.ensures.same clean (ap (λ db. db.schema) first.now ∙ at));
+      reads = reads_then old mid new before.same before.reads c.text_behind.ensures.reads;
+      taken = λ rows clean has numbered.
+          let first : IsSame old mid = before.same (c.text_behind.ensures.reads.clean clean) has.schema in
+          let found : text_in rows c.args.partner (c.loop-taken.last + 1) ≡ Some c.in-Some.text.items = rw c.in-Some.is at (c.in_ok-text.ensures.text clean rows (subst (HasRows rows) (sym first.now) has) numbered) in
+          more_pushed rows c.args.partner c.args.number c.loop-taken.last _ _ _ c.args.text.now c.in-Some.text.items c.loop-taken.taken.items next c.append-in-Some.new.taken.items pushed before.after found
+          (before.taken rows (c.text_behind.ensures.reads.clean clean) has numbered) (rw c.deref.ensures.value at is);
+    }

@@ -1,0 +1,32 @@
+use Rattle.std.proofs.Common.{◌≡◌, ◌+◌, ◌<◌, ◌≤◌, ◌-◌, All, length}
+use Rattle.sqlite.specs.Held.{state}
+use Rattle.sqlite.specs.State.{HasCleanDisk}
+use Rattle.office_rows.specs.Rows.{Rows}
+use Rattle.office_rows.specs.Stored.{HasRows}
+use Rattle.office_rows.specs.Tables.{office_schema}
+use Rattle.office_taking.specs.Taking.{machine_of}
+use Rattle.office_history.specs.Cascade.{texts_with}
+use Rattle.office_delivery.specs.Reading.{IsSame, OnlyReads}
+use Rattle.office_delivery.specs.Taken.{taken_contents}
+use Rattle.office_delivery.specs.Taking.{IsNumbered}
+use Rattle.office_delivery.specs.declared.taken.Taken.{Taken}
+use Rattle.office_delivery.proofs.RunLemmas.{AreTakenTo}
+use Rattle.office_delivery.proofs.running.take_run.Given as goal
+
+abbrev pub invariant-loop-taken : goal.invariant-loop-taken
+invariant-loop-taken g l =
+    let old = state g.S.Store l.fn.conn in
+    let now = state g.S.Store l.conn in
+    record {
+      after : l.number ≤ l.last;
+      last : l.last ≤ 999999999;
+      some : 1 ≤ length l.taken.items;
+      numbers : All (λ (t : Taken). t.number < 1000000000) l.taken.items;
+      same : HasCleanDisk now → old.now.schema ≡ office_schema → IsSame old now;
+      reads : OnlyReads old now;
+      taken : (rows : Rows) → HasCleanDisk now → HasRows rows old.now → IsNumbered l.partner rows →
+          AreTakenTo l.partner (texts_with rows l.partner l.number l.text) l.number (machine_of l.setup l.fn.terminal) (taken_contents l.taken.items) (l.last + 1) (machine_of l.setup l.terminal);
+    }
+
+abbrev pub decreases-loop-taken : goal.decreases-loop-taken
+decreases-loop-taken g l = 1000000000 - l.last

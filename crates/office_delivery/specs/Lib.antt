@@ -1,0 +1,4 @@
+pub mod Taken
+pub mod Taking
+pub mod Reading
+pub mod Writing

@@ -1,0 +1,87 @@
+ghost use Rattle.std.specs.Prelude.{◌≡◌, ℕ, ◌+◌, ◌++◌, [], ◌∷◌, ◌<◌, ◌≤◌, All, IfOk, IfSome, OnOk, length};
+ghost use Rattle.std.specs.Option.{option_map};
+ghost use Rattle.sqlite.specs.Held.{state};
+ghost use Rattle.sqlite.specs.State.{HasCleanDisk};
+ghost use Rattle.office_rows.specs.Rows.{Rows};
+ghost use Rattle.office_rows.specs.Stored.{HasRows};
+ghost use Rattle.office_rows.specs.Tables.{office_schema};
+ghost use Rattle.office_taking.specs.Taking.{machine_of};
+ghost use Rattle.office_history.specs.Cascade.{AreTakenFrom, text_in, texts_with};
+ghost use Rattle.office_delivery.specs.Reading.{IsSame, OnlyReads};
+ghost use Rattle.office_delivery.specs.Taken.{taken_contents};
+ghost use Rattle.office_delivery.specs.Taking.{IsNumbered};
+
+use crate::taken::Taken;
+use crate::taking::take_text;
+use office_setup::Setup;
+use office_tables::{Kept, TableFault, kept};
+use partner_core::LAST_NUMBER;
+use sqlite::{Alter, Connection};
+use std::alloc::{AllocError, Global};
+use terminal_core::Terminal;
+
+/// Takes the text of a partner's next interchange, and then each text that becomes next by it, as far as the tables keep one.
+/// It writes nothing. Where it fails, the terminal may hold part of the run, and is to be given up.
+pub fn take_run<S: Alter>(
+    alloc: Global,
+    conn: &mut Connection<S>,
+    setup: &Setup,
+    terminal: &mut Terminal,
+    partner: u16,
+    number: u32,
+    text: &[u8],
+) -> Result<Vec<Taken>, TableFault>
+    requires few { length setup.now.partners.items ≤ 999 }
+    requires number { number ≤ LAST_NUMBER }
+    ensures taken { HasCleanDisk (state S.Store conn.new) → IfOk result (λ taken. (rows : Rows) →
+        HasRows rows (state S.Store conn.old).now → IsNumbered partner rows →
+        AreTakenFrom partner (texts_with rows partner number text.now) number (machine_of setup.now terminal.old)
+        (taken_contents taken.items) (machine_of setup.now terminal.new)) }
+    ensures first { IfOk result (λ taken. 1 ≤ length taken.items) }
+    ensures numbers { IfOk result (λ taken. All (λ t. t.number < 1000000000) taken.items) }
+    ensures same { HasCleanDisk (state S.Store conn.new) → (state S.Store conn.old).now.schema ≡ office_schema →
+        OnOk result (IsSame (state S.Store conn.old) (state S.Store conn.new)) }
+    ensures reads { OnlyReads (state S.Store conn.old) (state S.Store conn.new) }
+{
+    let mut taken = Vec::new(alloc);
+    let first = take_text(alloc, setup, terminal, partner, number, text)?;
+    append(&mut taken, first)?;
+    let mut last = number;
+    while let Some(text) = text_behind(conn, partner, last)? {
+        last += 1;
+        let next = take_text(alloc, setup, terminal, partner, last, &text)?;
+        append(&mut taken, next)?;
+    }
+    Ok(taken)
+}
+
+/// The text that is kept for a partner under the number behind one. There is none behind the last that there is.
+fn text_behind<S: Alter>(
+    conn: &mut Connection<S>,
+    partner: u16,
+    number: u32,
+) -> Result<Option<Vec<u8>>, TableFault>
+    requires { number ≤ LAST_NUMBER }
+    ensures text { HasCleanDisk (state S.Store conn.new) → IfOk result (λ found. (rows : Rows) →
+        HasRows rows (state S.Store conn.old).now → IsNumbered partner rows →
+        text_in rows partner (number + 1) ≡ option_map (λ text. text.items) found) }
+    ensures last { IfOk result (λ found. IfSome found (λ text. number < LAST_NUMBER)) }
+    ensures same { HasCleanDisk (state S.Store conn.new) → (state S.Store conn.old).now.schema ≡ office_schema →
+        OnOk result (IsSame (state S.Store conn.old) (state S.Store conn.new)) }
+    ensures reads { OnlyReads (state S.Store conn.old) (state S.Store conn.new) }
+{
+    if number == LAST_NUMBER {
+        return Ok(None);
+    }
+    match kept(conn, partner, number + 1)? {
+        Some(Kept { text, reply: _ }) => Ok(Some(text)),
+        None => Ok(None),
+    }
+}
+
+fn append(taken: &mut Vec<Taken>, next: Taken) -> Result<(), AllocError>
+    ensures { OnOk result (taken.new.items ≡ taken.old.items ++ next ∷ []) }
+{
+    taken.push(next)?;
+    Ok(())
+}

@@ -1,0 +1,85 @@
+ghost use Rattle.std.specs.Prelude.{◌≡◌, ◌<◌, All, OnOk, IsTrue, map};
+ghost use Rattle.sqlite.specs.Held.{state};
+ghost use Rattle.sqlite.specs.State.{HasCleanDisk, Survives, KeepsCommit};
+ghost use Rattle.terminal_core.specs.Rows.{change_content};
+ghost use Rattle.office_rows.specs.Steps.{Steps};
+ghost use Rattle.office_history.specs.Cascade.{with_changes, with_interchange, with_interchanges, with_run};
+ghost use Rattle.office_delivery.specs.Taken.{taken_content, taken_contents};
+
+use crate::taken::Taken;
+use office_tables::{TableFault, apply, keep, mark_taken};
+use sqlite::{Alter, Transaction};
+use terminal_core::Change;
+
+/// Keeps an interchange and marks a run of its partner's as taken, each with its changes.
+pub(crate) fn write_all<S: Alter>(
+    tx: &mut Transaction<'_, S>,
+    partner: u16,
+    number: u32,
+    text: &[u8],
+    taken: &[Taken],
+) -> Result<(), TableFault>
+    requires { All (λ t. t.number < 1000000000) taken.now }
+    ensures same_reference { tx.new.conn.ghost_name ≡ tx.old.conn.ghost_name }
+    ensures steps { HasCleanDisk (state S.Store tx.new.conn.now) → IsTrue (state S.Store tx.old.conn.now).in_transaction
+        → OnOk result (Steps (with_run partner number text.now (taken_contents taken.now)) (state S.Store tx.old.conn.now) (state S.Store tx.new.conn.now)) }
+    ensures keeps { HasCleanDisk (state S.Store tx.new.conn.now) → IsTrue (state S.Store tx.old.conn.now).in_transaction
+        → KeepsCommit (state S.Store tx.old.conn.now) (state S.Store tx.new.conn.now) }
+    ensures survives { Survives (state S.Store tx.old.conn.now) (state S.Store tx.new.conn.now) (λ _. ⊥) }
+{
+    keep(tx, partner, number, text)?;
+    write_interchanges(tx, partner, taken)
+}
+
+// Each of the partner's interchanges that were taken, one after the other.
+fn write_interchanges<S: Alter>(
+    tx: &mut Transaction<'_, S>,
+    partner: u16,
+    taken: &[Taken],
+) -> Result<(), TableFault>
+    requires { All (λ t. t.number < 1000000000) taken.now }
+    ensures same_reference { tx.new.conn.ghost_name ≡ tx.old.conn.ghost_name }
+    ensures steps { HasCleanDisk (state S.Store tx.new.conn.now) → IsTrue (state S.Store tx.old.conn.now).in_transaction → IsTrue (state S.Store tx.old.conn.now).is_open
+        → OnOk result (Steps (with_interchanges partner (taken_contents taken.now)) (state S.Store tx.old.conn.now) (state S.Store tx.new.conn.now)) }
+    ensures keeps { HasCleanDisk (state S.Store tx.new.conn.now) → IsTrue (state S.Store tx.old.conn.now).in_transaction → IsTrue (state S.Store tx.old.conn.now).is_open
+        → KeepsCommit (state S.Store tx.old.conn.now) (state S.Store tx.new.conn.now) }
+    ensures survives { Survives (state S.Store tx.old.conn.now) (state S.Store tx.new.conn.now) (λ _. ⊥) }
+{
+    for item in taken {
+        write_interchange(tx, partner, item)?;
+    }
+    Ok(())
+}
+
+// What an interchange that was taken changed, and then that it was taken.
+fn write_interchange<S: Alter>(
+    tx: &mut Transaction<'_, S>,
+    partner: u16,
+    taken: &Taken,
+) -> Result<(), TableFault>
+    requires { taken.now.number < 1000000000 }
+    ensures same_reference { tx.new.conn.ghost_name ≡ tx.old.conn.ghost_name }
+    ensures steps { HasCleanDisk (state S.Store tx.new.conn.now) → IsTrue (state S.Store tx.old.conn.now).in_transaction → IsTrue (state S.Store tx.old.conn.now).is_open
+        → OnOk result (Steps (with_interchange partner (taken_content taken.now)) (state S.Store tx.old.conn.now) (state S.Store tx.new.conn.now)) }
+    ensures keeps { HasCleanDisk (state S.Store tx.new.conn.now) → IsTrue (state S.Store tx.old.conn.now).in_transaction → IsTrue (state S.Store tx.old.conn.now).is_open
+        → KeepsCommit (state S.Store tx.old.conn.now) (state S.Store tx.new.conn.now) }
+    ensures survives { Survives (state S.Store tx.old.conn.now) (state S.Store tx.new.conn.now) (λ _. ⊥) }
+{
+    apply_all(tx, &taken.changes)?;
+    mark_taken(tx, partner, taken.number, taken.reply.as_str())
+}
+
+// The row of each change, one after the other.
+fn apply_all<S: Alter>(tx: &mut Transaction<'_, S>, changes: &[Change]) -> Result<(), TableFault>
+    ensures same_reference { tx.new.conn.ghost_name ≡ tx.old.conn.ghost_name }
+    ensures steps { HasCleanDisk (state S.Store tx.new.conn.now) → IsTrue (state S.Store tx.old.conn.now).in_transaction → IsTrue (state S.Store tx.old.conn.now).is_open
+        → OnOk result (Steps (with_changes (map change_content changes.now)) (state S.Store tx.old.conn.now) (state S.Store tx.new.conn.now)) }
+    ensures keeps { HasCleanDisk (state S.Store tx.new.conn.now) → IsTrue (state S.Store tx.old.conn.now).in_transaction → IsTrue (state S.Store tx.old.conn.now).is_open
+        → KeepsCommit (state S.Store tx.old.conn.now) (state S.Store tx.new.conn.now) }
+    ensures survives { Survives (state S.Store tx.old.conn.now) (state S.Store tx.new.conn.now) (λ _. ⊥) }
+{
+    for change in changes {
+        apply(tx, change)?;
+    }
+    Ok(())
+}
