@@ -1,6 +1,7 @@
 -- What the rows of an office are, part by part.
 use Rattle.std.proofs.Common.{◌≡◌, ℕ, ◌<◌, ◌≤◌, List, [], length, map, true, IsTrue, None, Some, All, refl, sym, ap, ◌∙◌, arith, subst, inl, inr, get_or, string_bytes, decimal}
-use Rattle.std.specs.Prelude.{Contains}
+use Rattle.std.proofs.lemmas.Bool.{le-leb}
+use Rattle.std.specs.Prelude.{Contains, nat_le, ◌&&◌}
 use Rattle.std.specs.List.{list_all}
 use Rattle.std.specs.FinMap as finite_map
 use Rattle.std.proofs.lemmas.Fmt.{decimal_injective}
@@ -10,16 +11,14 @@ use Rattle.std.proofs.lemmas.List.Sums.{AllPass-from_list_all, list_all-from_All
 use Rattle.std.proofs.lemmas.Option.{same_Some, slice_get-get_or}
 use Rattle.box6346.specs.SlotName.{IsNamed}
 use Rattle.box6346.specs.declared.box_number.BoxNumber.{BoxNumber}
+use Rattle.box6346.specs.declared.slot.Slot.{Slot}
 use Rattle.edi_messages.specs.Purposes.{CallContent}
 use Rattle.edi_messages.specs.Owned.{call_content}
 use Rattle.edi_messages.specs.declared.partner_kind.PartnerKind.{PartnerKind}
 use Rattle.yard_core.specs.declared.block.Block.{Block}
-use Rattle.box6346.specs.SizeCode.{length_of}
-use Rattle.yard_core.specs.Plan.{IsPlan}
-use Rattle.yard_core.specs.YardMap.{placement}
+use Rattle.yard_core.specs.Plan.{IsPlan, InPlan}
 use Rattle.yard_core.specs.declared.placement.Placement.{Placement}
 use Rattle.terminal_core.specs.declared.listing.Listing.{Listing}
-use Rattle.terminal_core.specs.declared.place.Place.{Place}
 use Rattle.terminal_core.specs.declared.restore_fault.RestoreFault.{RestoreFault}
 use Rattle.terminal_core.specs.declared.restore_fault.RestoreFault.TheVariants.{Unsound, Memory}
 use Rattle.terminal_core.specs.declared.side.Side.{Side}
@@ -31,12 +30,13 @@ use Rattle.terminal_core.specs.Restoring.{AreRowsOf}
 use Rattle.terminal_core.proofs.Formed.{by_key_lists, lists_by_key}
 use Rattle.terminal_core.proofs.Lined.{line_first, line_none}
 use Rattle.terminal_core.proofs.Numbered.{contained}
+use Rattle.yard_core.proofs.Exact.{numbered}
 use Rattle.office_setup.specs.Setups.{SetupContent}
 use Rattle.office_setup.specs.Given.{is_party_code, AreDistinct}
 use Rattle.office_rows.specs.Office.{AreAccounts, AreKept, HasAccounts, IsOffice}
 use Rattle.office_checks.specs.Accounts.{accounts_in, AreWholeAccounts}
 use Rattle.office_checks.specs.Contents.{partner_content, number_content, setting_content, opened_rows}
-use Rattle.office_checks.specs.Formed.{IsSoundVisit, IsSoundLine, AreSoundVisits, AreSoundLines, AreNamedPlaces, AreByLetter, AreTerminal, RefusesTerminal}
+use Rattle.office_checks.specs.Formed.{IsSoundVisit, IsSoundLine, AreSoundVisits, AreSoundLines, AreByLetter, AreTerminal, RefusesTerminal}
 use Rattle.office_checks.specs.Said.{AreSettings, RefusesSettings}
 use Rattle.office_checks.specs.Refusals.{RefusesTables}
 use Rattle.office_checks.specs.declared.opened_tables.OpenedTables.{OpenedTables}
@@ -63,6 +63,16 @@ mapped P f xs all k d low =
 
 coded_all : (rows : List PartnerRow) → All IsCoded (accounts_in rows) → list_all (λ (row : PartnerRow). is_party_code (string_bytes row.code)) rows ≡ true
 coded_all rows all = list_all-from_AllPass (λ (row : PartnerRow). is_party_code (string_bytes row.code)) rows (mapped IsCoded coded_row rows all)
+
+-- ---- slots
+
+-- a slot of a plan has a name
+planned_named : (plan : List Block) (slot : Slot) → IsPlan plan → InPlan plan slot → IsNamed slot
+planned_named plan slot valid inside =
+    let n = numbered plan slot valid inside in
+    let low : nat_le 65 slot.block ≡ true = le-leb 65 slot.block n.letter_low in
+    let high : nat_le slot.block 90 ≡ true = le-leb slot.block 90 (omega (arith, n.letter_high)) in
+    record { block = ap (λ v. v && nat_le slot.block 90) low ∙ high; bay = omega (arith, n.bay_high); row = omega (arith, n.row_high); tier = omega (arith, n.tier_high) }
 
 -- ---- visits
 
@@ -147,12 +157,6 @@ module _ (tables : OpenedTables) (content : SetupContent) (state : TerminalState
       let H : ℕ → Type 0 = λ n. HasAccounts n (visit_content (get_or tables.visits.items k d)) in
       record { formed = office.formed.visits (visit_content (get_or tables.visits.items k d)) inside; accounted = subst H count_so (office.accounted (visit_content (get_or tables.visits.items k d)) inside) }
 
-  places_of_office : AreNamedPlaces tables.places.items
-  places_of_office k d low =
-      let inside : Contains tables.places.items (get_or tables.places.items k d) = contained tables.places.items k (get_or tables.places.items k d) (slice_get-get_or tables.places.items k d low) in
-      let stand = rows_of_office.places_are.each (get_or tables.places.items k d) inside in
-      office.formed.slots (get_or tables.places.items k d).container _ stand.stands
-
   lines_of_office : AreSoundLines tables.lines.items
   lines_of_office k d low =
       let there = line_there tables.lines.items k (get_or tables.lines.items k d) rows_of_office.lines_once (slice_get-get_or tables.lines.items k d low) in
@@ -162,7 +166,7 @@ module _ (tables : OpenedTables) (content : SetupContent) (state : TerminalState
   pub terminal_of_office : (limit : ℕ) → content.visit_limit ≡ limit → AreTerminal (length tables.partners.items) limit tables.blocks.items tables.visits.items tables.places.items tables.lines.items state
   terminal_of_office limit same =
       let P : ℕ → Type 0 = λ n. AreRowsOf tables.blocks.items n tables.visits.items tables.places.items tables.lines.items state in
-      record { visits_sound = visits_of_office; places_named = places_of_office; lines_sound = lines_of_office; rows = subst P same rows_of_office }
+      record { visits_sound = visits_of_office; lines_sound = lines_of_office; rows = subst P same rows_of_office }
 
 -- ---- one limit
 
@@ -200,13 +204,7 @@ module _ (tables : OpenedTables) (content : SetupContent) (state : TerminalState
       (subst P terminal.rows.visits_are inside)
 
   named_slot : (container : BoxNumber) (s : Placement) → finite_map.get state.yard.boxes container ≡ Some s → IsNamed s.slot
-  named_slot container s at =
-      let found = terminal.rows.places_are.every container s at in
-      let stand = terminal.rows.places_are.each found.0 found.1 in
-      let same : placement (length_of stand.visit.size_type) found.0.slot ≡ s = same_Some _ s (sym stand.stands ∙ ap (finite_map.get state.yard.boxes) found.2 ∙ at) in
-      let P : Placement → Type 0 = λ p. IsNamed p.slot in
-      let Q : Place → Type 0 = λ p. IsNamed p.slot in
-      subst P same (All-contains Q tables.places.items found.0 terminal.places_named found.1)
+  named_slot container s at = planned_named state.yard.plan s.slot terminal.rows.whole.plan (terminal.rows.whole.sound.in_plan container s at)
 
   pub office_of : IsOffice (opened_rows tables) content state
   office_of =

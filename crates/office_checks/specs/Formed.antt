@@ -48,17 +48,13 @@ AreSoundVisits count visits = All (λ (visit : Visit). IsSoundVisit count (visit
 abbrev pub AreSoundLines : List Listing → Type 0
 AreSoundLines lines = All IsSoundLine lines
 
-abbrev pub AreNamedPlaces : List Place → Type 0
-AreNamedPlaces places = All (λ (place : Place). IsNamed place.slot) places
-
 -- the blocks stand by their letters
 abbrev pub AreByLetter : List Block → Type 0
 AreByLetter blocks = IsNonDecreasingBy (λ (block : Block). block.letter) blocks
 
--- the rows of visits, places and lines are those of the state, and have their forms
+-- the rows of visits, places and lines are those of the state, and visits and lines have their forms
 pub record AreTerminal (count limit : ℕ) (blocks : List Block) (visits : List Visit) (places : List Place) (lines : List Listing) (state : TerminalState) : Type 0 where
   pub visits_sound : AreSoundVisits count visits
-  pub places_named : AreNamedPlaces places
   pub lines_sound : AreSoundLines lines
   pub rows : AreRowsOf blocks limit visits places lines state
 

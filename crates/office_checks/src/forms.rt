@@ -7,13 +7,13 @@ ghost use Rattle.edi_messages.specs.Forms.{IsFormedCall};
 ghost use Rattle.edi_messages.specs.Owned.{call_content};
 ghost use Rattle.terminal_core.specs.Forms.{IsFormedPort};
 ghost use Rattle.terminal_core.specs.Rows.{visit_content};
-ghost use Rattle.office_checks.specs.Formed.{IsSoundSource, IsSoundArrival, IsSoundDeparture, IsSoundExit, IsSoundVisit, IsSoundLine, AreSoundVisits, AreSoundLines, AreNamedPlaces, AreByLetter};
+ghost use Rattle.office_checks.specs.Formed.{IsSoundSource, IsSoundArrival, IsSoundDeparture, IsSoundExit, IsSoundVisit, IsSoundLine, AreSoundVisits, AreSoundLines, AreByLetter};
 
 use crate::texts::{is_name, is_name_if_any};
 use box6346::{BoxNumber, SizeType, Slot};
 use edi_messages::Call;
 use edi_moments::Moment;
-use terminal_core::{Arrival, Departure, Listing, Place, Side, Source, Visit};
+use terminal_core::{Arrival, Departure, Listing, Side, Source, Visit};
 use yard_core::Block;
 
 /// Whether each visit has its form, and those who opened and closed it are among so many partners.
@@ -131,18 +131,6 @@ fn is_formed_port(side: Side, port: &str) -> bool
         Side::Load => is_name_if_any(port),
         Side::Discharge => port.is_empty(),
     }
-}
-
-/// Whether each place is in a slot that has a name.
-pub(crate) fn are_named_places(places: &[Place]) -> bool
-    ensures { IsTrue result ↔ AreNamedPlaces places.now }
-{
-    for place in places {
-        if !is_named(place.slot) {
-            return false;
-        }
-    }
-    true
 }
 
 /// Whether blocks stand by their letters.

@@ -6,7 +6,7 @@ ghost use Rattle.office_checks.specs.Formed.{AreTerminal, RefusesTerminal};
 ghost use Rattle.office_checks.specs.Refusals.{RefusesTables};
 
 use crate::accounts::{accounts_of, are_accounts};
-use crate::forms::{are_by_letter, are_named_places, are_sound_lines, are_sound_visits};
+use crate::forms::{are_by_letter, are_sound_lines, are_sound_visits};
 use crate::numbers::are_kept;
 use crate::opened_tables::OpenedTables;
 use crate::saying::read_settings;
@@ -74,9 +74,6 @@ fn restore_terminal(
     ensures refused { IfErr result (RefusesTerminal count visit_limit blocks.now visits.items places.items lines.items) }
 {
     if !are_sound_visits(count, &visits) {
-        return Err(RestoreFault::Unsound);
-    }
-    if !are_named_places(&places) {
         return Err(RestoreFault::Unsound);
     }
     if !are_sound_lines(&lines) {

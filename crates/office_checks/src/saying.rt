@@ -12,6 +12,13 @@ use itoa::Buffer;
 use std::alloc::Global;
 use terminal_core::RestoreFault;
 
+/// Where a setting stands among the ten, by the order of their names.
+const TERMINAL: usize = 6;
+
+const VERSION: usize = 7;
+
+const VISITS: usize = 8;
+
 /// What settings say. Unsound where they are those of no set-up, and Memory.
 pub(crate) fn read_settings(alloc: Global, settings: &[Setting]) -> Result<Settings, RestoreFault>
     ensures ok { IfOk result (λ said. AreSettings (map setting_content settings.now) (set_up_with said)) }
@@ -20,17 +27,17 @@ pub(crate) fn read_settings(alloc: Global, settings: &[Setting]) -> Result<Setti
     if !are_named(settings) {
         return Err(RestoreFault::Unsound);
     }
-    if !are_same(value(settings, 7), "1") {
+    if !are_same(value(settings, VERSION), "1") {
         return Err(RestoreFault::Unsound);
     }
-    let name = value(settings, 6);
+    let name = value(settings, TERMINAL);
     if !is_party_code(name) {
         return Err(RestoreFault::Unsound);
     }
     let Some(codes) = codes_of(settings) else {
         return Err(RestoreFault::Unsound);
     };
-    let Some(visit_limit) = limit_of(value(settings, 8)) else {
+    let Some(visit_limit) = limit_of(value(settings, VISITS)) else {
         return Err(RestoreFault::Unsound);
     };
     let terminal = String::from_str(alloc, name)?;
