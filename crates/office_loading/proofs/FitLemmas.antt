@@ -36,13 +36,13 @@ ascii_from p small [] all i = omega arith
 ascii_from p small (c ∷ cs) all zero = small c (and_parts (p c) (list_all p cs) all).0
 ascii_from p small (c ∷ cs) all (suc i) = ascii_from p small cs (and_parts (p c) (list_all p cs) all).1 i
 
-utf8_from : (p : ℕ → Bool) → ((c : ℕ) → p c ≡ true → c < 128) → (text : List ℕ) → list_all p text ≡ true → IsUtf8 text
+pub utf8_from : (p : ℕ → Bool) → ((c : ℕ) → p c ≡ true → c < 128) → (text : List ℕ) → list_all p text ≡ true → IsUtf8 text
 utf8_from p small text all = IsUtf8-from_ascii text (ascii_from p small text all)
 
-party_small : (c : ℕ) → is_party_byte c ≡ true → c < 128
+pub party_small : (c : ℕ) → is_party_byte c ≡ true → c < 128
 party_small c h = grind (arith, nat_tests)
 
-printable_small : (c : ℕ) → is_printable c ≡ true → c < 128
+pub printable_small : (c : ℕ) → is_printable c ≡ true → c < 128
 printable_small c h = grind (arith, nat_tests)
 
 pub party_text : (code : List ℕ) → IsTrue (is_party_code code) → IsUtf8 code
