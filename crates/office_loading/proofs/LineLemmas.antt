@@ -1,15 +1,14 @@
 -- The lines of an office.
-use Rattle.std.proofs.Common.{◌≡◌, ◌⊎◌, ℕ, Bool, true, false, ◌&&◌, ◌==◌, cond, List, [], ◌∷◌, map, Option, None, Some, Contains, IsTrue, inl, inr, refl, sym, ap, ap₂, subst, ◌∙◌, arith, Ordering}
+use Rattle.std.proofs.Common.{◌≡◌, ℕ, Bool, true, false, ◌&&◌, ◌==◌, cond, List, [], ◌∷◌, map, Some, inl, inr, refl, sym, ap, subst, ◌∙◌, arith, Ordering}
 use Rattle.std.specs.FinMap as finite_map
 use Rattle.std.specs.Ordering.{nat_cmp, eq_by_cmp}
 use Rattle.std.specs.Cmp.Lexicographic.{slice_cmp}
-use Rattle.std.specs.Str.{bytes_eq}
 use Rattle.std.proofs.lemmas.Slice.Eq.{bytes_eq-Decides}
 use Rattle.std.proofs.lemmas.Bool.Decides.{nat_tests}
 use Rattle.std.proofs.lemmas.Cmp.{eq_by_cmp_equiv}
 use Rattle.terminal_core.specs.declared.side.Side.{Side}
 use Rattle.terminal_core.specs.declared.side.Side.TheVariants.{Load, Discharge}
-use Rattle.terminal_core.specs.Forms.{IsWellFormed, IsFormedPort, IsFormedLine}
+use Rattle.terminal_core.specs.Forms.{IsWellFormed, IsFormedPort}
 use Rattle.terminal_core.specs.State.{TerminalState, LineContent, LineKey, line_key, side_code, Lines}
 use Rattle.terminal_core.proofs.Lined.{keys_total, same_key}
 use Rattle.terminal_core.proofs.Counted.{one_passes}

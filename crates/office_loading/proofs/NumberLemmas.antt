@@ -1,5 +1,5 @@
 -- The interchanges of an office are in the order of partner and number.
-use Rattle.std.proofs.Common.{◌≡◌, ◌⊎◌, ℕ, zero, suc, ◌+◌, ◌-◌, ◌<◌, ◌≤◌, Bool, true, List, [], ◌∷◌, ◌++◌, map, inl, inr, refl, sym, ap, subst, ◌∙◌, arith}
+use Rattle.std.proofs.Common.{◌≡◌, ◌⊎◌, ℕ, zero, suc, ◌+◌, ◌-◌, ◌<◌, ◌≤◌, true, List, [], ◌∷◌, ◌++◌, map, inl, inr, refl, sym, subst, ◌∙◌, arith}
 use Rattle.std.specs.List.{AllByRecursion, range_with_len}
 use Rattle.edi_messages.specs.declared.partner_kind.PartnerKind.{PartnerKind}
 use Rattle.sqlite_trees.specs.Tree.{IsAscending}
@@ -7,7 +7,6 @@ use Rattle.sqlite_rules.specs.Lists.{Has}
 use Rattle.office_rows.specs.Rows.{Partner, Interchange}
 use Rattle.office_rows.specs.Opened.{Numbered, numbered}
 use Rattle.office_rows.specs.Office.{AreAccounts, AreWaiting, AreKept, taken_numbers}
-use Rattle.office_loading.proofs.OrderLemmas.{all_in}
 
 abbrev Before : Numbered → Numbered → Type 0
 Before a b = (a.partner < b.partner) ⊎ ((a.partner ≡ b.partner) × (a.number < b.number))
@@ -82,13 +81,12 @@ kept_rise id (p ∷ partners) (a ∷ accounts) numbers are kept =
     let is = are.0 in
     let mine : IsAscending Before own = subst (IsAscending Before) (sym held.are) (own_rise p held.waiting are.3 held.wait) in
     let of : AllByRecursion (λ (n : Numbered). n.partner ≡ p.id) own = subst (AllByRecursion (λ (n : Numbered). n.partner ≡ p.id)) (sym held.are) (own_of p held.waiting are.3 held.wait) in
-    let rest = kept_rise (id + 1) partners accounts others are.5 kept.4 in
-    (
+    let rest = kept_rise (id + 1) partners accounts others are.5 kept.4 in (
       subst (IsAscending Before) (sym kept.2) (rising_joined Before own others mine rest.0
-      (all_weaker (λ (n : Numbered). n.partner ≡ p.id) (λ n. AllByRecursion (Before n) others) own (λ n same. all_weaker (From (id + 1)) (Before n) others (λ m low. inl (omega arith)) rest.1) of)),
+          (all_weaker (λ (n : Numbered). n.partner ≡ p.id) (λ n. AllByRecursion (Before n) others) own (λ n same. all_weaker (From (id + 1)) (Before n) others (λ m low. inl (omega arith)) rest.1) of)),
       subst (AllByRecursion (From id)) (sym kept.2) (all_both (From id) own others
-      (all_weaker (λ (n : Numbered). n.partner ≡ p.id) (From id) own (λ n same. omega arith) of)
-      (all_weaker (From (id + 1)) (From id) others (λ m low. omega arith) rest.1)),
+          (all_weaker (λ (n : Numbered). n.partner ≡ p.id) (From id) own (λ n same. omega arith) of)
+          (all_weaker (From (id + 1)) (From id) others (λ m low. omega arith) rest.1)),
     )
 
 mapped_below : (i : Interchange) (is : List Interchange) (j : Interchange) → AllByRecursion (Before (numbered i)) (map numbered is) → Has is j → Before (numbered i) (numbered j)

@@ -1,26 +1,26 @@
 -- The rows of an office can be read, and in one way.
-use Rattle.std.proofs.Common.{◌≡◌, ◌⊎◌, ℕ, ◌+◌, ◌<◌, ◌≤◌, ◌^◌, List, [], ◌∷◌, map, length, Contains, inl, inr, refl, sym, ap, ap₂, subst, ◌∙◌, arith, Ordering, Equal}
+use Rattle.std.proofs.Common.{◌≡◌, ◌+◌, ◌<◌, ◌≤◌, ◌^◌, List, [], ◌∷◌, map, length, Contains, inl, inr, refl, sym, ap, ap₂, subst, ◌∙◌, arith, Equal}
 use Rattle.std.specs.List.{AllByRecursion}
 use Rattle.box6346.specs.declared.box_number.BoxNumber.{BoxNumber}
 use Rattle.sqlite.specs.Effect.{Database}
 use Rattle.sqlite_rules.specs.Lists.{Has}
 use Rattle.sqlite_rules.proofs.ListLemmas.{has_contained, contains_had}
-use Rattle.terminal_core.specs.Changes.{TerminalRows, rows_of, standing_of}
+use Rattle.terminal_core.specs.Changes.{TerminalRows, standing_of}
 use Rattle.terminal_core.specs.Forms.{IsFormedVisit}
 use Rattle.terminal_core.specs.Rows.{VisitContent}
-use Rattle.terminal_core.specs.State.{TerminalState, Lines}
-use Rattle.yard_core.specs.declared.block.Block.{Block}
+use Rattle.terminal_core.specs.State.{TerminalState}
 use Rattle.office_setup.specs.Setups.{SetupContent}
 use Rattle.office_rows.specs.Tables as table
-use Rattle.office_rows.specs.Rows.{Partner, Interchange, PlaceContent, ListingContent, Setting}
+use Rattle.office_rows.specs.Rows.{Interchange}
 use Rattle.office_rows.specs.Values.{partner_values, visit_values, place_values, line_values, setting_values, block_values}
 use Rattle.office_rows.specs.ByKey.{standing_by, lines_by}
-use Rattle.office_rows.specs.Opened.{Numbered, numbered, reply_values, ShowsNumbers, OpenedRows, Shows}
-use Rattle.office_rows.specs.Office.{IsOffice, settings_by_name}
-use Rattle.office_loading.specs.Fits.{FitsPartner, FitsNumber, FitsVisit, FitsPlace, FitsLine, FitsSetting, FitsBlock}
-use Rattle.office_loading.specs.Tables.{FitsRows, ShowsPartners, ShowsVisits, ShowsPlaces, ShowsLines, ShowsSettings, ShowsBlocks}
+use Rattle.office_rows.specs.Opened.{numbered, reply_values, OpenedRows, Shows}
+use Rattle.office_rows.specs.Office.{IsOffice}
+use Rattle.office_loading.specs.Fits.{FitsPartner, FitsVisit, FitsPlace, FitsLine, FitsSetting, FitsBlock}
+use Rattle.office_tables.specs.declared.table_fault.TableFault.{TableFault}
+use Rattle.office_tables.specs.declared.table_fault.TableFault.TheVariants.{Store, Damaged, Version, Memory}
+use Rattle.office_loading.specs.Tables.{FitsRows, FailsTables, FailsToLoad, ShowsNoOffice}
 use Rattle.office_loading.proofs.OrderLemmas.{all_in}
-use Rattle.office_loading.proofs.ShownLemmas.{keys_cmp}
 use Rattle.office_loading.proofs.KeyLemmas.{number_tied, text_tied, one_showing, one_reading}
 use Rattle.office_loading.proofs.FitLemmas.{partners_fit, numbers_fit, blocks_fit, visits_fit}
 use Rattle.office_loading.proofs.RowLemmas.{one_partner, one_visit, one_place, one_line, one_setting, one_block, ids_differ, visits_differ, blocks_differ}
@@ -142,3 +142,14 @@ module _ (rows : OpenedRows) (content : SetupContent) (state : TerminalState) (o
       settings = one_settings i;
       blocks = one_blocks i;
     }
+
+-- ---- faults
+
+pub tables_fail : (db : Database) (fault : TableFault) → FailsTables db fault → FailsToLoad db fault
+tables_fail db Damaged h = (h.0, λ rows content state shown office. h.1 rows shown (office_fits rows content state office))
+tables_fail db Version h = h
+tables_fail db Memory h = h
+tables_fail db (Store error) h = h
+
+pub none_shown : (db : Database) (other : OpenedRows) → Shows db other → FitsRows other → ((content : SetupContent) (state : TerminalState) → ¬ IsOffice other content state) → ShowsNoOffice db
+none_shown db other that fits none rows content state shown = λ office. none content state (subst (λ r. IsOffice r content state) (office_one rows content state office db shown other that fits) office)

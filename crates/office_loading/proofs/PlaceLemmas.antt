@@ -1,22 +1,19 @@
 -- The places of an office.
-use Rattle.std.proofs.Common.{◌≡◌, ◌⊎◌, ℕ, ◌+◌, ◌<◌, ◌≤◌, ◌^◌, Bool, true, false, List, [], ◌∷◌, length, Option, None, Some, is_some, find, Contains, IsTrue, inl, inr, refl, sym, ap, subst, ◌∙◌, arith}
-use Rattle.std.specs.List.{AllByRecursion}
+use Rattle.std.proofs.Common.{◌≡◌, ◌<◌, ◌^◌, true, List, Option, None, Some, is_some, find, Contains, IsTrue, refl, sym, ap, subst, ◌∙◌}
 use Rattle.std.specs.Option.{option_map}
 use Rattle.std.specs.FinMap as finite_map
-use Rattle.std.specs.Str.{bytes_eq}
 use Rattle.std.proofs.lemmas.Slice.Eq.{bytes_eq-Decides}
 use Rattle.std.proofs.lemmas.Bool.{and_parts}
 use Rattle.box6346.specs.NumberText.{is_number}
 use Rattle.box6346.specs.SlotName.{IsNamed}
 use Rattle.box6346.specs.declared.box_number.BoxNumber.{BoxNumber}
-use Rattle.box6346.specs.declared.slot.Slot.{Slot}
 use Rattle.box6346.proofs.SlotNames.{names_are_read_again_lem}
 use Rattle.yard_core.specs.declared.placement.Placement.{Placement}
 use Rattle.terminal_core.specs.Changes.{Standing, standing_in, standing_of}
-use Rattle.terminal_core.specs.Forms.{IsWellFormed, IsFormedVisit}
+use Rattle.terminal_core.specs.Forms.{IsWellFormed}
 use Rattle.terminal_core.specs.Rows.{VisitContent}
 use Rattle.terminal_core.specs.Step.{number_of_visit}
-use Rattle.terminal_core.specs.State.{TerminalState, IsWhole, open_visit, is_open_visit, is_in}
+use Rattle.terminal_core.specs.State.{TerminalState, IsWhole, open_visit, is_open_visit}
 use Rattle.terminal_core.proofs.Counted.{some_of, one_passes, is_found, found_is}
 use Rattle.terminal_core.proofs.Numbered.{contained, found_at}
 use Rattle.sqlite_rules.specs.Lists.{Has}

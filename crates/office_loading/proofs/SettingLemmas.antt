@@ -1,5 +1,5 @@
 -- The settings of an office.
-use Rattle.std.proofs.Common.{◌≡◌, ◌⊎◌, ℕ, ◌<◌, ◌^◌, Bool, true, false, cond, List, [], ◌∷◌, map, Option, None, Some, codes, decimal, inl, inr, refl, sym, ap, subst, ◌∙◌, arith, Ordering, Less, Equal}
+use Rattle.std.proofs.Common.{◌≡◌, ℕ, ◌<◌, ◌^◌, true, List, [], ◌∷◌, map, None, codes, decimal, inl, inr, refl, ◌∙◌, arith, Less, Equal}
 use Rattle.std.specs.Prelude.{IsUtf8}
 use Rattle.std.specs.List.{AllByRecursion, list_all}
 use Rattle.std.specs.Ordering.{nat_cmp, ordering_then}
@@ -52,18 +52,37 @@ settings_fit content given =
     let f = and_parts _ _ e.1 in
     let h = and_parts _ _ f.1 in
     let k = and_parts _ _ h.1 in
-    let limit : content.visit_limit < 2 ^ 64 = omega (arith, given.limit.1) in
-    (named _ _ refl (code_text _ e.0),
-    (named _ _ refl (code_text _ h.0),
-    (named _ _ refl (code_text _ a.0),
-    (named _ _ refl (code_text _ b.0),
-    (named _ _ refl (code_text _ f.0),
-    (named _ _ refl (code_text _ k.0),
-    (named _ _ refl (party_text content.terminal given.terminal),
-    (named _ _ refl (utf8_from is_printable printable_small (codes "1") refl),
-    (named _ _ refl (IsUtf8-from_ascii (decimal content.visit_limit) (IsAscii-decimal content.visit_limit limit)),
-    (named _ _ refl (code_text _ d.0),
-    tt))))))))))
+    let limit : content.visit_limit < 2 ^ 64 = omega (arith, given.limit.1) in (
+      named _ _ refl (code_text _ e.0),
+      (
+        named _ _ refl (code_text _ h.0),
+        (
+          named _ _ refl (code_text _ a.0),
+          (
+            named _ _ refl (code_text _ b.0),
+            (
+              named _ _ refl (code_text _ f.0),
+              (
+                named _ _ refl (code_text _ k.0),
+                (
+                  named _ _ refl (party_text content.terminal given.terminal),
+                  (
+                    named _ _ refl (utf8_from is_printable printable_small (codes "1") refl),
+                    (
+                      named _ _ refl (IsUtf8-from_ascii (decimal content.visit_limit) (IsAscii-decimal content.visit_limit limit)),
+                      (
+                        named _ _ refl (code_text _ d.0),
+                        tt,
+                      ),
+                    ),
+                  ),
+                ),
+              ),
+            ),
+          ),
+        ),
+      ),
+    )
 
 name_below : (s t : List ℕ) → slice_cmp nat_cmp s t ≡ Less → ordering_then (value_cmp (Text s) (Text t)) Equal ≡ Less
 name_below s t less = then-Equal _ ∙ value_cmp-Text s t ∙ less
