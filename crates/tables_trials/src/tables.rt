@@ -5,8 +5,8 @@ ghost use Rattle.std.specs.Prelude.{◌≡◌, ◌≤◌, IfOk, length};
 mod changes;
 
 use edi_messages::{CodeTable, PartnerKind};
-use office_setup::{Account, Setup};
 use office_loading::nexts;
+use office_setup::{Account, Setup};
 use office_tables::{Kept, create, keep, kept, mark_taken, next_of};
 use sqlite::{Alter, Connection, Error, MemStore};
 use std::alloc::{AllocError, Global};
