@@ -1,7 +1,7 @@
 -- Calls that only read, one after the other.
-use Rattle.std.proofs.Common.{◌≡◌, ◌≢◌, ◌⊎◌, ℕ, false, List, [], ◌∷◌, map, inl, inr, refl, sym, ap, subst, ◌∙◌, arith}
+use Rattle.std.proofs.Common.{◌≡◌, ◌≢◌, List, [], ◌∷◌, map, inl, refl, ap, subst, ◌∙◌, arith}
 use Rattle.std.specs.List.{AllByRecursion}
-use Rattle.sqlite.specs.State.{State, HasCleanDisk, IsUnchanged, KeepsCommit, Survives}
+use Rattle.sqlite.specs.State.{State, HasCleanDisk, IsUnchanged}
 use Rattle.sqlite.specs.Effect.{Database}
 use Rattle.sqlite.proofs.StateLemmas.{survives_then}
 use Rattle.office_rows.specs.Tables.{office_schema}
@@ -10,9 +10,8 @@ use Rattle.office_rows.proofs.StepLemmas.{stops_keep, keep_then}
 use Rattle.office_tables.specs.declared.table_fault.TableFault.{TableFault}
 use Rattle.office_tables.specs.declared.table_fault.TableFault.TheVariants.{Store, Damaged, Version, Memory}
 use Rattle.office_loading.specs.Decoded.{itself}
-use Rattle.office_loading.specs.Fits.{FitsSetting}
 use Rattle.office_loading.specs.Reads.{OnlyReads}
-use Rattle.office_loading.specs.Tables.{FailsTable, FailsTables, FailsSettings, FailsToLoad, HasVersion, FitsRows}
+use Rattle.office_loading.specs.Tables.{FailsTable, FailsTables, FailsSettings, HasVersion, FitsRows}
 
 -- a call that read and did not fail
 pub record After (a b : State) : Type 0 where
@@ -81,9 +80,3 @@ settings_fail db Damaged h = (h.0, λ rows shows fit. h.1 rows.settings shows.se
 settings_fail db Version h = h
 settings_fail db Memory h = h
 settings_fail db (Store error) h = h
-
-pub tables_fail : (db : Database) (fault : TableFault) → FailsTables db fault → FailsToLoad db fault
-tables_fail db Damaged h = (h.0, inl h.1)
-tables_fail db Version h = h
-tables_fail db Memory h = h
-tables_fail db (Store error) h = h

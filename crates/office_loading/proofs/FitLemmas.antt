@@ -1,24 +1,20 @@
 -- The rows of an office fit the types of a row.
-use Rattle.std.proofs.Common.{◌≡◌, ◌⊎◌, ℕ, zero, suc, ◌+◌, ◌-◌, ◌<◌, ◌≤◌, ◌^◌, Bool, true, false, ◌&&◌, ◌||◌, ◌==◌, List, [], ◌∷◌, ◌++◌, map, length, Option, None, Some, IsTrue, inl, inr, refl, sym, ap, subst, ◌∙◌, arith, slice_index_or}
+use Rattle.std.proofs.Common.{◌≡◌, ℕ, zero, suc, ◌+◌, ◌-◌, ◌<◌, ◌≤◌, ◌^◌, Bool, true, false, ◌||◌, ◌==◌, List, [], ◌∷◌, ◌++◌, map, length, Option, None, Some, IsTrue, sym, subst, arith, slice_index_or}
 use Rattle.std.specs.Prelude.{IsUtf8}
 use Rattle.std.specs.Str.{IsAscii}
 use Rattle.std.specs.List.{AllByRecursion, list_all, range_with_len}
-use Rattle.std.specs.Char.{is_ascii_uppercase, is_ascii_lowercase, is_ascii_digit}
-use Rattle.std.proofs.lemmas.Bool.{and_parts, cases_Bool}
+use Rattle.std.proofs.lemmas.Bool.{and_parts}
 use Rattle.std.proofs.lemmas.Bool.Decides.{nat_tests}
 use Rattle.std.proofs.lemmas.Str.{IsUtf8-from_ascii, IsUtf8-nil}
-use Rattle.edi_segments.specs.Characters.{is_printable, is_tag_byte}
+use Rattle.edi_segments.specs.Characters.{is_printable}
 use Rattle.edi_messages.specs.Forms.{is_name_if_any}
 use Rattle.edi_messages.specs.Texts.{is_name}
 use Rattle.edi_messages.specs.declared.partner_kind.PartnerKind.{PartnerKind}
-use Rattle.edi_moments.specs.Moments.{CivilMoment, is_moment}
 use Rattle.edi_moments.proofs.DigitLemmas.{read_back}
 use Rattle.box6346.proofs.SlotNames.{names_are_read_again_lem}
-use Rattle.box6346.specs.SlotName.{IsNamed}
-use Rattle.box6346.specs.declared.slot.Slot.{Slot}
 use Rattle.terminal_core.specs.declared.departure.Departure.{Departure}
 use Rattle.terminal_core.specs.declared.source.Source.{Source}
-use Rattle.terminal_core.specs.Forms.{IsSource, IsFormedDeparture, IsFormedExit, IsFormedVisit}
+use Rattle.terminal_core.specs.Forms.{IsSource, IsFormedExit, IsFormedVisit}
 use Rattle.terminal_core.specs.Rows.{VisitContent}
 use Rattle.terminal_core.specs.State.{AreNumbered}
 use Rattle.yard_core.specs.declared.block.Block.{Block}
@@ -27,7 +23,7 @@ use Rattle.office_setup.specs.Given.{is_party_byte, is_party_code}
 use Rattle.office_rows.specs.Rows.{Partner}
 use Rattle.office_rows.specs.Opened.{Numbered}
 use Rattle.office_rows.specs.Office.{AreAccounts, AreWaiting, AreKept, taken_numbers}
-use Rattle.office_loading.specs.Fits.{IsSlot, IsMoment, FitsPartner, FitsNumber, FitsSource, FitsDeparture, FitsExit, FitsVisit, FitsBlock}
+use Rattle.office_loading.specs.Fits.{FitsPartner, FitsNumber, FitsSource, FitsExit, FitsVisit, FitsBlock}
 
 -- ---- texts
 
@@ -36,13 +32,13 @@ ascii_from p small [] all i = omega arith
 ascii_from p small (c ∷ cs) all zero = small c (and_parts (p c) (list_all p cs) all).0
 ascii_from p small (c ∷ cs) all (suc i) = ascii_from p small cs (and_parts (p c) (list_all p cs) all).1 i
 
-utf8_from : (p : ℕ → Bool) → ((c : ℕ) → p c ≡ true → c < 128) → (text : List ℕ) → list_all p text ≡ true → IsUtf8 text
+pub utf8_from : (p : ℕ → Bool) → ((c : ℕ) → p c ≡ true → c < 128) → (text : List ℕ) → list_all p text ≡ true → IsUtf8 text
 utf8_from p small text all = IsUtf8-from_ascii text (ascii_from p small text all)
 
-party_small : (c : ℕ) → is_party_byte c ≡ true → c < 128
+pub party_small : (c : ℕ) → is_party_byte c ≡ true → c < 128
 party_small c h = grind (arith, nat_tests)
 
-printable_small : (c : ℕ) → is_printable c ≡ true → c < 128
+pub printable_small : (c : ℕ) → is_printable c ≡ true → c < 128
 printable_small c h = grind (arith, nat_tests)
 
 pub party_text : (code : List ℕ) → IsTrue (is_party_code code) → IsUtf8 code

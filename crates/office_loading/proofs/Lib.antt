@@ -9,3 +9,8 @@ pub mod ChainLemmas
 pub mod KeyLemmas
 pub mod FitLemmas
 pub mod RowLemmas
+pub mod SettingLemmas
+pub mod NumberLemmas
+pub mod PlaceLemmas
+pub mod LineLemmas
+pub mod OfficeLemmas

@@ -1,9 +1,8 @@
 -- The rows of an office have keys that differ, and say what their columns say.
-use Rattle.std.proofs.Common.{◌≡◌, ◌⊎◌, ℕ, zero, suc, ◌+◌, ◌<◌, ◌≤◌, Bool, true, false, List, [], ◌∷◌, map, length, Option, None, Some, slice_get, codes, inl, inr, refl, sym, ap, ap₂, subst, ◌∙◌, arith, Ordering, Less, Equal}
+use Rattle.std.proofs.Common.{◌≡◌, ℕ, suc, ◌+◌, ◌≤◌, Bool, true, false, List, [], ◌∷◌, Option, None, Some, slice_get, inl, inr, refl, sym, ap, ◌∙◌, arith}
 use Rattle.box6346.specs.SlotName.{slot_of, slot_text}
 use Rattle.box6346.specs.declared.slot.Slot.{Slot}
 use Rattle.edi_moments.specs.Moments.{CivilMoment, moment_of, moment_digits}
-use Rattle.edi_messages.specs.declared.code_table.CodeTable.{CodeTable}
 use Rattle.edi_messages.specs.declared.partner_kind.PartnerKind.{PartnerKind}
 use Rattle.edi_messages.specs.declared.partner_kind.PartnerKind.TheVariants.{Gate, Line, Quay, Yard}
 use Rattle.terminal_core.specs.declared.departure.Departure.{Departure}
@@ -19,7 +18,7 @@ use Rattle.yard_core.specs.declared.block.Block.{Block}
 use Rattle.yard_core.specs.Plan.{AreApart}
 use Rattle.sqlite_rules.specs.Lists.{Has}
 use Rattle.office_rows.specs.Rows.{Partner, PlaceContent, ListingContent, Setting}
-use Rattle.office_rows.specs.Values.{number, kind_code, way_code, laden_code, state_code, partner_values, visit_values, place_values, line_values, setting_values, block_values}
+use Rattle.office_rows.specs.Values.{kind_code, way_code, laden_code, state_code, partner_values, visit_values, place_values, line_values, setting_values, block_values}
 use Rattle.office_rows.specs.Office.{AreAccounts}
 use Rattle.office_loading.specs.Columns.{exit_values}
 use Rattle.office_loading.specs.Fits.{IsSlot, IsMoment, FitsPartner, FitsExit, FitsVisit, FitsPlace, FitsLine, FitsSetting, FitsBlock}

@@ -1,5 +1,5 @@
 -- What reading the tables answers.
-use Rattle.std.specs.Prelude.{◌⊎◌, List, [], ◌∷◌, map, Contains, codes, Result, Ok, Err, Vec}
+use Rattle.std.specs.Prelude.{List, [], ◌∷◌, map, Contains, codes, Result, Ok, Err, Vec}
 use Rattle.std.specs.List.{AllByRecursion}
 use Rattle.sqlite.specs.Effect.{Database}
 use Rattle.terminal_core.specs.Rows.{VisitContent}
@@ -12,7 +12,7 @@ use Rattle.office_rows.specs.Values.{partner_values, visit_values, place_values,
 use Rattle.office_rows.specs.Opening.{setting}
 use Rattle.office_rows.specs.Stored.{columns_of}
 use Rattle.office_rows.specs.Shown.{ShowsTable}
-use Rattle.office_rows.specs.Opened.{Numbered, ShowsNumbers, OpenedRows, Shows}
+use Rattle.office_rows.specs.Opened.{OpenedRows, Shows}
 use Rattle.office_rows.specs.Office.{IsOffice}
 use Rattle.office_checks.specs.Contents.{opened_rows}
 use Rattle.office_checks.specs.declared.opened_tables.OpenedTables.{OpenedTables}
@@ -92,11 +92,13 @@ ReadsTables db (Err fault) = FailsTables db fault
 
 -- ---- the office
 
--- the tables show no rows that the types of rows can hold, or show those of no office
+-- the set-up and the terminal are those of the rows that the tables show
+abbrev pub Loads : Database → SetupContent → TerminalState → Type 0
+Loads db content state = (rows : OpenedRows) × Shows db rows × IsOffice rows content state
+
+-- whatever rows the tables show, they are those of no office
 abbrev pub ShowsNoOffice : Database → Type 0
-ShowsNoOffice db =
-    ((rows : OpenedRows) → Shows db rows → ¬ FitsRows rows)
-    ⊎ ((rows : OpenedRows) × Shows db rows × ((content : SetupContent) (state : TerminalState) → ¬ IsOffice rows content state))
+ShowsNoOffice db = (rows : OpenedRows) (content : SetupContent) (state : TerminalState) → Shows db rows → ¬ IsOffice rows content state
 
 -- the version is another one; or it is this and the tables show no office
 abbrev pub FailsToLoad : Database → TableFault → Type 0
@@ -104,7 +106,3 @@ FailsToLoad db Version = ¬ HasVersion db
 FailsToLoad db Damaged = HasVersion db × ShowsNoOffice db
 FailsToLoad db Memory = Unit {0}
 FailsToLoad db (Store error) = Unit {0}
-
--- the set-up and the terminal are those of the rows that the tables show
-abbrev pub Loads : Database → SetupContent → TerminalState → Type 0
-Loads db content state = (rows : OpenedRows) × Shows db rows × IsOffice rows content state

@@ -1,9 +1,10 @@
-use Rattle.std.proofs.Common.{inr}
 use Rattle.std.proofs.lemmas.Result.{err_from_is_err_and}
 use Rattle.sqlite.specs.Held.{state}
+use Rattle.std.proofs.Common.{subst}
 use Rattle.office_checks.specs.Contents.{opened_rows}
+use Rattle.office_checks.specs.Refusals.{RefusesTables}
 use Rattle.office_loading.proofs.ReadLemmas.{quiet}
-use Rattle.office_loading.proofs.ChainLemmas.{tables_fail}
+use Rattle.office_loading.proofs.OfficeLemmas.{tables_fail, none_shown}
 use Rattle.office_loading.proofs.loading.load.Goals as goal
 
 pub returns-in_err-tables-clause-refused : goal.returns-in_err-tables-clause-refused
@@ -21,3 +22,8 @@ pub returns-in-Ok-clause-loaded : goal.returns-in-Ok-clause-loaded
 returns-in-Ok-clause-loaded g c clean is =
     let read = c.in_ok-tables.ensures.read clean is in
     (opened_rows c.in_ok-tables.tables, read.1, c.in-Ok.ensures.ok)
+
+pub returns-in-Err-Unsound-clause-refused : goal.returns-in-Err-Unsound-clause-refused
+returns-in-Err-Unsound-clause-refused g c clean is =
+    let read = c.in_ok-tables.ensures.read clean is in
+    (read.0, none_shown (state g.S.Store c.args.conn.now).now (opened_rows c.in_ok-tables.tables) read.1 read.2 (subst (RefusesTables (opened_rows c.in_ok-tables.tables)) c.in-Err-Unsound.field-0-is c.in-Err-Unsound.ensures.refused))

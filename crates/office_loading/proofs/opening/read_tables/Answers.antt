@@ -1,11 +1,9 @@
-use Rattle.std.proofs.Common.{Ok, List, ap, subst}
+use Rattle.std.proofs.Common.{Ok, subst}
 use Rattle.std.specs.List.{AllByRecursion}
 use Rattle.std.proofs.lemmas.Result.{err_from_is_err_and}
 use Rattle.sqlite.specs.Effect.{Database}
 use Rattle.sqlite.specs.Held.{state}
-use Rattle.sqlite.specs.State.{HasCleanDisk}
 use Rattle.terminal_core.specs.Rows.{visit_content}
-use Rattle.yard_core.specs.declared.block.Block.{Block}
 use Rattle.office_rows.specs.Rows.{listing_content}
 use Rattle.office_rows.specs.Opened.{OpenedRows, ShowsNumbers}
 use Rattle.office_checks.specs.Contents.{partner_content, number_content, place_content}

@@ -1,0 +1,155 @@
+-- The rows of an office can be read, and in one way.
+use Rattle.std.proofs.Common.{◌≡◌, ◌+◌, ◌<◌, ◌≤◌, ◌^◌, List, [], ◌∷◌, map, length, Contains, inl, inr, refl, sym, ap, ap₂, subst, ◌∙◌, arith, Equal}
+use Rattle.std.specs.List.{AllByRecursion}
+use Rattle.box6346.specs.declared.box_number.BoxNumber.{BoxNumber}
+use Rattle.sqlite.specs.Effect.{Database}
+use Rattle.sqlite_rules.specs.Lists.{Has}
+use Rattle.sqlite_rules.proofs.ListLemmas.{has_contained, contains_had}
+use Rattle.terminal_core.specs.Changes.{TerminalRows, standing_of}
+use Rattle.terminal_core.specs.Forms.{IsFormedVisit}
+use Rattle.terminal_core.specs.Rows.{VisitContent}
+use Rattle.terminal_core.specs.State.{TerminalState}
+use Rattle.office_setup.specs.Setups.{SetupContent}
+use Rattle.office_rows.specs.Tables as table
+use Rattle.office_rows.specs.Rows.{Interchange}
+use Rattle.office_rows.specs.Values.{partner_values, visit_values, place_values, line_values, setting_values, block_values}
+use Rattle.office_rows.specs.ByKey.{standing_by, lines_by}
+use Rattle.office_rows.specs.Opened.{numbered, reply_values, OpenedRows, Shows}
+use Rattle.office_rows.specs.Office.{IsOffice}
+use Rattle.office_loading.specs.Fits.{FitsPartner, FitsVisit, FitsPlace, FitsLine, FitsSetting, FitsBlock}
+use Rattle.office_tables.specs.declared.table_fault.TableFault.{TableFault}
+use Rattle.office_tables.specs.declared.table_fault.TableFault.TheVariants.{Store, Damaged, Version, Memory}
+use Rattle.office_loading.specs.Tables.{FitsRows, FailsTables, FailsToLoad, ShowsNoOffice}
+use Rattle.office_loading.proofs.OrderLemmas.{all_in}
+use Rattle.office_loading.proofs.KeyLemmas.{number_tied, text_tied, one_showing, one_reading}
+use Rattle.office_loading.proofs.FitLemmas.{partners_fit, numbers_fit, blocks_fit, visits_fit}
+use Rattle.office_loading.proofs.RowLemmas.{one_partner, one_visit, one_place, one_line, one_setting, one_block, ids_differ, visits_differ, blocks_differ}
+use Rattle.office_loading.proofs.SettingLemmas.{settings_fit, settings_tied}
+use Rattle.office_loading.proofs.NumberLemmas.{interchanges_differ}
+use Rattle.office_loading.proofs.PlaceLemmas.{place_fits, places_differ}
+use Rattle.office_loading.proofs.LineLemmas.{line_fits, lines_differ}
+
+all_from : {X : Type 0} (P : X → Type 0) (xs : List X) → ((x : X) → Has xs x → P x) → AllByRecursion P xs
+all_from P [] h = tt
+all_from P (x ∷ xs) h = (h x (inl refl), all_from P xs (λ y p. h y (inr p)))
+
+replies_same : (is js : List Interchange) → map reply_values is ≡ map reply_values js → map numbered is ≡ map numbered js
+replies_same [] [] same = refl
+replies_same [] (j ∷ js) same = absurd cc
+replies_same (i ∷ is) [] same = absurd cc
+replies_same (i ∷ is) (j ∷ js) same =
+    let first : reply_values i ≡ reply_values j = cc in
+    let rest : map reply_values is ≡ map reply_values js = cc in
+    let partner : i.partner ≡ j.partner = cc in
+    let n : i.number ≡ j.number = cc in
+    let reply : i.reply ≡ j.reply = cc in
+    ap₂ (λ a l. a ∷ l) (λ k. numbered (record { partner = partner k; number = n k; body = []; reply = reply k })) (replies_same is js rest)
+
+module _ (rows : OpenedRows) (content : SetupContent) (state : TerminalState) (office : IsOffice rows content state) where
+  visits_are : rows.visits ≡ state.visits
+  visits_are = ap (λ (t : TerminalRows). t.visits) office.terminal
+
+  places_are : (container : BoxNumber) → standing_by rows.places container ≡ standing_of state container
+  places_are container = ap (λ (t : TerminalRows). t.places container) office.terminal
+
+  lines_are : lines_by rows.lines ≡ state.lines
+  lines_are = ap (λ (t : TerminalRows). t.lines) office.terminal
+
+  few : 1 + length content.partners ≤ 1000
+  few = omega (arith, office.given.counted.1)
+
+  state_visits : AllByRecursion FitsVisit state.visits
+  state_visits =
+      let limit = office.limit in
+      let high = office.given.limit.1 in
+      let within = office.whole.within in
+      visits_fit 1 state.visits office.whole.numbered (omega arith) (all_from IsFormedVisit state.visits (λ v has. office.formed.visits v (contains_had state.visits v has)))
+
+  small : (visit : VisitContent) → Contains state.visits visit → visit.number < 2 ^ 32
+  small visit there = (all_in FitsVisit state.visits visit state_visits (has_contained state.visits visit there)).number
+
+  pub office_fits : FitsRows rows
+  office_fits = record {
+    partners = partners_fit 1 rows.partners content.partners office.accounts few (λ k d low. office.given.coded k d low);
+    numbers = numbers_fit 1 rows.partners content.partners rows.numbers office.accounts few office.kept;
+    visits = subst (AllByRecursion FitsVisit) (sym visits_are) state_visits;
+    places = all_from FitsPlace rows.places (place_fits state rows.places office.whole office.formed small office.placed_once places_are);
+    lines = all_from FitsLine rows.lines (line_fits state rows.lines office.formed office.listed_once lines_are);
+    settings = subst (AllByRecursion FitsSetting) (sym office.settings) (settings_fit content office.given);
+    blocks = subst (AllByRecursion FitsBlock) (sym office.blocks) (blocks_fit content.blocks office.given.plan.sized);
+  }
+
+  module _ (db : Database) (shown : Shows db rows) (other : OpenedRows) (that : Shows db other) (fits : FitsRows other) where
+    one_partners : rows.partners ≡ other.partners
+    one_partners =
+        let same = one_showing table.partner (0 ∷ 1 ∷ 2 ∷ 3 ∷ []) (0 ∷ []) (λ r. refl) db partner_values rows.partners other.partners shown.partners that.partners (λ x y p q tied.
+        ap partner_values (ids_differ 1 rows.partners content.partners x y office.accounts p q (number_tied x.id y.id Equal tied).0)) in
+        one_reading table.partner (0 ∷ 1 ∷ 2 ∷ 3 ∷ []) (0 ∷ []) (λ r. refl) db partner_values FitsPartner one_partner rows.partners other.partners office_fits.partners fits.partners same
+
+    one_numbers : rows.numbers ≡ other.numbers
+    one_numbers =
+        let is = shown.numbers.interchanges in
+        let js = that.numbers.interchanges in
+        let same = one_showing table.interchange (0 ∷ 1 ∷ 3 ∷ []) (0 ∷ 1 ∷ []) (λ r. refl) db reply_values is js shown.numbers.shown that.numbers.shown (λ x y p q tied.
+        let a = number_tied x.partner y.partner _ tied in
+        let b = number_tied x.number y.number Equal a.1 in
+        ap reply_values (interchanges_differ rows.partners content.partners rows.numbers is office.accounts office.kept shown.numbers.are x y p q a.0 b.0)) in
+        shown.numbers.are ∙ replies_same is js same ∙ sym that.numbers.are
+
+    one_visits : rows.visits ≡ other.visits
+    one_visits =
+        let same = one_showing table.visit (0 ∷ 1 ∷ 2 ∷ 3 ∷ 4 ∷ 5 ∷ 6 ∷ 7 ∷ 8 ∷ 9 ∷ 10 ∷ 11 ∷ 12 ∷ 13 ∷ []) (0 ∷ []) (λ r. refl) db visit_values rows.visits other.visits shown.visits that.visits (λ x y p q tied.
+        ap visit_values (visits_differ 1 state.visits x y office.whole.numbered (subst (λ l. Has l x) visits_are p) (subst (λ l. Has l y) visits_are q) (number_tied x.number y.number Equal tied).0)) in
+        one_reading table.visit (0 ∷ 1 ∷ 2 ∷ 3 ∷ 4 ∷ 5 ∷ 6 ∷ 7 ∷ 8 ∷ 9 ∷ 10 ∷ 11 ∷ 12 ∷ 13 ∷ []) (0 ∷ []) (λ r. refl) db visit_values FitsVisit one_visit rows.visits other.visits office_fits.visits fits.visits same
+
+    one_places : rows.places ≡ other.places
+    one_places =
+        let same = one_showing table.place (0 ∷ 1 ∷ 2 ∷ []) (0 ∷ []) (λ r. refl) db place_values rows.places other.places shown.places that.places (λ x y p q tied.
+        ap place_values (places_differ rows.places x y office.placed_once p q (text_tied x.container y.container Equal tied).0)) in
+        one_reading table.place (0 ∷ 1 ∷ 2 ∷ []) (0 ∷ []) (λ r. refl) db place_values FitsPlace one_place rows.places other.places office_fits.places fits.places same
+
+    one_lines : rows.lines ≡ other.lines
+    one_lines =
+        let same = one_showing table.listed (0 ∷ 1 ∷ 2 ∷ 3 ∷ 4 ∷ 5 ∷ []) (0 ∷ 1 ∷ 2 ∷ 3 ∷ []) (λ r. refl) db line_values rows.lines other.lines shown.lines that.lines (λ x y p q tied.
+        let a = text_tied x.call.vessel y.call.vessel _ tied in
+        let b = text_tied x.call.voyage y.call.voyage _ a.1 in
+        let c = number_tied _ _ _ b.1 in
+        let d = text_tied x.container y.container Equal c.1 in
+        ap line_values (lines_differ rows.lines x y office.listed_once p q (sym a.0) (sym b.0) (sym c.0) (sym d.0))) in
+        one_reading table.listed (0 ∷ 1 ∷ 2 ∷ 3 ∷ 4 ∷ 5 ∷ []) (0 ∷ 1 ∷ 2 ∷ 3 ∷ []) (λ r. refl) db line_values FitsLine one_line rows.lines other.lines office_fits.lines fits.lines same
+
+    one_settings : rows.settings ≡ other.settings
+    one_settings =
+        let same = one_showing table.setting (0 ∷ 1 ∷ []) (0 ∷ []) (λ r. refl) db setting_values rows.settings other.settings shown.settings that.settings (λ x y p q tied.
+        settings_tied content x y (subst (λ l. Has l x) office.settings p) (subst (λ l. Has l y) office.settings q) tied) in
+        one_reading table.setting (0 ∷ 1 ∷ []) (0 ∷ []) (λ r. refl) db setting_values FitsSetting one_setting rows.settings other.settings office_fits.settings fits.settings same
+
+    one_blocks : rows.blocks ≡ other.blocks
+    one_blocks =
+        let same = one_showing table.block (0 ∷ 1 ∷ 2 ∷ 3 ∷ []) (0 ∷ []) (λ r. refl) db block_values rows.blocks other.blocks shown.blocks that.blocks (λ x y p q tied.
+        let text = (text_tied (x.letter ∷ []) (y.letter ∷ []) Equal tied).0 in
+        let letter : x.letter ≡ y.letter = cc in
+        ap block_values (blocks_differ content.blocks x y office.given.plan.apart (subst (λ l. Has l x) office.blocks p) (subst (λ l. Has l y) office.blocks q) letter)) in
+        one_reading table.block (0 ∷ 1 ∷ 2 ∷ 3 ∷ []) (0 ∷ []) (λ r. refl) db block_values FitsBlock one_block rows.blocks other.blocks office_fits.blocks fits.blocks same
+
+    pub office_one : rows ≡ other
+    office_one = λ i. record {
+      partners = one_partners i;
+      numbers = one_numbers i;
+      visits = one_visits i;
+      places = one_places i;
+      lines = one_lines i;
+      settings = one_settings i;
+      blocks = one_blocks i;
+    }
+
+-- ---- faults
+
+pub tables_fail : (db : Database) (fault : TableFault) → FailsTables db fault → FailsToLoad db fault
+tables_fail db Damaged h = (h.0, λ rows content state shown office. h.1 rows shown (office_fits rows content state office))
+tables_fail db Version h = h
+tables_fail db Memory h = h
+tables_fail db (Store error) h = h
+
+pub none_shown : (db : Database) (other : OpenedRows) → Shows db other → FitsRows other → ((content : SetupContent) (state : TerminalState) → ¬ IsOffice other content state) → ShowsNoOffice db
+none_shown db other that fits none rows content state shown = λ office. none content state (subst (λ r. IsOffice r content state) (office_one rows content state office db shown other that fits) office)
