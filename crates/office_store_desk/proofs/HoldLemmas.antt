@@ -85,7 +85,7 @@ module _ (content : SetupContent) (ds : List (List ℕ)) (rows : Rows) (delivere
 
 -- ---- what is held
 
-beside_same : (content : SetupContent) (ds ds' : List (List ℕ)) (terminal : Option TerminalState) → machine_after content ds' ≡ machine_after content ds → IsBeside content ds terminal → IsBeside content ds' terminal
+pub beside_same : (content : SetupContent) (ds ds' : List (List ℕ)) (terminal : Option TerminalState) → machine_after content ds' ≡ machine_after content ds → IsBeside content ds terminal → IsBeside content ds' terminal
 beside_same content ds ds' None same beside = tt
 beside_same content ds ds' (Some terminal) same beside = beside ∙ sym same
 

@@ -2,9 +2,11 @@
 #![tactic(auto)]
 
 mod answers;
+mod desk;
 mod early;
 mod found;
 mod next;
 mod taking;
 
+pub use desk::Desk;
 pub use found::Found;

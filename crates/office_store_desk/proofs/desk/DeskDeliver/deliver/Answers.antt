@@ -1,0 +1,51 @@
+use Rattle.std.proofs.Common.{◌+◌, ◌-◌, arith, refl, sym, subst, ◌∙◌}
+use Rattle.std.proofs.lemmas.Option.{slice_get_read}
+use Rattle.edi_syntax.specs.Heads.{head_segments}
+use Rattle.office_replies.specs.declared.response.Response.TheVariants.{NotNow}
+use Rattle.office_admission.specs.Refusals.{RefusedSurely}
+use Rattle.office_setup.specs.Parties.{parties_of}
+use Rattle.office_setup.specs.Setups.{setup_content}
+use Rattle.office_desk.proofs.Desks.{code_at}
+use Rattle.office_desk.proofs.Delivering.{admitted_surely, numbered}
+use Rattle.office_store_desk.proofs.DeliverLemmas.{refusal_delivered, taken_in, not_taken}
+use Rattle.office_store_desk.proofs.desk.DeskDeliver.deliver.Goals as goal
+
+pub returns-in-Err-clause-sure : goal.returns-in-Err-clause-sure
+returns-in-Err-clause-sure g c =
+    subst (λ other. RefusedSurely (parties_of c.args.self.now.setup) other c.answer.result) c.interchange_text-text.ensures.exact
+    (c.answer.ensures.sure c.args.self.now.setup c.interchange_text-text.result.now c.in-Err.ensures.err)
+
+pub returns-in-Err-clause-delivers : goal.returns-in-Err-clause-delivers
+returns-in-Err-clause-delivers g c = λ sound opening ds stands.
+    let text = c.interchange_text-text.result.now in
+    refusal_delivered g.S.Store (setup_content opening.setup) ds c.args.delivered.now text c.answer.result _ c.in-Err.refusal
+    c.interchange_text-text.ensures.exact (record { setup = stands.setup; holds = stands.holds }) c.in-Err.ensures.err
+    (c.answer.ensures.answer c.args.self.now.setup text c.in-Err.ensures.err) (c.answer.ensures.sure c.args.self.now.setup text c.in-Err.ensures.err)
+
+pub returns-in-Ok-taken-clause-sure : goal.returns-in-Ok-taken-clause-sure
+returns-in-Ok-taken-clause-sure g c =
+    admitted_surely (parties_of c.args.self.now.setup) c.args.delivered.now c.interchange_text-text.result.now _ c.in-Ok-taken.response c.interchange_text-text.ensures.exact c.in-Ok.ensures.ok.admits
+
+pub returns-in-Err-taken-clause-sure : goal.returns-in-Err-taken-clause-sure
+returns-in-Err-taken-clause-sure g c =
+    admitted_surely (parties_of c.args.self.now.setup) c.args.delivered.now c.interchange_text-text.result.now _ NotNow c.interchange_text-text.ensures.exact c.in-Ok.ensures.ok.admits
+
+pub returns-in-Ok-taken-clause-delivers : goal.returns-in-Ok-taken-clause-delivers
+returns-in-Ok-taken-clause-delivers g c = λ sound opening ds stands.
+    let old = c.args.self.now in
+    let text = c.interchange_text-text.result.now in
+    let admitted = c.in-Ok.admitted in
+    let is = c.in-Ok.ensures.ok in
+    let accounts = old.setup.partners.items in
+    let account = c.index.result.now in
+    let code = c.as_str-code.ensures.value ∙ sym (code_at accounts admitted.partner account is.from_one (slice_get_read accounts _ (admitted.partner - 1) account refl (omega (arith, is.from_one, is.known)) c.index.ensures)) in
+    taken_in g.S.Store (setup_content opening.setup) ds c.args.delivered.now text c.in-Ok-taken.response old _ admitted.partner c.number-number.result c.as_str-code.result.now
+    c.interchange_text-text.ensures.exact stands refl
+    (numbered (parties_of old.setup) text (head_segments c.head.result) admitted.partner c.number-number.result (c.head.ensures ∙ is.segments) c.number-number.ensures.number is.admits)
+    code (c.in-Ok-taken.ensures.ok sound.0 sound.1)
+
+pub returns-in-Err-taken-clause-delivers : goal.returns-in-Err-taken-clause-delivers
+returns-in-Err-taken-clause-delivers g c = λ sound opening ds stands.
+    not_taken g.S.Store (setup_content opening.setup) ds c.args.delivered.now c.args.self.now _ stands refl
+    (admitted_surely (parties_of c.args.self.now.setup) c.args.delivered.now c.interchange_text-text.result.now _ NotNow c.interchange_text-text.ensures.exact c.in-Ok.ensures.ok.admits)
+    (c.in-Err-taken.ensures.err sound.0 sound.1)

@@ -1,0 +1,31 @@
+-- Where a desk stands, and what it answers.
+use Rattle.std.specs.Prelude.{◌≡◌, ℕ, List, IsTrue}
+use Rattle.sqlite.specs.Held.{state}
+use Rattle.sqlite.specs.State.{HasCleanDisk}
+use Rattle.sqlite_trees.specs.declared.store.Store.{Ghosts}
+use Rattle.office_replies.specs.declared.response.Response.{Response}
+use Rattle.office_setup.specs.Setups.{SetupContent, setup_content}
+use Rattle.office_taking.specs.Taking.{interchange_taken}
+use Rattle.office_history.specs.After.{parties_in, opening_of}
+use Rattle.office_desk.specs.Answers.{AnswersNext}
+use Rattle.office_store_desk.specs.Telling.{Holds}
+use Rattle.office_store_desk.specs.declared.desk.Desk.{Desk}
+
+-- so far its disk has returned what was written, and its connection is open
+abbrev pub IsSound : {S : Type 0} (g : Ghosts S) → Desk S g → Type 0
+IsSound g desk = HasCleanDisk (state g desk.conn) × IsTrue (state g desk.conn).is_open
+
+-- for that set-up, after those deliveries, it is this desk
+pub record StandsFor {S : Type 0} (g : Ghosts S) (content : SetupContent) (ds : List (List ℕ)) (desk : Desk S g) : Type 0 where
+  pub setup : setup_content desk.setup ≡ content
+  pub holds : Holds content ds (state g desk.conn).committed desk.terminal
+
+-- the same for the set-up of the desk that opened
+abbrev pub DeskStands : {S : Type 0} (g : Ghosts S) → Desk S g → List (List ℕ) → Desk S g → Type 0
+DeskStands g opening ds desk = StandsFor g (setup_content opening.setup) ds desk
+
+abbrev pub answers_for : SetupContent → List (List ℕ) → List ℕ → Response → Type 0
+answers_for content ds delivered given = AnswersNext interchange_taken (parties_in content) (opening_of content) ds delivered given
+
+abbrev pub DeskAnswers : {S : Type 0} (g : Ghosts S) → Desk S g → List (List ℕ) → List ℕ → Response → Type 0
+DeskAnswers g opening ds delivered given = answers_for (setup_content opening.setup) ds delivered given

@@ -1,0 +1,98 @@
+ghost use Rattle.std.specs.Prelude.{◌≡◌, ℕ, List, Some, false};
+ghost use Rattle.edi_segments.specs.Interchange.{interchange_of};
+ghost use Rattle.office_replies.specs.Delivering.{Delivers};
+ghost use Rattle.office_setup.specs.Parties.{parties_of};
+ghost use Rattle.office_setup.specs.Given.{IsGiven};
+ghost use Rattle.office_setup.specs.Setups.{setup_content};
+
+use crate::taking::take_in;
+use edi_segments::interchange_text;
+use office_admission::admit;
+use office_replies::{Deliver, Response};
+use office_setup::Setup;
+use sqlite::{Alter, Connection};
+use std::alloc::Global;
+use terminal_core::Terminal;
+
+/// The terminal's desk over a store: its records are the rows of the tables, and the terminal stands beside them in memory.
+#[derive(Drop)]
+pub struct Desk<S: Alter> {
+    conn: Connection<S>,
+    setup: Setup,
+    // The terminal as the rows have it; none where it has to be loaded again.
+    terminal: Option<Terminal>,
+    ghost idle: { conn.in_transaction ≡ false },
+    ghost given: { IsGiven (setup_content setup) },
+}
+
+impl<S: Alter> Desk<S> {
+    /// A desk over tables that were opened, with the terminal that they are of.
+    pub fn new(conn: Connection<S>, setup: Setup, terminal: Terminal) -> Desk<S>
+        requires idle { conn.in_transaction ≡ false }
+        requires given { IsGiven (setup_content setup) }
+        ensures conn { result.conn ≡ conn }
+        ensures setup { result.setup ≡ setup }
+        ensures terminal { result.terminal ≡ Some terminal }
+    {
+        Desk {
+            conn,
+            setup,
+            terminal: Some(terminal),
+        }
+    }
+
+    /// The connection to its tables.
+    pub fn into_connection(self) -> Connection<S>
+        ensures { result ≡ self.conn }
+    {
+        let Desk {
+            conn,
+            setup: _,
+            terminal: _,
+        } = self;
+        conn
+    }
+}
+
+impl<S: Alter + Drop> Deliver for Desk<S> {
+    ghost use Rattle.office_admission.specs.Refusals.{RefusedSurely};
+    ghost use Rattle.office_store_desk.specs.Desks.{IsSound, DeskStands, DeskAnswers};
+
+    ghost clean = { IsSound S.Store };
+
+    ghost stands = { DeskStands S.Store };
+
+    ghost answers = { DeskAnswers S.Store };
+
+    /// A refusal without a CONTRL takes no memory and no store, so it is never answered NotNow.
+    fn deliver(&mut self, alloc: Global, delivered: &[u8]) -> Response
+        ensures delivers { IsSound S.Store self.new → (opening : Desk S S.Store) (ds : List (List ℕ)) → DeskStands S.Store opening ds self.old →
+            Delivers (DeskStands S.Store opening) (DeskAnswers S.Store opening) ds delivered.now result self.new }
+        ensures stays { IsSound S.Store self.new → IsSound S.Store self.old }
+        ensures sure { RefusedSurely (parties_of self.old.setup) (interchange_of delivered.now) result }
+    {
+        let text = interchange_text(delivered);
+        let admitted = match admit(&self.setup, text) {
+            Ok(admitted) => admitted,
+            Err(refusal) => return refusal.answer(alloc),
+        };
+        let number = admitted.envelope.head().number();
+        let partner = admitted.partner;
+        let setup = &self.setup;
+        let code = setup.partners[partner as usize - 1].code.as_str();
+        let taken = take_in(
+            alloc,
+            &mut self.conn,
+            setup,
+            &mut self.terminal,
+            code,
+            partner,
+            number,
+            text,
+        );
+        match taken {
+            Ok(response) => response,
+            Err(_) => Response::NotNow,
+        }
+    }
+}
