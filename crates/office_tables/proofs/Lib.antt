@@ -1,1 +1,2 @@
 pub mod OpenedLemmas
+pub mod OpenLemmas

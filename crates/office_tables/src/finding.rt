@@ -1,4 +1,4 @@
-ghost use Rattle.std.specs.Prelude.{◌≡◌, IfOk, OnOk, false, map, filter};
+ghost use Rattle.std.specs.Prelude.{◌≡◌, IfOk, OnOk, IsTrue, false, map, filter};
 ghost use Rattle.std.specs.List.Sorted.{IsPermutation};
 ghost use Rattle.sqlite.specs.declared.types.Value.TheVariants.{Text, Blob};
 ghost use Rattle.sqlite.specs.Order.{column};
@@ -24,6 +24,8 @@ pub fn kept<S: Alter>(
     ensures same { HasCleanDisk (state S.Store conn.new) → (state S.Store conn.old).now.schema ≡ office_schema → OnOk result (IsUnchanged (state S.Store conn.old) (state S.Store conn.new)) }
     ensures keeps { HasCleanDisk (state S.Store conn.new) → (state S.Store conn.old).now.schema ≡ office_schema → KeepsCommit (state S.Store conn.old) (state S.Store conn.new) }
     ensures mode { conn.old.in_transaction ≡ false → conn.new.in_transaction ≡ false }
+    ensures clean { HasCleanDisk (state S.Store conn.new) → HasCleanDisk (state S.Store conn.old) }
+    ensures was_open { HasCleanDisk (state S.Store conn.new) → IsTrue (state S.Store conn.new).is_open → IsTrue (state S.Store conn.old).is_open }
     ensures survives { (state S.Store conn.old).now.schema ≡ office_schema → Survives (state S.Store conn.old) (state S.Store conn.new) (λ _. ⊥) }
 {
     let rows = select_kept(conn, partner, number)?;
@@ -42,6 +44,8 @@ fn select_kept<S: Alter>(
     ensures same { HasCleanDisk (state S.Store conn.new) → (state S.Store conn.old).now.schema ≡ office_schema → OnOk result (IsUnchanged (state S.Store conn.old) (state S.Store conn.new)) }
     ensures keeps { HasCleanDisk (state S.Store conn.new) → (state S.Store conn.old).now.schema ≡ office_schema → KeepsCommit (state S.Store conn.old) (state S.Store conn.new) }
     ensures mode { conn.old.in_transaction ≡ false → conn.new.in_transaction ≡ false }
+    ensures clean { HasCleanDisk (state S.Store conn.new) → HasCleanDisk (state S.Store conn.old) }
+    ensures was_open { HasCleanDisk (state S.Store conn.new) → IsTrue (state S.Store conn.new).is_open → IsTrue (state S.Store conn.old).is_open }
     ensures survives { (state S.Store conn.old).now.schema ≡ office_schema → Survives (state S.Store conn.old) (state S.Store conn.new) (λ _. ⊥) }
 {
     Ok(conn.query_all(
@@ -65,6 +69,8 @@ pub fn next_of<S: Alter>(conn: &mut Connection<S>, partner: u16) -> Result<u32, 
     ensures same { HasCleanDisk (state S.Store conn.new) → (state S.Store conn.old).now.schema ≡ office_schema → OnOk result (IsUnchanged (state S.Store conn.old) (state S.Store conn.new)) }
     ensures keeps { HasCleanDisk (state S.Store conn.new) → (state S.Store conn.old).now.schema ≡ office_schema → KeepsCommit (state S.Store conn.old) (state S.Store conn.new) }
     ensures mode { conn.old.in_transaction ≡ false → conn.new.in_transaction ≡ false }
+    ensures clean { HasCleanDisk (state S.Store conn.new) → HasCleanDisk (state S.Store conn.old) }
+    ensures was_open { HasCleanDisk (state S.Store conn.new) → IsTrue (state S.Store conn.new).is_open → IsTrue (state S.Store conn.old).is_open }
     ensures survives { (state S.Store conn.old).now.schema ≡ office_schema → Survives (state S.Store conn.old) (state S.Store conn.new) (λ _. ⊥) }
 {
     let rows = select_next(conn, partner)?;
@@ -79,6 +85,8 @@ fn select_next<S: Alter>(conn: &mut Connection<S>, partner: u16) -> Result<Vec<R
     ensures same { HasCleanDisk (state S.Store conn.new) → (state S.Store conn.old).now.schema ≡ office_schema → OnOk result (IsUnchanged (state S.Store conn.old) (state S.Store conn.new)) }
     ensures keeps { HasCleanDisk (state S.Store conn.new) → (state S.Store conn.old).now.schema ≡ office_schema → KeepsCommit (state S.Store conn.old) (state S.Store conn.new) }
     ensures mode { conn.old.in_transaction ≡ false → conn.new.in_transaction ≡ false }
+    ensures clean { HasCleanDisk (state S.Store conn.new) → HasCleanDisk (state S.Store conn.old) }
+    ensures was_open { HasCleanDisk (state S.Store conn.new) → IsTrue (state S.Store conn.new).is_open → IsTrue (state S.Store conn.old).is_open }
     ensures survives { (state S.Store conn.old).now.schema ≡ office_schema → Survives (state S.Store conn.old) (state S.Store conn.new) (λ _. ⊥) }
 {
     Ok(conn.query_all(

@@ -3,6 +3,7 @@ use Rattle.sqlite.specs.Listing.{understood}
 use Rattle.sqlite.specs.Held.{state}
 use Rattle.sqlite.specs.State.{Shown, CommitsShowing, Survives}
 use Rattle.sqlite.proofs.Callers.{IsPlain}
+use Rattle.office_tables.proofs.OpenLemmas.{shown_open, failed_open}
 use Rattle.office_rows.specs.Values.{number}
 use Rattle.office_rows.proofs.Reading as texts
 use Rattle.office_rows.proofs.ReadLemmas.{shown_same, shown_keeps, failed_keeps, query_survives}
@@ -61,3 +62,9 @@ returns-clause-keeps g c clean is =
     let plain : IsPlain (understood old.now.schema texts.select_kept) = subst (λ s. IsPlain (understood s texts.select_kept)) (sym is) texts.select_kept_plain in
     let h : Shown texts.select_kept params old new c.in_ok-query_all.field-0.items = rw (c.integer.ensures, c.integer-2.ensures, c.from.ensures) at (c.in_ok-query_all.ensures.ok clean) in
     shown_keeps texts.select_kept params old new c.in_ok-query_all.field-0.items plain h
+
+pub returns-in_err-query_all-clause-was_open : goal.returns-in_err-query_all-clause-was_open
+returns-in_err-query_all-clause-was_open g c clean is = failed_open _ _ (state g.S.Store c.args.conn.now) (state g.S.Store c.query_all.new.self) _ (c.in_err-query_all.ensures.err clean) is
+
+pub returns-clause-was_open : goal.returns-clause-was_open
+returns-clause-was_open g c clean is = shown_open _ _ (state g.S.Store c.args.conn.now) (state g.S.Store c.query_all.new.self) _ (c.in_ok-query_all.ensures.ok clean)
