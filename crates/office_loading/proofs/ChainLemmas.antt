@@ -45,6 +45,7 @@ reads_then a b c p q = record {
   keeps = λ clean is.
       let before = clean_before b c q clean in
       keep_then a b c (stops_keep a b (inl (p.same before is))) (q.keeps clean (schema_is a b p before is));
+  was_open = λ clean is. p.reads.was_open (clean_before b c q clean) (q.was_open clean is);
   mode = λ h. q.mode (p.reads.mode h);
   survives = survives_then a b c (λ _. a.now.schema ≢ office_schema) (λ _. b.now.schema ≢ office_schema) (λ _. a.now.schema ≢ office_schema) (λ _ db other. other)
       (λ clean db other. λ is. other (schema_is a b p (clean_before b c q clean) is)) p.reads.survives q.survives;

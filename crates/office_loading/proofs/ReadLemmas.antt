@@ -7,6 +7,7 @@ use Rattle.sqlite.specs.declared.error.Error.{Error}
 use Rattle.sqlite.proofs.Callers.{IsPlain}
 use Rattle.office_rows.specs.Tables.{office_schema}
 use Rattle.office_rows.proofs.ReadLemmas.{shown_keeps, failed_keeps}
+use Rattle.office_tables.proofs.OpenLemmas.{shown_open, failed_open}
 use Rattle.office_loading.specs.Reads.{OnlyReads}
 
 pub plain_in : (sql : List ℕ) (old : State) → IsPlain (understood office_schema sql) → old.now.schema ≡ office_schema → IsPlain (understood old.now.schema sql)
@@ -31,6 +32,7 @@ pub reads_shown : (sql : List ℕ) (params : Row) (old new : State) (rows : List
     → (old.in_transaction ≡ false → new.in_transaction ≡ false) → Survives old new (CommitsShowing sql params old) → OnlyReads old new
 reads_shown sql params old new rows plain shown mode s = record {
   keeps = λ clean is. shown_keeps sql params old new rows (plain_in sql old plain is) (shown clean);
+  was_open = λ clean is. shown_open sql params old new rows (shown clean);
   mode = mode;
   survives = survives_reading sql params old new plain s;
 }
@@ -39,6 +41,7 @@ pub reads_failed : (sql : List ℕ) (params : Row) (old new : State) (e : Error)
     → (old.in_transaction ≡ false → new.in_transaction ≡ false) → Survives old new (CommitsShowing sql params old) → OnlyReads old new
 reads_failed sql params old new e plain fails mode s = record {
   keeps = λ clean is. failed_keeps sql params old new e (plain_in sql old plain is) (fails clean);
+  was_open = λ clean is. failed_open sql params old new e (fails clean) is;
   mode = mode;
   survives = survives_reading sql params old new plain s;
 }

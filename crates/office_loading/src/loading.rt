@@ -1,4 +1,4 @@
-ghost use Rattle.std.specs.Prelude.{◌≡◌, IfOk, IfErr, OnOk, false};
+ghost use Rattle.std.specs.Prelude.{◌≡◌, IfOk, IfErr, OnOk, IsTrue, false};
 ghost use Rattle.sqlite.specs.Held.{state};
 ghost use Rattle.sqlite.specs.State.{HasCleanDisk, IsUnchanged, KeepsCommit, Survives};
 ghost use Rattle.office_setup.specs.Setups.{setup_content};
@@ -25,6 +25,8 @@ pub fn load<S: Alter>(
     ensures refused { HasCleanDisk (state S.Store conn.new) → (state S.Store conn.old).now.schema ≡ office_schema → IfErr result (FailsToLoad (state S.Store conn.old).now) }
     ensures same { HasCleanDisk (state S.Store conn.new) → (state S.Store conn.old).now.schema ≡ office_schema → OnOk result (IsUnchanged (state S.Store conn.old) (state S.Store conn.new)) }
     ensures keeps { HasCleanDisk (state S.Store conn.new) → (state S.Store conn.old).now.schema ≡ office_schema → KeepsCommit (state S.Store conn.old) (state S.Store conn.new) }
+    ensures clean { HasCleanDisk (state S.Store conn.new) → HasCleanDisk (state S.Store conn.old) }
+    ensures was_open { HasCleanDisk (state S.Store conn.new) → IsTrue (state S.Store conn.new).is_open → IsTrue (state S.Store conn.old).is_open }
     ensures mode { conn.old.in_transaction ≡ false → conn.new.in_transaction ≡ false }
     ensures survives { (state S.Store conn.old).now.schema ≡ office_schema → Survives (state S.Store conn.old) (state S.Store conn.new) (λ _. ⊥) }
 {

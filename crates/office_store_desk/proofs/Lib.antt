@@ -1,3 +1,4 @@
 pub mod AnswerLemmas
 pub mod HoldLemmas
 pub mod DeliverLemmas
+pub mod PartLemmas

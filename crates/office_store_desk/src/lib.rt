@@ -6,6 +6,7 @@ mod desk;
 mod early;
 mod found;
 mod next;
+mod reloading;
 mod taking;
 
 pub use desk::Desk;

@@ -14,6 +14,7 @@ use crate::answers::answer_used;
 use crate::early::take_early;
 use crate::found::{Found, look};
 use crate::next::take_next;
+use crate::reloading::terminal_of;
 use office_replies::Response;
 use office_setup::Setup;
 use office_tables::TableFault;
@@ -96,9 +97,7 @@ fn take_new<S: Alter>(
     if next < number {
         return take_early(alloc, conn, next, code, partner, number, text);
     }
-    let Some(now) = terminal.take() else {
-        return Err(TableFault::Damaged);
-    };
+    let now = terminal_of(alloc, conn, terminal.take())?;
     let (answer, now) = take_next(alloc, conn, setup, now, code, partner, number, text)?;
     *terminal = Some(now);
     Ok(answer)

@@ -4,6 +4,7 @@ use Rattle.std.proofs.Common.{subst}
 use Rattle.office_checks.specs.Contents.{opened_rows}
 use Rattle.office_checks.specs.Refusals.{RefusesTables}
 use Rattle.office_loading.proofs.ReadLemmas.{quiet}
+use Rattle.office_loading.proofs.ChainLemmas.{clean_before}
 use Rattle.office_loading.proofs.OfficeLemmas.{tables_fail, none_shown}
 use Rattle.office_loading.proofs.loading.load.Goals as goal
 
@@ -27,3 +28,9 @@ pub returns-in-Err-Unsound-clause-refused : goal.returns-in-Err-Unsound-clause-r
 returns-in-Err-Unsound-clause-refused g c clean is =
     let read = c.in_ok-tables.ensures.read clean is in
     (read.0, none_shown (state g.S.Store c.args.conn.now).now (opened_rows c.in_ok-tables.tables) read.1 read.2 (subst (RefusesTables (opened_rows c.in_ok-tables.tables)) c.in-Err-Unsound.field-0-is c.in-Err-Unsound.ensures.refused))
+
+pub returns-in_err-tables-clause-clean : goal.returns-in_err-tables-clause-clean
+returns-in_err-tables-clause-clean g c clean = clean_before (state g.S.Store c.args.conn.now) (state g.S.Store c.read_tables.new.conn) c.read_tables.ensures.reads clean
+
+pub returns-in_err-tables-clause-was_open : goal.returns-in_err-tables-clause-was_open
+returns-in_err-tables-clause-was_open g c clean is = c.read_tables.ensures.reads.was_open clean is
