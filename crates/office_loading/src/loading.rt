@@ -1,6 +1,7 @@
 ghost use Rattle.std.specs.Prelude.{◌≡◌, IfOk, IfErr, OnOk, IsTrue, false};
 ghost use Rattle.sqlite.specs.Held.{state};
 ghost use Rattle.sqlite.specs.State.{HasCleanDisk, IsUnchanged, KeepsCommit, Survives};
+ghost use Rattle.office_setup.specs.Given.{IsGiven};
 ghost use Rattle.office_setup.specs.Setups.{setup_content};
 ghost use Rattle.office_rows.specs.Tables.{office_schema};
 ghost use Rattle.office_loading.specs.Tables.{Loads, FailsToLoad};
@@ -22,6 +23,7 @@ pub fn load<S: Alter>(
     conn: &mut Connection<S>,
 ) -> Result<(Setup, Terminal), TableFault>
     ensures loaded { HasCleanDisk (state S.Store conn.new) → (state S.Store conn.old).now.schema ≡ office_schema → IfOk result (λ p. Loads (state S.Store conn.old).now (setup_content p.0) p.1) }
+    ensures given { IfOk result (λ p. IsGiven (setup_content p.0)) }
     ensures refused { HasCleanDisk (state S.Store conn.new) → (state S.Store conn.old).now.schema ≡ office_schema → IfErr result (FailsToLoad (state S.Store conn.old).now) }
     ensures same { HasCleanDisk (state S.Store conn.new) → (state S.Store conn.old).now.schema ≡ office_schema → OnOk result (IsUnchanged (state S.Store conn.old) (state S.Store conn.new)) }
     ensures keeps { HasCleanDisk (state S.Store conn.new) → (state S.Store conn.old).now.schema ≡ office_schema → KeepsCommit (state S.Store conn.old) (state S.Store conn.new) }

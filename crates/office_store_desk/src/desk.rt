@@ -1,4 +1,4 @@
-ghost use Rattle.std.specs.Prelude.{◌≡◌, ℕ, List, Some, false};
+ghost use Rattle.std.specs.Prelude.{◌≡◌, ℕ, List, Some, false, IfOk};
 ghost use Rattle.edi_segments.specs.Interchange.{interchange_of};
 ghost use Rattle.office_replies.specs.Delivering.{Delivers};
 ghost use Rattle.office_setup.specs.Parties.{parties_of};
@@ -8,8 +8,10 @@ ghost use Rattle.office_setup.specs.Setups.{setup_content};
 use crate::taking::take_in;
 use edi_segments::interchange_text;
 use office_admission::admit;
+use office_loading::load;
 use office_replies::{Deliver, Response};
 use office_setup::Setup;
+use office_tables::TableFault;
 use sqlite::{Alter, Connection};
 use std::alloc::Global;
 use terminal_core::Terminal;
@@ -51,6 +53,30 @@ impl<S: Alter> Desk<S> {
             terminal: _,
         } = self;
         conn
+    }
+}
+
+impl<S: Alter + Drop> Desk<S> {
+    ghost use Rattle.sqlite.specs.Held.{state};
+    ghost use Rattle.office_setup.specs.Setups.{SetupContent};
+    ghost use Rattle.office_rows.specs.Rows.{Rows};
+    ghost use Rattle.office_rows.specs.Stored.{HasRows};
+    ghost use Rattle.office_history.specs.After.{AreAfter};
+    ghost use Rattle.office_store_desk.specs.Desks.{IsSound, DeskStands};
+
+    /// The desk of a store that holds an office: its set-up and its terminal are those that the tables hold. Where it is
+    /// refused, the connection is given up, and no row has changed.
+    pub fn open(alloc: Global, conn: Connection<S>) -> Result<Desk<S>, TableFault>
+        requires idle { conn.in_transaction ≡ false }
+        ensures stands { IfOk result (λ desk. IsSound S.Store desk → (content : SetupContent) (ds : List (List ℕ)) (rows : Rows) →
+            IsGiven content → HasRows rows (state S.Store conn).committed → AreAfter content ds rows →
+            DeskStands S.Store desk ds desk) }
+    {
+        let mut conn = conn;
+        let is_idle = conn.is_autocommit();
+        prove!(is_idle);
+        let (setup, terminal) = load(alloc, &mut conn)?;
+        Ok(Desk::new(conn, setup, terminal))
     }
 }
 

@@ -34,3 +34,6 @@ returns-in_err-tables-clause-clean g c clean = clean_before (state g.S.Store c.a
 
 pub returns-in_err-tables-clause-was_open : goal.returns-in_err-tables-clause-was_open
 returns-in_err-tables-clause-was_open g c clean is = c.read_tables.ensures.reads.was_open clean is
+
+pub returns-in-Ok-clause-given : goal.returns-in-Ok-clause-given
+returns-in-Ok-clause-given g c = c.in-Ok.ensures.ok.given

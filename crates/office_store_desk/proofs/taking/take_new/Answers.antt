@@ -30,6 +30,6 @@ returns-clause-ok g c clean is_open ds delivered rows has settled after beside f
     let there : HasRows rows mid.now = subst (HasRows rows) (sym still.now) has in
     let own : IsBeside content ds (Some c.in_ok-now.now) = c.in_ok-now.ensures.beside before content ds rows c.requires.given has after (subst (IsBeside content ds) (sym c.take.ensures.value) beside) in
     let takes = with_setup a.setup.now c.in_ok-now.now c.in_ok-answer.now rows a.partner a.number a.text.now a.code.now c.in_ok-answer.answer new
-        (c.in_ok-answer.ensures.ok clean rows there (still.now ∙ settled ∙ sym still.committed) (numbered content ds rows a.partner after)) in
+    (c.in_ok-answer.ensures.ok clean rows there (still.now ∙ settled ∙ sym still.committed) (numbered content ds rows a.partner after)) in
     let same : a.number ≡ a.next = omega (arith, c.if-number-next.false, c.if-next-number.false) in
     next_answers content ds rows delivered a.text.now a.partner a.number a.next a.code.now c.in_ok-answer.answer c.in_ok-now.now c.in_ok-answer.now new c.requires.given after own comes free is same takes
