@@ -4,6 +4,7 @@ ghost use Rattle.std.specs.Prelude.{◌≡◌, ◌≤◌, IfOk, length};
 
 mod changes;
 mod delivering;
+mod desk;
 mod opening;
 
 use edi_messages::{CodeTable, PartnerKind};

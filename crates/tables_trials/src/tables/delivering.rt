@@ -10,13 +10,13 @@ use std::process::Abort;
 use std::test::Fail;
 
 /// The gate-in of a container under a number.
-const THIRD: &[u8] =
+pub(super) const THIRD: &[u8] =
     b"UNB+UNOA:3+HAULA+TERM1+240305:0910+3'UNH+1+CODECO:D:95B:UN'BGM+34+G1+9'EQD+CN+ABCU0000038+22G1:102:5+++5'UNT+4+1'UNZ+1+3'";
 
-const SECOND: &[u8] =
+pub(super) const SECOND: &[u8] =
     b"UNB+UNOA:3+HAULA+TERM1+240305:0910+2'UNH+1+CODECO:D:95B:UN'BGM+34+G1+9'EQD+CN+ABCU0000022+22G1:102:5+++5'UNT+4+1'UNZ+1+2'";
 
-const FIRST: &[u8] =
+pub(super) const FIRST: &[u8] =
     b"UNB+UNOA:3+HAULA+TERM1+240305:0910+1'UNH+1+CODECO:D:95B:UN'BGM+34+G1+9'EQD+CN+ABCU0000017+22G1:102:5+++5'UNT+4+1'UNZ+1+1'";
 
 /// Takes the first interchange and those that wait behind it.
