@@ -1,4 +1,4 @@
-.PHONY: demo test build check strength refusals beside bench
+.PHONY: demo test build check strength refusals beside program bench
 
 # The main job on a real interchange, by a build that proves nothing (`make build` leaves the proved program).
 demo:
@@ -31,6 +31,10 @@ refusals:
 # The program beside a plain slow model, on the worked rows and on random streams: about a minute, once it is built.
 beside:
 	scripts/beside
+
+# What the program prints, tells and ends with, on files of its own: once it is built.
+program:
+	scripts/program
 
 # The times of syntax, yard and stream.
 bench: build

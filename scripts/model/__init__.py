@@ -10,12 +10,26 @@ file has one subject, in the order in which they stand on one another:
     messages.py    three messages, their faults, and the order of each line
     contrl.py      the text of CONTRL
     yard.py        what stands where, what fits, the first slot that fits
+    setup.py       set-ups, and the two files that say one
     terminal.py    what an order does: yard, visits, lists
     deliveries.py  the words of the headline: first text, run, order
     office.py      admission, taking a text, the answer to a delivery
     stream.py      the lines and the exit status that answer a stream
+    keys.py        the keys of reports
+    reports.py     what can be asked of the office besides deliveries
+    rows.py        what the tables hold, and what a store's file holds
+    http.py        one request of HTTP and its response
+    commands.py    what a command prints, over files
+    opened.py      whether the rows of a store are those of an office
+
+and what holds the program to them:
+
     days.py        random streams, and how often what comes in them
+    setups.py      random files of set-ups, right and wrong ones
+    requests.py    random keys, and random requests of HTTP
     page.py        the page of worked rows, read
+    stores.py      the program over stores in files, beside the model
+    worked_stores.py  the worked rows that want a store
     worked.py      the worked rows of docs/WORKED_ROWS.md, and the day of examples/day
     beside.py      the program beside all this: scripts/beside
 

@@ -1,10 +1,11 @@
-"""The program beside the model, on the worked rows and on random streams: scripts/beside."""
+"""The program beside the model, on the worked rows, on random streams, and over random stores: scripts/beside."""
 import os
 import subprocess
 import sys
 from collections import Counter
+from functools import partial
 
-from . import worked
+from . import stores, worked
 from .days import stream
 from .messages import MESSAGE_FAULTS
 from .office import Office
@@ -33,9 +34,10 @@ EVERY_KIND = (
 
 USAGE = """usage: scripts/beside [STREAMS DELIVERIES SHARE [SEED]]
 
-Compares crates/office/out/office with the model: first the worked rows and the day of examples/day, then random
-streams. STREAMS streams of DELIVERIES interchanges each, SHARE of them (0 to 1) with altered bytes, with the seeds
-from SEED on (1 where none is given). Without arguments: %s.
+Compares crates/office/out/office with the model: first the worked rows and the day of examples/day, as `office demo`
+and over stores in files; then random set-ups, deliveries and reports over stores, and requests by HTTP; then random
+streams. With arguments the rows, and STREAMS streams of DELIVERIES interchanges each, SHARE of them (0 to 1) with
+altered bytes, with the seeds from SEED on (1 where none is given). Without arguments: %s.
 """ % ', then '.join('%d %d %s' % mix for mix in MIXES)
 
 
@@ -94,16 +96,23 @@ def read_arguments(words):
 
 
 def main():
-    """The worked rows, then each mix; gives the status."""
+    """The worked rows; without arguments set-ups, stores and requests; then each mix. With `demo` alone no store is made.
+    Gives the status."""
+    demo_alone = sys.argv[1:] == ['demo']
     try:
-        mixes, first_seed = read_arguments(sys.argv[1:])
+        mixes, first_seed = read_arguments([] if demo_alone else sys.argv[1:])
     except ValueError:
         print(USAGE, end='', file=sys.stderr)
         return 2
     if not os.path.exists(PROGRAM):
         print('crates/office/out/office is not built: make build', file=sys.stderr)
         return 2
-    failed = worked.check(TOP, answered_by_program)
+    beside = stores.Beside(PROGRAM)
+    over_store = (lambda row, setup, text: None) if demo_alone else partial(stores.over_store, beside)
+    failed = worked.check(TOP, answered_by_program, over_store)
+    if len(sys.argv) == 1:
+        stores.try_all(beside)
+    failed += stores.told(beside)
     for mix in mixes:
         counted, differing = compare(mix, first_seed)
         report(mix, counted, differing)

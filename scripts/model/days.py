@@ -1,13 +1,14 @@
-"""Random streams for `office demo`: what comes in them, and how often.
+"""Random streams, as for `office demo`: what comes in them, and how often.
 
-A stream is made from its seed alone. Partners send in turn by chance; each numbers its interchanges from 1 on, sends
-some again, some early, and some that are spoiled, which it then sends anew under the same number. Numbers before each
-value in a table are its weight.
+A stream is made from its seed and the set-up alone. Partners send in turn by chance; each numbers its interchanges from
+1 on, sends some again, some early, and some that are spoiled, which it then sends anew under the same number. Numbers
+before each value in a table are its weight.
 """
 import random
 import re
 
 from .names import check_digit
+from .setup import CODE_NAMES, DEMO
 
 SENT_AGAIN = 0.12           # of all deliveries: one that was sent comes again, the same bytes
 SENT_OTHERWISE = 0.04       # another interchange under a number that was sent
@@ -24,17 +25,13 @@ MESSAGES = [(8, 1), (2, 2), (1, 3)]
 LINES = [(6, 1), (2, 2), (1, 3), (1, 5)]
 MANY_LINES = [(1, 999), (1, 1000)]
 
-# partners, and what each sends
-SENDERS = [
-    (3, ('HAULA', [(3, 'GateIn'), (2, 'GateOut')])),
-    (3, ('HAULB', [(3, 'GateIn'), (2, 'GateOut')])),
-    (2, ('LINEA', [(1, 'ListLoad'), (1, 'ListDischarge')])),
-    (3, ('QUAY1', [(1, 'Load'), (1, 'Discharge')])),
-    (3, ('YARD1', [(1, 'Move')])),
-]
-CODES = {
-    'GateIn': 'CODECO 34', 'GateOut': 'CODECO 36', 'Move': 'CODECO YMV', 'ListDischarge': 'COPRAR 43',
-    'ListLoad': 'COPRAR 45', 'Discharge': 'COARRI 44', 'Load': 'COARRI 46'}
+# how often a partner of each kind sends, and what
+SENDERS = {
+    'gate': (3, [(3, 'GateIn'), (2, 'GateOut')]),
+    'line': (2, [(1, 'ListLoad'), (1, 'ListDischarge')]),
+    'quay': (3, [(1, 'Load'), (1, 'Discharge')]),
+    'yard': (3, [(1, 'Move')]),
+}
 
 # what an interchange is refused for, what is replaced, and by what (the first place alone)
 SPOILS = [
@@ -89,11 +86,13 @@ PLACED_BYTES = "'+:?UNZBHT0159 ~\r\n\x00\x1f\x7f\x80\xe9"
 
 
 class Day:
-    """One stream in the making."""
+    """One stream in the making, for a terminal of some set-up."""
 
-    def __init__(self, seed):
-        self.random = random.Random(seed)
-        self.sent = {code: {} for _weight, (code, _orders) in SENDERS}
+    def __init__(self, seed, setup=DEMO):
+        self.random, self.setup = random.Random(seed), setup
+        self.sent = {code: {} for code in setup.partners}
+        self.senders = [(SENDERS[kind][0], (code, SENDERS[kind][1])) for code, kind in setup.partners.items()]
+        self.codes = {meant.order: (meant.type_name, setup.codes[name]) for name, meant in CODE_NAMES.items()}
         self.containers = []
         for number in range(1, self.pick(CONTAINERS) + 1):
             first_ten = 'ABCU%06d' % number
@@ -123,7 +122,11 @@ class Day:
         """A slot of the plan, one in sixteen of them odd."""
         if self.happens(0.06):
             return self.random.choice(ODD_SLOTS)
-        return 'A%03d%02d%d' % (self.random.randint(1, 7), self.random.randint(1, 2), self.random.choice([1, 1, 2, 2, 3]))
+        plan = self.setup.plan
+        block = plan[0] if len(plan) == 1 else self.random.choice(plan)
+        bay = self.random.randint(1, min(7, 2 * block.bays - 1))
+        row = self.random.randint(1, min(2, block.rows))
+        return '%s%03d%02d%d' % (block.letter, bay, row, min(self.random.choice([1, 1, 2, 2, 3]), block.tiers))
 
     def group(self, order, equipment):
         """An EQD and what stands behind it, in any order."""
@@ -146,7 +149,7 @@ class Day:
 
     def message(self, order, reference):
         """A message of one order, from UNH to UNT."""
-        type_name, code = CODES[order].split()
+        type_name, code = self.codes[order]
         body = ['BGM+%s+G1%s' % (code, self.random.choice(['', '+9']))]
         if type_name != 'CODECO':
             body.append(self.pick(TRANSPORTS))
@@ -171,9 +174,9 @@ class Day:
         count = self.pick(MESSAGES)
         messages = [
             self.message(self.pick(orders), self.pick(REFERENCES) % (place + 1)) for place in range(count)]
-        header = 'UNB+%s+%s%s+TERM1+%s+%s' % (
+        header = 'UNB+%s+%s%s+%s+%s+%s' % (
             self.random.choice(['UNOA:3', 'UNOB:1', 'UNOC:2']), code, self.random.choice(['', '', ':ZZ', '::X']),
-            self.random.choice(['240305:0910', '240306:1200', '240229:0000']), written)
+            self.setup.terminal, self.random.choice(['240305:0910', '240306:1200', '240229:0000']), written)
         return "%s'%sUNZ+%d+%s'" % (header, ''.join(messages), count, written)
 
     def written_otherwise(self, text):
@@ -203,9 +206,14 @@ class Day:
 
     # ---- a stream
 
+    def again(self):
+        """What was sent before, by whomever; the next delivery where nothing was."""
+        texts = [text for _code, sent in sorted(self.sent.items()) for _number, text in sorted(sent.items())]
+        return self.random.choice(texts) if texts else self.delivery()
+
     def delivery(self):
         """What is sent next, by whomever."""
-        code, orders = self.pick(SENDERS)
+        code, orders = self.pick(self.senders)
         sent = self.sent[code]
         if sent and self.happens(SENT_AGAIN):
             return sent[self.random.choice(sorted(sent))]
@@ -221,12 +229,17 @@ class Day:
         return sent[number]
 
 
-def stream(seed, deliveries, share):
-    """That many deliveries one after the other, the share of them with altered bytes, with line breaks between, and
-    seldom with something behind them that is no interchange."""
-    day, texts = Day(seed), []
+def streamed(day, deliveries, share):
+    """What is sent next, that many deliveries one after the other, the share of them with altered bytes, with line breaks
+    between, and seldom with something behind them that is no interchange."""
+    texts = []
     for _delivery in range(deliveries):
         text = day.delivery()
         texts.append(day.altered(text) if day.happens(share) else text)
         texts.append(day.pick(BETWEEN))
     return ''.join(texts) + day.pick(TAILS)
+
+
+def stream(seed, deliveries, share):
+    """The stream of a seed, for `office demo`."""
+    return streamed(Day(seed), deliveries, share)

@@ -1,7 +1,8 @@
 """CODECO, COPRAR and COARRI (UN/EDIFACT D.95B): what a message orders for each container. docs/PROFILE.md, section 3.
 
 A message is the list of its segments from UNH to UNT. "The first" is the first that fits (own). Each fault is a
-predicate, which is asked only where none of those before it applies.
+predicate, which is asked only where none of those before it applies. What its sender may order is a dict of orders by
+type and 1001.
 """
 from collections import namedtuple
 from itertools import takewhile
@@ -10,16 +11,6 @@ from .moments import moment_of
 from .names import length_of, number_fault, slot_of
 from .syntax import is_count, is_printable
 
-# type and 1001: the order, and the kind of partner that may send it (own; these are the defaults)
-CODES = {
-    ('CODECO', '34'): ('GateIn', 'gate'),
-    ('CODECO', '36'): ('GateOut', 'gate'),
-    ('CODECO', 'YMV'): ('Move', 'yard'),
-    ('COPRAR', '43'): ('ListDischarge', 'line'),
-    ('COPRAR', '45'): ('ListLoad', 'line'),
-    ('COARRI', '44'): ('Discharge', 'quay'),
-    ('COARRI', '46'): ('Load', 'quay'),
-}
 READ_SIZE = ('GateIn', 'Discharge')
 READ_SLOT = ('GateIn', 'Discharge', 'Move')
 READ_MOMENT = ('GateIn', 'GateOut', 'Discharge', 'Load')
@@ -87,24 +78,23 @@ def call_of(message):
 
 # ---- faults of a message
 
-def is_other_type(message, kind):
+def is_other_type(message, may_order):
     """S009 is none of the three types, then D, 95B, UN. The association code is free."""
     identifier = [message[0].value(2, component) for component in (2, 3, 4)]
     return type_of(message) not in ('CODECO', 'COPRAR', 'COARRI') or identifier != ['D', '95B', 'UN']
 
 
-def has_no_bgm(message, kind):
+def has_no_bgm(message, may_order):
     """The header has no BGM."""
     return first(header_of(message), 'BGM') is None
 
 
-def is_other_code(message, kind):
-    """1001 is no code that a partner of that kind may send in a message of that type (own)."""
-    _order, sender = CODES.get((type_of(message), code_of(message)), (None, None))
-    return sender != kind
+def is_other_code(message, may_order):
+    """1001 is no code that its sender may send in a message of that type (own)."""
+    return (type_of(message), code_of(message)) not in may_order
 
 
-def is_other_function(message, kind):
+def is_other_function(message, may_order):
     """1225 is neither empty nor 9, original."""
     return first(header_of(message), 'BGM').value(3) not in ('', '9')
 
@@ -114,25 +104,25 @@ def has_limits(value):
     return 1 <= len(value) <= 35 and is_printable(value)
 
 
-def has_no_transport(message, kind):
+def has_no_transport(message, may_order):
     """A COPRAR or COARRI without such a TDT, or whose voyage or vessel is outside the limits."""
     if type_of(message) == 'CODECO':
         return False
     return transport_of(message) is None or not all(has_limits(value) for value in call_of(message))
 
 
-def has_no_equipment(message, kind):
+def has_no_equipment(message, may_order):
     """No EQD is a container."""
     return not container_groups(message)
 
 
-def has_other_equipment_count(message, kind):
+def has_other_equipment_count(message, may_order):
     """6066 of the first CNT in the whole message whose 6069 is 16, where there is one, isn't the number of all EQD."""
     control = first(message, 'CNT', lambda segment: segment.value(1, 1) == '16')
     return control is not None and not is_count(control.value(1, 2), len(groups_of(message)))
 
 
-def has_too_many(message, kind):
+def has_too_many(message, may_order):
     """Over 999 containers (own)."""
     return len(container_groups(message)) > 999
 
@@ -144,10 +134,10 @@ MESSAGE_FAULTS = [
 ]
 
 
-def message_fault(message, kind):
-    """The lowest fault of a message from a partner of that kind, or None."""
+def message_fault(message, may_order):
+    """The lowest fault of a message from a partner who may order that, or None."""
     for name, applies in MESSAGE_FAULTS:
-        if applies(message, kind):
+        if applies(message, may_order):
             return name
     return None
 
@@ -224,9 +214,9 @@ def order_in(group, order, moment_of_interchange, call):
         port=kept(place_in(group, '11')) if order == 'ListLoad' else '')
 
 
-def lines_of(message, moment_of_interchange):
+def lines_of(message, may_order, moment_of_interchange):
     """The lines of a message without fault, one for each container."""
-    order, _kind = CODES[type_of(message), code_of(message)]
+    order = may_order[type_of(message), code_of(message)]
     lines = []
     for group in container_groups(message):
         fault = line_fault(group, order, moment_of_interchange)

@@ -1,4 +1,5 @@
 """Moments of the calendar."""
+from functools import lru_cache
 
 DIGITS = '0123456789'
 
@@ -24,3 +25,15 @@ def moment_of(text, length):
     hour, minute = int(moment[8:10]), int(moment[10:12])
     exists = 1 <= month <= 12 and 1 <= day <= days_of_month(year, month) and hour <= 23 and minute <= 59
     return moment if exists else None
+
+
+@lru_cache(maxsize=None)
+def days_before_year(year):
+    """The days of all years from 0000 on before a year."""
+    return sum(days_of_month(before, month) for before in range(year) for month in range(1, 13))
+
+
+def day_number(moment):
+    """The days from 0000-01-01 to the date of a moment."""
+    year, month, day = int(moment[0:4]), int(moment[4:6]), int(moment[6:8])
+    return days_before_year(year) + sum(days_of_month(year, before) for before in range(1, month)) + day - 1

@@ -3,24 +3,13 @@
 docs/crates/office.md and docs/crates/partner_core.md. An answer is a line of JSON, compact, its keys in order.
 """
 import json
-from collections import namedtuple
 
 from .contrl import acknowledgement, rejection
 from .deliveries import Delivery, answer_of, first_text, made_next, order
 from .messages import lines_of, message_fault
+from .setup import DEMO, orders_of
 from .syntax import BREAKS, FAULTS, fault_of, messages_of, moment_of_header, number_of, recipient_of, sender_of
 from .terminal import Terminal
-from .yard import Block
-
-# the terminal's code, the kind of each partner, the plan of the yard, the most visits there may be
-Setup = namedtuple('Setup', 'terminal partners plan most_visits')
-
-# the set-up of `office demo`
-DEMO = Setup(
-    terminal='TERM1',
-    partners={'HAULA': 'gate', 'HAULB': 'gate', 'LINEA': 'line', 'QUAY1': 'quay', 'YARD1': 'yard'},
-    plan=[Block('A', bays=4, rows=2, tiers=3)],
-    most_visits=999999999)
 
 # the faults before Test: no CONTRL answers them
 NAMES = [name for name, _applies in FAULTS]
@@ -62,21 +51,23 @@ class Fold:
         """Its messages in order and each message's lines in order. The reply is the CONTRL and what became of each
         line. A message with a fault gives no orders, and the other messages do."""
         faults, reports = [], []
+        may_order = orders_of(self.setup, self.setup.partners[partner])
         for message in messages_of(text):
-            fault = message_fault(message, self.setup.partners[partner])
+            fault = message_fault(message, may_order)
             faults.append(fault)
             if fault:
                 report = dict(fault=fault, result='rejected')
             else:
-                report = dict(lines=self.outcomes(message, (partner, number), text), result='accepted')
+                lines = lines_of(message, may_order, moment_of_header(text))
+                report = dict(lines=self.outcomes(lines, (partner, number)), result='accepted')
             reports.append(dict(report, reference=message[0].value(1)))
         contrl = acknowledgement(text, messages_of(text), faults)
         self.replies[partner, number] = dict(contrl=contrl, messages=reports)
 
-    def outcomes(self, message, source, text):
+    def outcomes(self, lines, source):
         """What became of each line, from 1 on. A line with a fault gives no order."""
         outcomes = []
-        for place, line in enumerate(lines_of(message, moment_of_header(text))):
+        for place, line in enumerate(lines):
             if line.fault:
                 outcome = dict(outcome='refused', reason=line.fault)
             else:
@@ -112,6 +103,10 @@ class Office:
     def __init__(self, setup=DEMO, keeps_fold=False):
         self.setup, self.deliveries = setup, []
         self.kept = Fold(setup) if keeps_fold else None
+
+    def fold(self):
+        """Terminal and replies after what was delivered so far."""
+        return self.kept or fold_of(self.setup, self.deliveries)
 
     def reply_of(self, deliveries, partner, number):
         """The reply to a partner's number, which is within its run, after a list of deliveries."""

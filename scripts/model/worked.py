@@ -2,30 +2,47 @@
 
 Each row is a function. Interchanges and answers are read from the page and not repeated here; what the page says in
 plain words is written out. Where a row has the set-up of `office demo`, its interchanges are a stream for the program
-too.
+too, and each leaves a store. Rows that want a store of their own are in worked_stores.py.
 """
 import glob
 import os
 import re
+from functools import partial
 
 from .names import length_of, number_fault, slot_of, slot_text
-from .office import DEMO, Office, fold_of, json_text
+from .office import Office, fold_of, json_text
 from .page import Page, is_told, short_of
+from .setup import DEMO, read_setup
 from .stream import answers, differences, lines, status
+from .worked_stores import EVERY, check_told, has_own_calls, told_in
 from .yard import Block, Place, blocker, first_slot, misfit
 
 OTHER_SETUPS = {
     'No room': DEMO._replace(plan=[Block('A', bays=1, rows=1, tiers=2)]),
     'No more visits': DEMO._replace(most_visits=1),
+    'No more visits, opened again': DEMO._replace(most_visits=1),
 }
 
 
 class Rows:
-    """The page, the program, and what came of the checks so far."""
+    """The page, the program as `office demo` and over stores, what counts comparisons over stores (or None), and what
+    came of the checks so far."""
 
-    def __init__(self, page, program):
-        self.page, self.program = page, program
-        self.compared, self.wrong, self.checked = 0, [], set()
+    def __init__(self, page, program, over_store):
+        self.page, self.program, self.over_store = page, program, over_store
+        self.beside = over_store.args[0] if isinstance(over_store, partial) else None
+        self.compared, self.wrong, self.checked, self.told = 0, [], set(), set()
+
+    def setup(self, row):
+        """The set-up with which a row begins."""
+        return OTHER_SETUPS.get(row, DEMO)
+
+    def office(self, row, texts):
+        """An office with the row's set-up, to which the texts were delivered."""
+        office = Office(self.setup(row))
+        for text in texts:
+            office.answer(text)
+        return office
 
     def expect(self, row, what, is_so):
         """Counts a check of a row, and keeps what is wrong."""
@@ -36,16 +53,20 @@ class Rows:
 
     def deliver(self, row, texts):
         """The answers of an office to which nothing was delivered before."""
-        office = Office(OTHER_SETUPS.get(row, DEMO))
+        setup = self.setup(row)
+        office = Office(setup)
         given = [office.answer(text) for text in texts]
-        if row not in OTHER_SETUPS:
-            self.stream(row, '\n'.join(texts), given)
+        self.stream(row, '\n'.join(texts), given, setup)
+        check_told(self, row, setup, office, texts)
+        self.told.add(row)
         return given
 
-    def stream(self, row, text, given):
-        """The program's lines and status for a stream that is answered so."""
-        shown = differences('the program', (lines(given), status(given)), self.program(text))
-        self.expect(row, '\n'.join(shown), not shown)
+    def stream(self, row, text, given, setup=DEMO):
+        """The program's lines and status for a stream that is answered so; and what it leaves in a store of its own."""
+        if setup == DEMO:
+            shown = differences('the program', (lines(given), status(given)), self.program(text))
+            self.expect(row, '\n'.join(shown), not shown)
+        self.over_store(row, setup, text)
 
     def tell(self, row, texts, cells):
         """Each is answered as its cell says."""
@@ -59,7 +80,7 @@ class Rows:
 def rows_of_tables(rows):
     """Each row with a table of what is delivered and what is answered."""
     for row, text in rows.page.rows.items():
-        if '| Delivered | Answer |' in text and row != 'What no CONTRL answers':
+        if '| Delivered | Answer |' in text and row != 'What no CONTRL answers' and not has_own_calls(rows.page, row):
             table = rows.page.table(row)
             rows.tell(row, [rows.page.interchange(cells[0]) for cells in table], [cells[1] for cells in table])
 
@@ -119,7 +140,7 @@ def released_characters(rows):
     office = Office()
     answer = office.answer(rows.page.texts(row)[0])
     visit = fold_of(DEMO, office.deliveries).terminal.visits[0]
-    rows.expect(row, answer, answer in rows.deliver(row, rows.page.texts(row)))
+    rows.expect(row, answer, answer in rows.deliver(row, rows.page.texts(row)[:1]))
     rows.expect(row, 'CONTRL', "UCM+M?'1+CODECO:D:95B:UN+7'" in answer['reply']['contrl'])
     rows.expect(row, 'the reference', answer['reply']['messages'][0]['reference'] == "M'1")
     rows.expect(row, visit, (visit.size_type, visit.is_full, visit.booking) == ('22G1', False, 'A+B'))
@@ -191,6 +212,14 @@ def twenties_and_forties(rows):
     rows.expect(row, 'the first slot for a forty', slot_text(first_slot(DEMO.plan, yard, 40)) == 'A002021')
 
 
+# ---- nothing delivered
+
+def nothing_delivered(rows):
+    """What is told before the first delivery."""
+    for row in ('Nothing yet', 'The rows of a set-up'):
+        rows.deliver(row, [])
+
+
 # ---- streams
 
 def two_interchanges(rows):
@@ -233,19 +262,23 @@ def read(path):
         return file.read()
 
 
-def check(top, program):
-    """All rows and the day; prints what was compared, and each that is wrong. Gives how many are."""
+def check(top, program, over_store):
+    """All rows and the day; prints what was compared, and each that is wrong. Gives how many are. `over_store` is
+    `stores.over_store` with what it counts in, as a partial; with another the model alone answers what wants a store."""
     page = Page(read(os.path.join(top, 'docs/WORKED_ROWS.md')))
-    rows = Rows(page, program)
+    rows = Rows(page, program, over_store)
     for check_row in (
             rows_of_tables, what_no_contrl_answers, rejected_messages, first_and_again, numbers,
             other_service_characters, released_characters, two_messages, wrong_count, each_line, check_digits,
-            size_types, twenties_and_forties, two_interchanges, no_interchange):
+            size_types, twenties_and_forties, nothing_delivered, two_interchanges, no_interchange, *EVERY):
         check_row(rows)
+    said = read_setup(*(read(os.path.join(top, 'examples/setup', name)) for name in ('partners.csv', 'blocks.csv')))
+    rows.expect('The day of examples/day', 'examples/setup is the set-up of the demonstration', said == (DEMO, None))
     example = read(os.path.join(top, 'examples/gate-in.edi'))
     rows.expect('The first gate-in', 'examples/gate-in.edi', example.strip() == page.first)
     day(rows, top)
     left = [row for row, part in page.rows.items() if part.startswith('**') and row not in rows.checked]
+    left += [row for row in page.rows if told_in(page, row) and row not in rows.told]
     rows.expect('docs/WORKED_ROWS.md', 'rows that are not checked: %s' % left, not left)
     print(''.join('wrong: %s\n' % text[:2000] for text in rows.wrong), end='')
     print('worked rows and the day of examples/day: %d compared, %d wrong' % (rows.compared, len(rows.wrong)))

@@ -1,31 +1,29 @@
-//! The office of a container terminal. `office demo` takes interchanges from standard input to a terminal in memory, and
-//! prints the answer to each.
+//! The office of a container terminal: `office init` makes a store, `office deliver` and `office serve` take interchanges,
+//! `office report` looks things up, and `office demo` takes interchanges from standard input to tables in memory.
 #![tactic(auto)]
 
-use office_commands::command;
+use office_program::run;
 use office_stream::Port;
 use std::process::ExitCode;
 use std::{env, io};
 
 fn main(rt: HostRuntime) -> ExitCode {
-    match run(&rt) {
+    match run_words(&rt) {
         Ok(status) => ExitCode::from(status),
         Err(_) => ExitCode::from(3),
     }
 }
 
 /// Runs the program on its words and the standard streams. An error is that the words could not be had.
-fn run(rt: &HostRuntime) -> io::Result<u8> {
+fn run_words(rt: &HostRuntime) -> io::Result<u8> {
     let alloc = rt.alloc();
-    let words: Vec<String> = env::args(rt)?.collect(alloc)?;
+    let given: Vec<String> = env::args(rt)?.collect(alloc)?;
+    let mut words = Vec::new(alloc);
+    for word in &given {
+        words.push(word.as_str())?;
+    }
     let mut input = Port::new(rt.stdin());
     let mut output = Port::new(rt.stdout());
     let mut errors = Port::new(rt.stderr());
-    Ok(command::run(
-        alloc,
-        words.as_slice(),
-        &mut input,
-        &mut output,
-        &mut errors,
-    ))
+    Ok(run(rt, words.as_slice(), &mut input, &mut output, &mut errors))
 }

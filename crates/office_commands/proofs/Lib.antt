@@ -1,1 +1,2 @@
+mod DemoGiven
 mod Leaving

@@ -1,21 +1,13 @@
--- The command line and the exit status.
+-- How the demonstration ends: its exit status, and what is told.
 use Rattle.std.specs.Prelude.{◌≡◌, ◌⊎◌, ℕ, List, [], ◌∷◌, Bool, false, Option, codes}
-use Rattle.std.specs.Str.{bytes_eq}
 use Rattle.std.specs.Io.KnownBytes.{Appends}
 use Rattle.office_replies.specs.declared.worst.Worst.{Worst}
 use Rattle.office_replies.specs.declared.worst.Worst.TheVariants.{Fine, Refused, NotNow}
 use Rattle.office_stream.specs.declared.stream_fault.StreamFault.TheVariants.{Read, Write, Turns}
 use Rattle.office_commands.specs.declared.demo_fault.DemoFault.{DemoFault}
-use Rattle.office_commands.specs.declared.demo_fault.DemoFault.TheVariants.{Setup, Stream}
-use Rattle.office_commands.specs.declared.setup_fault.SetupFault.TheVariants.{Codes, Partners, Blocks, Memory}
+use Rattle.office_commands.specs.declared.demo_fault.DemoFault.TheVariants.{Store, Stream}
+use Rattle.office_tables.specs.declared.table_fault.TableFault.TheVariants.{Store as TableStore, Damaged, Version, Memory}
 use Rattle.office_commands.specs.Demo.{DemoRuns, DemoLeft, IsOfPorts}
-
--- the program's own name, and `demo`
-abbrev pub is_demo : List (List ℕ) → Bool
-is_demo [] = false
-is_demo (name ∷ []) = false
-is_demo (name ∷ word ∷ []) = bytes_eq word (codes "demo")
-is_demo (name ∷ word ∷ other ∷ words) = false
 
 -- the status of a stream that was run to its end
 abbrev pub status_of : Worst → ℕ
@@ -25,10 +17,10 @@ status_of NotNow = 3
 
 -- what is told of a fault. A failed write is told by the status alone.
 abbrev pub fault_text : DemoFault → List ℕ
-fault_text (Setup (Codes fault)) = codes "setup: Codes\n"
-fault_text (Setup Partners) = codes "setup: Partners\n"
-fault_text (Setup (Blocks fault)) = codes "setup: Blocks\n"
-fault_text (Setup Memory) = codes "no memory\n"
+fault_text (Store (TableStore error)) = codes "store: Store\n"
+fault_text (Store Damaged) = codes "store: Damaged\n"
+fault_text (Store Version) = codes "store: Version\n"
+fault_text (Store Memory) = codes "store: Memory\n"
 fault_text (Stream Read) = codes "cannot read\n"
 fault_text (Stream Turns) = codes "turns\n"
 fault_text (Stream Write) = []

@@ -4,8 +4,7 @@ ghost use Rattle.office_commands.specs.declared.demo_fault.DemoFault.{DemoFault}
 ghost use Rattle.office_stream.specs.declared.stream_fault.StreamFault.{StreamFault};
 
 use crate::demo_fault::DemoFault;
-use crate::demo_setup::demo_setup;
-use crate::open_desk::open_desk;
+use crate::open_demo::open_demo;
 use office_replies::Worst;
 use office_stream::{Port, run_stream};
 use std::alloc::Global;
@@ -14,8 +13,8 @@ use std::io::{Read, Write};
 /// How many reads of the input are made.
 const TURNS: u64 = 100_000_000;
 
-/// Delivers the interchanges of a reader to a desk of the demonstration's set-up, and writes the answer to each as a line.
-/// Answers the worst of them. A fault is that memory for the set-up was wanting, or that of the stream.
+/// Delivers the interchanges of a reader to a desk of the demonstration's set-up over tables in memory, and writes the answer to each as a line.
+/// Answers the worst of them. A fault is that the desk did not open, or that of the stream.
 pub fn run_demo<R: Read, W: Write>(
     alloc: Global,
     reader: &mut Port<R>,
@@ -39,13 +38,9 @@ pub fn run_demo<R: Read, W: Write>(
         (min (reader.old.reads + demo_turns) (2 ^ 64 - 1) ≤ reader.new.reads)
         × (reader.new.ended ≡ false)) }
 {
-    let setup = match demo_setup(alloc) {
-        Ok(setup) => setup,
-        Err(fault) => return Err(DemoFault::Setup(fault)),
-    };
-    let mut desk = match open_desk(alloc, setup) {
+    let mut desk = match open_demo(alloc) {
         Ok(desk) => desk,
-        Err(fault) => return Err(DemoFault::Setup(fault)),
+        Err(fault) => return Err(DemoFault::Store(fault)),
     };
     match run_stream(alloc, reader, writer, &mut desk, TURNS) {
         Ok(worst) => Ok(worst),

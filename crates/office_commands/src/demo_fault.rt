@@ -1,13 +1,13 @@
 ghost use Rattle.std.specs.Prelude.{◌≡◌};
 
-use crate::setup_fault::SetupFault;
 use office_stream::StreamFault;
+use office_tables::TableFault;
 
 /// Why the demonstration ended before its input.
-#[derive(Clone, Copy, PartialEq, Eq, Debug)]
+#[derive(Drop)]
 pub enum DemoFault {
-    /// It was not set up.
-    Setup(SetupFault),
+    /// Its tables were not made, or did not open.
+    Store(TableFault),
     /// Its stream was left.
     Stream(StreamFault),
 }
@@ -16,14 +16,14 @@ impl DemoFault {
     ghost use Rattle.office_commands.specs.Command.{fault_text};
 
     /// What is told of it. A failed write is told by its status alone.
-    pub fn text(self) -> &'static str
-        ensures { result.now ≡ fault_text self }
+    pub fn text(&self) -> &'static str
+        ensures { result.now ≡ fault_text self.now }
     {
         match self {
-            DemoFault::Setup(SetupFault::Codes(_)) => "setup: Codes\n",
-            DemoFault::Setup(SetupFault::Partners) => "setup: Partners\n",
-            DemoFault::Setup(SetupFault::Blocks(_)) => "setup: Blocks\n",
-            DemoFault::Setup(SetupFault::Memory) => "no memory\n",
+            DemoFault::Store(TableFault::Store(_)) => "store: Store\n",
+            DemoFault::Store(TableFault::Damaged) => "store: Damaged\n",
+            DemoFault::Store(TableFault::Version) => "store: Version\n",
+            DemoFault::Store(TableFault::Memory) => "store: Memory\n",
             DemoFault::Stream(StreamFault::Read) => "cannot read\n",
             DemoFault::Stream(StreamFault::Turns) => "turns\n",
             DemoFault::Stream(StreamFault::Write) => "",

@@ -1,52 +1,23 @@
-ghost use Rattle.std.specs.Prelude.{◌≡◌, ◌≤◌, [], IfOk, IfErr, length};
-ghost use Rattle.office_taking.specs.Taking.{interchange_taken};
-ghost use Rattle.office_setup.specs.Parties.{parties_of};
-ghost use Rattle.office_desk.specs.Desks.{DeskStands, parties};
-ghost use Rattle.office_commands.specs.Opening.{opening_machine, IsSound, OpensNot};
+ghost use Rattle.std.specs.Prelude.{◌≤◌, length, IfOk};
+ghost use Rattle.office_setup.specs.Given.{IsGiven};
+ghost use Rattle.office_setup.specs.Setups.{setup_content};
+ghost use Rattle.office_commands.specs.Opening.{OpensEmpty};
 
-use crate::setup_fault::SetupFault;
 use office_desk::Desk;
 use office_setup::Setup;
-use office_taking::TerminalMachine;
-use std::alloc::{AllocError, Global};
-use terminal_core::Terminal;
-use yard_core::Plan;
+use office_tables::{TableFault, create};
+use sqlite::{Connection, MemStore};
+use std::alloc::Global;
 
-/// The most partners that a terminal has.
-const PARTNERS: usize = 999;
-
-/// A desk of a set-up, to which nothing has been delivered, with an empty terminal behind it.
-pub fn open_desk(alloc: Global, setup: Setup) -> Result<Desk<TerminalMachine>, SetupFault>
-    ensures stands { IfOk result (λ desk. DeskStands interchange_taken desk [] desk) }
-    ensures parties { IfOk result (λ desk. parties desk ≡ parties_of setup) }
-    ensures machine { IfOk result (λ desk. desk.runs.machine ≡ opening_machine setup) }
-
-    // Where the set-up has a fault, that one, the blocks' before the number of partners.
-    ensures sound { IfOk result (λ desk. IsSound setup) }
-    ensures err { IfErr result (OpensNot setup) }
+/// A desk over tables in memory, made for a set-up, to which nothing has been delivered. A set-up that set-up files could
+/// not give is Damaged.
+pub fn open_desk(alloc: Global, setup: &Setup) -> Result<Desk<MemStore>, TableFault>
+    requires few { length setup.now.partners.items ≤ 999 }
+    ensures opens { IfOk result (λ desk. IsGiven (setup_content setup.now) → OpensEmpty (setup_content setup.now) desk) }
 {
-    let plan = match Plan::new(setup.blocks.as_slice()) {
-        Ok(plan) => plan,
-        Err(fault) => return Err(SetupFault::Blocks(fault)),
-    };
-    if setup.partners.len() > PARTNERS {
-        return Err(SetupFault::Partners);
-    }
-    match open_sound(alloc, setup, plan) {
-        Ok(desk) => Ok(desk),
-        Err(_) => Err(SetupFault::Memory),
-    }
-}
-
-/// The same where it has no fault.
-fn open_sound(alloc: Global, setup: Setup, plan: Plan) -> Result<Desk<TerminalMachine>, AllocError>
-    requires plan { plan ≡ setup.blocks.items }
-    requires few { length setup.partners.items ≤ 999 }
-    ensures stands { IfOk result (λ desk. DeskStands interchange_taken desk [] desk) }
-    ensures parties { IfOk result (λ desk. parties desk ≡ parties_of setup) }
-    ensures machine { IfOk result (λ desk. desk.runs.machine ≡ opening_machine setup) }
-{
-    let terminal = Terminal::new(alloc, plan, setup.visit_limit)?;
-    let machine = TerminalMachine::new(setup.copy(alloc)?, terminal);
-    Desk::new(alloc, setup, machine)
+    let mut conn = Connection::open_in_memory(alloc)?;
+    let is_idle = conn.is_autocommit();
+    prove!(is_idle);
+    create(&mut conn, setup)?;
+    Desk::open(alloc, conn)
 }

@@ -1,2 +1,7 @@
-pub mod Desks
-pub mod Delivering
+pub mod Admitted
+pub mod AnswerLemmas
+pub mod CrashLemmas
+pub mod HoldLemmas
+pub mod DeliverLemmas
+pub mod PartLemmas
+pub mod ReportLemmas

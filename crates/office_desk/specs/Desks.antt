@@ -1,35 +1,39 @@
--- At which deliveries a desk stands.
-use Rattle.std.specs.Prelude.{◌≡◌, ℕ, List, [], ◌∷◌, ◌++◌}
-use Rattle.partner_core.specs.Machine.{Taking}
-use Rattle.partner_core.specs.Deliveries.{Delivery}
-use Rattle.partner_core.specs.Answers.{answer_of}
-use Rattle.partner_core.specs.declared.runs.Runs.{Runs}
-use Rattle.partner_core.specs.Runs.{StandsAt}
-use Rattle.office_replies.specs.Contents.{content_of}
+-- Where a desk stands, and what it answers.
+use Rattle.std.specs.Prelude.{◌≡◌, ℕ, List, IsTrue}
+use Rattle.sqlite.specs.Held.{state}
+use Rattle.sqlite.specs.State.{State, HasCleanDisk}
+use Rattle.sqlite_trees.specs.declared.store.Store.{Ghosts}
 use Rattle.office_replies.specs.declared.response.Response.{Response}
-use Rattle.office_setup.specs.Parties.{Parties, parties_of}
-use Rattle.office_admission.specs.Deliveries.{deliveries_of}
+use Rattle.office_setup.specs.Setups.{SetupContent, setup_content}
+use Rattle.office_taking.specs.Taking.{interchange_taken}
+use Rattle.office_history.specs.After.{SaysSame, parties_in, opening_of}
+use Rattle.office_desk.specs.Answers.{AnswersNext}
+use Rattle.office_desk.specs.Telling.{Holds}
+use Rattle.office_desk.specs.Crashes.{Leaves}
 use Rattle.office_desk.specs.declared.desk.Desk.{Desk}
-use Rattle.office_desk.specs.Answers.{AnswersNext, told_answer}
 
--- the terminal and the partners of a desk's set-up
-abbrev pub parties : {M : Type 0} → Desk M → Parties
-parties desk = parties_of desk.setup
+-- so far its disk has returned what was written, and its connection is open
+abbrev pub IsSound : {S : Type 0} (g : Ghosts S) → Desk S g → Type 0
+IsSound g desk = HasCleanDisk (state g desk.conn) × IsTrue (state g desk.conn).is_open
 
--- for those parties and from that state on, after those deliveries, it is this desk
-pub record StandsFrom {M : Type 0} (taken : Taking M) (P : Parties) (opening : M) (ds : List (List ℕ)) (desk : Desk M) : Type 0 where
-  pub same_parties : parties desk ≡ P
-  pub runs_stand : StandsAt taken opening (deliveries_of P ds) desk.runs
+-- for that set-up, after those deliveries, it is this desk
+pub record StandsFor {S : Type 0} (g : Ghosts S) (content : SetupContent) (ds : List (List ℕ)) (desk : Desk S g) : Type 0 where
+  pub setup : setup_content desk.setup ≡ content
+  pub holds : Holds content ds (state g desk.conn).committed desk.terminal
 
--- the same of what a desk opened with
-abbrev pub DeskStands : {M : Type 0} → Taking M → Desk M → List (List ℕ) → Desk M → Type 0
-DeskStands taken opening ds desk = StandsFrom taken (parties opening) opening.runs.machine ds desk
+-- a desk that was opened on the rows after those deliveries: its set-up says the same, it stands there, and opening gave a crash
+-- nothing else to leave
+pub record OpensAt {S : Type 0} (g : Ghosts S) (content : SetupContent) (ds : List (List ℕ)) (found : State) (desk : Desk S g) : Type 0 where
+  pub says : SaysSame (setup_content desk.setup) content
+  pub stands : StandsFor g (setup_content desk.setup) ds desk
+  pub leaves : Leaves content ds found → Leaves (setup_content desk.setup) ds (state g desk.conn)
 
-abbrev pub DeskAnswers : {M : Type 0} → Taking M → Desk M → List (List ℕ) → List ℕ → Response → Type 0
-DeskAnswers taken opening ds delivered given = AnswersNext taken (parties opening) opening.runs.machine ds delivered given
+-- it stands there for the set-up of the desk that opened
+abbrev pub DeskStands : {S : Type 0} (g : Ghosts S) → Desk S g → List (List ℕ) → Desk S g → Type 0
+DeskStands g opening ds desk = StandsFor g (setup_content opening.setup) ds desk
 
--- the response is what the runs tell of a delivery of the partner with a code, and they stand behind it
-pub record Taken {M : Type 0} (taken : Taking M) (opening : M) (ds : List Delivery) (d : Delivery) (code : List ℕ)
-    (response : Response) (runs : Runs M) : Type 0 where
-  pub answers : content_of response ≡ told_answer code d.number (answer_of taken opening ds d)
-  pub stands : StandsAt taken opening (ds ++ d ∷ []) runs
+abbrev pub answers_for : SetupContent → List (List ℕ) → List ℕ → Response → Type 0
+answers_for content ds delivered given = AnswersNext interchange_taken (parties_in content) (opening_of content) ds delivered given
+
+abbrev pub DeskAnswers : {S : Type 0} (g : Ghosts S) → Desk S g → List (List ℕ) → List ℕ → Response → Type 0
+DeskAnswers g opening ds delivered given = answers_for (setup_content opening.setup) ds delivered given

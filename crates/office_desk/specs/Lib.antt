@@ -1,2 +1,5 @@
 pub mod Answers
+pub mod Telling
+pub mod Crashes
 pub mod Desks
+pub mod Reports

@@ -1,105 +1,151 @@
-ghost use Rattle.std.specs.Prelude.{◌≡◌, ◌<◌, ◌≤◌, ◌+◌, ℕ, List, [], IfOk, OnErr, length};
+ghost use Rattle.std.specs.Prelude.{◌≡◌, ℕ, List, Some, false, IfOk};
 ghost use Rattle.edi_segments.specs.Interchange.{interchange_of};
-ghost use Rattle.partner_core.specs.Order.{state};
-ghost use Rattle.partner_core.specs.Deliveries.{Delivery, delivery};
-ghost use Rattle.partner_core.specs.Runs.{StandsAt, partner_count};
 ghost use Rattle.office_replies.specs.Delivering.{Delivers};
-ghost use Rattle.office_admission.specs.Deliveries.{deliveries_of};
-ghost use Rattle.office_desk.specs.Answers.{code_of};
+ghost use Rattle.office_setup.specs.Parties.{parties_of};
+ghost use Rattle.office_setup.specs.Given.{IsGiven};
+ghost use Rattle.office_setup.specs.Setups.{setup_content};
 
+use crate::reloading::terminal_of;
+use crate::taking::take_in;
+use crate::telling::tell;
 use edi_segments::interchange_text;
 use office_admission::admit;
-use office_replies::{Deliver, Response, answer_head, clash, waiting};
+use office_loading::load;
+use office_queries::{NotNow, Query, Report};
+use office_replies::{Deliver, Response};
 use office_setup::Setup;
-use partner_core::{Answer, Machine, Runs};
-use std::alloc::{AllocError, Global};
+use office_tables::TableFault;
+use sqlite::{Alter, Connection};
+use std::alloc::Global;
+use terminal_core::Terminal;
 
-/// The terminal's desk in memory: it admits what is delivered, and takes each partner's unbroken run of interchanges.
+/// The terminal's desk over a store: its records are the rows of the tables, and the terminal stands beside them in memory.
 #[derive(Drop)]
-pub struct Desk<M> {
+pub struct Desk<S: Alter> {
+    conn: Connection<S>,
     setup: Setup,
-    runs: Runs<M>,
-    ghost counted: { partner_count runs ≡ length setup.partners.items },
-    ghost few: { length setup.partners.items ≤ 999 },
+    // The terminal as the rows have it; none where it has to be loaded again.
+    terminal: Option<Terminal>,
+    ghost idle: { conn.in_transaction ≡ false },
+    ghost given: { IsGiven (setup_content setup) },
 }
 
-impl<M: Machine> Desk<M> {
-    ghost use Rattle.office_setup.specs.Parties.{parties_of};
-    ghost use Rattle.office_desk.specs.Desks.{parties, DeskStands, Taken};
-
-    /// A desk to which nothing has been delivered, for the terminal and the partners of a set-up, with a machine that takes
-    /// their interchanges.
-    pub fn new(alloc: Global, setup: Setup, machine: M) -> Result<Desk<M>, AllocError>
-        requires { length setup.partners.items ≤ 999 }
-        ensures parties { IfOk result (λ desk. parties desk ≡ parties_of setup) }
-        ensures machine { IfOk result (λ desk. desk.runs.machine ≡ machine) }
-        ensures stands { IfOk result (λ desk. DeskStands M.taken desk [] desk) }
+impl<S: Alter> Desk<S> {
+    /// A desk over tables that were opened, with the terminal that they are of.
+    pub fn new(conn: Connection<S>, setup: Setup, terminal: Terminal) -> Desk<S>
+        requires idle { conn.in_transaction ≡ false }
+        requires given { IsGiven (setup_content setup) }
+        ensures conn { result.conn ≡ conn }
+        ensures setup { result.setup ≡ setup }
+        ensures terminal { result.terminal ≡ Some terminal }
     {
-        let runs = Runs::new(alloc, machine, setup.partners.len() as u16)?;
-        Ok(Desk { setup, runs })
+        Desk {
+            conn,
+            setup,
+            terminal: Some(terminal),
+        }
     }
 
-    /// What has been taken.
-    pub fn machine(&self) -> &M
-        ensures { (opening : Desk M) (ds : List (List ℕ)) → DeskStands M.taken opening ds self.now →
-            result.now ≡ state M.taken opening.runs.machine (deliveries_of (parties opening) ds) }
+    /// The connection to its tables.
+    pub fn into_connection(self) -> Connection<S>
+        ensures { result ≡ self.conn }
     {
-        self.runs.machine()
+        let Desk {
+            conn,
+            setup: _,
+            terminal: _,
+        } = self;
+        conn
     }
+}
 
-    /// Hands an interchange of a partner to the runs.
-    fn take(
-        &mut self,
-        alloc: Global,
-        partner: u16,
-        number: u32,
-        text: &[u8],
-    ) -> Result<Response, AllocError>
-        requires from_one { 1 ≤ partner }
-        requires known { partner ≤ length self.old.setup.partners.items }
-        requires positive { 1 ≤ number }
-        requires limit { number ≤ 999999999 }
-        ensures ok { IfOk result (λ response. (opening : M) (ds : List Delivery) →
-            StandsAt M.taken opening ds self.old.runs →
-            Taken M.taken opening ds (delivery partner number text.now)
-            (code_of (parties self.old) partner) response self.new.runs) }
-        ensures err { OnErr result ((opening : M) (ds : List Delivery) →
-            StandsAt M.taken opening ds self.old.runs → StandsAt M.taken opening ds self.new.runs) }
-        ensures kept { parties self.new ≡ parties self.old }
+impl<S: Alter + Drop> Desk<S> {
+    ghost use Rattle.sqlite.specs.Held.{state};
+    ghost use Rattle.office_setup.specs.Setups.{SetupContent};
+    ghost use Rattle.office_rows.specs.Rows.{Rows};
+    ghost use Rattle.office_rows.specs.Stored.{HasRows};
+    ghost use Rattle.office_history.specs.After.{AreAfter};
+    ghost use Rattle.office_desk.specs.Desks.{IsSound, OpensAt};
+
+    /// The desk of a store that holds an office: its set-up and its terminal are those that the tables hold. Where it is
+    /// refused, the connection is given up, and no row has changed.
+    pub fn open(alloc: Global, conn: Connection<S>) -> Result<Desk<S>, TableFault>
+        requires idle { conn.in_transaction ≡ false }
+        ensures opens { IfOk result (λ desk. IsSound S.Store desk → (content : SetupContent) (ds : List (List ℕ)) (rows : Rows) →
+            IsGiven content → HasRows rows (state S.Store conn).committed → AreAfter content ds rows →
+            OpensAt S.Store content ds (state S.Store conn) desk) }
     {
-        let code = self.setup.partners[partner as usize - 1].code.as_str();
-        let taken = answer_head(alloc, "taken", number, code)?;
-        let repeat = answer_head(alloc, "repeat", number, code)?;
-        let waiting = waiting(alloc, self.runs.next_of(partner), number, code)?;
-        let clash = clash(alloc, number, code)?;
-        match self.runs.deliver(alloc, partner, number, text)? {
-            Answer::Taken(reply) => Ok(Response::Taken { head: taken, reply }),
-            Answer::Repeat(reply) => Ok(Response::Repeat {
-                head: repeat,
-                reply,
-            }),
-            Answer::Waiting { next: _ } => Ok(Response::Waiting(waiting)),
-            Answer::Clash => Ok(Response::Clash(clash)),
+        let mut conn = conn;
+        let is_idle = conn.is_autocommit();
+        prove!(is_idle);
+        let (setup, terminal) = load(alloc, &mut conn)?;
+        Ok(Desk::new(conn, setup, terminal))
+    }
+}
+
+impl<S: Alter + Drop> Desk<S> {
+    ghost use Rattle.std.specs.Prelude.{string_bytes};
+    ghost use Rattle.std.specs.Option.{option_map};
+    ghost use Rattle.office_desk.specs.Desks.{IsSound, DeskStands};
+    ghost use Rattle.office_desk.specs.Reports.{DeskTells};
+
+    /// What the rows tell at a query, if there is something. No row changes.
+    pub fn told(&mut self, alloc: Global, query: &Query) -> Result<Option<String>, TableFault>
+        ensures told { IsSound S.Store self.new → IfOk result (λ found. DeskTells S.Store self.old query.now (option_map string_bytes found)) }
+        ensures same { IsSound S.Store self.new → (opening : Desk S S.Store) (ds : List (List ℕ)) → DeskStands S.Store opening ds self.old → DeskStands S.Store opening ds self.new }
+        ensures stays { IsSound S.Store self.new → IsSound S.Store self.old }
+    {
+        let is_idle = self.conn.is_autocommit();
+        prove!(is_idle);
+        let terminal = terminal_of(alloc, &mut self.conn, self.terminal.take())?;
+        let found = tell(alloc, &mut self.conn, &self.setup, &terminal, query);
+        self.terminal = Some(terminal);
+        found
+    }
+}
+
+impl<S: Alter + Drop> Report for Desk<S> {
+    ghost use Rattle.std.specs.Prelude.{string_bytes};
+    ghost use Rattle.std.specs.Option.{option_map};
+    ghost use Rattle.office_desk.specs.Desks.{IsSound, DeskStands};
+    ghost use Rattle.office_desk.specs.Reports.{DeskTells};
+
+    ghost tells = { DeskTells S.Store };
+
+    fn report(&mut self, alloc: Global, query: &Query) -> Result<Option<String>, NotNow>
+        ensures told { IsSound S.Store self.new → IfOk result (λ found. DeskTells S.Store self.old query.now (option_map string_bytes found)) }
+        ensures same { IsSound S.Store self.new → (opening : Desk S S.Store) (ds : List (List ℕ)) → DeskStands S.Store opening ds self.old → DeskStands S.Store opening ds self.new }
+        ensures stays { IsSound S.Store self.new → IsSound S.Store self.old }
+    {
+        match self.told(alloc, query) {
+            Ok(found) => Ok(found),
+            Err(_) => Err(NotNow),
         }
     }
 }
 
-impl<M: Machine> Deliver for Desk<M> {
+impl<S: Alter + Drop> Deliver for Desk<S> {
+    ghost use Rattle.sqlite.specs.Held.{state};
+    ghost use Rattle.sqlite.specs.State.{HasCleanDisk};
     ghost use Rattle.office_admission.specs.Refusals.{RefusedSurely};
-    ghost use Rattle.office_desk.specs.Desks.{parties, DeskStands, DeskAnswers};
+    ghost use Rattle.office_desk.specs.Crashes.{Leaves, LeavesBehind};
+    ghost use Rattle.office_desk.specs.Desks.{IsSound, DeskStands, DeskAnswers};
 
-    ghost clean = { λ desk. Unit {0} };
+    ghost clean = { IsSound S.Store };
 
-    ghost stands = { DeskStands M.taken };
+    ghost stands = { DeskStands S.Store };
 
-    ghost answers = { DeskAnswers M.taken };
+    ghost answers = { DeskAnswers S.Store };
 
-    /// A refusal without a CONTRL takes no memory, so it is never answered NotNow.
+    /// A refusal without a CONTRL takes no memory and no store, so it is never answered NotNow.
     fn deliver(&mut self, alloc: Global, delivered: &[u8]) -> Response
-        ensures delivers { Unit {0} → (opening : Desk M) (ds : List (List ℕ)) → DeskStands M.taken opening ds self.old →
-            Delivers (DeskStands M.taken opening) (DeskAnswers M.taken opening) ds delivered.now result self.new }
-        ensures stays { Unit {0} → Unit {0} }
-        ensures sure { RefusedSurely (parties self.old) (interchange_of delivered.now) result }
+        ensures delivers { IsSound S.Store self.new → (opening : Desk S S.Store) (ds : List (List ℕ)) → DeskStands S.Store opening ds self.old →
+            Delivers (DeskStands S.Store opening) (DeskAnswers S.Store opening) ds delivered.now result self.new }
+        ensures stays { IsSound S.Store self.new → IsSound S.Store self.old }
+        ensures crash { IsSound S.Store self.old → HasCleanDisk (state S.Store self.new.conn) → (opening : Desk S S.Store) (ds : List (List ℕ)) →
+            DeskStands S.Store opening ds self.old → Leaves (setup_content opening.setup) ds (state S.Store self.old.conn) →
+            LeavesBehind (setup_content opening.setup) ds delivered.now result (state S.Store self.new.conn) }
+        ensures sure { RefusedSurely (parties_of self.old.setup) (interchange_of delivered.now) result }
     {
         let text = interchange_text(delivered);
         let admitted = match admit(&self.setup, text) {
@@ -107,7 +153,20 @@ impl<M: Machine> Deliver for Desk<M> {
             Err(refusal) => return refusal.answer(alloc),
         };
         let number = admitted.envelope.head().number();
-        match self.take(alloc, admitted.partner, number, text) {
+        let partner = admitted.partner;
+        let setup = &self.setup;
+        let code = setup.partners[partner as usize - 1].code.as_str();
+        let taken = take_in(
+            alloc,
+            &mut self.conn,
+            setup,
+            &mut self.terminal,
+            code,
+            partner,
+            number,
+            text,
+        );
+        match taken {
             Ok(response) => response,
             Err(_) => Response::NotNow,
         }

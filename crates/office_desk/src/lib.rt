@@ -1,6 +1,14 @@
-//! The desk that deliveries come to: it admits them, takes each partner's interchanges in number order, and answers.
+//! The desk that keeps its records in the tables of a store.
 #![tactic(auto)]
 
+mod answers;
 mod desk;
+mod early;
+mod found;
+mod next;
+mod reloading;
+mod taking;
+mod telling;
 
 pub use desk::Desk;
+pub use found::Found;

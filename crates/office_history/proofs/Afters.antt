@@ -212,7 +212,7 @@ pub state_sound : (content : SetupContent) (D : List Delivery) → IsGiven conte
 state_sound content D given = run_sound (opening_of content) D (opening_sound content given)
 
 -- no reply is kept above the run
-unreplied : (content : SetupContent) (D : List Delivery) (rows : Rows) (p k : ℕ) → AreAfterThese content D rows → run D p + 1 ≤ k → reply_in rows p k ≡ None
+pub unreplied : (content : SetupContent) (D : List Delivery) (rows : Rows) (p k : ℕ) → AreAfterThese content D rows → run D p + 1 ≤ k → reply_in rows p k ≡ None
 unreplied content D rows p k are beyond = none_of (reply_in rows p k) (none (is_some (reply_in rows p k)) refl)
   where
     none : (b : Bool) → is_some (reply_in rows p k) ≡ b → is_some (reply_in rows p k) ≡ false

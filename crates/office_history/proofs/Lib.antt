@@ -7,3 +7,7 @@ pub mod Ground
 pub mod Shown
 pub mod Loads
 pub mod Alike
+pub mod Sorting
+pub mod Kept
+pub mod Accounted
+pub mod Offices

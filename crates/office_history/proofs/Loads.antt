@@ -203,7 +203,7 @@ partner_one a b fa fb e =
 
 -- ---- rising keys
 
-accounts_rise : (id low : ℕ) (next : ℕ → ℕ) (accounts : List (List ℕ × PartnerKind)) → low + 1 ≡ id → Rises (λ (p : Partner). p.id) low (accounts_from id next accounts)
+pub accounts_rise : (id low : ℕ) (next : ℕ → ℕ) (accounts : List (List ℕ × PartnerKind)) → low + 1 ≡ id → Rises (λ (p : Partner). p.id) low (accounts_from id next accounts)
 accounts_rise id low next [] e = tt
 accounts_rise id low next (a ∷ accounts) e = (omega arith, accounts_rise (id + 1) id next accounts refl)
 
@@ -219,14 +219,14 @@ accounts_same id next (a ∷ mine) [] are = absurd are
 accounts_same id next (a ∷ mine) (b ∷ theirs) are =
     ap₂ ◌∷◌ (λ i. (sym are.1 i, sym are.2 i)) (accounts_same (id + 1) next mine theirs are.5)
 
-numbered_rise : (next low : ℕ) (visits : List VisitContent) → low + 1 ≡ next → AreNumbered next visits → Rises (λ (v : VisitContent). v.number) low visits
+pub numbered_rise : (next low : ℕ) (visits : List VisitContent) → low + 1 ≡ next → AreNumbered next visits → Rises (λ (v : VisitContent). v.number) low visits
 numbered_rise next low [] e are = tt
 numbered_rise next low (v ∷ visits) e are = let own : v.number ≡ next = are.0 in (omega arith, numbered_rise (next + 1) v.number visits (ap (λ n. n + 1) own) are.1)
 
-abbrev letter_key : Block → ℕ
+abbrev pub letter_key : Block → ℕ
 letter_key b = b.letter + 1
 
-abbrev HeadAbove : ℕ → List Block → Type 0
+abbrev pub HeadAbove : ℕ → List Block → Type 0
 HeadAbove low [] = Unit {0}
 HeadAbove low (b ∷ blocks) = low < letter_key b
 
@@ -239,7 +239,7 @@ head_above b (c ∷ blocks) rise apart =
       | inr o ↦ elim o [ inl l ↦ omega arith | inr g ↦ absurd (omega arith) ]
     ]
 
-blocks_rise : (low : ℕ) (blocks : List Block) → IsNonDecreasingBy (λ (b : Block). b.letter) blocks → AreApart blocks → HeadAbove low blocks → Rises letter_key low blocks
+pub blocks_rise : (low : ℕ) (blocks : List Block) → IsNonDecreasingBy (λ (b : Block). b.letter) blocks → AreApart blocks → HeadAbove low blocks → Rises letter_key low blocks
 blocks_rise low [] rise apart head = tt
 blocks_rise low (b ∷ blocks) rise apart head = (
   head,
@@ -247,7 +247,7 @@ blocks_rise low (b ∷ blocks) rise apart head = (
       (λ i j a c one two same. let e : suc i ≡ suc j = apart (suc i) (suc j) a c one two same in omega arith) (head_above b blocks rise apart),
 )
 
-any_head : (blocks : List Block) → HeadAbove 0 blocks
+pub any_head : (blocks : List Block) → HeadAbove 0 blocks
 any_head [] = tt
 any_head (b ∷ blocks) = omega arith
 
@@ -267,7 +267,7 @@ named_place places state once same formed place inside =
     (sym (ap (option_map (λ (p : PlaceContent). standing_in p.visit p.slot)) (found_only (stands_for place.container) places place (once place.container) inside (same_self place.container)))
     ∙ ap (λ f. f place.container) same) formed
 
-places_same : (xs ys : List PlaceContent) → ArePlacedOnce xs → IsPermutation xs ys → standing_by ys ≡ standing_by xs
+pub places_same : (xs ys : List PlaceContent) → ArePlacedOnce xs → IsPermutation xs ys → standing_by ys ≡ standing_by xs
 places_same xs ys once same i q = ap (option_map (λ (p : PlaceContent). standing_in p.visit p.slot)) (found_same (stands_for q) xs ys (once q) same) i
 
 -- ---- lines
@@ -296,7 +296,7 @@ once_by q lines (Some l) once e =
 key_once : (q : LineKey) (lines : List ListingContent) → AreListedOnce lines → count_by (λ (l : ListingContent). eq_by_cmp order q (key_of l)) lines ≤ 1
 key_once q lines once = once_by q lines (find (λ (l : ListingContent). eq_by_cmp order q (key_of l)) lines) once refl
 
-lines_same : (xs ys : List ListingContent) → AreListedOnce xs → IsPermutation xs ys → lines_by ys ≡ lines_by xs
+pub lines_same : (xs ys : List ListingContent) → AreListedOnce xs → IsPermutation xs ys → lines_by ys ≡ lines_by xs
 lines_same xs ys once same =
     finite_map.same_map keys_total keys_apart _ _
     (λ q. finite_map.get-from_entries keys_total (map line_entry ys) q ∙ finds_list q ys

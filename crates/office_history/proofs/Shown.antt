@@ -63,10 +63,10 @@ later x y xs key inside apart = place inside.0 inside.1 inside.2
     place zero below is = absurd (apart (ap key (sym is)))
     place (suc k) below is = (k, omega arith, is)
 
-head_in : {A : Type 0} (x : A) (xs : List A) → Contains (x ∷ xs) x
+pub head_in : {A : Type 0} (x : A) (xs : List A) → Contains (x ∷ xs) x
 head_in x xs = (zero, omega arith, refl)
 
-tail_in : {A : Type 0} (x y : A) (xs : List A) → Contains xs y → Contains (x ∷ xs) y
+pub tail_in : {A : Type 0} (x y : A) (xs : List A) → Contains xs y → Contains (x ∷ xs) y
 tail_in x y xs inside = (suc inside.0, omega (arith, inside.1), inside.2)
 
 same_head : {A : Type 0} (key : A → ℕ) (x y : A) (xs ys : List A) → Rises key (key x) xs → Rises key (key y) ys → (k j : ℕ)

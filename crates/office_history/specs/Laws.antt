@@ -156,3 +156,9 @@ LoadingGivesSetup =
     (content : SetupContent) (ds : List (List ℕ)) (rows : Rows) (db : Database) (shown : OpenedRows) (other : SetupContent) (state : TerminalState)
     → AreAfter content ds rows → IsGiven content → HasRows rows db → Shows db shown → IsOffice shown other state
     → Reopens content ds rows other
+
+-- whatever was delivered, the queries of all rows show those of an office: its own rows are never found damaged
+abbrev pub RowsAreAnOffice : Type 0
+RowsAreAnOffice =
+    (content : SetupContent) (ds : List (List ℕ)) (rows : Rows) (db : Database) → IsGiven content → AreAfter content ds rows → HasRows rows db
+    → (shown : OpenedRows) × (state : TerminalState) × Shows db shown × IsOffice shown content state

@@ -3,6 +3,7 @@
 
 ghost use Rattle.office_history.specs.Laws.{ChangesAgree, OpeningIsAfterNone, DeliveriesLeaveSound, NumbersAreWithin, NextFollowsRun};
 ghost use Rattle.office_history.specs.Laws.{RefusedAddsNoRow, UsedAddsNoRow, EarlyAddsWaiting, NextAddsRun, RowsAnswer, LoadingGivesState, LoadingGivesSetup};
+ghost use Rattle.office_history.specs.Laws.{RowsAreAnOffice};
 
 /// Changes that find the rows that they need make of the tables' rows, by key, what they make of the terminal's.
 pub fn changes_agree()
@@ -62,4 +63,9 @@ pub fn loading_gives_state()
 /// It gives a set-up that says the same, and its rows are those after the same deliveries to that set-up.
 pub fn loading_gives_setup()
     ensures { LoadingGivesSetup }
+{}
+
+/// Whatever is delivered, the rows that are left are those of an office: no check finds them damaged.
+pub fn rows_are_an_office()
+    ensures { RowsAreAnOffice }
 {}

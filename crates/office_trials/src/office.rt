@@ -2,18 +2,17 @@
 
 mod advice;
 mod books;
-mod failing_reader;
-mod failing_writer;
+pub(crate) mod failing_reader;
+pub(crate) mod failing_writer;
 mod machine;
-mod memory;
-mod pieces;
+pub(crate) mod pieces;
 mod ports;
 mod refusals;
 mod settings;
 mod streams;
 
-use office_commands::command;
 use office_commands::demo_setup::demo_setup;
+use office_commands::demonstrate;
 use office_commands::open_desk::open_desk;
 use office_replies::{Deliver, Worst};
 use office_setup::Setup;
@@ -24,13 +23,8 @@ use std::test::Fail;
 use yard_core::Block;
 
 /// The set-up of the demonstration, but with a yard of that block alone and with so many visits.
-fn demo_with(
-    rt: &impl Abort,
-    alloc: Global,
-    block: Block,
-    visit_limit: u32,
-) -> Result<Setup, Fail> {
-    let mut setup = demo_setup(alloc).expect(rt, "a set-up");
+fn demo_with(alloc: Global, block: Block, visit_limit: u32) -> Result<Setup, Fail> {
+    let mut setup = demo_setup(alloc)?;
     setup.blocks = [block].as_slice().to_vec(alloc)?;
     setup.visit_limit = visit_limit;
     Ok(setup)
@@ -38,7 +32,7 @@ fn demo_with(
 
 /// Delivers each text to a desk to which nothing had been delivered, and holds the body of its answer to the one beside.
 fn assert_answers(rt: &impl Abort, alloc: Global, rows: &[(&[u8], &str)]) -> Result<(), Fail> {
-    let setup = demo_setup(alloc).expect(rt, "a set-up");
+    let setup = demo_setup(alloc)?;
     assert_answers_of(rt, alloc, setup, rows)
 }
 
@@ -49,7 +43,8 @@ fn assert_answers_of(
     setup: Setup,
     rows: &[(&[u8], &str)],
 ) -> Result<(), Fail> {
-    let mut desk = open_desk(alloc, setup).expect(rt, "a desk");
+    assert!(rt; setup.partners.len() <= 999);
+    let mut desk = open_desk(alloc, &setup)?;
     assert_answers_from(rt, alloc, &mut desk, rows)
 }
 
@@ -78,7 +73,8 @@ fn assert_streams(
     input: &[u8],
     lines: &str,
 ) -> Result<(), Fail> {
-    let mut desk = open_desk(alloc, setup).expect(rt, "a desk");
+    assert!(rt; setup.partners.len() <= 999);
+    let mut desk = open_desk(alloc, &setup)?;
     let mut output = Port::new(Vec::new(alloc));
     let worst = run_stream(alloc, &mut Port::new(input), &mut output, &mut desk, 100);
     assert_eq!(rt; worst, Ok(Worst::Fine));
@@ -86,27 +82,16 @@ fn assert_streams(
     Ok(())
 }
 
-/// Runs the program on a word and an input, and holds what it prints, what it tells and its status to those expected.
+/// Runs the demonstration on an input, and holds what it prints, what it tells and its status to those expected.
 fn assert_prints(
     rt: &impl Abort,
     alloc: Global,
-    word: &str,
     input: &[u8],
     expected: (&str, &str, u8),
 ) -> Result<(), Fail> {
-    let mut words = Vec::new(alloc);
-    words.push(String::from_str(alloc, "office")?)?;
-    words.push(String::from_str(alloc, word)?)?;
-    let mut reader = Port::new(input);
     let mut writer = Port::new(Vec::new(alloc));
     let mut errors = Port::new(Vec::new(alloc));
-    let status = command::run(
-        alloc,
-        words.as_slice(),
-        &mut reader,
-        &mut writer,
-        &mut errors,
-    );
+    let status = demonstrate(alloc, &mut Port::new(input), &mut writer, &mut errors);
     let (lines, told, wanted) = expected;
     assert_eq!(rt; writer.into_inner().as_slice(), lines.as_bytes());
     assert_eq!(rt; errors.into_inner().as_slice(), told.as_bytes());

@@ -10,7 +10,7 @@ mod opening;
 use edi_messages::{CodeTable, PartnerKind};
 use office_loading::nexts;
 use office_setup::{Account, Setup};
-use office_tables::{Kept, create, keep, kept, mark_taken, next_of};
+use office_tables::{Kept, TableFault, create, keep, kept, mark_taken, next_of};
 use sqlite::{Alter, Connection, Error, MemStore};
 use std::alloc::{AllocError, Global};
 use std::process::Abort;
@@ -125,20 +125,49 @@ fn is_kept(found: &Option<Kept>, text: &[u8], reply: Option<&str>) -> bool {
     }
 }
 
+/// That text is kept for the first partner, with that reply if it was taken.
+fn assert_kept<S: Alter>(
+    rt: &impl Abort,
+    conn: &mut Connection<S>,
+    number: u32,
+    text: &[u8],
+    reply: Option<&str>,
+) -> Result<(), TableFault> {
+    let found = kept(conn, 1, number)?;
+    assert!(rt; is_kept(&found, text, reply));
+    Ok(())
+}
+
 #[test]
 fn an_interchange_waits_until_it_is_taken(rt: HostRuntime) -> Result<(), Fail> {
     let mut conn = made(&rt, rt.alloc())?;
     keep_two(&rt, &mut conn)?;
-    for (number, text, reply) in [(1, b"first".as_slice(), Some("done")), (2, b"early", None)] {
-        let found = kept(&mut conn, 1, number)?;
-        assert!(rt; is_kept(&found, text, reply));
-    }
+    assert_kept(&rt, &mut conn, 1, b"first", Some("done"))?;
+    assert_kept(&rt, &mut conn, 2, b"early", None)?;
     let none = kept(&mut conn, 2, 1)?;
-    assert!(rt; none.is_none());
-    for (partner, next) in [(1, 2), (2, 1)] {
-        assert!(rt; next_of(&mut conn, partner)? == next);
-    }
-    let all = nexts(rt.alloc(), &mut conn)?;
-    assert!(rt; all.as_slice() == [2, 1].as_slice());
+    assert!(&rt; none.is_none());
+    Ok(())
+}
+
+/// The next numbers of both partners, one by one and all together.
+fn assert_nexts<S: Alter>(
+    rt: &impl Abort,
+    alloc: Global,
+    conn: &mut Connection<S>,
+    expected: [u32; 2],
+) -> Result<(), TableFault> {
+    assert!(rt; next_of(conn, 1)? == expected[0]);
+    assert!(rt; next_of(conn, 2)? == expected[1]);
+    let all = nexts(alloc, conn)?;
+    assert!(rt; all.as_slice() == expected.as_slice());
+    Ok(())
+}
+
+#[test]
+fn one_that_is_taken_makes_the_one_behind_it_next(rt: HostRuntime) -> Result<(), Fail> {
+    let mut conn = made(&rt, rt.alloc())?;
+    assert_nexts(&rt, rt.alloc(), &mut conn, [1, 1])?;
+    keep_two(&rt, &mut conn)?;
+    assert_nexts(&rt, rt.alloc(), &mut conn, [2, 1])?;
     Ok(())
 }

@@ -72,6 +72,14 @@ impl Lists {
         }
     }
 
+    /// The lines, each once.
+    pub(crate) fn rows(&self) -> &[Listing]
+        ensures told { lines_of result.now ≡ self.now }
+        ensures once { AreOnce result.now }
+    {
+        &self.rows
+    }
+
     /// How far a line is, if there is one.
     pub(crate) fn state(&self, call: &Call, side: Side, container: BoxNumber) -> Option<LineState>
         ensures { result ≡ option_map (λ l. l.state)

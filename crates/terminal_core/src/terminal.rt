@@ -6,7 +6,8 @@ ghost use Rattle.terminal_core.specs.Rows.{visit_content, change_content, line_d
 ghost use Rattle.terminal_core.specs.State.{LineContent, TerminalState, empty_state, is_in, line_of, IsWhole};
 ghost use Rattle.terminal_core.specs.Step.{entered, departed, moved, listed, step, step_gate_in, step_discharge, step_load, with_line};
 ghost use Rattle.terminal_core.specs.Calls.{Follows, IsPlanned, is_refused};
-ghost use Rattle.terminal_core.specs.Restoring.{AreRowsOf, RefusesRows};
+ghost use Rattle.terminal_core.specs.Listings.{lines_of};
+ghost use Rattle.terminal_core.specs.Restoring.{AreOnce, AreRowsOf, RefusesRows};
 
 use crate::change::Change;
 use crate::line_state::LineState;
@@ -114,6 +115,15 @@ impl Terminal {
         ensures whole { IsWhole self.now }
     {
         self.visits.rows()
+    }
+
+    /// Every line of the vessels' lists, each once.
+    pub fn lines(&self) -> &[Listing]
+        ensures told { lines_of result.now ≡ self.now.lines }
+        ensures once { AreOnce result.now }
+        ensures whole { IsWhole self.now }
+    {
+        self.lists.rows()
     }
 
     /// How far a line of a call's list is, if there is one.

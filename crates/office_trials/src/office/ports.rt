@@ -3,12 +3,9 @@
 use super::failing_reader::FailingReader;
 use super::failing_writer::FailingWriter;
 use super::pieces::Pieces;
-use office_commands::command;
-use office_commands::demo_setup::demo_setup;
-use office_commands::open_desk::open_desk;
-use office_desk::Desk;
+use office_commands::demonstrate;
+use office_commands::open_demo::open_demo;
 use office_stream::{Port, StreamFault, run_stream};
-use office_taking::TerminalMachine;
 use std::alloc::Global;
 use std::io::Read;
 use std::process::Abort;
@@ -51,29 +48,39 @@ fn lines(alloc: Global, first: &[&str], others: &[&str]) -> Result<Vec<u8>, Fail
 
 /// What `office demo` prints, what it tells, and its status.
 fn demo<R: Read + Drop>(alloc: Global, reader: R) -> Result<(Vec<u8>, Vec<u8>, u8), Fail> {
-    let mut words = Vec::new(alloc);
-    words.push(String::from_str(alloc, "office")?)?;
-    words.push(String::from_str(alloc, "demo")?)?;
     let mut input = Port::new(reader);
     let mut output = Port::new(Vec::new(alloc));
     let mut errors = Port::new(Vec::new(alloc));
-    let status = command::run(alloc, &words, &mut input, &mut output, &mut errors);
+    let status = demonstrate(alloc, &mut input, &mut output, &mut errors);
     Ok((output.into_inner(), errors.into_inner(), status))
 }
 
+/// A text in two pieces, cut at that place, is answered by those lines, and the status is 0.
+fn assert_cut(
+    rt: &impl Abort,
+    alloc: Global,
+    text: &[u8],
+    place: usize,
+    expected: &[u8],
+) -> Result<(), Fail> {
+    let pieces = Pieces {
+        text,
+        next: place,
+        size: text.len(),
+    };
+    let (printed, told, status) = demo(alloc, pieces)?;
+    assert_eq!(rt; printed.as_slice(), expected);
+    assert_eq!(rt; told.len(), 0);
+    assert_eq!(rt; status, 0);
+    Ok(())
+}
+
+/// Within a head, and within and around the line breaks between interchanges.
 #[test]
-fn a_stream_may_be_cut_at_every_place(rt: HostRuntime) -> Result<(), Fail> {
+fn a_stream_may_be_cut_anywhere(rt: HostRuntime) -> Result<(), Fail> {
     let whole = lines(rt.alloc(), &TAKEN, &[])?;
-    for place in 1..STREAM.len() {
-        let pieces = Pieces {
-            text: STREAM,
-            next: place,
-            size: STREAM.len(),
-        };
-        let (printed, told, status) = demo(rt.alloc(), pieces)?;
-        assert_eq!(&rt; printed.as_slice(), whole.as_slice());
-        assert_eq!(&rt; told.len(), 0);
-        assert_eq!(&rt; status, 0);
+    for place in [1, 3, 100, 136, 137, 138, 139, 140, 259, 260, 261, 381] {
+        assert_cut(&rt, rt.alloc(), STREAM, place, whole.as_slice())?;
     }
     Ok(())
 }
@@ -82,20 +89,14 @@ fn a_stream_may_be_cut_at_every_place(rt: HostRuntime) -> Result<(), Fail> {
 const RELEASED: &[u8] =
     b"UNB+UNOA:3+HAULA+TERM1+240305:0910+1'UNH+M?'1+CODECO:D:95B:UN'BGM+34+G1+9'EQD+CN+ABCU0000017+22G1+++4'RFF+BN:A?+B'UNT+5+M?'1'UNZ+1+1'";
 
+const RELEASED_TAKEN: &[u8] =
+    b"{\"answer\":\"taken\",\"number\":1,\"partner\":\"HAULA\",\"reply\":{\"contrl\":\"UNB+UNOA:3+TERM1+HAULA+240305:0910+1'UNH+1+CONTRL:D:3:UN'UCI+1+HAULA+TERM1+7'UCM+M?'1+CODECO:D:95B:UN+7'UNT+4+1'UNZ+1+1'\",\"messages\":[{\"lines\":[{\"box\":\"ABCU0000017\",\"line\":1,\"outcome\":\"done\",\"slot\":\"A001011\"}],\"reference\":\"M'1\",\"result\":\"accepted\"}]}}\n";
+
+/// Its release characters are the bytes 42 and 121.
 #[test]
 fn a_released_terminator_may_be_cut_from_its_release(rt: HostRuntime) -> Result<(), Fail> {
-    let answer =
-        "{\"answer\":\"taken\",\"number\":1,\"partner\":\"HAULA\",\"reply\":{\"contrl\":\"UNB+UNOA:3+TERM1+HAULA+240305:0910+1'UNH+1+CONTRL:D:3:UN'UCI+1+HAULA+TERM1+7'UCM+M?'1+CODECO:D:95B:UN+7'UNT+4+1'UNZ+1+1'\",\"messages\":[{\"lines\":[{\"box\":\"ABCU0000017\",\"line\":1,\"outcome\":\"done\",\"slot\":\"A001011\"}],\"reference\":\"M'1\",\"result\":\"accepted\"}]}}";
-    let whole = lines(rt.alloc(), &[answer], &[])?;
-    for place in 1..RELEASED.len() {
-        let pieces = Pieces {
-            text: RELEASED,
-            next: place,
-            size: RELEASED.len(),
-        };
-        let (printed, _, status) = demo(rt.alloc(), pieces)?;
-        assert_eq!(&rt; printed.as_slice(), whole.as_slice());
-        assert_eq!(&rt; status, 0);
+    for place in [42, 43, 44, 121, 122, 123] {
+        assert_cut(&rt, rt.alloc(), RELEASED, place, RELEASED_TAKEN)?;
     }
     Ok(())
 }
@@ -139,17 +140,12 @@ fn a_failed_read_leaves_what_was_answered(rt: HostRuntime) -> Result<(), Fail> {
     Ok(())
 }
 
-fn opened_desk(rt: &impl Abort, alloc: Global) -> Desk<TerminalMachine> {
-    let setup = demo_setup(alloc).expect(rt, "a set-up");
-    open_desk(alloc, setup).expect(rt, "a desk")
-}
-
 /// A line is four writes: what stands before the reply, the reply, what stands behind it, and LF.
 #[test]
 fn a_failed_write_leaves_what_was_delivered(rt: HostRuntime) -> Result<(), Fail> {
     let whole = lines(rt.alloc(), &TAKEN, &[])?;
     for writes in 0..12 {
-        let mut desk = opened_desk(&rt, rt.alloc());
+        let mut desk = open_demo(rt.alloc())?;
         let writer = FailingWriter {
             written: Vec::new(rt.alloc()),
             writes,
@@ -189,9 +185,6 @@ fn a_failed_write_leaves_what_was_delivered(rt: HostRuntime) -> Result<(), Fail>
 
 #[test]
 fn a_program_whose_output_fails_ends_with_three(rt: HostRuntime) -> Result<(), Fail> {
-    let mut words = Vec::new(rt.alloc());
-    words.push(String::from_str(rt.alloc(), "office")?)?;
-    words.push(String::from_str(rt.alloc(), "demo")?)?;
     let writer = FailingWriter {
         written: Vec::new(rt.alloc()),
         writes: 0,
@@ -199,7 +192,7 @@ fn a_program_whose_output_fails_ends_with_three(rt: HostRuntime) -> Result<(), F
     let mut input = Port::new(STREAM);
     let mut output = Port::new(writer);
     let mut errors = Port::new(Vec::new(rt.alloc()));
-    let status = command::run(rt.alloc(), &words, &mut input, &mut output, &mut errors);
+    let status = demonstrate(rt.alloc(), &mut input, &mut output, &mut errors);
     assert_eq!(&rt; errors.into_inner().len(), 0);
     assert_eq!(&rt; status, 3);
     Ok(())
@@ -214,7 +207,7 @@ fn a_stream_is_left_after_so_many_reads(rt: HostRuntime) -> Result<(), Fail> {
             next: 1,
             size: 1,
         };
-        let mut desk = opened_desk(&rt, rt.alloc());
+        let mut desk = open_demo(rt.alloc())?;
         let mut input = Port::new(pieces);
         let mut output = Port::new(Vec::new(rt.alloc()));
         let left = run_stream(rt.alloc(), &mut input, &mut output, &mut desk, reads as u64);

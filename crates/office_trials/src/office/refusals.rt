@@ -132,10 +132,10 @@ fn a_text_of_more_than_a_mebibyte_is_too_long(rt: HostRuntime) -> Result<(), Fai
     }
     text.extend_from_slice(&thousand[..1020])?;
     let end = "{\"answer\":\"cut\",\"fault\":\"End\"}\n";
-    assert_prints(&rt, rt.alloc(), "demo", text.as_slice(), (end, "", 1))?;
+    assert_prints(&rt, rt.alloc(), text.as_slice(), (end, "", 1))?;
     text.push(b'A')?;
     let cut = "{\"answer\":\"cut\",\"fault\":\"TooLong\"}\n";
-    assert_prints(&rt, rt.alloc(), "demo", text.as_slice(), (cut, "", 1))?;
+    assert_prints(&rt, rt.alloc(), text.as_slice(), (cut, "", 1))?;
     let refused = "{\"answer\":\"refused\",\"fault\":\"TooLong\"}";
     assert_answers(&rt, rt.alloc(), &[(text.as_slice(), refused)])
 }

@@ -21,7 +21,7 @@ const FOUR_BAYS: Block = Block {
 
 #[test]
 fn the_order_across_partners_is_that_in_which_gaps_close(rt: HostRuntime) -> Result<(), Fail> {
-    let setup = demo_with(&rt, rt.alloc(), STACK, 999_999_999)?;
+    let setup = demo_with(rt.alloc(), STACK, 999_999_999)?;
     assert_answers_of(
         &rt,
         rt.alloc(),
@@ -54,7 +54,7 @@ fn the_order_across_partners_is_that_in_which_gaps_close(rt: HostRuntime) -> Res
 /// The same, as a stream: the early interchange is taken by the delivery that closes its gap, and not as it came.
 #[test]
 fn in_a_stream_gaps_close_across_partners_too(rt: HostRuntime) -> Result<(), Fail> {
-    let setup = demo_with(&rt, rt.alloc(), STACK, 999_999_999)?;
+    let setup = demo_with(rt.alloc(), STACK, 999_999_999)?;
     assert_streams(
         &rt,
         rt.alloc(),
@@ -66,7 +66,7 @@ fn in_a_stream_gaps_close_across_partners_too(rt: HostRuntime) -> Result<(), Fai
 
 #[test]
 fn no_more_visits_are_opened_than_the_set_up_allows(rt: HostRuntime) -> Result<(), Fail> {
-    let setup = demo_with(&rt, rt.alloc(), FOUR_BAYS, 1)?;
+    let setup = demo_with(rt.alloc(), FOUR_BAYS, 1)?;
     assert_answers_of(
         &rt,
         rt.alloc(),

@@ -1,7 +1,6 @@
 //! What a delivery writes.
 
-use super::{assert_shows, made, setup};
-use edi_messages::CodeTable;
+use super::{assert_shows, made};
 use office_delivery::{take_run, write_early, write_run};
 use office_loading::load;
 use sqlite::{Connection, MemStore};
@@ -21,9 +20,8 @@ pub(super) const FIRST: &[u8] =
 
 /// Takes the first interchange and those that wait behind it.
 fn close_gap(rt: &impl Abort, alloc: Global, conn: &mut Connection<MemStore>) -> Result<(), Fail> {
-    let codes = CodeTable::new([b"34", b"36", b"YMV", b"43", b"45", b"44", b"46"]);
-    let setup = setup(alloc, codes.expect(rt, "a table"))?;
-    let (_, mut terminal) = load(alloc, conn)?;
+    let (setup, mut terminal) = load(alloc, conn)?;
+    assert!(rt; setup.partners.len() <= 999);
     let taken = take_run(alloc, conn, &setup, &mut terminal, 1, 1, FIRST)?;
     assert!(rt; taken.len() == 3);
     assert!(rt; conn.is_autocommit());

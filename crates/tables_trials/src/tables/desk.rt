@@ -2,8 +2,8 @@
 
 use super::delivering::{FIRST, SECOND, THIRD};
 use super::{assert_shows, made};
+use office_desk::Desk;
 use office_replies::{Deliver, Response};
-use office_store_desk::Desk;
 use sqlite::{Connection, MemStore};
 use std::alloc::Global;
 use std::process::Abort;

@@ -3,11 +3,13 @@
 use super::made;
 use box6346::{BoxNumber, Slot};
 use office_loading::load;
+use office_setup::Setup;
 use office_tables::TableFault;
 use sqlite::{Alter, Connection, Error, MemStore};
 use std::alloc::Global;
 use std::process::Abort;
 use std::test::Fail;
+use terminal_core::Terminal;
 
 /// How an opening ends.
 #[derive(Clone, Copy, PartialEq, Eq)]
@@ -55,16 +57,20 @@ fn filled(rt: &impl Abort, alloc: Global) -> Result<Connection<MemStore>, Fail> 
     Ok(conn)
 }
 
+fn assert_office(rt: &impl Abort, setup: &Setup, terminal: &Terminal) {
+    assert!(rt; setup.terminal.as_str() == "TERM1");
+    assert!(rt; setup.partners.len() == 2);
+    assert!(rt; setup.visit_limit == 1000);
+    assert!(rt; terminal.visits().len() == 2);
+    let container = BoxNumber::parse(b"ABCU0000017").expect(rt, "a number");
+    assert!(rt; terminal.slot_of(container) == Slot::parse(b"A001011"));
+}
+
 #[test]
 fn an_opened_store_gives_its_office(rt: HostRuntime) -> Result<(), Fail> {
     let mut conn = filled(&rt, rt.alloc())?;
     let (setup, terminal) = load(rt.alloc(), &mut conn)?;
-    assert!(&rt; setup.terminal.as_str() == "TERM1");
-    assert!(&rt; setup.partners.len() == 2);
-    assert!(&rt; setup.visit_limit == 1000);
-    assert!(&rt; terminal.visits().len() == 2);
-    let container = BoxNumber::parse(b"ABCU0000017").expect(&rt, "a number");
-    assert!(&rt; terminal.slot_of(container) == Slot::parse(b"A001011"));
+    assert_office(&rt, &setup, &terminal);
     Ok(())
 }
 

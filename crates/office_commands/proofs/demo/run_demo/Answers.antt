@@ -1,23 +1,17 @@
 use Rattle.std.proofs.Common.{[]}
-use Rattle.office_commands.proofs.Leaving.{opens_demo, left_by}
+use Rattle.office_commands.proofs.Leaving.{left_by, memory_sound}
 use Rattle.office_commands.proofs.demo.run_demo.Goals as goal
 
--- The opening is the desk as it was opened, to which nothing has been delivered.
+-- The opening is the desk as it was opened, to which nothing has been delivered. A store in memory is clean.
 pub returns-in-Ok-run_stream-clause-ok : goal.returns-in-Ok-run_stream-clause-ok
-returns-in-Ok-run_stream-clause-ok g c =
-    let setup = c.in-Ok.ensures in
-    let opened = c.in-Ok-open_desk.ensures in
-    record {
-      opening = c.in-Ok-open_desk.desk;
-      desk = c.run_stream.new.desk;
-      opens = opens_demo c.in-Ok.setup c.in-Ok-open_desk.desk setup.terminal setup.table setup.partners setup.kinds setup.blocks setup.limit opened.parties opened.machine opened.stands;
-      streamed = c.in-Ok-run_stream.ensures.ok tt c.in-Ok-open_desk.desk [] opened.stands;
-    }
+returns-in-Ok-run_stream-clause-ok g c = record {
+  opening = c.in-Ok.desk;
+  desk = c.run_stream.new.desk;
+  opens = c.in-Ok.ensures;
+  streamed = c.in-Ok-run_stream.ensures.ok (memory_sound c.run_stream.new.desk) c.in-Ok.desk [] c.in-Ok.ensures.opens.stands;
+}
 
 pub returns-clause-err : goal.returns-clause-err
 returns-clause-err g c =
-    let setup = c.in-Ok.ensures in
-    let opened = c.in-Ok-open_desk.ensures in
-    left_by _ _ _ _ c.in-Ok-open_desk.desk c.run_stream.new.desk c.in-Err-run_stream.fault
-    (opens_demo c.in-Ok.setup c.in-Ok-open_desk.desk setup.terminal setup.table setup.partners setup.kinds setup.blocks setup.limit opened.parties opened.machine opened.stands)
-    (c.in-Err-run_stream.ensures.err tt c.in-Ok-open_desk.desk [] opened.stands)
+    left_by _ _ _ _ c.in-Ok.desk c.run_stream.new.desk c.in-Err-run_stream.fault c.in-Ok.ensures
+    (c.in-Err-run_stream.ensures.err (memory_sound c.run_stream.new.desk) c.in-Ok.desk [] c.in-Ok.ensures.opens.stands)

@@ -1,42 +1,86 @@
-use Rattle.std.proofs.Common.{subst, sym, ap, ◌∙◌}
-use Rattle.edi_segments.specs.Interchange.{segments_in}
+use Rattle.std.proofs.Common.{[], ◌∷◌, ◌++◌, ◌+◌, ◌-◌, arith, refl, sym, subst, ◌∙◌}
+use Rattle.std.proofs.lemmas.Option.{slice_get_read}
 use Rattle.edi_syntax.specs.Heads.{head_segments}
 use Rattle.office_replies.specs.declared.response.Response.TheVariants.{NotNow}
 use Rattle.office_admission.specs.Refusals.{RefusedSurely}
-use Rattle.office_desk.specs.Desks.{parties}
-use Rattle.office_desk.proofs.Delivering.{refusal_delivered, taken_delivered, not_now_delivered, admitted_surely, numbered}
+use Rattle.office_setup.specs.Parties.{parties_of}
+use Rattle.office_setup.specs.Setups.{setup_content}
+use Rattle.office_desk.proofs.Admitted.{code_at, admitted_surely, numbered}
+use Rattle.office_desk.proofs.DeliverLemmas.{refusal_delivered, refusal_leaves, admitted_leaves, taken_in, not_taken}
+use Rattle.office_desk.proofs.CrashLemmas.{answered_behind}
+use Rattle.office_desk.specs.Crashes.{Leaves, LeavesEither}
+use Rattle.sqlite.specs.Held.{state}
 use Rattle.office_desk.proofs.desk.DeskDeliver.deliver.Goals as goal
 
 pub returns-in-Err-clause-sure : goal.returns-in-Err-clause-sure
 returns-in-Err-clause-sure g c =
-    subst (λ other. RefusedSurely (parties c.args.self.now) other c.answer.result) c.interchange_text-text.ensures.exact
+    subst (λ other. RefusedSurely (parties_of c.args.self.now.setup) other c.answer.result) c.interchange_text-text.ensures.exact
     (c.answer.ensures.sure c.args.self.now.setup c.interchange_text-text.result.now c.in-Err.ensures.err)
 
 pub returns-in-Err-clause-delivers : goal.returns-in-Err-clause-delivers
-returns-in-Err-clause-delivers g c = λ clean opening ds stands.
+returns-in-Err-clause-delivers g c = λ sound opening ds stands.
     let text = c.interchange_text-text.result.now in
-    refusal_delivered g.M.Machine.taken (parties opening) opening.runs.machine ds c.args.delivered.now text c.answer.result c.args.self.now c.in-Err.refusal
-    c.interchange_text-text.ensures.exact stands c.in-Err.ensures.err
+    refusal_delivered g.S.Store (setup_content opening.setup) ds c.args.delivered.now text c.answer.result _ c.in-Err.refusal
+    c.interchange_text-text.ensures.exact (record { setup = stands.setup; holds = stands.holds }) c.in-Err.ensures.err
     (c.answer.ensures.answer c.args.self.now.setup text c.in-Err.ensures.err) (c.answer.ensures.sure c.args.self.now.setup text c.in-Err.ensures.err)
 
-pub returns-in-Ok-take-clause-sure : goal.returns-in-Ok-take-clause-sure
-returns-in-Ok-take-clause-sure g c =
-    admitted_surely (parties c.args.self.now) c.args.delivered.now c.interchange_text-text.result.now _ c.in-Ok-take.response c.interchange_text-text.ensures.exact c.in-Ok.ensures.ok.admits
+pub returns-in-Ok-taken-clause-sure : goal.returns-in-Ok-taken-clause-sure
+returns-in-Ok-taken-clause-sure g c =
+    admitted_surely (parties_of c.args.self.now.setup) c.args.delivered.now c.interchange_text-text.result.now _ c.in-Ok-taken.response c.interchange_text-text.ensures.exact c.in-Ok.ensures.ok.admits
 
-pub returns-in-Err-take-clause-sure : goal.returns-in-Err-take-clause-sure
-returns-in-Err-take-clause-sure g c =
-    admitted_surely (parties c.args.self.now) c.args.delivered.now c.interchange_text-text.result.now _ NotNow c.interchange_text-text.ensures.exact c.in-Ok.ensures.ok.admits
+pub returns-in-Err-taken-clause-sure : goal.returns-in-Err-taken-clause-sure
+returns-in-Err-taken-clause-sure g c =
+    admitted_surely (parties_of c.args.self.now.setup) c.args.delivered.now c.interchange_text-text.result.now _ NotNow c.interchange_text-text.ensures.exact c.in-Ok.ensures.ok.admits
 
-pub returns-in-Ok-take-clause-delivers : goal.returns-in-Ok-take-clause-delivers
-returns-in-Ok-take-clause-delivers g c = λ clean opening ds stands.
+pub returns-in-Ok-taken-clause-delivers : goal.returns-in-Ok-taken-clause-delivers
+returns-in-Ok-taken-clause-delivers g c = λ sound opening ds stands.
+    let old = c.args.self.now in
     let text = c.interchange_text-text.result.now in
     let admitted = c.in-Ok.admitted in
-    taken_delivered g.M.Machine.taken (parties opening) opening.runs.machine ds c.args.delivered.now text c.in-Ok-take.response c.args.self.now c.take.new.self admitted.partner c.number-number.result
-    c.interchange_text-text.ensures.exact stands
-    (numbered (parties c.args.self.now) text (head_segments c.head.result) admitted.partner c.number-number.result (c.head.ensures ∙ c.in-Ok.ensures.ok.segments) c.number-number.ensures.number c.in-Ok.ensures.ok.admits)
-    c.take.ensures.kept c.in-Ok-take.ensures.ok
+    let is = c.in-Ok.ensures.ok in
+    let accounts = old.setup.partners.items in
+    let account = c.index.result.now in
+    let code = c.as_str-code.ensures.value ∙ sym (code_at accounts admitted.partner account is.from_one (slice_get_read accounts _ (admitted.partner - 1) account refl (omega (arith, is.from_one, is.known)) c.index.ensures)) in
+    taken_in g.S.Store (setup_content opening.setup) ds c.args.delivered.now text c.in-Ok-taken.response old _ admitted.partner c.number-number.result c.as_str-code.result.now
+    c.interchange_text-text.ensures.exact stands refl
+    (numbered (parties_of old.setup) text (head_segments c.head.result) admitted.partner c.number-number.result (c.head.ensures ∙ is.segments) c.number-number.ensures.number is.admits)
+    code (c.in-Ok-taken.ensures.ok sound.0 sound.1)
 
-pub returns-in-Err-take-clause-delivers : goal.returns-in-Err-take-clause-delivers
-returns-in-Err-take-clause-delivers g c = λ clean opening ds stands.
-    not_now_delivered g.M.Machine.taken (parties opening) opening.runs.machine ds c.args.delivered.now c.args.self.now c.take.new.self stands c.take.ensures.kept c.in-Err-take.ensures.err
-    (admitted_surely (parties c.args.self.now) c.args.delivered.now c.interchange_text-text.result.now _ NotNow c.interchange_text-text.ensures.exact c.in-Ok.ensures.ok.admits)
+pub returns-in-Err-taken-clause-delivers : goal.returns-in-Err-taken-clause-delivers
+returns-in-Err-taken-clause-delivers g c = λ sound opening ds stands.
+    not_taken g.S.Store (setup_content opening.setup) ds c.args.delivered.now c.args.self.now _ stands refl
+    (admitted_surely (parties_of c.args.self.now.setup) c.args.delivered.now c.interchange_text-text.result.now _ NotNow c.interchange_text-text.ensures.exact c.in-Ok.ensures.ok.admits)
+    (c.in-Err-taken.ensures.err sound.0 sound.1)
+
+pub returns-in-Err-clause-crash : goal.returns-in-Err-clause-crash
+returns-in-Err-clause-crash g c = λ sound clean opening ds stands leaves.
+    refusal_leaves g.S.Store (setup_content opening.setup) ds c.args.delivered.now c.interchange_text-text.result.now c.answer.result c.args.self.now c.in-Err.refusal
+    c.interchange_text-text.ensures.exact (record { setup = stands.setup; holds = stands.holds }) c.in-Err.ensures.err leaves
+
+pub returns-in-Ok-taken-clause-crash : goal.returns-in-Ok-taken-clause-crash
+returns-in-Ok-taken-clause-crash g c = λ sound clean opening ds stands leaves.
+    let old = c.args.self.now in
+    let text = c.interchange_text-text.result.now in
+    let admitted = c.in-Ok.admitted in
+    let content = setup_content opening.setup in
+    let end = state g.S.Store c.take_in-taken.new.conn in
+    answered_behind content ds c.args.delivered.now c.in-Ok-taken.response end
+    (admitted_leaves g.S.Store content ds c.args.delivered.now text old admitted.partner c.number-number.result (λ k. Leaves k (ds ++ c.args.delivered.now ∷ []) end)
+    c.interchange_text-text.ensures.exact stands
+    (numbered (parties_of old.setup) text (head_segments c.head.result) admitted.partner c.number-number.result (c.head.ensures ∙ c.in-Ok.ensures.ok.segments) c.number-number.ensures.number c.in-Ok.ensures.ok.admits)
+    leaves
+    (λ before now e f holds still comes. subst (λ l. Leaves (setup_content old.setup) (l ++ c.args.delivered.now ∷ []) end) e (subst (λ t. Leaves (setup_content old.setup) (before ++ t ∷ []) end) f
+    (c.in-Ok-taken.ensures.leaves clean sound.1 before now holds still comes))))
+
+pub returns-in-Err-taken-clause-crash : goal.returns-in-Err-taken-clause-crash
+returns-in-Err-taken-clause-crash g c = λ sound clean opening ds stands leaves.
+    let old = c.args.self.now in
+    let text = c.interchange_text-text.result.now in
+    let admitted = c.in-Ok.admitted in
+    let end = state g.S.Store c.take_in-taken.new.conn in
+    admitted_leaves g.S.Store (setup_content opening.setup) ds c.args.delivered.now text old admitted.partner c.number-number.result (λ k. LeavesEither k ds c.args.delivered.now end)
+    c.interchange_text-text.ensures.exact stands
+    (numbered (parties_of old.setup) text (head_segments c.head.result) admitted.partner c.number-number.result (c.head.ensures ∙ c.in-Ok.ensures.ok.segments) c.number-number.ensures.number c.in-Ok.ensures.ok.admits)
+    leaves
+    (λ before now e f holds still comes. subst (λ l. LeavesEither (setup_content old.setup) l c.args.delivered.now end) e (subst (λ t. LeavesEither (setup_content old.setup) before t end) f
+    (c.in-Err-taken.ensures.crash clean sound.1 before now holds still comes)))

@@ -1,0 +1,45 @@
+-- The commands of the program, in the words of `clap`.
+use Rattle.std.specs.Prelude.{true, Some, codes}
+use Rattle.clap.specs.Words.{App, Rule, Text, new_app, new_rule, with_rule, with_subcommand}
+use Rattle.clap.specs.Simple.{on_top}
+use Rattle.clap.specs.declared.builder.ArgAction.TheVariants.{Set}
+
+-- a word that has to be there
+abbrev pub word : Text → Rule
+word id = record (new_rule id) { action = Some Set; required = true }
+
+-- a word that may be left out
+abbrev pub word_if_any : Text → Rule
+word_if_any id = record (new_rule id) { action = Some Set }
+
+-- init DB PARTNERS BLOCKS
+unfoldable pub init_app : App
+init_app = with_rule (with_rule (with_rule (new_app (codes "init")) (word (codes "DB"))) (word (codes "PARTNERS"))) (word (codes "BLOCKS"))
+
+-- deliver DB FILE
+unfoldable pub deliver_app : App
+deliver_app = with_rule (with_rule (new_app (codes "deliver")) (word (codes "DB"))) (word (codes "FILE"))
+
+-- serve DB PORT COUNT
+unfoldable pub serve_app : App
+serve_app = with_rule (with_rule (with_rule (new_app (codes "serve")) (word (codes "DB"))) (word (codes "PORT"))) (word (codes "COUNT"))
+
+-- report DB KIND [KEY]
+unfoldable pub report_app : App
+report_app = with_rule (with_rule (with_rule (new_app (codes "report")) (word (codes "DB"))) (word (codes "KIND"))) (word_if_any (codes "KEY"))
+
+-- demo
+unfoldable pub demo_app : App
+demo_app = new_app (codes "demo")
+
+-- a command with a version, that has to be followed by one of its subcommands
+abbrev pub needs_subcommand : App → App
+needs_subcommand a = on_top (λ s. record s { has_version = true; subcommand_required = true }) a
+
+unfoldable pub office_app : App
+office_app =
+    with_subcommand
+    (with_subcommand
+    (with_subcommand (with_subcommand (with_subcommand (needs_subcommand (new_app (codes "office"))) init_app.top) deliver_app.top) serve_app.top)
+    report_app.top)
+    demo_app.top

@@ -1,0 +1,120 @@
+-- What the words of a command line ask for.
+use Rattle.std.specs.Prelude.{◌≡◌, ℕ, Bool, true, false, cond, ◌&&◌, nat_le, List, length, Option, None, Some, codes}
+use Rattle.std.specs.Option.{option_map, option_and_then}
+use Rattle.std.specs.List.{list_all}
+use Rattle.std.specs.Char.{is_ascii_digit}
+use Rattle.std.specs.Str.{bytes_eq}
+use Rattle.std.specs.Str.Parse.{digits_value}
+use Rattle.clap.specs.Words.{Row, Text, first_of, subcommand_of, takes}
+use Rattle.office_command_line.specs.Commands.{office_app}
+use Rattle.office_command_line.specs.declared.command_fault.CommandFault.{CommandFault}
+use Rattle.office_command_line.specs.declared.command_fault.CommandFault.TheVariants.{Words, Values, Memory}
+use Rattle.office_command_line.specs.declared.report_kind.ReportKind.{ReportKind}
+use Rattle.office_command_line.specs.declared.report_kind.ReportKind.TheVariants.{Yard, YardTable, Visits, List as VesselList, Ticket, Reply}
+use Rattle.office_command_line.specs.declared.request.Request.{Request}
+use Rattle.office_command_line.specs.declared.request.Request.TheVariants as request
+
+-- a request, whatever memory holds its texts
+pub data Asked : Type 0 where
+  init : Text → Text → Text → Asked
+  deliver : Text → Text → Asked
+  serve : Text → ℕ → ℕ → Asked
+  report : Text → ReportKind → Option Text → Asked
+  demo : Asked
+
+abbrev pub asked : Request → Asked
+asked (request.Init store partners blocks) = init store.now partners.now blocks.now
+asked (request.Deliver store file) = deliver store.now file.now
+asked (request.Serve store port count) = serve store.now port count
+asked (request.Report store kind key) = report store.now kind (option_map (λ text. text.now) key)
+asked request.Demo = demo
+
+-- ---- numbers
+
+-- 1 to 9 digits
+abbrev pub is_number : List ℕ → Bool
+is_number text = nat_le 1 (length text) && nat_le (length text) 9 && list_all is_ascii_digit text
+
+-- and the number that they write
+abbrev pub number_said : List ℕ → Option ℕ
+number_said text = cond (is_number text) (Some (digits_value 10 text)) None
+
+-- the same from 1 to the greatest
+abbrev pub number_upto : ℕ → List ℕ → Option ℕ
+number_upto greatest text = option_and_then (λ (n : ℕ). cond (nat_le 1 n && nat_le n greatest) (Some n) None) (number_said text)
+
+-- ---- reports
+
+abbrev pub kind_said : Text → Option ReportKind
+kind_said word =
+    cond (bytes_eq word (codes "yard")) (Some Yard)
+    (cond (bytes_eq word (codes "yardcsv")) (Some YardTable)
+    (cond (bytes_eq word (codes "visits")) (Some Visits)
+    (cond (bytes_eq word (codes "list")) (Some VesselList) (cond (bytes_eq word (codes "ticket")) (Some Ticket) (cond (bytes_eq word (codes "reply")) (Some Reply) None)))))
+
+-- the yard alone is reported on without a key
+abbrev pub wants_key : ReportKind → Bool
+wants_key Yard = false
+wants_key YardTable = false
+wants_key Visits = true
+wants_key VesselList = true
+wants_key Ticket = true
+wants_key Reply = true
+
+-- ---- what the words of a subcommand ask for
+
+abbrev pub init_asked : List Row → Option Asked
+init_asked rows =
+    option_and_then (λ (store : Text).
+    option_and_then (λ (partners : Text). option_map (λ (blocks : Text). init store partners blocks) (first_of (codes "BLOCKS") rows)) (first_of (codes "PARTNERS") rows))
+    (first_of (codes "DB") rows)
+
+abbrev pub deliver_asked : List Row → Option Asked
+deliver_asked rows = option_and_then (λ (store : Text). option_map (λ (file : Text). deliver store file) (first_of (codes "FILE") rows)) (first_of (codes "DB") rows)
+
+-- a port from 1 to 65535, and from 1 to 1,000,000 connections
+abbrev pub serve_asked : List Row → Option Asked
+serve_asked rows =
+    option_and_then (λ (store : Text).
+    option_and_then (λ (port : ℕ). option_map (λ (count : ℕ). serve store port count) (option_and_then (number_upto 1000000) (first_of (codes "COUNT") rows)))
+    (option_and_then (number_upto 65535) (first_of (codes "PORT") rows)))
+    (first_of (codes "DB") rows)
+
+-- the key is there where it is wanted, and nowhere else
+abbrev pub report_with : Text → ReportKind → Option Text → Option Asked
+report_with store kind None = cond (wants_key kind) None (Some (report store kind None))
+report_with store kind (Some key) = cond (wants_key kind) (Some (report store kind (Some key))) None
+
+abbrev pub report_asked : List Row → Option Asked
+report_asked rows =
+    option_and_then (λ (store : Text).
+    option_and_then (λ (kind : ReportKind). report_with store kind (first_of (codes "KEY") rows)) (option_and_then kind_said (first_of (codes "KIND") rows)))
+    (first_of (codes "DB") rows)
+
+-- what a subcommand and its words ask for
+abbrev pub asked_by : Text → List Row → Option Asked
+asked_by name rows =
+    cond (bytes_eq name (codes "init")) (init_asked rows)
+    (cond (bytes_eq name (codes "deliver")) (deliver_asked rows)
+    (cond (bytes_eq name (codes "serve")) (serve_asked rows)
+    (cond (bytes_eq name (codes "report")) (report_asked rows) (cond (bytes_eq name (codes "demo")) (Some demo) None))))
+
+-- what the subcommand that was met asks for
+abbrev pub met_asks : Option (Text × List Row) → Option Asked
+met_asks met = option_and_then (λ (m : Text × List Row). asked_by m.0 m.1) met
+
+-- the subcommand that was met asks for nothing
+abbrev pub RefusesMet : Option (Text × List Row) → CommandFault → Type 0
+RefusesMet met (Words error) = ⊥
+RefusesMet met (Values line) = met_asks met ≡ None
+RefusesMet met Memory = ⊥
+
+-- what `clap` states for the words
+abbrev pub words_ask : List Text → Option Asked
+words_ask words = met_asks (subcommand_of office_app words)
+
+-- why words ask for nothing: `clap` doesn't take them, or what it states for them is no request, or memory was refused
+abbrev pub RefusesWords : List Text → CommandFault → Type 0
+RefusesWords words (Words error) = ¬ (takes office_app words ≡ true)
+RefusesWords words (Values line) = words_ask words ≡ None
+RefusesWords words Memory = Unit {0}

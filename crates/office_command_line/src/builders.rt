@@ -1,0 +1,110 @@
+ghost use Rattle.std.specs.Prelude.{◌≡◌, IfOk, true, false};
+ghost use Rattle.clap.specs.Words.{app_of, rule_of};
+ghost use Rattle.clap.specs.declared.builder.command.Command.TheViews.{out-Command};
+ghost use Rattle.office_command_line.specs.Commands.{word, word_if_any, init_app, deliver_app, serve_app, report_app, demo_app};
+
+use clap::{Arg, ArgAction, Command};
+use std::alloc::{AllocError, Global};
+
+/// `init DB PARTNERS BLOCKS`
+pub(crate) fn init_command<'a>(alloc: Global) -> Result<Command<'a>, AllocError>
+    ensures app { IfOk result (λ command. app_of command ≡ init_app) }
+    ensures local { IfOk result (λ command. (out-Command command).has_globals ≡ false) }
+{
+    let store = word(alloc, "DB", "The store to make");
+    let partners = word(
+        alloc,
+        "PARTNERS",
+        "The file of the terminal and its partners",
+    );
+    let blocks = word(alloc, "BLOCKS", "The file of the yard's blocks");
+    let init = Command::new(alloc, "init")
+        .about("Makes the tables of a store by a set-up")
+        .after_help("Example: office init office.db partners.csv blocks.csv")
+        .arg(store)?
+        .arg(partners)?
+        .arg(blocks)?;
+    Ok(init)
+}
+
+/// `deliver DB FILE`
+pub(crate) fn deliver_command<'a>(alloc: Global) -> Result<Command<'a>, AllocError>
+    ensures app { IfOk result (λ command. app_of command ≡ deliver_app) }
+    ensures local { IfOk result (λ command. (out-Command command).has_globals ≡ false) }
+{
+    let store = word(alloc, "DB", "The store");
+    let file = word(alloc, "FILE", "The file of interchanges");
+    let deliver = Command::new(alloc, "deliver")
+        .about("Delivers the interchanges of a file, and prints an answer a line")
+        .after_help("Example: office deliver office.db gate-in.edi")
+        .arg(store)?
+        .arg(file)?;
+    Ok(deliver)
+}
+
+/// `serve DB PORT COUNT`
+pub(crate) fn serve_command<'a>(alloc: Global) -> Result<Command<'a>, AllocError>
+    ensures app { IfOk result (λ command. app_of command ≡ serve_app) }
+    ensures local { IfOk result (λ command. (out-Command command).has_globals ≡ false) }
+{
+    let store = word(alloc, "DB", "The store");
+    let port = word(alloc, "PORT", "A port of this machine, from 1 to 65535");
+    let count = word(alloc, "COUNT", "How many connections, from 1 to 1000000");
+    let serve = Command::new(alloc, "serve")
+        .about("Serves connections by HTTP, one after the other")
+        .after_help("Example: office serve office.db 8080 1000")
+        .arg(store)?
+        .arg(port)?
+        .arg(count)?;
+    Ok(serve)
+}
+
+/// `report DB KIND [KEY]`
+pub(crate) fn report_command<'a>(alloc: Global) -> Result<Command<'a>, AllocError>
+    ensures app { IfOk result (λ command. app_of command ≡ report_app) }
+    ensures local { IfOk result (λ command. (out-Command command).has_globals ≡ false) }
+{
+    let store = word(alloc, "DB", "The store");
+    let kind = word(
+        alloc,
+        "KIND",
+        "yard, yardcsv, visits, list, ticket or reply",
+    );
+    let key = word_if_any(alloc, "KEY", "BOX, VESSEL/VOYAGE/SIDE or PARTNER/NUMBER");
+    let report = Command::new(alloc, "report")
+        .about("Prints a report; all but yard and yardcsv want a KEY")
+        .after_help("Example: office report office.db visits ABCU0000017")
+        .arg(store)?
+        .arg(kind)?
+        .arg(key)?;
+    Ok(report)
+}
+
+/// `demo`
+pub(crate) fn demo_command<'a>(alloc: Global) -> Command<'a>
+    ensures app { app_of result ≡ demo_app }
+    ensures local { (out-Command result).has_globals ≡ false }
+{
+    Command::new(alloc, "demo")
+        .about("Delivers the interchanges of the standard input over tables in memory")
+        .after_help("Example: office demo < gate-in.edi")
+}
+
+// A word that has to be there.
+fn word<'a>(alloc: Global, id: &'a str, help: &'a str) -> Arg<'a>
+    ensures rule { rule_of result ≡ word id.entry.now }
+    ensures local { result.global ≡ false }
+{
+    Arg::new(alloc, id)
+        .required(true)
+        .action(ArgAction::Set)
+        .help(help)
+}
+
+// A word that may be left out.
+fn word_if_any<'a>(alloc: Global, id: &'a str, help: &'a str) -> Arg<'a>
+    ensures rule { rule_of result ≡ word_if_any id.entry.now }
+    ensures local { result.global ≡ false }
+{
+    Arg::new(alloc, id).action(ArgAction::Set).help(help)
+}

@@ -1,0 +1,149 @@
+ghost use Rattle.std.specs.Prelude.{◌≡◌, IfOk, IfErr, map};
+ghost use Rattle.std.specs.Option.{option_map};
+ghost use Rattle.clap.specs.Words.{found_of, rows_of, subcommand_rows_of, first_of};
+ghost use Rattle.office_command_line.specs.Requests.{asked, init_asked, deliver_asked, serve_asked, report_asked, report_with, asked_by, met_asks, words_ask, kind_said, wants_key, RefusesWords, RefusesMet};
+
+use crate::command_fault::CommandFault;
+use crate::numbers::number_upto;
+use crate::office::office_command;
+use crate::report_kind::ReportKind;
+use crate::request::Request;
+use clap::ArgMatches;
+use clap::error::ErrorKind;
+use std::alloc::Global;
+
+/// What the words of a command line ask for, of which the first is the program's name.
+pub fn read_command<'a>(alloc: Global, words: &'a [&'a str]) -> Result<Request<'a>, CommandFault>
+    ensures ok { IfOk result (λ request. words_ask (map (λ word. word.now) words.entry.now) ≡ Some (asked request)) }
+    ensures err { IfErr result (RefusesWords (map (λ word. word.now) words.entry.now)) }
+{
+    let Ok(office) = office_command(alloc) else {
+        return Err(CommandFault::Memory);
+    };
+    match office.try_get_matches_from(words) {
+        Ok(matches) => request_in(&matches),
+        Err(error) => match error.kind() {
+            ErrorKind::OutOfMemory => Err(CommandFault::Memory),
+            _ => Err(CommandFault::Words(error)),
+        },
+    }
+}
+
+// What the matches ask for.
+fn request_in<'a>(matches: &ArgMatches<'a>) -> Result<Request<'a>, CommandFault>
+    ensures ok { IfOk result (λ request. met_asks (subcommand_rows_of matches.now) ≡ Some (asked request)) }
+    ensures err { IfErr result (RefusesMet (subcommand_rows_of matches.now)) }
+{
+    let Some((name, inner)) = matches.subcommand() else {
+        return Err(CommandFault::Values(usage_of("")));
+    };
+    match request_by(name, inner) {
+        Some(request) => Ok(request),
+        None => Err(CommandFault::Values(usage_of(name))),
+    }
+}
+
+// How a command is called.
+fn usage_of(name: &str) -> &'static str {
+    match name {
+        "serve" => "usage: office serve DB PORT COUNT\n",
+        "report" => "usage: office report DB KIND [KEY]\n",
+        _ => "usage: office COMMAND\n",
+    }
+}
+
+fn request_by<'a>(name: &str, inner: &ArgMatches<'a>) -> Option<Request<'a>>
+    ensures { option_map asked result ≡ asked_by name.now (rows_of (found_of inner.now)) }
+{
+    match name {
+        "init" => init_in(inner),
+        "deliver" => deliver_in(inner),
+        "serve" => serve_in(inner),
+        "report" => report_in(inner),
+        "demo" => Some(Request::Demo),
+        _ => None,
+    }
+}
+
+fn init_in<'a>(matches: &ArgMatches<'a>) -> Option<Request<'a>>
+    ensures { option_map asked result ≡ init_asked (rows_of (found_of matches.now)) }
+{
+    let store = text_of(matches, "DB")?;
+    let partners = text_of(matches, "PARTNERS")?;
+    let blocks = text_of(matches, "BLOCKS")?;
+    Some(Request::Init {
+        store,
+        partners,
+        blocks,
+    })
+}
+
+fn deliver_in<'a>(matches: &ArgMatches<'a>) -> Option<Request<'a>>
+    ensures { option_map asked result ≡ deliver_asked (rows_of (found_of matches.now)) }
+{
+    let store = text_of(matches, "DB")?;
+    let file = text_of(matches, "FILE")?;
+    Some(Request::Deliver { store, file })
+}
+
+fn serve_in<'a>(matches: &ArgMatches<'a>) -> Option<Request<'a>>
+    ensures { option_map asked result ≡ serve_asked (rows_of (found_of matches.now)) }
+{
+    let store = text_of(matches, "DB")?;
+    let port = number_upto(65535, text_of(matches, "PORT")?)?;
+    let count = number_upto(1_000_000, text_of(matches, "COUNT")?)?;
+    Some(Request::Serve {
+        store,
+        port: port as u16,
+        count,
+    })
+}
+
+fn report_in<'a>(matches: &ArgMatches<'a>) -> Option<Request<'a>>
+    ensures { option_map asked result ≡ report_asked (rows_of (found_of matches.now)) }
+{
+    let store = text_of(matches, "DB")?;
+    let kind = kind_of(text_of(matches, "KIND")?)?;
+    report_with(store, kind, text_of(matches, "KEY"))
+}
+
+// The report, if a key is given where one is wanted and nowhere else.
+fn report_with<'a>(store: &'a str, kind: ReportKind, key: Option<&'a str>) -> Option<Request<'a>>
+    ensures { option_map asked result ≡ report_with store.entry.now kind (option_map (λ text. text.now) key.entry) }
+{
+    if wants_key(kind) == key.is_some() {
+        Some(Request::Report { store, kind, key })
+    } else {
+        None
+    }
+}
+
+fn wants_key(kind: ReportKind) -> bool
+    ensures { result ≡ wants_key kind }
+{
+    match kind {
+        ReportKind::Yard | ReportKind::YardTable => false,
+        ReportKind::Visits | ReportKind::List | ReportKind::Ticket | ReportKind::Reply => true,
+    }
+}
+
+fn kind_of(word: &str) -> Option<ReportKind>
+    ensures { result ≡ kind_said word.now }
+{
+    match word {
+        "yard" => Some(ReportKind::Yard),
+        "yardcsv" => Some(ReportKind::YardTable),
+        "visits" => Some(ReportKind::Visits),
+        "list" => Some(ReportKind::List),
+        "ticket" => Some(ReportKind::Ticket),
+        "reply" => Some(ReportKind::Reply),
+        _ => None,
+    }
+}
+
+// The word that was given for an argument.
+fn text_of<'a>(matches: &ArgMatches<'a>, id: &str) -> Option<&'a str>
+    ensures { option_map (λ text. text.now) result ≡ first_of id.now (rows_of (found_of matches.now)) }
+{
+    matches.get_str(id)
+}

@@ -1,0 +1,42 @@
+use crate::report_kind::ReportKind;
+
+/// What a command line asks for.
+#[derive(Clone, Copy)]
+pub enum Request<'a> {
+    /// To make the tables of a store by the set-up that two files say.
+    Init {
+        /// The store's path.
+        store: &'a str,
+        /// The path of the file of partners.
+        partners: &'a str,
+        /// The path of the file of blocks.
+        blocks: &'a str,
+    },
+    /// To deliver the interchanges of a file.
+    Deliver {
+        /// The store's path.
+        store: &'a str,
+        /// The path of the file.
+        file: &'a str,
+    },
+    /// To serve so many connections at a port of this machine.
+    Serve {
+        /// The store's path.
+        store: &'a str,
+        /// The port, from 1.
+        port: u16,
+        /// How many connections, from 1 to 1,000,000.
+        count: u32,
+    },
+    /// To report on the store.
+    Report {
+        /// The store's path.
+        store: &'a str,
+        /// What the report is about.
+        kind: ReportKind,
+        /// By what it is found; none for the yard alone.
+        key: Option<&'a str>,
+    },
+    /// To deliver the interchanges of the standard input over tables in memory.
+    Demo,
+}

@@ -1,0 +1,121 @@
+-- What a crash leaves behind each delivery.
+use Rattle.std.proofs.Common.{◌≡◌, ◌⊎◌, inl, inr, ℕ, ◌+◌, ◌<◌, List, [], ◌∷◌, ◌++◌, None, Some, Result, Ok, Err, IfOk, OnOk, OnErr, refl, sym, ap, subst, ◌∙◌, arith}
+use Rattle.sqlite.specs.State.{State, HasCleanDisk, Survives}
+use Rattle.sqlite.specs.Tree.{Trees}
+use Rattle.edi_segments.specs.Interchange.{interchange_of}
+use Rattle.partner_core.specs.Deliveries.{run}
+use Rattle.terminal_core.specs.State.{TerminalState}
+use Rattle.office_replies.specs.declared.fault.Fault.{Fault}
+use Rattle.office_replies.specs.declared.response.Response.{Response}
+use Rattle.office_replies.specs.declared.response.Response.TheVariants as response
+use Rattle.office_rows.specs.Rows.{Rows}
+use Rattle.office_rows.specs.Effects.{with_kept}
+use Rattle.office_rows.specs.Stored.{AreRows, HasRows}
+use Rattle.office_rows.specs.Tables.{office_schema}
+use Rattle.office_setup.specs.Given.{IsGiven}
+use Rattle.office_setup.specs.Setups.{SetupContent}
+use Rattle.office_admission.specs.Admission.{admission}
+use Rattle.office_history.specs.After.{AreAfter, SaysSame, delivered_to, machine_after, machine_with, parties_in}
+use Rattle.office_history.specs.Cascade.{AreTakenFrom, text_in, texts_with, with_run}
+use Rattle.office_history.specs.Laws.{IsFor}
+use Rattle.office_history.proofs.Alike.{after_same}
+use Rattle.office_history.proofs.Lawful.{refused_adds, used_adds, early_adds, next_adds}
+use Rattle.office_delivery.specs.Reading.{OnlyReads}
+use Rattle.office_desk.specs.Crashes.{HasCommitted, IsAfter, Leaves, LeavesEither, LeavesBehind}
+use Rattle.office_desk.specs.Telling.{Comes, IsBeside, IsRunDone}
+
+-- ---- calls that only read
+
+or_never : {A : Type 0} → A ⊎ ⊥ → A
+or_never (inl x) = x
+or_never (inr never) = absurd never
+
+-- what only reads gives a crash nothing else to leave
+pub leaves_less : (old new : State) → HasCleanDisk new → Survives old new (λ _. ⊥) → (db : Trees) → new.may_leave db → old.may_leave db
+leaves_less old new clean survives db leaves = or_never (survives.crash clean db leaves)
+
+pub reads_less : (old new : State) → HasCleanDisk new → old.now.schema ≡ office_schema → OnlyReads old new → (db : Trees) → new.may_leave db → old.may_leave db
+reads_less old new clean schema reads = leaves_less old new clean (reads.survives clean schema)
+
+-- ---- one delivery more
+
+-- ---- results
+
+pub on_ok : {X E : Type 0} {P Q : Type 0} (r : Result X E) → (P → Q) → OnOk r P → OnOk r Q
+on_ok (Ok x) f is = f is
+on_ok (Err e) f is = is
+
+pub on_err : {X E : Type 0} {Q : Type 0} (r : Result X E) → Q → OnErr r Q
+on_err (Ok x) is = tt
+on_err (Err e) is = is
+
+pub on_err_then : {X E : Type 0} {P Q : Type 0} (r : Result X E) → (P → Q) → OnErr r P → OnErr r Q
+on_err_then (Ok x) f is = is
+on_err_then (Err e) f is = f is
+
+-- what holds of an answer, by what is told of it where the first is so
+pub on_told : {X E : Type 0} {P O Q : Type 0} {F : X → Type 0} (r : Result X E) → OnOk r P → (O → IfOk r F) → (P → (x : X) → (O → F x) → Q) → OnOk r Q
+on_told (Ok x) is told f = f is x told
+on_told (Err e) is told f = is
+
+pub either_of : {A B C D : Type 0} → (A → C) → (B → D) → A ⊎ B → C ⊎ D
+either_of f g (inl x) = inl (f x)
+either_of f g (inr y) = inr (g y)
+
+module _ (content : SetupContent) (ds : List (List ℕ)) (delivered : List ℕ) where
+  -- what is refused adds nothing
+  pub refused_leaves : (fault : Fault) (s : State) → admission (parties_in content) (interchange_of delivered) ≡ Err fault → Leaves content ds s → Leaves content (ds ++ delivered ∷ []) s
+  refused_leaves fault s refused leaves db left =
+      let is = leaves db left in
+      record { rows = is.rows; are = is.are; after = (refused_adds content ds is.rows delivered fault is.after refused).rows_are }
+
+  -- nor does what is used
+  pub used_leaves : (rows : Rows) (partner number : ℕ) (kept : List ℕ) (old new : State) → AreAfter content ds rows → IsFor content delivered partner number → text_in rows partner number ≡ Some kept →
+      ((db : Trees) → new.may_leave db → old.may_leave db) → Leaves content ds old → Leaves content (ds ++ delivered ∷ []) new
+  used_leaves rows partner number kept old new after is_for there less leaves db left =
+      let is = leaves db (less db left) in
+      let here : text_in is.rows partner number ≡ Some kept = is.after.texts partner number ∙ sym (after.texts partner number) ∙ there in
+      record { rows = is.rows; are = is.are; after = (used_adds content ds is.rows delivered partner number kept is.after is_for here).rows_are }
+
+  pub early_after : (rows : Rows) (text : List ℕ) (partner number next : ℕ) (db : Trees) → AreAfter content ds rows → Comes content delivered text partner number → text_in rows partner number ≡ None →
+      next ≡ run (delivered_to content ds) partner + 1 → next < number → AreRows (with_kept partner number text rows) db → IsAfter content (ds ++ delivered ∷ []) db
+  early_after rows text partner number next db after comes free is later are = record {
+    rows = with_kept partner number (interchange_of delivered) rows;
+    are = subst (λ t. AreRows (with_kept partner number t rows) db) comes.text_is are;
+    after = (early_adds content ds rows delivered partner number after comes.is_for free (omega (arith, is, later))).rows_are;
+  }
+
+  pub run_after : (rows : Rows) (text : List ℕ) (partner number next : ℕ) (now : TerminalState) (db : Trees) → IsGiven content → AreAfter content ds rows → IsBeside content ds (Some now) →
+      Comes content delivered text partner number → text_in rows partner number ≡ None → next ≡ run (delivered_to content ds) partner + 1 → number ≡ next →
+      IsRunDone rows partner number text (machine_with content now) db → IsAfter content (ds ++ delivered ∷ []) db
+  run_after rows text partner number next now db given after beside comes free is same done =
+      let own = interchange_of delivered in
+      let here : AreTakenFrom partner (texts_with rows partner number own) number (machine_after content ds) done.taken done.new =
+      subst (λ m. AreTakenFrom partner (texts_with rows partner number own) number m done.taken done.new) beside
+      (subst (λ t. AreTakenFrom partner (texts_with rows partner number t) number (machine_with content now) done.taken done.new) comes.text_is done.are_taken) in
+      record {
+        rows = with_run partner number own done.taken rows;
+        are = subst (λ t. AreRows (with_run partner number t done.taken rows) db) comes.text_is done.are;
+        after = (next_adds content ds rows delivered partner number done.taken done.new given after comes.is_for free (same ∙ is) here).rows_are;
+      }
+
+  -- what is told of what a crash leaves, by the answer
+  pub answered_behind : (given : Response) (s : State) → Leaves content (ds ++ delivered ∷ []) s → LeavesBehind content ds delivered given s
+  answered_behind (response.Taken head reply) s leaves = leaves
+  answered_behind (response.Repeat head reply) s leaves = leaves
+  answered_behind (response.Waiting body) s leaves = leaves
+  answered_behind (response.Clash body) s leaves = leaves
+  answered_behind (response.Refused fault) s leaves = leaves
+  answered_behind (response.Rejected fault body) s leaves = leaves
+  answered_behind response.NotNow s leaves = λ db left. inr (leaves db left)
+
+-- a crash leaves what was committed
+pub committed_leaves : (content : SetupContent) (ds : List (List ℕ)) (s : State) (rows : Rows) → HasCommitted s → HasRows rows s.committed → AreAfter content ds rows → Leaves content ds s
+committed_leaves content ds s rows done has after db left = record { rows = rows; are = subst (AreRows rows) (sym (done.alone db left)) has.rows_are; after = after }
+
+-- ---- a set-up that says the same
+
+pub leaves_same : (own content : SetupContent) (ds : List (List ℕ)) (old new : State) → SaysSame own content → ((db : Trees) → new.may_leave db → old.may_leave db) → Leaves content ds old → Leaves own ds new
+leaves_same own content ds old new says less leaves db left =
+    let is = leaves db (less db left) in
+    record { rows = is.rows; are = is.are; after = after_same own content ds is.rows says is.after }

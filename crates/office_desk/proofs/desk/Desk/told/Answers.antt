@@ -1,0 +1,55 @@
+use Rattle.std.proofs.Common.{◌≡◌, Some, not, option_map, string_bytes, sym, ap, subst, ◌∙◌, IsTrue}
+use Rattle.sqlite.specs.Held.{state}
+use Rattle.sqlite.specs.State.{HasCleanDisk}
+use Rattle.office_rows.specs.Stored.{HasRows}
+use Rattle.office_rows.proofs.StepLemmas.{if_ok}
+use Rattle.office_setup.specs.Given.{IsGiven}
+use Rattle.office_setup.specs.Setups.{setup_content}
+use Rattle.office_delivery.specs.Reading.{IsSame}
+use Rattle.office_desk.specs.Reports.{TellsOf}
+use Rattle.office_desk.specs.Telling.{IsBeside}
+use Rattle.office_desk.proofs.desk.Desk.told.Goals as goal
+
+-- The terminal beside the rows, or loaded from them, is that after the deliveries.
+pub returns-clause-told : goal.returns-clause-told
+returns-clause-told g c = λ sound.
+    let own = c.args.self.now.setup in
+    let content = setup_content own in
+    let old = state g.S.Store c.args.self.now.conn in
+    let mid = state g.S.Store c.terminal_of.new.conn in
+    let terminal = c.in_ok-terminal.terminal in
+    let reads = c.tell-found.ensures.reads in
+    let clean : HasCleanDisk mid = reads.clean sound.0 in
+    let settled : old.now ≡ old.committed = c.is_autocommit-is_idle.ensures.settled (c.is_autocommit-is_idle.ensures.value ∙ ap not c.args.self.now.idle) (c.terminal_of.ensures.reads.was_open clean (reads.was_open sound.0 sound.1)) in
+    if_ok c.tell-found.result (λ found told. λ ds holds.
+    let has : HasRows holds.rows old.now = subst (HasRows holds.rows) (sym settled) holds.has in
+    let same : IsSame old mid = c.in_ok-terminal.ensures.same clean has.schema in
+    let beside : IsBeside content ds (Some terminal) = c.in_ok-terminal.ensures.beside clean content ds holds.rows c.args.self.now.given has holds.after (subst (IsBeside content ds) (sym c.take.ensures.value) holds.beside) in
+    record {
+      rows = holds.rows;
+      after = holds.after;
+      tells = subst (λ t. TellsOf content t holds.rows c.args.query.now (option_map string_bytes found)) (ap (λ m. m.terminal) beside)
+          (told holds.rows (subst (HasRows holds.rows) (sym same.now) has) holds.after.kept_once);
+    })
+    (c.tell-found.ensures.told sound.0)
+
+pub returns-clause-same : goal.returns-clause-same
+returns-clause-same g c = λ sound opening ds stands.
+    let content = setup_content opening.setup in
+    let old = state g.S.Store c.args.self.now.conn in
+    let mid = state g.S.Store c.terminal_of.new.conn in
+    let end = state g.S.Store c.tell-found.new.conn in
+    let rows = stands.holds.rows in
+    let reads = c.tell-found.ensures.reads in
+    let clean : HasCleanDisk mid = reads.clean sound.0 in
+    let settled : old.now ≡ old.committed = c.is_autocommit-is_idle.ensures.settled (c.is_autocommit-is_idle.ensures.value ∙ ap not c.args.self.now.idle) (c.terminal_of.ensures.reads.was_open clean (reads.was_open sound.0 sound.1)) in
+    let has : HasRows rows old.now = subst (HasRows rows) (sym settled) stands.holds.has in
+    let same : IsSame old mid = c.in_ok-terminal.ensures.same clean has.schema in
+    let there : HasRows rows mid.now = subst (HasRows rows) (sym same.now) has in
+    let given : IsGiven content = subst IsGiven stands.setup c.args.self.now.given in
+    let beside : IsBeside content ds (Some c.in_ok-terminal.terminal) = c.in_ok-terminal.ensures.beside clean content ds rows given has stands.holds.after (subst (IsBeside content ds) (sym c.take.ensures.value) stands.holds.beside) in
+    let kept : end.committed ≡ old.committed = (reads.keeps sound.0 there.schema).committed sound.1 ∙ same.committed in
+    record {
+      setup = stands.setup;
+      holds = record { rows = rows; has = subst (HasRows rows) (sym kept) stands.holds.has; after = stands.holds.after; beside = beside };
+    }

@@ -1,0 +1,41 @@
+use Rattle.std.proofs.Common.{◌⊎◌, arith, sym, subst, ◌∙◌}
+use Rattle.sqlite.specs.Held.{state}
+use Rattle.sqlite.specs.State.{HasCleanDisk}
+use Rattle.office_taking.specs.Taking.{machine_of}
+use Rattle.office_history.specs.Cascade.{with_run}
+use Rattle.office_delivery.specs.Reading.{IsSame}
+use Rattle.office_delivery.specs.Taken.{taken_contents}
+use Rattle.office_rows.specs.Stored.{HasRows}
+use Rattle.office_delivery.specs.Writing.{Commits, IsWhole}
+use Rattle.office_desk.proofs.AnswerLemmas.{takes_next}
+use Rattle.office_desk.proofs.CrashLemmas.{either_of, on_err, reads_less}
+use Rattle.office_desk.proofs.next.take_next.Goals as goal
+
+pub returns-clause-ok : goal.returns-clause-ok
+returns-clause-ok g c clean rows has settled numbered =
+    let old = state g.S.Store c.args.conn.now in
+    let mid = state g.S.Store c.take_run.new.conn in
+    let new = state g.S.Store c.write_run.new.conn in
+    let items = c.in_ok-taken.taken.items in
+    let before : HasCleanDisk mid = omega (arith, c.write_run.ensures.crash.clean) in
+    let same : IsSame old mid = c.in_ok-taken.ensures.same before has.schema in
+    let wrote : Commits (with_run c.args.partner c.args.number c.args.text.now (taken_contents items)) mid new = rw c.deref.ensures.value at (c.in_ok-write_run.ensures.ok clean) in
+    takes_next rows c.args.partner c.args.number c.args.text.now c.args.code.now (machine_of c.args.setup.now c.args.terminal) (machine_of c.args.setup.now c.take_run.new.terminal) c.in_ok-head.head c.swap_remove-reply.result items old mid new
+    c.in_ok-taken.ensures.first c.swap_remove-reply.ensures.value (c.in_ok-taken.ensures.taken before rows has numbered) c.in_ok-head.ensures.bytes has settled same wrote
+
+pub returns-in_err-write_run-clause-crash : goal.returns-in_err-write_run-clause-crash
+returns-in_err-write_run-clause-crash g c clean = on_err c.from_residual-in_err-write_run.result (λ rows has settled numbered db left.
+    let a = c.args in
+    let old = state g.S.Store a.conn.now in
+    let mid = state g.S.Store c.take_run.new.conn in
+    let items = c.in_ok-taken.taken.items in
+    let before : HasCleanDisk mid = omega (arith, c.write_run.ensures.crash.clean, clean) in
+    let same : IsSame old mid = c.in_ok-taken.ensures.same before has.schema in
+    let wrote : mid.may_leave db ⊎ IsWhole (with_run a.partner a.number a.text.now (taken_contents items)) mid db = rw c.deref.ensures.value at (c.write_run.ensures.crash.crash clean db left) in
+    either_of (reads_less old mid before has.schema c.take_run.ensures.reads db)
+    (λ is. record {
+      taken = taken_contents items;
+      new = machine_of a.setup.now c.take_run.new.terminal;
+      are_taken = c.in_ok-taken.ensures.taken before rows has numbered;
+      are = is rows (subst (HasRows rows) (settled ∙ sym same.committed) has);
+    }) wrote)

@@ -1,0 +1,76 @@
+-- What the desk tells: the reports of the rows that it holds.
+use Rattle.std.specs.Prelude.{◌≡◌, ℕ, List, [], ◌∷◌, Option, None, Some, codes, string_bytes}
+use Rattle.sqlite.specs.Held.{state}
+use Rattle.sqlite_trees.specs.declared.store.Store.{Ghosts}
+use Rattle.edi_messages.specs.Owned.{call_content}
+use Rattle.terminal_core.specs.Rows.{VisitContent}
+use Rattle.terminal_core.specs.State.{TerminalState}
+use Rattle.office_replies.specs.Bodies.{answer_text, waiting_text}
+use Rattle.office_rows.specs.Rows.{Rows}
+use Rattle.office_setup.specs.Parties.{partner_from}
+use Rattle.office_setup.specs.Setups.{SetupContent, setup_content}
+use Rattle.office_tables.specs.Answers.{IsNextOf}
+use Rattle.office_history.specs.After.{AreAfter, machine_after, parties_in, reply_in}
+use Rattle.office_history.specs.Cascade.{text_in}
+use Rattle.office_queries.specs.declared.query.Query.{Query}
+use Rattle.office_queries.specs.declared.query.Query.TheVariants as query
+use Rattle.office_reports.specs.Export.{IsYardExport}
+use Rattle.office_reports.specs.Lists.{IsListReport}
+use Rattle.office_reports.specs.Tickets.{ticket_text}
+use Rattle.office_reports.specs.Visits.{visit_report}
+use Rattle.office_reports.specs.Yard.{IsYardReport}
+use Rattle.office_desk.specs.Telling.{Holds}
+use Rattle.office_desk.specs.declared.desk.Desk.{Desk}
+
+-- the number of the partner of that code
+abbrev pub partner_called : SetupContent → List ℕ → Option ℕ
+partner_called content code = partner_from 1 code (parties_in content).partners
+
+-- ---- replies
+
+-- what was taken is told as a repeat, what waits as waiting for that number
+abbrev pub reply_text : (next : ℕ) → List ℕ → ℕ → (reply : Option (List ℕ)) → List ℕ
+reply_text next code number None = waiting_text next number code
+reply_text next code number (Some reply) = answer_text (codes "repeat") number code reply
+
+-- by the text that is kept and its reply; nothing is told of what is not kept
+abbrev pub TellsReply : Rows → List ℕ → ℕ → ℕ → (text reply : Option (List ℕ)) → (found : Option (List ℕ)) → Type 0
+TellsReply rows code partner number None reply found = found ≡ None
+TellsReply rows code partner number (Some text) reply found = (next : ℕ) × IsNextOf partner rows next × (found ≡ Some (reply_text next code number reply))
+
+abbrev pub TellsReplyOf : Rows → List ℕ → ℕ → Option ℕ → (found : Option (List ℕ)) → Type 0
+TellsReplyOf rows code number None found = found ≡ None
+TellsReplyOf rows code number (Some partner) found = TellsReply rows code partner number (text_in rows partner number) (reply_in rows partner number) found
+
+-- ---- tickets
+
+-- what was taken has a ticket
+abbrev pub ticket_told : List VisitContent → List ℕ → ℕ → ℕ → (reply : Option (List ℕ)) → Option (List ℕ)
+ticket_told visits code partner number None = None
+ticket_told visits code partner number (Some reply) = Some (ticket_text code (record { partner = partner; number = number }) visits)
+
+abbrev pub ticket_of : List VisitContent → Rows → List ℕ → ℕ → Option ℕ → Option (List ℕ)
+ticket_of visits rows code number None = None
+ticket_of visits rows code number (Some partner) = ticket_told visits code partner number (reply_in rows partner number)
+
+-- ---- all reports
+
+-- the text, if there is one, is what the rows tell at the query, which are those of that set-up and of that terminal
+abbrev pub TellsOf : SetupContent → TerminalState → Rows → Query → Option (List ℕ) → Type 0
+TellsOf content state rows query.Yard found = (text : List ℕ) × (found ≡ Some text) × IsYardReport state text
+TellsOf content state rows query.YardTable found = (text : List ℕ) × (found ≡ Some text) × IsYardExport state text
+TellsOf content state rows (query.Visits container) found = found ≡ visit_report content state container
+TellsOf content state rows (query.List call side) found = IsListReport state (call_content call) side found
+TellsOf content state rows (query.Ticket partner number) found = found ≡ ticket_of state.visits rows (string_bytes partner) number (partner_called content (string_bytes partner))
+TellsOf content state rows (query.Reply partner number) found = TellsReplyOf rows (string_bytes partner) number (partner_called content (string_bytes partner)) found
+
+-- what the rows after those deliveries tell
+pub record TellsAfter (content : SetupContent) (ds : List (List ℕ)) (query : Query) (found : Option (List ℕ)) : Type 0 where
+  pub rows : Rows
+  pub after : AreAfter content ds rows
+  pub tells : TellsOf content (machine_after content ds).terminal rows query found
+
+-- whatever was delivered to the desk, it tells what the rows after that tell
+abbrev pub DeskTells : {S : Type 0} (g : Ghosts S) → Desk S g → Query → Option (List ℕ) → Type 0
+DeskTells g desk query found =
+    (ds : List (List ℕ)) → Holds (setup_content desk.setup) ds (state g desk.conn).committed desk.terminal → TellsAfter (setup_content desk.setup) ds query found

@@ -1,0 +1,147 @@
+ghost use Rattle.std.specs.Prelude.{◌≡◌, ◌≤◌, IfOk, is_some, length, codes, string_bytes, option_map};
+ghost use Rattle.sqlite.specs.Held.{state};
+ghost use Rattle.sqlite.specs.State.{HasCleanDisk};
+ghost use Rattle.office_rows.specs.Rows.{Rows};
+ghost use Rattle.office_rows.specs.Stored.{HasRows};
+ghost use Rattle.office_rows.specs.Tables.{office_schema};
+ghost use Rattle.office_setup.specs.Parties.{partner_codes, partner_from};
+ghost use Rattle.office_setup.specs.Setups.{setup_content};
+ghost use Rattle.office_history.specs.After.{AreKeptOnce, reply_in};
+ghost use Rattle.office_history.specs.Cascade.{text_in};
+ghost use Rattle.office_delivery.specs.Reading.{IsSame, OnlyReads};
+ghost use Rattle.office_replies.specs.Bodies.{answer_text};
+ghost use Rattle.std.specs.Option.{option_and_then};
+ghost use Rattle.office_desk.specs.Reports.{TellsOf, TellsReply, reply_text, ticket_told};
+
+use crate::found::{Found, look};
+use office_queries::Query;
+use office_replies::{answer_head, waiting};
+use office_reports::{list_report, ticket, visit_report, yard_csv, yard_report};
+use office_setup::{Account, Setup};
+use office_tables::{Kept, TableFault};
+use sqlite::{Alter, Connection};
+use std::alloc::{AllocError, Global};
+use terminal_core::Terminal;
+
+/// What the rows tell at a query, and the terminal that stands beside them. It changes nothing.
+pub(crate) fn tell<S: Alter>(
+    alloc: Global,
+    conn: &mut Connection<S>,
+    setup: &Setup,
+    terminal: &Terminal,
+    query: &Query,
+) -> Result<Option<String>, TableFault>
+    requires few { length setup.now.partners.items ≤ 999 }
+    ensures told { HasCleanDisk (state S.Store conn.new) → IfOk result (λ found. (rows : Rows) →
+        HasRows rows (state S.Store conn.old).now → AreKeptOnce rows.interchanges →
+        TellsOf (setup_content setup.now) terminal.now rows query.now (option_map string_bytes found)) }
+    ensures reads { OnlyReads (state S.Store conn.old) (state S.Store conn.new) }
+{
+    match query {
+        Query::Yard => Ok(Some(yard_report(alloc, terminal)?)),
+        Query::YardTable => Ok(Some(yard_csv(alloc, terminal)?)),
+        Query::Visits(container) => Ok(visit_report(alloc, setup, terminal, *container)?),
+        Query::List { call, side } => Ok(list_report(alloc, terminal, call, *side)?),
+        Query::Ticket { partner, number } => match partner_called(&setup.partners, partner) {
+            Some(id) => tell_ticket(alloc, conn, terminal, partner, id, *number),
+            None => Ok(None),
+        },
+        Query::Reply { partner, number } => match partner_called(&setup.partners, partner) {
+            Some(id) => tell_reply(alloc, conn, partner, id, *number),
+            None => Ok(None),
+        },
+    }
+}
+
+// The number of the partner of a code.
+fn partner_called(accounts: &[Account], code: &str) -> Option<u16>
+    requires few { length accounts.now ≤ 999 }
+    ensures { result ≡ partner_from 1 code.now (partner_codes accounts.now) }
+{
+    let mut partner = 1;
+    for account in accounts {
+        if code == account.code.as_str() {
+            return Some(partner);
+        }
+        partner += 1;
+    }
+    None
+}
+
+// What an interchange did, if it was taken.
+fn tell_ticket<S: Alter>(
+    alloc: Global,
+    conn: &mut Connection<S>,
+    terminal: &Terminal,
+    code: &str,
+    partner: u16,
+    number: u32,
+) -> Result<Option<String>, TableFault>
+    ensures told { HasCleanDisk (state S.Store conn.new) → IfOk result (λ found. (rows : Rows) →
+        HasRows rows (state S.Store conn.old).now → AreKeptOnce rows.interchanges →
+        option_map string_bytes found ≡ ticket_told terminal.now.visits code.now partner number (reply_in rows partner number)) }
+    ensures reads { OnlyReads (state S.Store conn.old) (state S.Store conn.new) }
+{
+    let Found { kept, next: _ } = look(conn, partner, number)?;
+    if was_taken(kept) {
+        return Ok(Some(ticket(alloc, terminal, code, partner, number)?));
+    }
+    Ok(None)
+}
+
+// Whether there is a reply.
+fn was_taken(kept: Option<Kept>) -> bool
+    ensures { result ≡ is_some (option_and_then (λ k. k.reply) kept) }
+{
+    match kept {
+        Some(Kept { text: _, reply }) => reply.is_some(),
+        None => false,
+    }
+}
+
+// What an interchange was answered, if it is kept.
+fn tell_reply<S: Alter>(
+    alloc: Global,
+    conn: &mut Connection<S>,
+    code: &str,
+    partner: u16,
+    number: u32,
+) -> Result<Option<String>, TableFault>
+    ensures told { HasCleanDisk (state S.Store conn.new) → IfOk result (λ found. (rows : Rows) →
+        HasRows rows (state S.Store conn.old).now → AreKeptOnce rows.interchanges →
+        TellsReply rows code.now partner number (text_in rows partner number) (reply_in rows partner number) (option_map string_bytes found)) }
+    ensures reads { OnlyReads (state S.Store conn.old) (state S.Store conn.new) }
+{
+    let Found { kept, next } = look(conn, partner, number)?;
+    match kept {
+        Some(kept) => Ok(Some(tell_kept(alloc, kept, next, code, number)?)),
+        None => Ok(None),
+    }
+}
+
+// The answer to an interchange that is kept: as a repeat, if it was taken.
+fn tell_kept(
+    alloc: Global,
+    kept: Kept,
+    next: u32,
+    code: &str,
+    number: u32,
+) -> Result<String, AllocError>
+    ensures { IfOk result (λ text. string_bytes text ≡ reply_text next code.now number (option_map string_bytes kept.reply)) }
+{
+    let Kept { text: _, reply } = kept;
+    match reply {
+        Some(reply) => repeat_text(alloc, &reply, code, number),
+        None => waiting(alloc, next, number, code),
+    }
+}
+
+// The answer to an interchange that was taken before.
+fn repeat_text(alloc: Global, reply: &str, code: &str, number: u32) -> Result<String, AllocError>
+    ensures { IfOk result (λ text. string_bytes text ≡ answer_text (codes "repeat") number code.now reply.now) }
+{
+    let mut text = answer_head(alloc, "repeat", number, code)?;
+    text.push_str(reply)?;
+    text.push_str("}")?;
+    Ok(text)
+}

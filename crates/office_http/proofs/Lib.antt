@@ -1,0 +1,6 @@
+pub mod Heads
+pub mod Pieces
+pub mod Bodies
+pub mod Keys
+pub mod Values
+pub mod OneRequest

@@ -1,0 +1,69 @@
+-- A stream asks for one thing.
+use Rattle.std.proofs.Common.{◌≡◌, ◌≢◌, ℕ, List, take, Option, None, Some, Result, Ok, Err, inl, inr, refl, sym, subst, ◌∙◌, arith}
+use Rattle.httparse.specs.Grammar.{RequestHead}
+use Rattle.httparse.proofs.GrammarLemmas.{request_unique}
+use Rattle.office_queries.specs.Keys.{Asked}
+use Rattle.office_queries.specs.declared.report_kind.ReportKind.{ReportKind}
+use Rattle.office_http.specs.Requests.{IsDelivery, IsReport, Gets, Posts, AsksAt, AsksWith, IsSameRequest, HeadsAreOne, RequestsAreOne}
+use Rattle.office_http.specs.declared.endpoint.Endpoint.{Endpoint}
+use Rattle.office_http.specs.declared.endpoint.Endpoint.TheVariants as endpoint
+use Rattle.office_http.specs.declared.refusal.Refusal.{Refusal}
+use Rattle.office_http.specs.declared.refusal.Refusal.TheVariants.{NotNow}
+use Rattle.office_http.specs.declared.request.Request.{Request}
+use Rattle.office_http.specs.declared.request.Request.TheVariants.{Delivery, Report, Refused}
+
+pub heads_are_one : HeadsAreOne
+heads_are_one stream head head' rest rest' one other = request_unique stream head head' rest rest' one.reads other.reads
+
+same_refusal : (refusal : Refusal) (request request' : Request) → request ≡ Refused refusal → request' ≡ Refused refusal → IsSameRequest request request'
+same_refusal refusal request request' is is' =
+    subst (λ (r : Request). IsSameRequest r request') (sym is) (subst (λ (r : Request). IsSameRequest (Refused refusal) r) (sym is') refl)
+
+same_delivery : (text : List ℕ) (request request' : Request) → IsDelivery text request → IsDelivery text request' → IsSameRequest request request'
+same_delivery text (Delivery body) (Delivery other) is is' = is ∙ sym is'
+same_delivery text (Delivery body) (Report kind query) is is' = absurd is'
+same_delivery text (Delivery body) (Refused refusal) is is' = absurd is'
+same_delivery text (Report kind query) request' is is' = absurd is
+same_delivery text (Refused refusal) request' is is' = absurd is
+
+same_report : (kind : ReportKind) (what : Asked) (request request' : Request) → IsReport kind what request → IsReport kind what request' →
+    IsSameRequest request request'
+same_report kind what (Delivery body) request' is is' = absurd is
+same_report kind what (Report of query) (Delivery body) is is' = absurd is'
+same_report kind what (Report of query) (Report of' query') is is' = (is.0 ∙ sym is'.0, is.1 ∙ sym is'.1)
+same_report kind what (Report of query) (Refused refusal) is is' = absurd is'
+same_report kind what (Refused refusal) request' is is' = absurd is
+
+same_get : (kind : ReportKind) (what : Option Asked) (request request' : Request) → Gets kind what request → Gets kind what request' →
+    IsSameRequest request request'
+same_get kind None request request' is is' = same_refusal _ request request' is is'
+same_get kind (Some what) request request' is is' = same_report kind what request request' is is'
+
+same_post : (said : Result ℕ Refusal) (rest : List ℕ) (request request' : Request) → Posts said rest request → Posts said rest request' →
+    IsSameRequest request request'
+same_post (Err refusal) rest request request' is is' = same_refusal refusal request request' is is'
+same_post (Ok size) rest request request' (inl short) (inl short') = same_refusal _ request request' short.1 short'.1
+same_post (Ok size) rest request request' (inl short) (inr whole) = let less = short.0 in let more = whole.0 in absurd (omega arith)
+same_post (Ok size) rest request request' (inr whole) (inl short) = let less = short.0 in let more = whole.0 in absurd (omega arith)
+same_post (Ok size) rest request request' (inr whole) (inr whole') = same_delivery (take size rest) request request' whole.1 whole'.1
+
+same_at : (to : Result Endpoint Refusal) (head : RequestHead) (rest : List ℕ) (request request' : Request) → AsksAt to head rest request →
+    AsksAt to head rest request' → IsSameRequest request request'
+same_at (Err refusal) head rest request request' is is' = same_refusal refusal request request' is is'
+same_at (Ok endpoint.Interchanges) head rest request request' is is' = same_post _ rest request request' is is'
+same_at (Ok (endpoint.Report kind)) head rest request request' is is' = same_get kind _ request request' is is'
+
+same_with : (head : RequestHead) (rest : List ℕ) (request request' : Request) → request ≢ Refused NotNow → request' ≢ Refused NotNow →
+    AsksWith head rest request → AsksWith head rest request' → IsSameRequest request request'
+same_with head rest request request' sure sure' (inl not_now) is' = absurd (sure not_now)
+same_with head rest request request' sure sure' (inr is) (inl not_now) = absurd (sure' not_now)
+same_with head rest request request' sure sure' (inr is) (inr is') = same_at _ head rest request request' is is'
+
+pub requests_are_one : RequestsAreOne
+requests_are_one stream request request' sure sure' (inl (none, is)) (inl (none', is')) = same_refusal _ request request' is is'
+requests_are_one stream request request' sure sure' (inl (none, is)) (inr (head, rest, here, is')) = absurd (none head rest here)
+requests_are_one stream request request' sure sure' (inr (head, rest, here, is)) (inl (none, is')) = absurd (none head rest here)
+requests_are_one stream request request' sure sure' (inr (head, rest, here, is)) (inr (head', rest', here', is')) =
+    let same = heads_are_one stream head head' rest rest' here here' in
+    same_with head rest request request' sure sure' is
+    (subst (λ (h : RequestHead). AsksWith h rest request') (sym same.0) (subst (λ (r : List ℕ). AsksWith head' r request') (sym same.1) is'))

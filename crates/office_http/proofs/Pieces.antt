@@ -1,0 +1,46 @@
+-- What a few writes in a row append.
+use Rattle.std.proofs.Common.{◌≡◌, ℕ, ◌+◌, List, ◌++◌, length, Option, None, append_assoc, length-append, refl, sym, ap, subst, ◌∙◌}
+use Rattle.std.specs.Io.KnownBytes.{Appends}
+use Rattle.std.proofs.KnownBytes.{Appends-trans}
+use Rattle.office_http.specs.Responses.{response_head, response_bytes}
+use Rattle.office_http.specs.declared.content_type.ContentType.{ContentType}
+
+pub two_pieces : (a b c : Option (List ℕ)) (x y : List ℕ) → Appends a b x → Appends b c y → Appends a c (x ++ y)
+two_pieces a b c x y p q = Appends-trans a b c x y p q
+
+pub three_pieces : (a b c d : Option (List ℕ)) (x y z : List ℕ) → Appends a b x → Appends b c y → Appends c d z → Appends a d (x ++ (y ++ z))
+three_pieces a b c d x y z p q r = Appends-trans a b d x (y ++ z) p (Appends-trans b c d y z q r)
+
+pub four_pieces : (a b c d e : Option (List ℕ)) (w x y z : List ℕ) → Appends a b w → Appends b c x → Appends c d y → Appends d e z → Appends a e (w ++ (x ++ (y ++ z)))
+four_pieces a b c d e w x y z p q r s = Appends-trans a b e w (x ++ (y ++ z)) p (three_pieces b c d e x y z q r s)
+
+pub five_pieces : (a b c d e f : Option (List ℕ)) (v w x y z : List ℕ) → Appends a b v → Appends b c w → Appends c d x → Appends d e y → Appends e f z →
+    Appends a f (v ++ (w ++ (x ++ (y ++ z))))
+five_pieces a b c d e f v w x y z o p q r s = Appends-trans a b f v (w ++ (x ++ (y ++ z))) o (four_pieces b c d e f w x y z p q r s)
+
+-- a response whose body is written as it is
+pub whole : (a b c : Option (List ℕ)) (status status' : ℕ) (kind : ContentType) (allowed allowed' : Option (List ℕ)) (body body' text : List ℕ) →
+    status ≡ status' → allowed ≡ allowed' → body ≡ body' → text ≡ body →
+    Appends a b (response_head status kind allowed (length body)) → Appends b c text → Appends a c (response_bytes status' kind allowed' body')
+unfolding response_bytes
+whole a b c status status' kind allowed allowed' body body' text same_status same_allowed same_body same_text head written =
+    let is : response_head status kind allowed (length body) ++ text ≡ response_head status' kind allowed' (length body') ++ body' =
+    rw (same_status, same_allowed, same_text, same_body) refl in
+    subst (Appends a c) is (two_pieces a b c (response_head status kind allowed (length body)) text head written)
+
+-- a response whose body is written in three parts
+pub in_parts : (a b c d e : Option (List ℕ)) (status status' : ℕ) (kind : ContentType) (front reply back front' reply' back' : List ℕ) →
+    status ≡ status' → front ≡ front' → reply ≡ reply' → back ≡ back' →
+    Appends a b (response_head status kind None (length front + length reply + length back)) → Appends b c front → Appends c d reply → Appends d e back →
+    Appends a e (response_bytes status' kind None ((front' ++ reply') ++ back'))
+unfolding response_bytes
+in_parts a b c d e status status' kind front reply back front' reply' back' same_status same_front same_reply same_back head first second third =
+    let parts = four_pieces a b c d e (response_head status kind None (length front + length reply + length back)) front reply back head first second third in
+    let size : length front + length reply + length back ≡ length ((front ++ reply) ++ back) =
+    ap (λ (n : ℕ). n + length back) (sym (length-append front reply)) ∙ sym (length-append (front ++ reply) back) in
+    let is : response_head status kind None (length front + length reply + length back) ++ (front ++ (reply ++ back))
+    ≡ response_head status' kind None (length ((front' ++ reply') ++ back')) ++ ((front' ++ reply') ++ back') =
+    ap (λ (n : ℕ). response_head status kind None n ++ (front ++ (reply ++ back))) size
+    ∙ ap (λ (t : List ℕ). response_head status kind None (length ((front ++ reply) ++ back)) ++ t) (sym (append_assoc front reply back))
+    ∙ rw (same_status, same_front, same_reply, same_back) refl in
+    subst (Appends a e) is parts

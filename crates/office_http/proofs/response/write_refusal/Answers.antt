@@ -1,0 +1,10 @@
+use Rattle.std.proofs.lemmas.Result.{on_ok_weaker}
+use Rattle.office_http.specs.declared.content_type.ContentType.TheVariants.{Json}
+use Rattle.office_http.proofs.Pieces.{whole}
+use Rattle.office_http.proofs.response.write_refusal.Goals as goal
+
+pub returns-clause-bytes : goal.returns-clause-bytes
+returns-clause-bytes g c =
+    on_ok_weaker c.write_all.result
+    (λ last. whole _ _ _ _ _ Json _ _ _ _ _ c.status.ensures c.allowed.ensures c.body-body.ensures c.as_bytes.ensures.value c.in_ok-write_head.ensures.bytes last)
+    c.write_all.ensures.bytes

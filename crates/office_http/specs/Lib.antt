@@ -1,0 +1,6 @@
+pub mod Heads
+pub mod Responses
+pub mod Routes
+pub mod Fields
+pub mod Requests
+pub mod Served

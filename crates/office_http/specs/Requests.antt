@@ -1,0 +1,84 @@
+-- What a stream asks for, by the checks in their order (our own).
+use Rattle.std.specs.Prelude.{◌≡◌, ◌≢◌, ℕ, ◌<◌, ◌≤◌, ◌⊎◌, List, map, length, take, Option, None, Some, Result, Ok, Err}
+use Rattle.std.specs.Option.{option_and_then}
+use Rattle.httparse.specs.Grammar.{RequestHead}
+use Rattle.httparse.specs.Spans.{name_and_value}
+use Rattle.office_queries.specs.Keys.{Asked, asked, query_of}
+use Rattle.office_queries.specs.declared.report_kind.ReportKind.{ReportKind}
+use Rattle.office_http.specs.Heads.{IsHead, HasNoHead}
+use Rattle.office_http.specs.Routes.{directed, path_of, key_in}
+use Rattle.office_http.specs.Fields.{body_length}
+use Rattle.office_http.specs.declared.endpoint.Endpoint.{Endpoint}
+use Rattle.office_http.specs.declared.endpoint.Endpoint.TheVariants as endpoint
+use Rattle.office_http.specs.declared.refusal.Refusal.{Refusal}
+use Rattle.office_http.specs.declared.refusal.Refusal.TheVariants.{BadRequest, NotFound, NotNow}
+use Rattle.office_http.specs.declared.request.Request.{Request}
+use Rattle.office_http.specs.declared.request.Request.TheVariants.{Delivery, Report, Refused}
+
+-- it asks that the text is delivered
+abbrev pub IsDelivery : List ℕ → Request → Type 0
+IsDelivery text (Delivery body) = body.items ≡ text
+IsDelivery text (Report kind query) = ⊥
+IsDelivery text (Refused refusal) = ⊥
+
+-- it asks for that report
+abbrev pub IsReport : ReportKind → Asked → Request → Type 0
+IsReport kind what (Delivery body) = ⊥
+IsReport kind what (Report of query) = (of ≡ kind) × (asked query ≡ what)
+IsReport kind what (Refused refusal) = ⊥
+
+-- a report whose key asks for something, or nothing is found
+abbrev pub Gets : ReportKind → Option Asked → Request → Type 0
+Gets kind None request = request ≡ Refused NotFound
+Gets kind (Some what) request = IsReport kind what request
+
+-- a delivery of as many bytes as are said, or there are fewer
+abbrev pub Posts : Result ℕ Refusal → List ℕ → Request → Type 0
+Posts (Err refusal) rest request = request ≡ Refused refusal
+Posts (Ok size) rest request =
+    ((length rest < size) × (request ≡ Refused BadRequest)) ⊎ ((size ≤ length rest) × IsDelivery (take size rest) request)
+
+-- by where it goes to
+abbrev pub AsksAt : Result Endpoint Refusal → RequestHead → List ℕ → Request → Type 0
+AsksAt (Err refusal) head rest request = request ≡ Refused refusal
+AsksAt (Ok endpoint.Interchanges) head rest request = Posts (body_length (map name_and_value head.fields)) rest request
+AsksAt (Ok (endpoint.Report kind)) head rest request =
+    Gets kind (option_and_then (query_of kind) (key_in kind (path_of head.target))) request
+
+-- behind a head that can be read; memory may be wanting from there on
+abbrev pub AsksWith : RequestHead → List ℕ → Request → Type 0
+AsksWith head rest request =
+    (request ≡ Refused NotNow) ⊎ AsksAt (directed head.method (path_of head.target)) head rest request
+
+-- The shortest front of the stream that is a head, of at most 8,192 bytes and 64 fields, decides together with what stands
+-- behind it.
+abbrev pub Asks : List ℕ → Request → Type 0
+Asks stream request =
+    (HasNoHead 8192 64 stream × (request ≡ Refused BadRequest))
+    ⊎ ((head : RequestHead) × (rest : List ℕ) × IsHead 8192 64 stream head rest × AsksWith head rest request)
+
+-- ---- a stream asks for one thing
+
+-- the same is asked for
+abbrev pub IsSameRequest : Request → Request → Type 0
+IsSameRequest (Delivery body) (Delivery other) = body.items ≡ other.items
+IsSameRequest (Delivery body) (Report kind query) = ⊥
+IsSameRequest (Delivery body) (Refused refusal) = ⊥
+IsSameRequest (Report kind query) (Delivery body) = ⊥
+IsSameRequest (Report kind query) (Report of other) = (kind ≡ of) × (asked query ≡ asked other)
+IsSameRequest (Report kind query) (Refused refusal) = ⊥
+IsSameRequest (Refused refusal) (Delivery body) = ⊥
+IsSameRequest (Refused refusal) (Report kind query) = ⊥
+IsSameRequest (Refused refusal) (Refused other) = refusal ≡ other
+
+-- A stream has one head, if any, and one rest behind it.
+abbrev pub HeadsAreOne : Type 0
+HeadsAreOne =
+    (stream : List ℕ) (head head' : RequestHead) (rest rest' : List ℕ) → IsHead 8192 64 stream head rest → IsHead 8192 64 stream head' rest'
+    → (head ≡ head') × (rest ≡ rest')
+
+-- But for want of memory, what a stream asks for depends on the stream alone.
+abbrev pub RequestsAreOne : Type 0
+RequestsAreOne =
+    (stream : List ℕ) (request request' : Request) → request ≢ Refused NotNow → request' ≢ Refused NotNow
+    → Asks stream request → Asks stream request' → IsSameRequest request request'

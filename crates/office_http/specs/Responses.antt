@@ -1,0 +1,69 @@
+-- The bytes of a response (RFC 9112, sections 4 and 5).
+use Rattle.std.specs.Prelude.{ℕ, List, [], ◌++◌, length, codes, decimal, unwrap_or, Option, None, Some}
+use Rattle.http.specs.StatusCode.{code_digits, reason_phrase}
+use Rattle.office_http.specs.declared.content_type.ContentType.{ContentType}
+use Rattle.office_http.specs.declared.content_type.ContentType.TheVariants.{Json, Text}
+use Rattle.office_http.specs.declared.refusal.Refusal.{Refusal}
+use Rattle.office_http.specs.declared.refusal.Refusal.TheVariants.{BadRequest, NotFound, OnlyGet, OnlyPost, NoLength, TooLong, NotNow}
+
+abbrev pub media_type : ContentType → List ℕ
+media_type Json = codes "application/json"
+media_type Text = codes "text/plain"
+
+unfoldable pub status_line : ℕ → List ℕ
+status_line status = codes "HTTP/1.1 " ++ (code_digits status ++ (codes " " ++ (unwrap_or (reason_phrase status) (codes "") ++ codes "\r\n")))
+
+unfoldable pub field_line : List ℕ → List ℕ → List ℕ
+field_line name value = name ++ (codes ": " ++ (value ++ codes "\r\n"))
+
+unfoldable pub allow_line : Option (List ℕ) → List ℕ
+allow_line None = []
+allow_line (Some method) = field_line (codes "Allow") method
+
+-- the connection closes, and the head ends
+unfoldable pub close_lines : List ℕ
+close_lines = field_line (codes "Connection") (codes "close") ++ codes "\r\n"
+
+-- the lines before a body of that size; a method that is allowed in place of the request's is told
+unfoldable pub response_head : ℕ → ContentType → Option (List ℕ) → ℕ → List ℕ
+response_head status kind allowed size =
+    status_line status
+    ++ (field_line (codes "Content-Type") (media_type kind)
+    ++ (field_line (codes "Content-Length") (decimal size)
+    ++ (allow_line allowed
+    ++ close_lines)))
+
+unfoldable pub response_bytes : ℕ → ContentType → Option (List ℕ) → List ℕ → List ℕ
+response_bytes status kind allowed body = response_head status kind allowed (length body) ++ body
+
+-- ---- refusals
+
+abbrev pub refusal_status : Refusal → ℕ
+refusal_status BadRequest = 400
+refusal_status NotFound = 404
+refusal_status OnlyGet = 405
+refusal_status OnlyPost = 405
+refusal_status NoLength = 411
+refusal_status TooLong = 413
+refusal_status NotNow = 503
+
+abbrev pub refusal_body : Refusal → List ℕ
+refusal_body BadRequest = codes "{\"answer\":\"bad request\"}"
+refusal_body NotFound = codes "{\"answer\":\"none\"}"
+refusal_body OnlyGet = codes "{\"answer\":\"method\"}"
+refusal_body OnlyPost = codes "{\"answer\":\"method\"}"
+refusal_body NoLength = codes "{\"answer\":\"length\"}"
+refusal_body TooLong = codes "{\"answer\":\"too long\"}"
+refusal_body NotNow = codes "{\"answer\":\"not now\"}"
+
+abbrev pub allowed : Refusal → Option (List ℕ)
+allowed OnlyGet = Some (codes "GET")
+allowed OnlyPost = Some (codes "POST")
+allowed BadRequest = None
+allowed NotFound = None
+allowed NoLength = None
+allowed TooLong = None
+allowed NotNow = None
+
+abbrev pub refusal_bytes : Refusal → List ℕ
+refusal_bytes refusal = response_bytes (refusal_status refusal) Json (allowed refusal) (refusal_body refusal)

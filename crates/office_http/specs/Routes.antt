@@ -1,0 +1,77 @@
+-- Where the paths lead (our own).
+use Rattle.std.specs.Prelude.{ℕ, cond, ◌==◌, List, [], codes, Option, None, Some, option_map, Result, Ok, Err, nat_eq, length, drop}
+use Rattle.std.specs.Str.{bytes_eq}
+use Rattle.std.specs.List.{before_first, starts_with}
+use Rattle.matchit.specs.Rows.{RowsOf}
+use Rattle.matchit.specs.Route.{Scan, parse_route}
+use Rattle.matchit.specs.Router.{RouteOf, route_from}
+use Rattle.matchit.specs.Order.{placed}
+use Rattle.matchit.specs.Seek.{first}
+use Rattle.matchit.specs.declared.error.InsertError.{InsertError}
+use Rattle.office_queries.specs.declared.report_kind.ReportKind.{ReportKind}
+use Rattle.office_queries.specs.declared.report_kind.ReportKind.TheVariants as kind
+use Rattle.office_http.specs.declared.endpoint.Endpoint.{Endpoint}
+use Rattle.office_http.specs.declared.endpoint.Endpoint.TheVariants as endpoint
+use Rattle.office_http.specs.declared.refusal.Refusal.{Refusal}
+use Rattle.office_http.specs.declared.refusal.Refusal.TheVariants.{NotFound, OnlyGet, OnlyPost}
+
+-- ---- the routes
+
+abbrev place_route : Result Scan InsertError → Endpoint → RowsOf (RouteOf Endpoint) → RowsOf (RouteOf Endpoint)
+place_route (Ok s) to rows = placed (s.pattern, route_from s to) rows
+place_route (Err e) to rows = rows
+
+-- the routes with one more
+abbrev pub with_route : List ℕ → Endpoint → RowsOf (RouteOf Endpoint) → RowsOf (RouteOf Endpoint)
+with_route text to rows = place_route (parse_route text) to rows
+
+unfoldable pub endpoints : RowsOf (RouteOf Endpoint)
+endpoints =
+    with_route (codes "/lists/{vessel}/{voyage}/{side}") (endpoint.Report kind.List)
+    (with_route (codes "/visits/{box}") (endpoint.Report kind.Visits)
+    (with_route (codes "/yard") (endpoint.Report kind.Yard)
+    (with_route (codes "/tickets/{partner}/{number}") (endpoint.Report kind.Ticket)
+    (with_route (codes "/replies/{partner}/{number}") (endpoint.Report kind.Reply)
+    (with_route (codes "/interchanges") endpoint.Interchanges [])))))
+
+-- the target up to `?` (63)
+abbrev pub path_of : List ℕ → List ℕ
+path_of target = before_first (λ b. b == 63) target
+
+-- what a path leads to
+abbrev pub endpoint_at : List ℕ → Option Endpoint
+endpoint_at path = option_map (λ r. r.value) (first endpoints path)
+
+-- ---- methods
+
+abbrev pub method_of : Endpoint → List ℕ
+method_of endpoint.Interchanges = codes "POST"
+method_of (endpoint.Report kind) = codes "GET"
+
+-- the refusal of another method
+abbrev pub other_method : Endpoint → Refusal
+other_method endpoint.Interchanges = OnlyPost
+other_method (endpoint.Report kind) = OnlyGet
+
+abbrev pub by_method : List ℕ → Option Endpoint → Result Endpoint Refusal
+by_method method None = Err NotFound
+by_method method (Some to) = cond (bytes_eq method (method_of to)) (Ok to) (Err (other_method to))
+
+-- where a request goes to, or why it is refused
+abbrev pub directed : List ℕ → List ℕ → Result Endpoint Refusal
+directed method path = by_method method (endpoint_at path)
+
+-- ---- keys
+
+-- what stands before a key
+abbrev pub front_of : ReportKind → List ℕ
+front_of kind.Yard = codes "/yard"
+front_of kind.YardTable = codes "/yard"
+front_of kind.Visits = codes "/visits/"
+front_of kind.List = codes "/lists/"
+front_of kind.Ticket = codes "/tickets/"
+front_of kind.Reply = codes "/replies/"
+
+-- the key of a report in its path: what stands behind that
+abbrev pub key_in : ReportKind → List ℕ → Option (List ℕ)
+key_in kind path = cond (starts_with nat_eq path (front_of kind)) (Some (drop (length (front_of kind)) path)) None

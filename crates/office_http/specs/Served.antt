@@ -1,0 +1,70 @@
+-- The answer to a request, and what is done with the office.
+use Rattle.std.specs.Prelude.{◌≡◌, ◌⊎◌, ℕ, List, Option, None, Some}
+use Rattle.std.specs.Io.KnownBytes.{Appends}
+use Rattle.office_replies.specs.declared.response.Response.{Response}
+use Rattle.office_replies.specs.Delivering.{Delivers}
+use Rattle.office_replies.specs.Responses.{body_of, status_of}
+use Rattle.office_queries.specs.declared.query.Query.{Query}
+use Rattle.office_queries.specs.declared.report_kind.ReportKind.{ReportKind}
+use Rattle.office_queries.specs.declared.report_kind.ReportKind.TheVariants as kind
+use Rattle.office_http.specs.Requests.{Asks}
+use Rattle.office_http.specs.Responses.{response_bytes, refusal_bytes}
+use Rattle.office_http.specs.declared.content_type.ContentType.{ContentType}
+use Rattle.office_http.specs.declared.content_type.ContentType.TheVariants.{Json, Text}
+use Rattle.office_http.specs.declared.refusal.Refusal.TheVariants.{NotFound, NotNow}
+use Rattle.office_http.specs.declared.request.Request.{Request}
+use Rattle.office_http.specs.declared.request.Request.TheVariants.{Delivery, Report, Refused}
+use Rattle.office_http.specs.declared.serve_fault.ServeFault.{ServeFault}
+use Rattle.office_http.specs.declared.serve_fault.ServeFault.TheVariants as fault
+
+-- what a report is: a reply is JSON
+abbrev pub content_of : ReportKind → ContentType
+content_of kind.Yard = Text
+content_of kind.YardTable = Text
+content_of kind.Visits = Text
+content_of kind.List = Text
+content_of kind.Ticket = Text
+content_of kind.Reply = Json
+
+-- the response with a report, if there is something to tell
+abbrev pub report_bytes : ReportKind → Option (List ℕ) → List ℕ
+report_bytes kind None = refusal_bytes NotFound
+report_bytes kind (Some text) = response_bytes 200 (content_of kind) None text
+
+-- the response with the answer to a delivery
+abbrev pub answer_bytes : Response → List ℕ
+answer_bytes response = response_bytes (status_of response) Json None (body_of response)
+
+-- What is done at a request, and the bytes that answer it. A refusal doesn't touch the office. A report leaves it where it
+-- stood, also where it can't be given now.
+abbrev pub Does : {D : Type 0} → (List (List ℕ) → D → Type 0) → (List (List ℕ) → List ℕ → Response → Type 0)
+    → (D → Query → Option (List ℕ) → Type 0) → List (List ℕ) → Request → D → D → List ℕ → Type 0
+Does stands answers tells ds (Delivery body) old new bytes =
+    (response : Response) × Delivers stands answers ds body.items response new × (bytes ≡ answer_bytes response)
+Does stands answers tells ds (Report kind query) old new bytes =
+    stands ds new
+    × (((found : Option (List ℕ)) × tells old query found × (bytes ≡ report_bytes kind found)) ⊎ (bytes ≡ refusal_bytes NotNow))
+Does stands answers tells ds (Refused refusal) old new bytes = (new ≡ old) × (bytes ≡ refusal_bytes refusal)
+
+-- what a stream asks for was done
+pub record Serves {D : Type 0} (stands : List (List ℕ) → D → Type 0) (answers : List (List ℕ) → List ℕ → Response → Type 0)
+    (tells : D → Query → Option (List ℕ) → Type 0) (ds : List (List ℕ)) (stream : List ℕ) (old new : D) (bytes : List ℕ) : Type 0 where
+  pub request : Request
+  pub asks : Asks stream request
+  pub does : Does stands answers tells ds request old new bytes
+
+-- what a stream asks for was done, and exactly its answer was written
+abbrev pub AnswersTo : {D : Type 0} → (List (List ℕ) → D → Type 0) → (List (List ℕ) → List ℕ → Response → Type 0)
+    → (D → Query → Option (List ℕ) → Type 0) → List (List ℕ) → List ℕ → D → D → Option (List ℕ) → Option (List ℕ) → Type 0
+AnswersTo stands answers tells ds stream old new written written' =
+    (bytes : List ℕ) × Serves stands answers tells ds stream old new bytes × Appends written written' bytes
+
+-- at most one text was delivered
+abbrev pub AtMostOne : {D : Type 0} → (List (List ℕ) → D → Type 0) → (List (List ℕ) → List ℕ → Response → Type 0) → List (List ℕ) → D → Type 0
+AtMostOne stands answers ds new =
+    stands ds new ⊎ ((text : List ℕ) × (response : Response) × Delivers stands answers ds text response new)
+
+-- what holds after a failed read, and what after a failed write
+abbrev pub MatchFault : ServeFault → Type 0 → Type 0 → Type 0
+MatchFault fault.Read AfterRead AfterWrite = AfterRead
+MatchFault fault.Write AfterRead AfterWrite = AfterWrite

@@ -1,0 +1,41 @@
+ghost use Rattle.std.specs.Prelude.{◌≡◌, ◌⊎◌, ◌≤◌, ◌+◌, ◌++◌, true, IfOk, IfSome, OnOk, OnErr, Ok};
+ghost use Rattle.office_http.specs.Requests.{Posts};
+ghost use Rattle.office_http.specs.declared.request.Request.TheVariants.{Refused};
+ghost use Rattle.office_http.specs.declared.refusal.Refusal.TheVariants.{NotNow};
+
+use crate::refusal::Refusal;
+use crate::request::Request;
+use office_stream::Port;
+use std::alloc::Global;
+use std::cmp::min;
+use std::io::{Read, Result};
+
+/// Reads a body of that size, whose front was read already.
+pub(crate) fn read_delivery<R: Read>(
+    alloc: Global,
+    reader: &mut Port<R>,
+    front: &[u8],
+    size: usize,
+) -> Result<Request>
+    ensures posts { IfOk result (λ request. IfSome (R.remaining reader.old.inner) (λ left.
+        (request ≡ Refused NotNow) ⊎ Posts (Ok size) (front.now ++ left) request)) }
+    ensures reads { reader.new.reads ≤ reader.old.reads + size }
+    ensures kept { OnOk result (reader.new.failed ≡ reader.old.failed) }
+    ensures fails { OnErr result (reader.new.failed ≡ true) }
+{
+    let Ok(mut body) = Vec::from_slice(alloc, &front[..min(front.len(), size)]) else {
+        return Ok(Request::Refused(Refusal::NotNow));
+    };
+    let mut buffer = [0; 4096];
+    'reads: while body.len() < size {
+        let count = reader.read(&mut buffer)?;
+        if count == 0 {
+            return Ok(Request::Refused(Refusal::BadRequest));
+        }
+        let taken = min(count, size - body.len());
+        let Ok(()) = body.extend_from_slice(&buffer[..taken]) else {
+            return Ok(Request::Refused(Refusal::NotNow));
+        };
+    }
+    Ok(Request::Delivery(body))
+}

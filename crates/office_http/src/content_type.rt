@@ -1,0 +1,23 @@
+ghost use Rattle.std.specs.Prelude.{◌≡◌};
+ghost use Rattle.office_http.specs.Responses.{media_type};
+
+/// What a body is.
+#[derive(Clone, Copy)]
+pub(crate) enum ContentType {
+    /// JSON (RFC 8259).
+    Json,
+    /// Plain text.
+    Text,
+}
+
+impl ContentType {
+    /// The name of its media type.
+    pub(crate) fn name(self) -> &'static str
+        ensures { result.now ≡ media_type self }
+    {
+        match self {
+            ContentType::Json => "application/json",
+            ContentType::Text => "text/plain",
+        }
+    }
+}

@@ -1,0 +1,50 @@
+ghost use Rattle.std.specs.Prelude.{◌≡◌, ◌≤◌, ◌+◌, true, length, take, IfOk, IfSome, OnOk, OnErr};
+ghost use Rattle.httparse.specs.Spans.{IsRequestWithin};
+ghost use Rattle.office_http.specs.Heads.{FindsHead};
+
+use crate::found_head::FoundHead;
+use httparse::Status;
+use httparse::spans::{HeaderSpan, parse_request};
+use office_stream::Port;
+use std::io::{Read, Result};
+
+/// A head has at most so many bytes.
+pub(crate) const HEAD_LIMIT: usize = 8192;
+
+/// A head has at most so many fields.
+pub(crate) const FIELD_LIMIT: usize = 64;
+
+/// Reads until a head is complete. None: the reader gives no head within the limits.
+pub(crate) fn read_head<R: Read>(
+    port: &mut Port<R>,
+    buffer: &mut [u8],
+    headers: &mut [HeaderSpan],
+) -> Result<Option<FoundHead>>
+    requires room { length buffer.old ≡ HEAD_LIMIT }
+    requires fields { length headers.old ≡ FIELD_LIMIT }
+    ensures within { IfOk result (λ o. IfSome o (λ head.
+        IsRequestWithin (take head.filled buffer.new) headers.new head.spans)) }
+    ensures filled { IfOk result (λ o. IfSome o (λ head. head.filled ≤ length buffer.new)) }
+    ensures finds { IfOk result (λ o. IfSome (R.remaining port.old.inner) (λ stream.
+        FindsHead HEAD_LIMIT FIELD_LIMIT stream (R.remaining port.new.inner) buffer.new headers.new o)) }
+    ensures reads { port.new.reads ≤ port.old.reads + HEAD_LIMIT }
+    ensures kept { OnOk result (port.new.failed ≡ port.old.failed) }
+    ensures fails { OnErr result (port.new.failed ≡ true) }
+{
+    let mut filled = 0;
+    'reads: loop {
+        match parse_request(&buffer[..filled], headers) {
+            Ok(Status::Complete(spans)) => return Ok(Some(FoundHead { spans, filled })),
+            Ok(Status::Partial) => {}
+            Err(_) => return Ok(None),
+        }
+        if filled == buffer.len() {
+            return Ok(None);
+        }
+        let count = port.read(&mut buffer[filled..])?;
+        if count == 0 {
+            return Ok(None);
+        }
+        filled += count;
+    }
+}

@@ -1,0 +1,14 @@
+//! Laws of the definitions. Each function has an empty body, and its contract is the law: a call brings it into the
+//! caller's proof.
+
+ghost use Rattle.office_http.specs.Requests.{HeadsAreOne, RequestsAreOne};
+
+/// A stream has one head, if any, and one rest behind it.
+pub fn heads_are_one()
+    ensures { HeadsAreOne }
+{}
+
+/// But for want of memory, what a stream asks for depends on the stream alone, however it comes in pieces.
+pub fn requests_are_one()
+    ensures { RequestsAreOne }
+{}

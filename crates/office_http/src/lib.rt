@@ -1,0 +1,22 @@
+//! One request of HTTP and its response, over any reader and writer, and a server that answers one after the other.
+#![tactic(auto)]
+
+mod body;
+mod content_type;
+mod endpoint;
+mod fields;
+mod found_head;
+mod head;
+pub mod laws;
+mod refusal;
+mod request;
+mod requests;
+mod response;
+mod routes;
+mod serve;
+mod serve_fault;
+mod server;
+
+pub use serve::serve_one;
+pub use serve_fault::ServeFault;
+pub use server::serve_on;

@@ -1,0 +1,105 @@
+ghost use Rattle.std.specs.Prelude.{◌≡◌, ◌⊎◌, ◌≤◌, ◌+◌, ◌++◌, true, length, take, drop, map, IfOk, IfSome, OnOk, OnErr};
+ghost use Rattle.std.specs.Option.{option_and_then};
+ghost use Rattle.httparse.specs.Grammar.{RequestHead};
+ghost use Rattle.httparse.specs.Spans.{header_bytes, IsRequestAt, IsRequestWithin, IsSectionWithin};
+ghost use Rattle.office_queries.specs.Keys.{query_of};
+ghost use Rattle.office_http.specs.Fields.{body_length};
+ghost use Rattle.office_http.specs.Requests.{Asks, AsksWith, Gets, Posts};
+ghost use Rattle.office_http.specs.Routes.{key_in};
+ghost use Rattle.office_http.specs.declared.request.Request.TheVariants.{Refused};
+ghost use Rattle.office_http.specs.declared.refusal.Refusal.TheVariants.{NotNow};
+
+use crate::body::read_delivery;
+use crate::endpoint::Endpoint;
+use crate::fields::content_length;
+use crate::found_head::FoundHead;
+use crate::head::{FIELD_LIMIT, HEAD_LIMIT, read_head};
+use crate::refusal::Refusal;
+use crate::request::Request;
+use crate::routes::{direct, key_in, path_of};
+use httparse::spans::{EMPTY_HEADER_SPAN, HeaderSpan};
+use office_queries::{ReportKind, read_query};
+use office_stream::Port;
+use std::alloc::Global;
+use std::io::{Read, Result};
+use std::str;
+
+/// Reads a request: what it asks for.
+pub(crate) fn read_request<R: Read>(alloc: Global, reader: &mut Port<R>) -> Result<Request>
+    ensures asks { IfOk result (λ request. IfSome (R.remaining reader.old.inner) (λ stream. Asks stream request)) }
+    ensures reads { reader.new.reads ≤ reader.old.reads + 1056768 }
+    ensures kept { OnOk result (reader.new.failed ≡ reader.old.failed) }
+    ensures fails { OnErr result (reader.new.failed ≡ true) }
+{
+    let mut buffer = [0; HEAD_LIMIT];
+    let mut headers = [EMPTY_HEADER_SPAN; FIELD_LIMIT];
+    match read_head(reader, &mut buffer, &mut headers)? {
+        Some(found) => read_asked(alloc, reader, &buffer, &headers, found),
+        None => Ok(Request::Refused(Refusal::BadRequest)),
+    }
+}
+
+/// Reads what stands behind a head, if it is wanted.
+fn read_asked<R: Read>(
+    alloc: Global,
+    reader: &mut Port<R>,
+    buffer: &[u8],
+    headers: &[HeaderSpan],
+    found: FoundHead,
+) -> Result<Request>
+    requires filled { found.filled ≤ length buffer.now }
+    requires within { IsRequestWithin (take found.filled buffer.now) headers.now found.spans }
+    ensures asks { IfOk result (λ request. IfSome (R.remaining reader.old.inner) (λ left. (head : RequestHead)
+        → IsRequestAt (take found.filled buffer.now) headers.now found.spans head
+        → AsksWith head (drop found.spans.len (take found.filled buffer.now) ++ left) request)) }
+    ensures reads { reader.new.reads ≤ reader.old.reads + 1048576 }
+    ensures kept { OnOk result (reader.new.failed ≡ reader.old.failed) }
+    ensures fails { OnErr result (reader.new.failed ≡ true) }
+{
+    let read = &buffer[..found.filled];
+    let Ok(target) = str::from_utf8(found.spans.path.of(read)) else {
+        return Ok(Request::Refused(Refusal::BadRequest));
+    };
+    let path = path_of(target);
+    match direct(alloc, found.spans.method.of(read), path) {
+        Ok(Endpoint::Interchanges) => read_post(alloc, reader, read, headers, found),
+        Ok(Endpoint::Report(kind)) => Ok(read_report(alloc, kind, path)),
+        Err(refusal) => Ok(Request::Refused(refusal)),
+    }
+}
+
+/// Reads the body that the fields of a head tell of.
+fn read_post<R: Read>(
+    alloc: Global,
+    reader: &mut Port<R>,
+    read: &[u8],
+    headers: &[HeaderSpan],
+    found: FoundHead,
+) -> Result<Request>
+    requires { IsSectionWithin read.now headers.now found.spans.len found.spans.headers }
+    ensures posts { IfOk result (λ request. IfSome (R.remaining reader.old.inner) (λ left. (request ≡ Refused NotNow)
+        ⊎ Posts (body_length (map (header_bytes read.now) (take found.spans.headers headers.now)))
+        (drop found.spans.len read.now ++ left) request)) }
+    ensures reads { reader.new.reads ≤ reader.old.reads + 1048576 }
+    ensures kept { OnOk result (reader.new.failed ≡ reader.old.failed) }
+    ensures fails { OnErr result (reader.new.failed ≡ true) }
+{
+    match content_length(read, &headers[..found.spans.headers]) {
+        Ok(size) => read_delivery(alloc, reader, &read[found.spans.len..], size),
+        Err(refusal) => Ok(Request::Refused(refusal)),
+    }
+}
+
+/// The report that a path asks for.
+fn read_report(alloc: Global, kind: ReportKind, path: &str) -> Request
+    ensures { (result ≡ Refused NotNow) ⊎ Gets kind (option_and_then (query_of kind) (key_in kind path.now)) result }
+{
+    let Some(key) = key_in(kind, path) else {
+        return Request::Refused(Refusal::NotFound);
+    };
+    match read_query(alloc, kind, key) {
+        Ok(Some(query)) => Request::Report(kind, query),
+        Ok(None) => Request::Refused(Refusal::NotFound),
+        Err(_) => Request::Refused(Refusal::NotNow),
+    }
+}

@@ -1,0 +1,151 @@
+ghost use Rattle.std.specs.Prelude.{◌≡◌, ℕ, List, true, OnOk, OnErr, unwrap_or, codes};
+ghost use Rattle.http.specs.StatusCode.{reason_phrase};
+ghost use Rattle.std.specs.Io.KnownBytes.{Appends};
+ghost use Rattle.office_replies.specs.Responses.{body_of, status_of};
+ghost use Rattle.office_http.specs.Responses.{allow_line, close_lines, field_line, refusal_bytes};
+ghost use Rattle.office_http.specs.Responses.{response_bytes, response_head, status_line};
+ghost use Rattle.office_http.specs.declared.content_type.ContentType.TheVariants.{Json};
+
+use crate::content_type::ContentType;
+use crate::refusal::Refusal;
+use http::{Method, StatusCode};
+use office_replies::Response;
+use office_stream::Port;
+use std::io::{Result, Write};
+
+/// Writes a response with that body.
+pub(crate) fn write_text<W: Write>(
+    port: &mut Port<W>,
+    status: StatusCode,
+    kind: ContentType,
+    body: &str,
+) -> Result<()>
+    ensures bytes { OnOk result (Appends (W.contents port.old.inner) (W.contents port.new.inner)
+        (response_bytes status kind None body.now)) }
+    ensures succeeds { OnOk result (port.new.failed ≡ port.old.failed) }
+    ensures fails { OnErr result (port.new.failed ≡ true) }
+{
+    write_head(port, status, kind, None, body.len() as u128)?;
+    port.write_all(body.as_bytes())
+}
+
+/// Writes the response of a refusal.
+pub(crate) fn write_refusal<W: Write>(port: &mut Port<W>, refusal: Refusal) -> Result<()>
+    ensures bytes { OnOk result (Appends (W.contents port.old.inner) (W.contents port.new.inner)
+        (refusal_bytes refusal)) }
+    ensures succeeds { OnOk result (port.new.failed ≡ port.old.failed) }
+    ensures fails { OnErr result (port.new.failed ≡ true) }
+{
+    let body = refusal.body();
+    write_head(
+        port,
+        refusal.status(),
+        ContentType::Json,
+        refusal.allowed(),
+        body.len() as u128,
+    )?;
+    port.write_all(body.as_bytes())
+}
+
+/// Writes the response of a delivery.
+pub(crate) fn write_answer<W: Write>(port: &mut Port<W>, response: &Response) -> Result<()>
+    ensures bytes { OnOk result (Appends (W.contents port.old.inner) (W.contents port.new.inner)
+        (response_bytes (status_of response.now) Json None (body_of response.now))) }
+    ensures succeeds { OnOk result (port.new.failed ≡ port.old.failed) }
+    ensures fails { OnErr result (port.new.failed ≡ true) }
+{
+    let (front, reply, back) = (response.front(), response.reply(), response.back());
+    let size = front.len() as u128 + reply.len() as u128 + back.len() as u128;
+    write_head(port, status_code(response), ContentType::Json, None, size)?;
+    port.write_all(front.as_bytes())?;
+    port.write_all(reply.as_bytes())?;
+    port.write_all(back.as_bytes())
+}
+
+fn status_code(response: &Response) -> StatusCode
+    ensures { result ≡ status_of response.now }
+{
+    match StatusCode::from_u16(response.status()) {
+        Ok(status) => status,
+        Err(_) => unreachable!(),
+    }
+}
+
+/// Writes the lines before a body of that size.
+fn write_head<W: Write>(
+    port: &mut Port<W>,
+    status: StatusCode,
+    kind: ContentType,
+    allowed: Option<Method>,
+    size: u128,
+) -> Result<()>
+    ensures bytes { OnOk result (Appends (W.contents port.old.inner) (W.contents port.new.inner)
+        (response_head status kind allowed size)) }
+    ensures succeeds { OnOk result (port.new.failed ≡ port.old.failed) }
+    ensures fails { OnErr result (port.new.failed ≡ true) }
+{
+    let mut digits = itoa::Buffer::new();
+    write_status_line(port, status)?;
+    write_field(port, b"Content-Type", kind.name().as_bytes())?;
+    write_field(port, b"Content-Length", digits.format(size).as_bytes())?;
+    write_allowed(port, allowed)?;
+    write_close(port)
+}
+
+fn write_status_line<W: Write>(port: &mut Port<W>, status: StatusCode) -> Result<()>
+    ensures bytes { OnOk result (Appends (W.contents port.old.inner) (W.contents port.new.inner)
+        (status_line status)) }
+    ensures succeeds { OnOk result (port.new.failed ≡ port.old.failed) }
+    ensures fails { OnErr result (port.new.failed ≡ true) }
+{
+    port.write_all(b"HTTP/1.1 ")?;
+    port.write_all(status.as_str().as_bytes())?;
+    port.write_all(b" ")?;
+    port.write_all(phrase(status).as_bytes())?;
+    port.write_all(b"\r\n")
+}
+
+/// The standard phrase of a status, or nothing.
+fn phrase(status: StatusCode) -> &'static str
+    ensures { result.now ≡ unwrap_or (reason_phrase status) (codes "") }
+{
+    match status.canonical_reason() {
+        Some(phrase) => phrase,
+        None => "",
+    }
+}
+
+fn write_allowed<W: Write>(port: &mut Port<W>, allowed: Option<Method>) -> Result<()>
+    ensures bytes { OnOk result (Appends (W.contents port.old.inner) (W.contents port.new.inner)
+        (allow_line allowed)) }
+    ensures succeeds { OnOk result (port.new.failed ≡ port.old.failed) }
+    ensures fails { OnErr result (port.new.failed ≡ true) }
+{
+    match allowed {
+        Some(method) => write_field(port, b"Allow", method.as_str().as_bytes()),
+        None => port.write_all(b""),
+    }
+}
+
+/// Writes that the connection closes, and the line that ends a head.
+fn write_close<W: Write>(port: &mut Port<W>) -> Result<()>
+    ensures bytes { OnOk result (Appends (W.contents port.old.inner) (W.contents port.new.inner)
+        close_lines) }
+    ensures succeeds { OnOk result (port.new.failed ≡ port.old.failed) }
+    ensures fails { OnErr result (port.new.failed ≡ true) }
+{
+    write_field(port, b"Connection", b"close")?;
+    port.write_all(b"\r\n")
+}
+
+fn write_field<W: Write>(port: &mut Port<W>, name: &[u8], value: &[u8]) -> Result<()>
+    ensures bytes { OnOk result (Appends (W.contents port.old.inner) (W.contents port.new.inner)
+        (field_line name.now value.now)) }
+    ensures succeeds { OnOk result (port.new.failed ≡ port.old.failed) }
+    ensures fails { OnErr result (port.new.failed ≡ true) }
+{
+    port.write_all(name)?;
+    port.write_all(b": ")?;
+    port.write_all(value)?;
+    port.write_all(b"\r\n")
+}

@@ -1,0 +1,54 @@
+use crate::deliver::deliver;
+use crate::init::init;
+use crate::report::report;
+use crate::serve::serve;
+use crate::telling::{COMMAND_LINE, DONE, FAILED, print, tell};
+use office_command_line::{CommandFault, Request, read_command};
+use office_commands::demonstrate;
+use office_stream::Port;
+use std::alloc::Global;
+use std::io::{Read, Write};
+
+/// Runs the program on its words, of which the first is its name, and answers its exit status: 0 where all was done, 1 where
+/// something was refused or is not found, 2 for another command line, and 3 where a store, a file or a socket failed. The
+/// worst of them counts.
+pub fn run<R: Read, W: Write, E: Write>(
+    rt: &HostRuntime,
+    words: &[&str],
+    reader: &mut Port<R>,
+    writer: &mut Port<W>,
+    errors: &mut Port<E>,
+) -> u8 {
+    let request = match read_command(rt.alloc(), words) {
+        Ok(request) => request,
+        Err(fault) => return refuse(rt.alloc(), &fault, writer, errors),
+    };
+    match request {
+        Request::Init {
+            store,
+            partners,
+            blocks,
+        } => init(rt, store, partners, blocks, writer, errors),
+        Request::Deliver { store, file } => deliver(rt, store, file, reader, writer, errors),
+        Request::Serve { store, port, count } => serve(rt, store, port, count, writer, errors),
+        Request::Report { store, kind, key } => report(rt, store, kind, key, writer, errors),
+        Request::Demo => demonstrate(rt.alloc(), reader, writer, errors),
+    }
+}
+
+// Help and version that were asked for are results; else the command line is at fault.
+fn refuse<W: Write, E: Write>(
+    alloc: Global,
+    fault: &CommandFault,
+    writer: &mut Port<W>,
+    errors: &mut Port<E>,
+) -> u8 {
+    let Ok(text) = fault.to_string(alloc) else {
+        return FAILED;
+    };
+    match fault {
+        CommandFault::Memory => tell(errors, text.as_str(), FAILED),
+        _ if fault.is_asked() => print(writer, text.as_str(), DONE),
+        _ => tell(errors, text.as_str(), COMMAND_LINE),
+    }
+}

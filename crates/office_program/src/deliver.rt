@@ -1,0 +1,41 @@
+use crate::store::open_store;
+use crate::telling::{tell_fault, tell_stream, tell_unread};
+use office_stream::{Port, run_stream};
+use std::fs::File;
+use std::io::{Read, Write};
+
+/// How many reads of an input are made at most.
+const TURNS: u64 = 100_000_000;
+
+/// `deliver DB FILE`: delivers the interchanges of a file, and prints an answer a line. `-` is the standard input.
+pub(crate) fn deliver<R: Read, W: Write, E: Write>(
+    rt: &HostRuntime,
+    store: &str,
+    file: &str,
+    reader: &mut Port<R>,
+    writer: &mut Port<W>,
+    errors: &mut Port<E>,
+) -> u8 {
+    if file == "-" {
+        return deliver_all(rt, store, reader, writer, errors);
+    }
+    match File::open(rt, file) {
+        Ok(file) => deliver_all(rt, store, &mut Port::new(file), writer, errors),
+        Err(_) => tell_unread(errors),
+    }
+}
+
+fn deliver_all<R: Read, W: Write, E: Write>(
+    rt: &HostRuntime,
+    store: &str,
+    reader: &mut Port<R>,
+    writer: &mut Port<W>,
+    errors: &mut Port<E>,
+) -> u8 {
+    let mut desk = match open_store(rt, store) {
+        Ok(desk) => desk,
+        Err(fault) => return tell_fault(errors, &fault),
+    };
+    let ended = run_stream(rt.alloc(), reader, writer, &mut desk, TURNS);
+    tell_stream(errors, ended)
+}

@@ -1,0 +1,61 @@
+use crate::store::open_store;
+use crate::telling::{DONE, REFUSED, print, tell_fault};
+use office_command_line::ReportKind as Asked;
+use office_queries::{ReportKind, read_query};
+use office_stream::Port;
+use office_tables::TableFault;
+use std::alloc::AllocError;
+use std::io::Write;
+
+/// `report DB KIND [KEY]`: prints a report, or `none` where there is nothing to tell.
+pub(crate) fn report<W: Write, E: Write>(
+    rt: &HostRuntime,
+    store: &str,
+    kind: Asked,
+    key: Option<&str>,
+    writer: &mut Port<W>,
+    errors: &mut Port<E>,
+) -> u8 {
+    match find(rt, store, kind, key) {
+        Ok(Some(text)) => print(writer, text.as_str(), DONE),
+        Ok(None) => print(writer, "none\n", REFUSED),
+        Err(fault) => tell_fault(errors, &fault),
+    }
+}
+
+// The report in whole lines.
+fn find(
+    rt: &HostRuntime,
+    store: &str,
+    kind: Asked,
+    key: Option<&str>,
+) -> Result<Option<String>, TableFault> {
+    let mut desk = open_store(rt, store)?;
+    let Some(query) = read_query(rt.alloc(), kind_of(kind), key.unwrap_or(""))? else {
+        return Ok(None);
+    };
+    match desk.told(rt.alloc(), &query)? {
+        Some(text) => Ok(Some(in_lines(text)?)),
+        None => Ok(None),
+    }
+}
+
+// A reply is a line without its end.
+fn in_lines(text: String) -> Result<String, AllocError> {
+    let mut text = text;
+    if !text.ends_with('\n') {
+        text.push('\n')?;
+    }
+    Ok(text)
+}
+
+fn kind_of(kind: Asked) -> ReportKind {
+    match kind {
+        Asked::Yard => ReportKind::Yard,
+        Asked::YardTable => ReportKind::YardTable,
+        Asked::Visits => ReportKind::Visits,
+        Asked::List => ReportKind::List,
+        Asked::Ticket => ReportKind::Ticket,
+        Asked::Reply => ReportKind::Reply,
+    }
+}

@@ -1,0 +1,59 @@
+use office_replies::Worst;
+use office_stream::{Port, StreamFault};
+use office_tables::TableFault;
+use std::io::Write;
+
+/// Done.
+pub(crate) const DONE: u8 = 0;
+
+/// Something was refused, or not found.
+pub(crate) const REFUSED: u8 = 1;
+
+/// The command line asks for nothing that the program does.
+pub(crate) const COMMAND_LINE: u8 = 2;
+
+/// A store, a file or a socket failed.
+pub(crate) const FAILED: u8 = 3;
+
+/// Tells a text of a fault, and gives its status. Where telling fails, the status alone is left to tell.
+pub(crate) fn tell<E: Write>(errors: &mut Port<E>, text: &str, status: u8) -> u8 {
+    let _ = errors.write_all(text.as_bytes());
+    status
+}
+
+/// Prints a result, and gives its status.
+pub(crate) fn print<W: Write>(writer: &mut Port<W>, text: &str, status: u8) -> u8 {
+    let written = writer.write_all(text.as_bytes());
+    if written.is_err() || writer.flush().is_err() {
+        return FAILED;
+    }
+    status
+}
+
+/// Tells that an input file can't be read.
+pub(crate) fn tell_unread<E: Write>(errors: &mut Port<E>) -> u8 {
+    tell(errors, "cannot read\n", FAILED)
+}
+
+/// Tells why a store did not do what was asked.
+pub(crate) fn tell_fault<E: Write>(errors: &mut Port<E>, fault: &TableFault) -> u8 {
+    let text = match fault {
+        TableFault::Store(_) => "store: Store\n",
+        TableFault::Damaged => "store: Damaged\n",
+        TableFault::Version => "store: Version\n",
+        TableFault::Memory => "store: Memory\n",
+    };
+    tell(errors, text, FAILED)
+}
+
+/// Tells why a stream was left, if it was, and gives its status.
+pub(crate) fn tell_stream<E: Write>(errors: &mut Port<E>, ended: Result<Worst, StreamFault>) -> u8 {
+    match ended {
+        Ok(Worst::Fine) => DONE,
+        Ok(Worst::Refused) => REFUSED,
+        Ok(Worst::NotNow) => FAILED,
+        Err(StreamFault::Read) => tell_unread(errors),
+        Err(StreamFault::Turns) => tell(errors, "turns\n", FAILED),
+        Err(StreamFault::Write) => FAILED,
+    }
+}

@@ -1,0 +1,113 @@
+-- The keys by which reports are asked for.
+use Rattle.std.specs.Prelude.{ℕ, cond, ◌==◌, List, [], ◌∷◌, length, codes, Option, None, Some, option_map, string_bytes, Result, Ok, Err}
+use Rattle.std.specs.Option.{option_and_then}
+use Rattle.std.specs.List.{slice_split}
+use Rattle.std.specs.Str.{bytes_eq}
+use Rattle.box6346.specs.ContainerNumber.{number_of as box_of}
+use Rattle.box6346.specs.declared.box_number.BoxNumber.{BoxNumber}
+use Rattle.box6346.specs.declared.number_fault.NumberFault.{NumberFault}
+use Rattle.edi_messages.specs.Texts.{is_name}
+use Rattle.edi_syntax.specs.Numbers.{number_of, as_control_number}
+use Rattle.terminal_core.specs.declared.side.Side.{Side}
+use Rattle.terminal_core.specs.declared.side.Side.TheVariants.{Load, Discharge}
+use Rattle.office_queries.specs.Escapes.{decoded}
+use Rattle.office_queries.specs.declared.query.Query.{Query}
+use Rattle.office_queries.specs.declared.query.Query.TheVariants as query
+use Rattle.office_queries.specs.declared.report_kind.ReportKind.{ReportKind}
+use Rattle.office_queries.specs.declared.report_kind.ReportKind.TheVariants as kind
+
+-- what is asked for, with its texts as bytes
+pub data Asked : Type 0 where
+  yard yard_table : Asked
+  visits : BoxNumber → Asked
+  list : List ℕ → List ℕ → Side → Asked
+  ticket reply : List ℕ → ℕ → Asked
+
+abbrev pub asked : Query → Asked
+asked query.Yard = yard
+asked query.YardTable = yard_table
+asked (query.Visits number) = visits number
+asked (query.List call side) = list (string_bytes call.vessel) (string_bytes call.voyage) side
+asked (query.Ticket partner number) = ticket (string_bytes partner) number
+asked (query.Reply partner number) = reply (string_bytes partner) number
+
+-- ---- the parts of a key
+
+-- they stand between slashes (47)
+abbrev pub parts : List ℕ → List (List ℕ)
+parts key = slice_split (λ b. b == 47) key
+
+abbrev pub one : List (List ℕ) → Option (List ℕ)
+one [] = None
+one (a ∷ []) = Some a
+one (a ∷ b ∷ others) = None
+
+abbrev pub two : List (List ℕ) → Option (List ℕ × List ℕ)
+two [] = None
+two (a ∷ []) = None
+two (a ∷ b ∷ []) = Some (a, b)
+two (a ∷ b ∷ c ∷ others) = None
+
+abbrev pub three : List (List ℕ) → Option (List ℕ × List ℕ × List ℕ)
+three [] = None
+three (a ∷ []) = None
+three (a ∷ b ∷ []) = None
+three (a ∷ b ∷ c ∷ []) = Some (a, b, c)
+three (a ∷ b ∷ c ∷ d ∷ others) = None
+
+-- ---- what a part names, where it can be read
+
+-- a vessel, a voyage or a partner: 1 to 35 bytes from space to tilde
+abbrev pub name_of : List ℕ → Option (List ℕ)
+name_of bytes = cond (is_name bytes) (Some bytes) None
+
+-- a control reference from 1 to 999,999,999, in 1 to 14 digits
+abbrev pub control_number_of : List ℕ → Option ℕ
+control_number_of bytes = option_and_then as_control_number (number_of 14 bytes)
+
+abbrev pub side_of : List ℕ → Option Side
+side_of bytes =
+    cond (bytes_eq bytes (codes "load")) (Some Load) (cond (bytes_eq bytes (codes "discharge")) (Some Discharge) None)
+
+abbrev pub if_ok : Result BoxNumber NumberFault → Option BoxNumber
+if_ok (Ok number) = Some number
+if_ok (Err fault) = None
+
+abbrev pub name_in : List ℕ → Option (List ℕ)
+name_in part = option_and_then name_of (decoded part)
+
+abbrev pub number_in : List ℕ → Option ℕ
+number_in part = option_and_then control_number_of (decoded part)
+
+abbrev pub side_in : List ℕ → Option Side
+side_in part = option_and_then side_of (decoded part)
+
+abbrev pub box_in : List ℕ → Option BoxNumber
+box_in part = option_and_then (λ bytes. if_ok (box_of bytes)) (decoded part)
+
+-- ---- what a key asks for
+
+-- the empty key
+abbrev pub if_empty : List ℕ → Asked → Option Asked
+if_empty key what = cond (length key == 0) (Some what) None
+
+-- VESSEL/VOYAGE/SIDE
+abbrev pub list_in : List ℕ × List ℕ × List ℕ → Option Asked
+list_in p =
+    option_and_then (λ vessel. option_and_then (λ voyage. option_map (λ side. list vessel voyage side) (side_in p.2)) (name_in p.1)) (name_in p.0)
+
+-- PARTNER/NUMBER
+abbrev pub interchange_in : List ℕ × List ℕ → Option (List ℕ × ℕ)
+interchange_in p = option_and_then (λ partner. option_map (λ number. (partner, number)) (number_in p.1)) (name_in p.0)
+
+abbrev pub interchange_of : List ℕ → Option (List ℕ × ℕ)
+interchange_of key = option_and_then interchange_in (two (parts key))
+
+-- what a key asks for of that kind, if it can be read and something can be found under it
+abbrev pub query_of : ReportKind → List ℕ → Option Asked
+query_of kind.Yard key = if_empty key yard
+query_of kind.YardTable key = if_empty key yard_table
+query_of kind.Visits key = option_map visits (option_and_then box_in (one (parts key)))
+query_of kind.List key = option_and_then list_in (three (parts key))
+query_of kind.Ticket key = option_map (λ of. ticket of.0 of.1) (interchange_of key)
+query_of kind.Reply key = option_map (λ of. reply of.0 of.1) (interchange_of key)

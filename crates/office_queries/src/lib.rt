@@ -1,0 +1,17 @@
+//! What can be asked of the office besides deliveries, and the keys by which it is asked.
+#![tactic(auto)]
+
+mod escapes;
+mod not_now;
+mod parts;
+mod query;
+mod reading;
+mod report;
+mod report_kind;
+mod values;
+
+pub use not_now::NotNow;
+pub use query::Query;
+pub use reading::read_query;
+pub use report::Report;
+pub use report_kind::ReportKind;

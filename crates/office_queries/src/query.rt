@@ -1,0 +1,35 @@
+use box6346::BoxNumber;
+use edi_messages::Call;
+use terminal_core::Side;
+
+/// What is asked for: a report and the key of what it is about.
+#[derive(Drop)]
+pub enum Query {
+    /// The containers in the yard.
+    Yard,
+    /// The same as comma-separated values.
+    YardTable,
+    /// The visits of a container.
+    Visits(BoxNumber),
+    /// The list of a call on one side.
+    List {
+        /// The vessel and its voyage.
+        call: Call,
+        /// Whether what is loaded or what is discharged.
+        side: Side,
+    },
+    /// What an interchange brought in and took out.
+    Ticket {
+        /// The code of its sender.
+        partner: String,
+        /// Its control reference, from 1 to 999,999,999.
+        number: u32,
+    },
+    /// What an interchange was answered.
+    Reply {
+        /// The code of its sender.
+        partner: String,
+        /// Its control reference, from 1 to 999,999,999.
+        number: u32,
+    },
+}

@@ -1,0 +1,92 @@
+ghost use Rattle.std.specs.Prelude.{◌≡◌, IfOk, option_map, string_bytes};
+ghost use Rattle.office_queries.specs.Keys.{asked, if_empty, interchange_of, list_in, query_of};
+ghost use Rattle.office_queries.specs.declared.report_kind.ReportKind.TheVariants as kind;
+
+use crate::parts::{one_part, three_parts, two_parts};
+use crate::query::Query;
+use crate::report_kind::ReportKind;
+use crate::values::{read_box, read_name, read_number, read_side};
+use edi_messages::Call;
+use std::alloc::{AllocError, Global};
+
+/// What a key asks for: the empty key for the yard, `BOX` for the visits, `VESSEL/VOYAGE/SIDE` for a list, and
+/// `PARTNER/NUMBER` for a ticket and for a reply. In each part `%` and two hexadecimal digits stand for a byte. None:
+/// the key can't be read, or nothing can be found under it.
+pub fn read_query(alloc: Global, kind: ReportKind, key: &str) -> Result<Option<Query>, AllocError>
+    ensures { IfOk result (λ query. option_map asked query ≡ query_of kind key.now) }
+{
+    match kind {
+        ReportKind::Yard => Ok(if_empty(key, Query::Yard)),
+        ReportKind::YardTable => Ok(if_empty(key, Query::YardTable)),
+        ReportKind::Visits => read_visits(alloc, key),
+        ReportKind::List => match three_parts(key) {
+            Some((vessel, voyage, side)) => read_list(alloc, vessel, voyage, side),
+            None => Ok(None),
+        },
+        ReportKind::Ticket => match read_interchange(alloc, key)? {
+            Some((partner, number)) => Ok(Some(Query::Ticket { partner, number })),
+            None => Ok(None),
+        },
+        ReportKind::Reply => match read_interchange(alloc, key)? {
+            Some((partner, number)) => Ok(Some(Query::Reply { partner, number })),
+            None => Ok(None),
+        },
+    }
+}
+
+fn if_empty(key: &str, query: Query) -> Option<Query>
+    ensures { option_map asked result ≡ if_empty key.now (asked query) }
+{
+    if key.is_empty() { Some(query) } else { None }
+}
+
+fn read_visits(alloc: Global, key: &str) -> Result<Option<Query>, AllocError>
+    ensures { IfOk result (λ query. option_map asked query ≡ query_of kind.Visits key.now) }
+{
+    let Some(part) = one_part(key) else {
+        return Ok(None);
+    };
+    match read_box(alloc, part)? {
+        Some(number) => Ok(Some(Query::Visits(number))),
+        None => Ok(None),
+    }
+}
+
+fn read_list(
+    alloc: Global,
+    vessel: &str,
+    voyage: &str,
+    side: &str,
+) -> Result<Option<Query>, AllocError>
+    ensures { IfOk result (λ query. option_map asked query ≡ list_in (vessel.now, voyage.now, side.now)) }
+{
+    let Some(vessel) = read_name(alloc, vessel)? else {
+        return Ok(None);
+    };
+    let Some(voyage) = read_name(alloc, voyage)? else {
+        return Ok(None);
+    };
+    match read_side(alloc, side)? {
+        Some(side) => Ok(Some(Query::List {
+            call: Call { vessel, voyage },
+            side,
+        })),
+        None => Ok(None),
+    }
+}
+
+/// The partner and the number that a key names.
+fn read_interchange(alloc: Global, key: &str) -> Result<Option<(String, u32)>, AllocError>
+    ensures { IfOk result (λ found. option_map (λ p. (string_bytes p.0, p.1)) found ≡ interchange_of key.now) }
+{
+    let Some((partner, number)) = two_parts(key) else {
+        return Ok(None);
+    };
+    let Some(partner) = read_name(alloc, partner)? else {
+        return Ok(None);
+    };
+    match read_number(alloc, number)? {
+        Some(number) => Ok(Some((partner, number))),
+        None => Ok(None),
+    }
+}

@@ -1,0 +1,22 @@
+ghost use Rattle.std.specs.Prelude.{ℕ, List, Option, IfOk, string_bytes};
+ghost use Rattle.std.specs.Option.{option_map};
+ghost use Rattle.office_queries.specs.declared.query.Query.{Query};
+
+use crate::not_now::NotNow;
+use crate::query::Query;
+use office_replies::Deliver;
+use std::alloc::Global;
+
+/// What reports are asked of, besides what is delivered to it.
+pub trait Report: Deliver {
+    /// The text, if there is one, is what it has to tell at the query.
+    ghost tells: { Self → Query → Option (List ℕ) → Type 0 };
+
+    /// The report, if there is something to tell. It stands at the deliveries at which it stood.
+    fn report(&mut self, alloc: Global, query: &Query) -> Result<Option<String>, NotNow>
+        ensures told { Self.clean self.new
+            → IfOk result (λ found. tells self.old query.now (option_map string_bytes found)) }
+        ensures same { Self.clean self.new → (opening : Self) (ds : List (List ℕ)) → Self.stands opening ds self.old
+            → Self.stands opening ds self.new }
+        ensures stays { Self.clean self.new → Self.clean self.old };
+}

@@ -1,0 +1,16 @@
+/// What a report is about.
+#[derive(Clone, Copy, PartialEq, Eq, Debug)]
+pub enum ReportKind {
+    /// The containers in the yard.
+    Yard,
+    /// The same as comma-separated values.
+    YardTable,
+    /// The visits of a container.
+    Visits,
+    /// A list of a vessel's voyage.
+    List,
+    /// What an interchange brought in and took out.
+    Ticket,
+    /// What an interchange was answered.
+    Reply,
+}

@@ -1,0 +1,124 @@
+ghost use Rattle.std.specs.Prelude.{◌≡◌, IfOk, option_map, string_bytes};
+ghost use Rattle.std.specs.List.{list_all};
+ghost use Rattle.edi_messages.specs.Texts.{is_name};
+ghost use Rattle.edi_segments.specs.Characters.{is_printable};
+ghost use Rattle.edi_syntax.specs.Numbers.{number_of};
+ghost use Rattle.office_queries.specs.Keys.{box_in, control_number_of, name_in, name_of, number_in, side_in, side_of};
+
+use crate::escapes::decode;
+use box6346::BoxNumber;
+use std::alloc::{AllocError, Global};
+use terminal_core::Side;
+
+/// The vessel, voyage or partner that a part names.
+pub(crate) fn read_name(alloc: Global, part: &str) -> Result<Option<String>, AllocError>
+    ensures { IfOk result (λ name. option_map string_bytes name ≡ name_in part.now) }
+{
+    match decode(alloc, part)? {
+        Some(bytes) => Ok(name_of(bytes)),
+        None => Ok(None),
+    }
+}
+
+fn name_of(bytes: Vec<u8>) -> Option<String>
+    ensures { option_map string_bytes result ≡ name_of bytes.items }
+{
+    if !is_name(bytes.as_slice()) {
+        return None;
+    }
+    match String::from_utf8(bytes) {
+        Ok(name) => Some(name),
+        Err(_) => None,
+    }
+}
+
+fn is_name(bytes: &[u8]) -> bool
+    ensures { result ≡ is_name bytes.now }
+{
+    1 <= bytes.len() && bytes.len() <= 35 && are_printable(bytes)
+}
+
+fn are_printable(bytes: &[u8]) -> bool
+    ensures { result ≡ list_all is_printable bytes.now }
+{
+    bytes.iter().all(|byte| is_printable(*byte))
+}
+
+fn is_printable(byte: u8) -> bool
+    ensures { result ≡ is_printable byte }
+{
+    32 <= byte && byte <= 126
+}
+
+/// The control reference that a part names.
+pub(crate) fn read_number(alloc: Global, part: &str) -> Result<Option<u32>, AllocError>
+    ensures { IfOk result (λ number. number ≡ number_in part.now) }
+{
+    match decode(alloc, part)? {
+        Some(digits) => Ok(control_number_of(digits.as_slice())),
+        None => Ok(None),
+    }
+}
+
+fn control_number_of(digits: &[u8]) -> Option<u32>
+    ensures { result ≡ control_number_of digits.now }
+{
+    let number = number_of(digits)?;
+    if 1 <= number && number <= 999_999_999 {
+        Some(number as u32)
+    } else {
+        None
+    }
+}
+
+/// The number that 1 to 14 digits write.
+fn number_of(digits: &[u8]) -> Option<u64>
+    ensures { result ≡ number_of 14 digits.now }
+{
+    if digits.is_empty() || digits.len() > 14 {
+        return None;
+    }
+    let mut number = 0u64;
+    for byte in digits {
+        if !byte.is_ascii_digit() {
+            return None;
+        }
+        number = number * 10 + u64::from(*byte - b'0');
+    }
+    Some(number)
+}
+
+/// The side that a part names.
+pub(crate) fn read_side(alloc: Global, part: &str) -> Result<Option<Side>, AllocError>
+    ensures { IfOk result (λ side. side ≡ side_in part.now) }
+{
+    match decode(alloc, part)? {
+        Some(bytes) => Ok(side_of(bytes.as_slice())),
+        None => Ok(None),
+    }
+}
+
+fn side_of(bytes: &[u8]) -> Option<Side>
+    ensures { result ≡ side_of bytes.now }
+{
+    if bytes == b"load".as_slice() {
+        Some(Side::Load)
+    } else if bytes == b"discharge".as_slice() {
+        Some(Side::Discharge)
+    } else {
+        None
+    }
+}
+
+/// The container number that a part names.
+pub(crate) fn read_box(alloc: Global, part: &str) -> Result<Option<BoxNumber>, AllocError>
+    ensures { IfOk result (λ number. number ≡ box_in part.now) }
+{
+    match decode(alloc, part)? {
+        Some(bytes) => match BoxNumber::parse(bytes.as_slice()) {
+            Ok(number) => Ok(Some(number)),
+            Err(_) => Ok(None),
+        },
+        None => Ok(None),
+    }
+}

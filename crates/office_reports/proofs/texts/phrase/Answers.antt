@@ -1,0 +1,9 @@
+use Rattle.std.proofs.Common.{◌∙◌, List, ℕ, Bor, codes}
+use Rattle.std.proofs.lemmas.Result.{IfOk-weaker}
+use Rattle.office_reports.specs.Names.{phrase}
+use Rattle.office_reports.proofs.Phrases.{joined}
+use Rattle.office_reports.proofs.texts.phrase.Goals as goal
+
+pub returns : goal.returns
+unfolding phrase
+returns c = IfOk-weaker c.join.result _ _ (λ text e. e ∙ joined (λ (word : Bor (List ℕ)). word.now) (codes " ") c.args.words.now) c.join.ensures.ok

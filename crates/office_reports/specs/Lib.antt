@@ -1,0 +1,8 @@
+pub mod Export
+pub mod Laws
+pub mod Listed
+pub mod Lists
+pub mod Names
+pub mod Tickets
+pub mod Visits
+pub mod Yard

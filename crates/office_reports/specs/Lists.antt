@@ -1,0 +1,80 @@
+-- The report on a vessel's list (our own).
+use Rattle.std.specs.Prelude.{◌≡◌, ℕ, Bool, true, false, List, [], ◌∷◌, ◌++◌, not, count_by, map, ◌&&◌, string_bytes, codes, decimal, Option, None, Some}
+use Rattle.std.specs.List.{flat_map}
+use Rattle.std.specs.Str.{bytes_eq}
+use Rattle.box6346.specs.declared.box_number.BoxNumber.{BoxNumber}
+use Rattle.edi_messages.specs.Purposes.{CallContent}
+use Rattle.terminal_core.specs.declared.line_state.LineState.{LineState}
+use Rattle.terminal_core.specs.declared.line_state.LineState.TheVariants.{Pending, Done}
+use Rattle.terminal_core.specs.declared.side.Side.{Side}
+use Rattle.terminal_core.specs.declared.side.Side.TheVariants.{Load, Discharge}
+use Rattle.terminal_core.specs.declared.listing.Listing.{Listing}
+use Rattle.terminal_core.specs.Listings.{is_side}
+use Rattle.terminal_core.specs.State.{TerminalState, LineContent, line_of}
+use Rattle.office_reports.specs.declared.listed_line.ListedLine.{ListedLine}
+use Rattle.office_reports.specs.Listed.{AreListed}
+use Rattle.office_reports.specs.Names.{line}
+
+-- the line that a container has on a call's list
+abbrev pub HasLine : TerminalState → CallContent → Side → BoxNumber → LineContent → Type 0
+HasLine state call side container content = line_of state call side container ≡ Some content
+
+abbrev pub list_name : Side → List ℕ
+list_name Load = codes "LOAD"
+list_name Discharge = codes "DISCHARGE"
+
+abbrev pub is_done : LineState → Bool
+is_done Done = true
+is_done Pending = false
+
+abbrev pub state_name : LineState → List ℕ
+state_name Done = codes "DONE"
+state_name Pending = codes "OPEN"
+
+-- the port, where it is not empty
+abbrev pub port_words : List ℕ → List (List ℕ)
+port_words [] = []
+port_words (b ∷ bs) = (b ∷ bs) ∷ []
+
+-- BOX OPEN or BOX DONE, and the port
+abbrev pub list_line : List ℕ × LineContent → List ℕ
+list_line entry = line (entry.0 ∷ state_name entry.1.state ∷ port_words entry.1.port)
+
+abbrev pub is_done_line : List ℕ × LineContent → Bool
+is_done_line entry = is_done entry.1.state
+
+-- LOAD LIST VESSEL VOYAGE
+abbrev pub list_head : CallContent → Side → List ℕ
+list_head call side = line (list_name side ∷ codes "LIST" ∷ call.vessel ∷ call.voyage ∷ [])
+
+-- a OPEN b DONE
+abbrev pub list_end : List (List ℕ × LineContent) → List ℕ
+list_end list = line (decimal (count_by (λ entry. not (is_done_line entry)) list) ∷ codes "OPEN" ∷ decimal (count_by is_done_line list) ∷ codes "DONE" ∷ [])
+
+abbrev pub list_text : CallContent → Side → List (List ℕ × LineContent) → List ℕ
+list_text call side list = list_head call side ++ flat_map list_line list ++ list_end list
+
+-- nothing where there is no line
+abbrev pub list_found : CallContent → Side → List (List ℕ × LineContent) → Option (List ℕ)
+list_found call side [] = None
+list_found call side (entry ∷ list) = Some (list_text call side (entry ∷ list))
+
+-- the lines of a call's list, by their containers
+pub record IsListReport (state : TerminalState) (call : CallContent) (side : Side) (found : Option (List ℕ)) : Type 0 where
+  pub list : List (List ℕ × LineContent)
+  pub listed : AreListed (HasLine state call side) list
+  pub is : found ≡ list_found call side list
+
+-- ---- rows
+
+-- the row is on that call's list
+abbrev pub is_on : CallContent → Side → Listing → Bool
+is_on call side row = is_side row.side side && bytes_eq (string_bytes row.call.voyage) call.voyage && bytes_eq (string_bytes row.call.vessel) call.vessel
+
+-- what a line says
+abbrev pub shown_line : ListedLine → LineContent
+shown_line listed = record { port = string_bytes listed.port; state = listed.state }
+
+-- what lines say, by their containers
+abbrev pub list_contents : List (List ℕ × ListedLine) → List (List ℕ × LineContent)
+list_contents entries = map (λ entry. (entry.0, shown_line entry.1)) entries

@@ -1,0 +1,47 @@
+-- The ticket of an interchange (our own).
+use Rattle.std.specs.Prelude.{ℕ, Bool, List, [], ◌∷◌, ◌++◌, filter, if◌then◌else◌, ◌==◌, ◌&&◌, ◌||◌, codes, decimal, is_some, Option, None, Some}
+use Rattle.std.specs.List.{flat_map, list_any}
+use Rattle.edi_moments.specs.Moments.{CivilMoment, moment_text}
+use Rattle.terminal_core.specs.declared.departure.Departure.{Departure}
+use Rattle.terminal_core.specs.declared.source.Source.{Source}
+use Rattle.terminal_core.specs.Rows.{VisitContent}
+use Rattle.office_reports.specs.Names.{load_name, slot_name, line}
+
+abbrev pub is_source : Source → Source → Bool
+is_source a b = a.partner == b.partner && a.number == b.number
+
+-- the interchange opened the visit
+abbrev pub is_opened_by : Source → VisitContent → Bool
+is_opened_by source visit = is_source visit.arrival.source source
+
+-- when the container left by the interchange's word, if it did
+abbrev pub left_by : Source → Option Departure → Option CivilMoment
+left_by source None = None
+left_by source (Some departure) = if is_source departure.source source then Some departure.moment else None
+
+-- IN BOX SIZE FULL SLOT MOMENT
+abbrev pub entry_line : VisitContent → List ℕ
+entry_line visit = line (codes "IN" ∷ visit.container ∷ visit.size_type ∷ load_name visit.is_laden ∷ slot_name visit.arrival.slot ∷ moment_text visit.arrival.moment ∷ [])
+
+-- OUT BOX SIZE FULL MOMENT
+abbrev pub exit_line : VisitContent → Option CivilMoment → List ℕ
+exit_line visit None = []
+exit_line visit (Some moment) = line (codes "OUT" ∷ visit.container ∷ visit.size_type ∷ load_name visit.is_laden ∷ moment_text moment ∷ [])
+
+-- each visit that the interchange opened, by number
+abbrev pub entry_lines : Source → List VisitContent → List ℕ
+entry_lines source visits = flat_map entry_line (filter (is_opened_by source) visits)
+
+-- and each that it closed
+abbrev pub exit_lines : Source → List VisitContent → List ℕ
+exit_lines source visits = flat_map (λ visit. exit_line visit (left_by source visit.departure)) visits
+
+abbrev pub is_told_by : Source → VisitContent → Bool
+is_told_by source visit = is_opened_by source visit || is_some (left_by source visit.departure)
+
+abbrev pub told_lines : Source → List VisitContent → List ℕ
+told_lines source visits = if list_any (is_told_by source) visits then entry_lines source visits ++ exit_lines source visits else line (codes "NOTHING" ∷ [])
+
+-- what a partner's interchange did, the partner being called by a code
+abbrev pub ticket_text : List ℕ → Source → List VisitContent → List ℕ
+ticket_text code source visits = line (codes "TICKET" ∷ code ∷ decimal source.number ∷ []) ++ told_lines source visits

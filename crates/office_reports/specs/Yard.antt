@@ -1,0 +1,54 @@
+-- The report on the yard (our own).
+use Rattle.std.specs.Prelude.{◌≡◌, ℕ, List, [], ◌∷◌, ◌++◌, length, codes, decimal, Option, None, Some}
+use Rattle.std.specs.Option.{option_map}
+use Rattle.std.specs.List.{flat_map}
+use Rattle.std.specs.FinMap as finite_map
+use Rattle.std.specs.Map.{values_of}
+use Rattle.box6346.specs.SlotName.{slot_text}
+use Rattle.box6346.specs.declared.box_number.BoxNumber.{BoxNumber}
+use Rattle.box6346.specs.declared.slot.Slot.{Slot}
+use Rattle.terminal_core.specs.declared.departure.Departure.{Departure}
+use Rattle.terminal_core.specs.Rows.{VisitContent}
+use Rattle.terminal_core.specs.State.{TerminalState, open_visit}
+use Rattle.office_reports.specs.declared.standing.Standing.{Standing}
+use Rattle.office_reports.specs.Listed.{AreListed}
+use Rattle.office_reports.specs.Names.{load_name, slot_name, line}
+
+-- what is shown of a container, by its visit and where it stands
+abbrev pub shown : VisitContent → Slot → Standing
+shown visit slot = record { slot = slot; container = visit.container; size_type = visit.size_type; is_laden = visit.is_laden }
+
+-- where a container stands, if it is in the yard
+abbrev pub slot_in : TerminalState → BoxNumber → Option Slot
+slot_in state container = option_map (λ s. s.slot) (finite_map.get state.yard.boxes container)
+
+-- the container stands in the slot of that text, and this is what its open visit shows
+pub record StandsAt (state : TerminalState) (text : List ℕ) (standing : Standing) : Type 0 where
+  pub visit : VisitContent
+  pub is_open : open_visit state standing.container ≡ Some visit
+  pub is_shown : standing ≡ shown visit standing.slot
+  pub stands : slot_in state standing.container ≡ Some standing.slot
+  pub named : text ≡ slot_text standing.slot
+
+-- SLOT BOX SIZE FULL, or EMPTY
+abbrev pub standing_line : Standing → List ℕ
+standing_line standing = line (slot_name standing.slot ∷ standing.container ∷ standing.size_type ∷ load_name standing.is_laden ∷ [])
+
+abbrev pub yard_text : List (List ℕ × Standing) → List ℕ
+yard_text yard = line (codes "YARD" ∷ []) ++ flat_map standing_line (values_of yard) ++ line (decimal (length yard) ∷ codes "CONTAINERS" ∷ [])
+
+-- the text shows the containers in the yard, by the texts of their slots
+pub record IsYardReport (state : TerminalState) (text : List ℕ) : Type 0 where
+  pub yard : List (List ℕ × Standing)
+  pub listed : AreListed (StandsAt state) yard
+  pub is : text ≡ yard_text yard
+
+-- ---- a visit
+
+abbrev pub standing_if_here : TerminalState → VisitContent → Option Departure → Option Standing
+standing_if_here state visit (Some departure) = None
+standing_if_here state visit None = option_map (shown visit) (slot_in state visit.container)
+
+-- where the container of a visit stands, unless it left
+abbrev pub standing_of : TerminalState → VisitContent → Option Standing
+standing_of state visit = standing_if_here state visit visit.departure

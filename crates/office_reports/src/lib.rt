@@ -1,0 +1,21 @@
+//! The texts of the office's reports: the yard, its export, a container's visits, a vessel's lists and a partner's
+//! tickets.
+#![tactic(auto)]
+
+mod export;
+pub mod laws;
+mod listed_line;
+mod lists;
+mod standing;
+mod texts;
+mod tickets;
+mod visits;
+mod yard;
+
+pub use export::yard_csv;
+pub use listed_line::ListedLine;
+pub use lists::list_report;
+pub use standing::Standing;
+pub use tickets::ticket;
+pub use visits::visit_report;
+pub use yard::yard_report;

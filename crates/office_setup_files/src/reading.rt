@@ -1,0 +1,145 @@
+ghost use Rattle.std.specs.Prelude.{◌≡◌, ℕ, List, IfOk, IfErr, MatchOption, map, codes, string_bytes};
+ghost use Rattle.std.specs.Option.{option_map};
+ghost use Rattle.edi_messages.specs.declared.partner_kind.PartnerKind.{PartnerKind};
+ghost use Rattle.std.specs.List.Sorted.{IsNonDecreasingBy, IsPermutation};
+ghost use Rattle.csv.specs.Records.{fields_of};
+ghost use Rattle.edi_messages.specs.Codes.{table_texts};
+ghost use Rattle.yard_core.specs.declared.block.Block.{Block};
+ghost use Rattle.office_setup.specs.Given.{IsGiven};
+ghost use Rattle.office_setup.specs.Setups.{account_contents, setup_content};
+ghost use Rattle.office_setup_files.specs.Entries.{AreFiles, section};
+ghost use Rattle.office_setup_files.specs.Said.{Applies, ArePartners, AreNoPartners, AreCodes, IsLowest, SaysSetup, SayFiles, RefuseFiles, code_texts, limit_said, terminal_said};
+
+use crate::blocks::blocks_of;
+use crate::codes::codes_of;
+use crate::entry::section;
+use crate::forms::{is_block_file, is_partner_file};
+use crate::partners::partners_of;
+use crate::rows::{read_rows, text_rows};
+use crate::setup_fault::SetupFault;
+use crate::terminal::{limit_of, terminal_of};
+use csv::{ByteRecord, StringRecord};
+use edi_messages::CodeTable;
+use office_setup::{Account, Setup};
+use std::alloc::{AllocError, Global};
+use yard_core::Block;
+
+/// The set-up that a file of partners and a file of blocks say, or the lowest fault that applies to them, or Memory.
+pub fn read_setup(alloc: Global, partners: &[u8], blocks: &[u8]) -> Result<Setup, SetupFault>
+    ensures ok { IfOk result (λ setup. SayFiles partners.now blocks.now (setup_content setup)) }
+    ensures given { IfOk result (λ setup. IsGiven (setup_content setup)) }
+    ensures err { IfErr result (RefuseFiles partners.now blocks.now) }
+{
+    let Ok(partner_rows) = read_rows(alloc, partners) else {
+        return Err(SetupFault::Memory);
+    };
+    let Ok(block_rows) = read_rows(alloc, blocks) else {
+        return Err(SetupFault::Memory);
+    };
+    setup_in(alloc, partner_rows, block_rows)
+}
+
+// The set-up that the records of two files say.
+fn setup_in(
+    alloc: Global,
+    partner_rows: Vec<ByteRecord>,
+    block_rows: Vec<ByteRecord>,
+) -> Result<Setup, SetupFault>
+    ensures ok { IfOk result (λ setup.
+        SaysSetup (map fields_of partner_rows.items) (map fields_of block_rows.items) (setup_content setup)) }
+    ensures err { IfErr result
+        (IsLowest (map fields_of partner_rows.items) (map fields_of block_rows.items)) }
+{
+    let Some(partner_rows) = text_rows(alloc, partner_rows)? else {
+        return Err(SetupFault::Csv);
+    };
+    let Some(block_rows) = text_rows(alloc, block_rows)? else {
+        return Err(SetupFault::Csv);
+    };
+    if !is_partner_file(&partner_rows) || !is_block_file(&block_rows) {
+        return Err(SetupFault::Csv);
+    }
+    setup_of(alloc, &partner_rows, &block_rows)
+}
+
+// The same of text, header and lengths of the records being right.
+fn setup_of(
+    alloc: Global,
+    partner_rows: &[StringRecord],
+    block_rows: &[StringRecord],
+) -> Result<Setup, SetupFault>
+    requires { AreFiles (map fields_of partner_rows.now) (map fields_of block_rows.now) }
+    ensures ok { IfOk result (λ setup.
+        SaysSetup (map fields_of partner_rows.now) (map fields_of block_rows.now) (setup_content setup)) }
+    ensures err { IfErr result
+        (IsLowest (map fields_of partner_rows.now) (map fields_of block_rows.now)) }
+{
+    let Some(terminal) = terminal_in(alloc, partner_rows)? else {
+        return Err(SetupFault::Terminal);
+    };
+    let Some(partners) = partners_in(alloc, partner_rows)? else {
+        return Err(SetupFault::Partner);
+    };
+    let Some(codes) = codes_in(alloc, partner_rows)? else {
+        return Err(SetupFault::Code);
+    };
+    let Some(visit_limit) = limit_in(alloc, partner_rows)? else {
+        return Err(SetupFault::Limit);
+    };
+    let Some(blocks) = blocks_of(alloc, block_rows)? else {
+        return Err(SetupFault::Block);
+    };
+    let blocks = by_letter(blocks)?;
+    Ok(Setup {
+        terminal,
+        codes,
+        partners,
+        blocks,
+        visit_limit,
+    })
+}
+
+fn terminal_in(alloc: Global, rows: &[StringRecord]) -> Result<Option<String>, AllocError>
+    ensures { IfOk result (λ answer. option_map (λ code. string_bytes code) answer
+        ≡ terminal_said (section (codes "terminal") (map fields_of rows.now))) }
+{
+    let entries = section(alloc, rows, "terminal")?;
+    match terminal_of(&entries) {
+        Some(code) => Ok(Some(String::from_str(alloc, code)?)),
+        None => Ok(None),
+    }
+}
+
+fn partners_in(alloc: Global, rows: &[StringRecord]) -> Result<Option<Vec<Account>>, AllocError>
+    ensures { IfOk result (λ answer. MatchOption answer
+        (AreNoPartners (section (codes "partner") (map fields_of rows.now)))
+        (λ accounts. ArePartners (section (codes "partner") (map fields_of rows.now)) (account_contents accounts.items))) }
+{
+    let entries = section(alloc, rows, "partner")?;
+    partners_of(alloc, &entries)
+}
+
+fn codes_in(alloc: Global, rows: &[StringRecord]) -> Result<Option<CodeTable>, AllocError>
+    ensures { IfOk result (λ answer. MatchOption answer
+        (¬ AreCodes (section (codes "code") (map fields_of rows.now)))
+        (λ table. AreCodes (section (codes "code") (map fields_of rows.now)) ×
+        (table_texts table ≡ code_texts (section (codes "code") (map fields_of rows.now))))) }
+{
+    let entries = section(alloc, rows, "code")?;
+    Ok(codes_of(&entries))
+}
+
+fn limit_in(alloc: Global, rows: &[StringRecord]) -> Result<Option<u32>, AllocError>
+    ensures { IfOk result (λ answer. answer ≡ limit_said (section (codes "limit") (map fields_of rows.now))) }
+{
+    let entries = section(alloc, rows, "limit")?;
+    Ok(limit_of(&entries))
+}
+
+fn by_letter(mut blocks: Vec<Block>) -> Result<Vec<Block>, AllocError>
+    ensures { IfOk result (λ sorted. IsPermutation blocks.items sorted.items ×
+        IsNonDecreasingBy (λ (block : Block). block.letter) sorted.items) }
+{
+    blocks.sort_by_key(|block| block.letter)?;
+    Ok(blocks)
+}

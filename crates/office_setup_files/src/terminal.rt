@@ -1,0 +1,41 @@
+ghost use Rattle.std.specs.Prelude.{◌≡◌, map};
+ghost use Rattle.std.specs.Option.{option_map};
+ghost use Rattle.office_setup_files.specs.Entries.{entry_content};
+ghost use Rattle.office_setup_files.specs.Said.{terminal_said, limit_in, limit_said};
+
+use crate::entry::Entry;
+use crate::numbers::number_of;
+use crate::texts::{are_same, is_party_code};
+
+/// How many visits may be recorded where the file says no limit.
+const USUAL_LIMIT: u32 = 999_999_999;
+
+/// The code of the terminal.
+pub(crate) fn terminal_of<'a>(entries: &[Entry<'a>]) -> Option<&'a str>
+    ensures { option_map (λ code. code.now) result ≡ terminal_said (map entry_content entries.now) }
+{
+    match entries {
+        [entry] if is_party_code(entry.name) && entry.value.is_empty() => Some(entry.name),
+        _ => None,
+    }
+}
+
+/// How many visits may be recorded.
+pub(crate) fn limit_of(entries: &[Entry<'_>]) -> Option<u32>
+    ensures { result ≡ limit_said (map entry_content entries.now) }
+{
+    match entries {
+        [] => Some(USUAL_LIMIT),
+        [entry] if are_same(entry.name, "visits") => limit_in(number_of(entry.value)),
+        _ => None,
+    }
+}
+
+fn limit_in(number: Option<u32>) -> Option<u32>
+    ensures { result ≡ limit_in number }
+{
+    match number {
+        Some(number) if 1 <= number => Some(number),
+        _ => None,
+    }
+}

@@ -1,4 +1,0 @@
-pub mod AnswerLemmas
-pub mod HoldLemmas
-pub mod DeliverLemmas
-pub mod PartLemmas

@@ -1,0 +1,46 @@
+//! HTTP over the desk: requests, and the bytes that answer them.
+
+mod failing;
+mod keys;
+mod long;
+mod rows;
+
+use crate::office::pieces::Pieces;
+use office_commands::open_demo::open_demo;
+use office_http::serve_one;
+use office_queries::Report;
+use office_stream::Port;
+use std::alloc::Global;
+use std::io::Read;
+use std::process::Abort;
+use std::test::Fail;
+
+/// One request is served, and answered so.
+fn assert_served<R: Read + Drop, D: Report>(
+    rt: &impl Abort,
+    alloc: Global,
+    reader: R,
+    desk: &mut D,
+    response: &[u8],
+) {
+    let mut writer = Port::new(Vec::new(alloc));
+    let served = serve_one(alloc, &mut Port::new(reader), &mut writer, desk);
+    assert!(rt; served.is_ok());
+    assert_eq!(rt; writer.into_inner().as_slice(), response);
+}
+
+/// One request after the other is served by a desk to which nothing had been delivered, and answered so: each twice, where it
+/// comes as a whole and where it comes byte by byte.
+fn assert_responses(rt: &impl Abort, alloc: Global, rows: &[(&[u8], &[u8])]) -> Result<(), Fail> {
+    let mut desk = open_demo(alloc)?;
+    for (request, response) in rows {
+        assert_served(rt, alloc, *request, &mut desk, response);
+        let pieces = Pieces {
+            text: request,
+            next: 1,
+            size: 1,
+        };
+        assert_served(rt, alloc, pieces, &mut desk, response);
+    }
+    Ok(())
+}

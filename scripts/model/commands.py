@@ -1,0 +1,85 @@
+"""What a command prints, over files: docs/OPERATIONS.md.
+
+Files are a dict by their names, of texts and, where one is a store, of offices. The first fault is told, in this order:
+the words, input files as the words name them, the set-up, the store.
+"""
+from .moments import are_digits
+from .office import Office
+from .reports import KINDS, printed, text_of
+from .setup import read_setup
+from .stream import answers, lines, status
+
+# how many words stand behind each command: at least, at most
+WORDS = {'init': (3, 3), 'deliver': (2, 2), 'serve': (3, 3), 'report': (2, 3), 'demo': (0, 0)}
+CLAP = 'a text of clap'     # which the model doesn't know
+MOST_CONNECTIONS = 1000000
+
+
+class Fault(Exception):
+    """What is told on the stream of errors, and the status."""
+
+    def __init__(self, text, ended):
+        super().__init__()
+        self.text, self.ended = text, ended
+
+
+def text_in(files, name):
+    """The text of an input file."""
+    if name not in files:
+        raise Fault('cannot read', 3)
+    return files[name]
+
+
+def office_in(files, name):
+    """The office whose store a file is."""
+    if not isinstance(files.get(name), Office):
+        raise Fault('store: Store', 3)
+    return files[name]
+
+
+def init(files, store, partners, blocks):
+    """Makes a store. A file with something in it stays as it is."""
+    setup, fault = read_setup(text_in(files, partners), text_in(files, blocks))
+    if fault:
+        raise Fault('setup: ' + fault, 1)
+    if files.get(store):
+        raise Fault('store: Store', 3)
+    files[store] = Office(setup)
+    return 'ready\n', 0
+
+
+def deliver(files, store, name):
+    """A line for each answer."""
+    text = text_in(files, name)
+    given = answers(office_in(files, store), text)
+    return text_of(lines(given)), status(given)
+
+
+def serve(files, store, port, count):
+    """Only its faults: what it answers is in http.py."""
+    if not all(are_digits(text, 1, 9) and 1 <= int(text) <= most
+               for text, most in ((port, 65535), (count, MOST_CONNECTIONS))):
+        raise Fault('usage: office serve DB PORT COUNT', 2)
+    office_in(files, store)
+    return 'listening 127.0.0.1:%d\nserved %d\n' % (int(port), int(count)), 0
+
+
+def report(files, store, kind, key=None):
+    """The yard's reports have no key, and the others have one."""
+    if kind not in KINDS or (kind in ('yard', 'yardcsv')) != (key is None):
+        raise Fault('usage: office report DB KIND [KEY]', 2)
+    return printed(office_in(files, store), kind, key or '')
+
+
+def outcome(files, words):
+    """What is printed, what is told of faults, and the status."""
+    command, *others = words
+    if words == ['--help']:
+        return CLAP, '', 0
+    if command not in WORDS or not WORDS[command][0] <= len(others) <= WORDS[command][1]:
+        return '', CLAP, 2
+    try:
+        text, ended = {'init': init, 'deliver': deliver, 'serve': serve, 'report': report}[command](files, *others)
+        return text, '', ended
+    except Fault as fault:
+        return '', fault.text + '\n', fault.ended

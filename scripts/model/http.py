@@ -1,0 +1,128 @@
+"""One request of HTTP and its response: docs/crates/office_http.md.
+
+A request is bytes, and so is its response. The head is the shortest front of the request that is one within the limits
+(RFC 9112, sections 2 to 5, as `httparse` reads it).
+"""
+import re
+from collections import namedtuple
+
+from .moments import are_digits
+from .office import json_text
+from .reports import report
+from .setup import is_utf8
+from .syntax import LONGEST_TEXT
+
+LONGEST_HEAD = 8192
+MOST_FIELDS = 64
+
+TOKEN = r"[A-Za-z0-9!#$%&'*+\-.^_`|~]+"
+TARGET = r'[\x21-\x7e\x80-\xff]+'
+VALUE = r'[\t\x20-\x7e\x80-\xff]*'
+END = r'\r?\n'
+FIELD = r'(%s):(%s)%s' % (TOKEN, VALUE, END)
+HEAD = re.compile(r'(?:%s)*(%s) (%s) HTTP/1\.[01]%s((?:%s:%s%s)*)%s' % (
+    END, TOKEN, TARGET, END, TOKEN, VALUE, END, END))
+
+# fields are pairs of name and value, `length` how many bytes the head has
+Head = namedtuple('Head', 'method target fields length')
+
+# where a path leads, the method that it has, and the kind of report
+ROUTES = [
+    (r'/interchanges', 'POST', None),
+    (r'/yard', 'GET', 'yard'),
+    (r'/visits/([^/]+)', 'GET', 'visits'),
+    (r'/lists/([^/]+/[^/]+/[^/]+)', 'GET', 'list'),
+    (r'/tickets/([^/]+/[^/]+)', 'GET', 'ticket'),
+    (r'/replies/([^/]+/[^/]+)', 'GET', 'reply'),
+]
+
+PHRASES = {
+    200: 'OK', 202: 'Accepted', 400: 'Bad Request', 404: 'Not Found', 405: 'Method Not Allowed', 409: 'Conflict',
+    411: 'Length Required', 413: 'Payload Too Large'}
+STATUSES = {'taken': 200, 'repeat': 200, 'waiting': 202, 'clash': 409, 'refused': 400}
+
+
+class Refusal(Exception):
+    """Why a request is answered without the office: a status, and the word of the answer."""
+
+    def __init__(self, status, word, allowed=None):
+        super().__init__()
+        self.status, self.word, self.allowed = status, word, allowed
+
+
+# ---- the request
+
+def head_of(request):
+    """Its head: empty lines, a line of method, target and version, fields, an empty line."""
+    found = HEAD.match(request)
+    if not found or len(found.group()) > LONGEST_HEAD:
+        raise Refusal(400, 'bad request')
+    method, target, lines = found.groups()
+    fields = [(name, value.strip(' \t')) for name, value in re.findall(FIELD, lines)]
+    if len(fields) > MOST_FIELDS or not is_utf8(target):
+        raise Refusal(400, 'bad request')
+    return Head(method, target, fields, len(found.group()))
+
+
+def route_of(head):
+    """The kind of report that its path leads to with its key; None and None for a delivery."""
+    for path, method, kind in ROUTES:
+        found = re.fullmatch(path, head.target.split('?')[0])
+        if found and head.method != method:
+            raise Refusal(405, 'method', allowed=method)
+        if found:
+            return kind, ''.join(found.groups())
+    raise Refusal(404, 'none')
+
+
+def values_of(head, name):
+    """The values of the fields of that name; the case of its letters doesn't matter."""
+    return [value for other, value in head.fields if other.lower() == name]
+
+
+def body_of(head, request):
+    """As many bytes behind the head as it says. What stands behind them has no effect."""
+    lengths = values_of(head, 'content-length')
+    if values_of(head, 'transfer-encoding') or not lengths:
+        raise Refusal(411, 'length')
+    if len(lengths) > 1 or not are_digits(lengths[0], 1, 19):
+        raise Refusal(400, 'bad request')
+    if int(lengths[0]) > LONGEST_TEXT:
+        raise Refusal(413, 'too long')
+    body = request[head.length:head.length + int(lengths[0])]
+    if len(body) < int(lengths[0]):
+        raise Refusal(400, 'bad request')
+    return body
+
+
+# ---- the response
+
+def response_text(status, content_type, body, allowed=None):
+    """The bytes of a response."""
+    lines = ['HTTP/1.1 %d %s' % (status, PHRASES[status])]
+    lines += ['Content-Type: ' + content_type, 'Content-Length: %d' % len(body)]
+    lines += ['Allow: ' + allowed] if allowed else []
+    lines += ['Connection: close', '', body]
+    return '\r\n'.join(lines)
+
+
+def answered(office, request):
+    """Status, content type and body; a text that is delivered counts from here on."""
+    head = head_of(request)
+    kind, key = route_of(head)
+    if kind is None:
+        answer = office.answer(body_of(head, request))
+        return STATUSES[answer['answer']], 'application/json', json_text(answer)
+    text = report(office, kind, key)
+    if text is None:
+        raise Refusal(404, 'none')
+    return 200, 'application/json' if kind == 'reply' else 'text/plain', text
+
+
+def response(office, request):
+    """The response to a request."""
+    try:
+        return response_text(*answered(office, request))
+    except Refusal as refusal:
+        return response_text(
+            refusal.status, 'application/json', json_text(dict(answer=refusal.word)), refusal.allowed)

@@ -1,0 +1,104 @@
+"""Whether the rows of a store are those of an office: docs/TABLES.md, what Damaged means.
+
+Each check is a predicate of all tables, which are dicts of lists of rows.
+"""
+from .moments import moment_of
+from .names import length_of, number_fault, slot_of
+from .setup import (
+    BLOCKS_HEADER, CODE_NAMES, KINDS, MOST_VISITS, PARTNERS_HEADER, are_bad_blocks, are_bad_codes, are_bad_partners,
+    is_bad_limit, is_bad_terminal)
+from .yard import Block, Place, cells, covered, is_carried, is_in_plan
+
+SETTINGS = {'version', 'terminal', 'visits', *CODE_NAMES}
+MOST_NUMBER = 999999999
+
+
+def is_setup(tables):
+    """Just the ten settings; with accounts and blocks they are a set-up that files could give."""
+    settings = dict(tables['setting'])
+    if len(settings) != len(tables['setting']) or set(settings) != SETTINGS or settings['visits'].startswith('0'):
+        return False
+    kinds = dict(enumerate(KINDS, start=1))
+    partners = [PARTNERS_HEADER, ['terminal', settings['terminal'], ''], ['limit', 'visits', settings['visits']]]
+    partners += [['code', name, settings[name]] for name in CODE_NAMES]
+    partners += [['partner', code, kinds.get(kind, '')] for _identity, code, kind, _next in tables['partner']]
+    blocks = [BLOCKS_HEADER] + [[letter, *map(str, sizes)] for letter, *sizes in tables['block']]
+    return not any(is_bad(partners, blocks) for is_bad in (
+        is_bad_terminal, are_bad_partners, are_bad_codes, is_bad_limit, are_bad_blocks))
+
+
+def are_accounts(tables):
+    """Numbered from 1 on, each with a next number."""
+    identities = sorted(identity for identity, _code, _kind, _next in tables['partner'])
+    return identities == list(range(1, len(identities) + 1)) and all(
+        1 <= next_number <= MOST_NUMBER + 1 for *_account, next_number in tables['partner'])
+
+
+def are_interchanges(tables):
+    """Below next each number, with a reply; above it any, without one."""
+    nexts = {identity: next_number for identity, _code, _kind, next_number in tables['partner']}
+    replies = {(partner, number): reply for partner, number, _body, reply in tables['interchange']}
+    return all(
+        partner in nexts and 1 <= number <= MOST_NUMBER and number != nexts[partner]
+        and (number < nexts[partner]) == (reply != '') for (partner, number), reply in replies.items()) and all(
+        sum(partner == identity and number < next_number for partner, number in replies) == next_number - 1
+        for identity, next_number in nexts.items())
+
+
+def is_passage(tables, by, partner, number, moment):
+    """By gate or ship, by an account's interchange, at a moment."""
+    identities = [identity for identity, _code, _kind, _next in tables['partner']]
+    return by in (1, 2) and partner in identities and 1 <= number <= MOST_NUMBER and moment_of(moment, 12) is not None
+
+
+def is_kept_name(text):
+    """A booking or a port: none, or 1 to 35 printable bytes."""
+    return len(text) <= 35 and all(' ' <= character <= '~' for character in text)
+
+
+def are_visits(tables):
+    """Numbered from 1 on, within the limit, of their forms, each exit whole or empty."""
+    limit = int(dict(tables['setting'])['visits'])
+    visits = sorted(tables['visit'])
+    if [visit[0] for visit in visits] != list(range(1, len(visits) + 1)) or len(visits) > min(limit, MOST_VISITS):
+        return False
+    return all(
+        number_fault(box) is None and length_of(size) and laden in (0, 1) and is_kept_name(booking)
+        and is_passage(tables, *passages[:4]) and slot_of(passages[4])
+        and (passages[5:] == [0, 0, 0, ''] or is_passage(tables, *passages[5:]))
+        for _visit, box, size, laden, booking, *passages in visits)
+
+
+def are_lines(tables):
+    """Of their forms; no port on a discharge list."""
+    return all(
+        is_kept_name(vessel) and vessel and is_kept_name(voyage) and voyage and side in (1, 2) and done in (0, 1)
+        and number_fault(box) is None and is_kept_name(port) and (side == 1 or port == '')
+        for vessel, voyage, side, box, port, done in tables['listed'])
+
+
+def are_places(tables):
+    """Just the open visits' containers, in a yard that is sound."""
+    opened = {visit[1]: visit for visit in tables['visit'] if visit[10] == 0}
+    placed = {box: (visit, slot) for box, visit, slot in tables['place']}
+    if len(opened) != sum(visit[10] == 0 for visit in tables['visit']) or set(placed) != set(opened):
+        return False
+    if not all(visit == opened[box][0] and slot_of(slot) for box, (visit, slot) in placed.items()):
+        return False
+    plan = [Block(*block) for block in tables['block']]
+    yard = {box: Place(length_of(opened[box][2]), slot_of(slot)) for box, (_visit, slot) in placed.items()}
+    every = covered(yard)
+    return len(every) == len(set(every)) and all(
+        is_in_plan(plan, place.slot) and len(cells(place)) == 2 - place.slot.bay % 2 and is_carried(yard, place)
+        for place in yard.values())
+
+
+def fault_of_rows(tables):
+    """Store without settings; Version where it is another or none; Damaged where the rows are those of no office; else
+    None."""
+    if 'setting' not in tables:
+        return 'Store'
+    if dict(tables['setting']).get('version') != '1':
+        return 'Version'
+    checks = is_setup, are_accounts, are_interchanges, are_visits, are_lines, are_places
+    return None if all(check(tables) for check in checks) else 'Damaged'

@@ -1,0 +1,152 @@
+"""What can be asked of the office besides deliveries: docs/crates/office_queries.md.
+
+Each report is a text of whole lines, or None where there is nothing to tell. It is computed from all deliveries, as
+answers are.
+"""
+from .deliveries import first_text, run
+from .keys import read_key
+from .moments import day_number
+from .names import slot_text
+from .office import json_text
+
+KINDS = ('yard', 'yardcsv', 'visits', 'list', 'ticket', 'reply')
+
+
+# ---- words in lines
+
+def text_of(lines):
+    """Each line ends with LF."""
+    return ''.join(line + '\n' for line in lines)
+
+
+def load_text(visit):
+    """Whether it came full."""
+    return 'FULL' if visit.is_full else 'EMPTY'
+
+
+def moment_text(moment):
+    """As 2024-03-05 09:10."""
+    return '%s-%s-%s %s:%s' % (moment[0:4], moment[4:6], moment[6:8], moment[8:10], moment[10:12])
+
+
+def passage_text(passage):
+    """How, by which partner's number, and when."""
+    return '%s %s %d %s' % (passage.way.upper(), *passage.source, moment_text(passage.moment))
+
+
+# ---- the yard
+
+def standing(terminal):
+    """Slot and open visit of each container in the yard, by the text of the slot."""
+    visits = {visit.number: visit for visit in terminal.visits if visit.exit is None}
+    return sorted(
+        ((slot_text(place.slot), visits[number]) for number, place in terminal.yard.items()), key=lambda pair: pair[0])
+
+
+def yard(office):
+    """A line for each container, and how many there are."""
+    lines = [
+        '%s %s %s %s' % (slot, visit.number, visit.size_type, load_text(visit))
+        for slot, visit in standing(office.fold().terminal)]
+    return text_of(['YARD'] + lines + ['%d CONTAINERS' % len(lines)])
+
+
+def yardcsv(office):
+    """The same as comma-separated values. None of them needs quotes."""
+    lines = [
+        ','.join([slot, visit.number, visit.size_type, load_text(visit).lower()])
+        for slot, visit in standing(office.fold().terminal)]
+    return text_of(['slot,box,size,load'] + lines)
+
+
+# ---- visits
+
+def visit_text(place, visit):
+    """Its number, how it came, where it was put, its booking, how it went and after how many days."""
+    text = '%d %s %s IN %s %s' % (
+        place, visit.size_type, load_text(visit), passage_text(visit.entry), slot_text(visit.entry_slot))
+    if visit.booking:
+        text += ' BOOKING ' + visit.booking
+    if visit.exit is None:
+        return text + ' OUT -'
+    days = day_number(visit.exit.moment) - day_number(visit.entry.moment)
+    return '%s OUT %s DAYS %d' % (text, passage_text(visit.exit), days)
+
+
+def numbered(terminal):
+    """All visits with their numbers, from 1 on."""
+    return list(enumerate(terminal.visits, start=1))
+
+
+def visits(office, box):
+    """A container's visits."""
+    lines = [visit_text(place, visit) for place, visit in numbered(office.fold().terminal) if visit.number == box]
+    return text_of(['VISITS ' + box] + lines) if lines else None
+
+
+# ---- vessels
+
+def vessel_list(office, vessel, voyage, side):
+    """The lines of a list by container, and how many are open and done."""
+    lines = [
+        (number, line) for ((call, of_side, number), line) in sorted(office.fold().terminal.lines.items())
+        if call == (vessel, voyage) and of_side == side]
+    if not lines:
+        return None
+    texts = [
+        ' '.join([number, 'DONE' if line.is_done else 'OPEN'] + ([line.port] if line.port else []))
+        for number, line in lines]
+    done = sum(line.is_done for _number, line in lines)
+    head = '%s LIST %s %s' % (side.upper(), vessel, voyage)
+    return text_of([head] + texts + ['%d OPEN %d DONE' % (len(lines) - done, done)])
+
+
+# ---- one interchange
+
+def ticket(office, partner, number):
+    """What an interchange that was taken did at the gate and at the ships: entries, then exits."""
+    fold = office.fold()
+    if (partner, number) not in fold.replies:
+        return None
+    entries = [
+        ' '.join([
+            'IN', visit.number, visit.size_type, load_text(visit), slot_text(visit.entry_slot),
+            moment_text(visit.entry.moment)])
+        for visit in fold.terminal.visits if visit.entry.source == (partner, number)]
+    exits = [
+        ' '.join(['OUT', visit.number, visit.size_type, load_text(visit), moment_text(visit.exit.moment)])
+        for visit in fold.terminal.visits if visit.exit and visit.exit.source == (partner, number)]
+    return text_of(['TICKET %s %d' % (partner, number)] + (entries + exits or ['NOTHING']))
+
+
+def reply(office, partner, number):
+    """The body that answers a repeat of the interchange: with its reply, or that it waits."""
+    if first_text(office.deliveries, partner, number) is None:
+        return None
+    answer = dict(number=number, partner=partner)
+    if number <= run(office.deliveries, partner):
+        answer.update(answer='repeat', reply=office.fold().replies[partner, number])
+    else:
+        answer.update(answer='waiting', next=run(office.deliveries, partner) + 1)
+    return json_text(answer)
+
+
+# ---- all of them
+
+def report(office, kind, key=''):
+    """The report of a kind under a key, which the yard has none of. None where nothing is found, also under a key that
+    can't be read."""
+    if kind in ('yard', 'yardcsv'):
+        return {'yard': yard, 'yardcsv': yardcsv}[kind](office)
+    values = read_key(kind, key)
+    if values is None:
+        return None
+    return {'visits': visits, 'list': vessel_list, 'ticket': ticket, 'reply': reply}[kind](office, *values)
+
+
+def printed(office, kind, key=''):
+    """What the command `report` prints, and its status: a reply has its line's end there."""
+    text = report(office, kind, key)
+    if text is None:
+        return 'none\n', 1
+    return (text + '\n' if kind == 'reply' else text), 0

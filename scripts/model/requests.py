@@ -1,0 +1,193 @@
+"""Random keys of reports, and random requests of HTTP: what comes in them, and how often.
+
+They are made from a random generator, a day (of days.py) and what was delivered so far. Numbers before each value in a
+table are its weight.
+"""
+
+ESCAPED = 0.1               # of the characters of a key: written as % and two digits
+ODD_KEYS = [
+    '', '/', '//', '%', '%4', '%4g', '%zz/1', 'HAULA', 'HAULA/', '/1', 'HAULA/1/2', 'HAULA/0', 'HAULA/+1', 'HAULA/1a',
+    'HAULA/999999999', 'HAULA/000000000000001', 'HAULX/1', 'ABCU0000071', 'abcu0000017', 'ABCU9999990', '9123456/V12',
+    '9123456/V12/', '9123456/V12/Load', '9123456/V12/move', '9123456/V99/load', '9123456/V12/load/', '%FF/%00/load',
+    '%2F/1', '9123456%2FV12%2Fload']
+
+KINDS = [
+    (14, 'delivery'), (2, 'altered delivery'), (8, 'report'), (2, 'odd report'), (1, 'method'), (1, 'route'),
+    (2, 'length'), (1, 'cut'), (6, 'altered head'), (2, 'large')]
+METHODS = ['GET', 'POST', 'PUT', 'HEAD', 'get', 'OPTIONS', 'DELETE', 'X', 'PATCH', 'CONNECT', "!#$%&'*+-.^_`|~"]
+PATHS = [
+    '/', '*', '/x', '/yard/', '//yard', '/Yard', 'yard', 'http://127.0.0.1/yard', '/yardcsv', '/visits', '/visits/',
+    '/visits/A/B', '/lists/9123456/V12', '/lists//V12/load', '/tickets/HAULA/', '/replies/HAULA', '/replies/HAULA/1/',
+    '/interchanges/', '/interchanges/1', '/yard#1', '/%79ard', '/interchange', '/visits/%zz', '/tickets/HAULA%2F1',
+    '/lists/a/b/c/d', '/yard\xe9', '/visits/\xc3\xa9', '/visits/\xff']
+QUERIES = [(8, ''), (1, '?'), (1, '?a=b/c?d'), (1, '?%zz')]
+LENGTHS = [
+    [], ['Content-Length: %d', 'Content-Length: %d'], ['Content-Length: +%d'], ['Content-Length: '],
+    ['Content-Length: %d', 'Transfer-Encoding: chunked'], ['transfer-encoding:', 'Content-Length: %d'],
+    ['Content-Length: 1048577'], ['Content-Length: 1048576'], ['Content-Length: 9999999999999999999'],
+    ['Content-Length: 10000000000000000000'], ['Content-Length: 00000000000%d'], ['Content-Length: 0'],
+    ['Content-Length: %d, %d'], ['Content-Length: %d.'], ['Content-Length: 0x%d'],
+    ['Content-Length: 18446744073709551616'],
+    ['content-length:%d', 'CONTENT-LENGTH: %d'], ['Content-Length:\t %d\t '], ['X-Content-Length: %d'],
+    ['Content-Length: 0000000000000000000'], ['Content-Length: -1'], ['Content-Length : %d']]
+FIELDS = [
+    'Host: 127.0.0.1', 'User-Agent: x', 'Accept:', 'X:\t', 'X-Y: a:b, c', 'Expect: 100-continue',
+    'Connection: keep-alive', 'X: \xe9\xff', "!#$%&'*+-.^_`|~: 1", 'Content-Type: application/edifact']
+PLACED_BYTES = ' \t\r\n\x00\x0b\x1f\x7f\x80\xe9:/%?#AZ19"(),;'
+LARGE = [(3, 'fields'), (3, 'head'), (1, 'body')]
+
+
+# ---- keys
+
+def written(random, text, share=ESCAPED):
+    """A part of a key, with some characters written as % and two hexadecimal digits, and always `/` and `%`."""
+    form = random.choice(['%%%02x', '%%%02X'])
+    return ''.join(
+        form % ord(character) if character in '/%? \t' or random.random() < share else character for character in text)
+
+
+def known(random, office):
+    """A kind of report and a key under which something may be found."""
+    kind = random.choice(['visits', 'list', 'ticket', 'reply'])
+    terminal, delivered = office.fold().terminal, office.deliveries
+    if kind == 'visits' and terminal.visits:
+        values = [random.choice(terminal.visits).number]
+    elif kind == 'list' and terminal.lines:
+        call, side, _number = random.choice(sorted(terminal.lines))
+        values = [*call, random.choice([side, side, side, 'load', 'discharge'])]
+    elif kind == 'ticket' and terminal.visits and random.random() < 0.5:
+        visit = random.choice(terminal.visits)
+        partner, number = (visit.exit or visit.entry).source
+        values = [partner, str(number)]
+    elif delivered:
+        delivery = random.choice(delivered)
+        kind = random.choice(['ticket', 'reply'])
+        number = delivery.number + random.choice([0, 0, 0, 0, 1])
+        values = [delivery.partner, str(number).zfill(random.choice([0, 0, 6, 14]))]
+    else:
+        values = ['HAULA', '1']
+    return kind, '/'.join(written(random, value) for value in values)
+
+
+def question(random, office):
+    """A kind of report and a key, known or odd."""
+    return odd(random, office) if random.random() < 0.3 else known(random, office)
+
+
+def odd(random, office):
+    """A kind of report and an odd key, of a partner that the office has."""
+    partner = random.choice(sorted(office.setup.partners))
+    return random.choice(['visits', 'list', 'ticket', 'reply']), random.choice(ODD_KEYS).replace('HAULA', partner)
+
+
+def every_key(office):
+    """Each container, list and interchange of an office, as a kind of report and a key."""
+    terminal = office.fold().terminal
+    boxes = {visit.number for visit in terminal.visits}
+    lists = {'/'.join([*call, side]) for call, side, _number in terminal.lines}
+    used = {'%s/%d' % (delivery.partner, delivery.number) for delivery in office.deliveries}
+    return [
+        (kind, key) for kind, keys in (('visits', boxes), ('list', lists), ('ticket', used), ('reply', used))
+        for key in sorted(keys)]
+
+
+# ---- requests
+
+def weighted(random, table):
+    """A value of a table, by weight."""
+    return random.choices([value for _weight, value in table], [weight for weight, _value in table])[0]
+
+
+def request(random, line, fields, body=''):
+    """The bytes of a request, with other fields by chance and ends of lines of both kinds."""
+    fields = fields + random.sample(FIELDS, random.choice([0, 0, 1, 2, 3]))
+    random.shuffle(fields)
+    end = random.choice(['\r\n', '\r\n', '\r\n', '\n'])
+    front = random.choice([''] * 9 + ['\r\n', '\n\r\n'])
+    return front + end.join([line] + fields + ['', '']) + body
+
+
+def post(random, text, behind=''):
+    """A delivery."""
+    name = random.choice(['Content-Length', 'content-length', 'CONTENT-LENGTH'])
+    version = random.choice(['1.1', '1.1', '1.0'])
+    line = 'POST /interchanges%s HTTP/%s' % (weighted(random, QUERIES), version)
+    return request(random, line, ['%s: %d' % (name, len(text))], text + behind)
+
+
+def get(random, path, method='GET'):
+    """A request without a body."""
+    return request(random, '%s %s%s HTTP/1.1' % (method, path, weighted(random, QUERIES)), [])
+
+
+def path_of(kind, key):
+    """Where a report stands."""
+    fronts = {'yard': '/yard', 'visits': '/visits/', 'list': '/lists/', 'ticket': '/tickets/', 'reply': '/replies/'}
+    return fronts[kind] + key
+
+
+def report_path(random, office):
+    """The path of a report under which something may be found."""
+    if random.random() < 0.15:
+        return '/yard'
+    return path_of(*known(random, office))
+
+
+def of_length(random, text):
+    """A delivery whose length is said in another way."""
+    fields = [field.replace('%d', str(len(text))) for field in random.choice(LENGTHS)]
+    return request(random, 'POST /interchanges HTTP/1.1', fields, text)
+
+
+def altered(random, text, most):
+    """With up to four bytes among the first replaced, left out or put in."""
+    for _change in range(random.choice([1, 1, 2, 4])):
+        place = random.randrange(min(most, len(text)))
+        added = random.choice(['', random.choice(PLACED_BYTES)])
+        text = text[:place] + added + text[place + random.choice([0, 1, 1]):]
+    return text
+
+
+def large(random, text):
+    """A request at a limit: of fields, of the bytes of a head, or of a body that says more than a text may have."""
+    what = weighted(random, LARGE)
+    if what == 'fields':
+        count = random.choice([63, 64, 65])
+        return 'GET /yard HTTP/1.1\r\n' + ''.join('X%d: %d\r\n' % (place, place) for place in range(count)) + '\r\n'
+    if what == 'head':
+        front, end = 'POST /interchanges HTTP/1.1\r\nContent-Length: %d\r\nX:' % len(text), '\r\n\r\n'
+        count = random.choice([8190, 8191, 8192, 8193, 8194, 20000]) - len(front) - len(end)
+        return front + 'x' * count + end + text
+    return post(random, 'FTX+' + 'A' * random.choice([1048572, 1048573]))
+
+
+def random_request(random, day, office):
+    """The next request, whose kind is weighted."""
+    kind = weighted(random, KINDS)
+    text = day.delivery() if kind == 'delivery' else day.again()
+    if kind == 'delivery':
+        return post(random, text + random.choice(['', '', '\r\n']), random.choice(['', '', 'AAAA', "UNB+"]))
+    if kind == 'altered delivery':
+        return post(random, day.altered(text))
+    if kind == 'report':
+        return get(random, report_path(random, office))
+    if kind == 'odd report':
+        return get(random, path_of(*odd(random, office)))
+    if kind == 'method':
+        return get(random, random.choice([report_path(random, office), '/interchanges']), random.choice(METHODS))
+    if kind == 'route':
+        return get(random, random.choice(PATHS), random.choice(['GET', 'POST', 'PUT']))
+    if kind == 'length':
+        return of_length(random, text)
+    if kind == 'cut':
+        whole = post(random, text)
+        return whole[:random.randrange(len(whole))]
+    if kind == 'altered head':
+        whole = random.choice([post(random, text), get(random, report_path(random, office))])
+        return altered(random, whole, 60)
+    return large(random, text)
+
+
+def random_requests(random, day, office, count):
+    """That many requests for an office to which more was delivered than what they deliver themselves."""
+    return [random_request(random, day, office) for _request in range(count)]

@@ -1,0 +1,137 @@
+"""What the tables of a store hold after all deliveries, and what a store's file holds: docs/TABLES.md.
+
+Tables are compared up to order: they are dicts of sorted lists of rows.
+"""
+import os
+import shutil
+import sqlite3
+import tempfile
+
+from .deliveries import first_text, run
+from .names import slot_text
+from .office import json_text
+from .setup import KINDS
+
+COLUMNS = {
+    'partner': 'id code kind next',
+    'interchange': 'partner number body reply',
+    'visit': (
+        'visit box size laden booking in_by in_partner in_number in_at in_slot out_by out_partner out_number out_at'),
+    'place': 'box visit slot',
+    'listed': 'vessel voyage side box port done',
+    'setting': 'name value',
+    'block': 'letter bays lanes tiers',
+}
+WAYS = {'gate': 1, 'ship': 2}
+SIDES = {'load': 1, 'discharge': 2}
+
+
+# ---- what they should hold
+
+def identities(setup):
+    """1, 2 and so on, in the order of the set-up."""
+    return {code: place for place, code in enumerate(setup.partners, start=1)}
+
+
+def partner_rows(office):
+    """The number that each sends next."""
+    return [
+        (identity, code, KINDS.index(office.setup.partners[code]) + 1, run(office.deliveries, code) + 1)
+        for code, identity in identities(office.setup).items()]
+
+
+def interchange_rows(office):
+    """The first text under each number that is used, with its reply where it was taken."""
+    replies = office.fold().replies
+    used = {(delivery.partner, delivery.number) for delivery in office.deliveries}
+    return [
+        (identities(office.setup)[partner], number,
+         first_text(office.deliveries, partner, number).encode('latin-1'),
+         json_text(replies[partner, number]) if (partner, number) in replies else '')
+        for partner, number in used]
+
+
+def passage_columns(office, passage):
+    """By gate or ship, partner, number, moment. A visit that is open has no exit."""
+    if passage is None:
+        return 0, 0, 0, ''
+    partner, number = passage.source
+    return WAYS[passage.way], identities(office.setup)[partner], number, passage.moment
+
+
+def visit_rows(office):
+    """All visits, numbered as they were opened."""
+    return [
+        (place, visit.number, visit.size_type, int(visit.is_full), visit.booking, *passage_columns(office, visit.entry),
+         slot_text(visit.entry_slot), *passage_columns(office, visit.exit))
+        for place, visit in enumerate(office.fold().terminal.visits, start=1)]
+
+
+def place_rows(office):
+    """Where each container stands, and by which visit."""
+    terminal = office.fold().terminal
+    return [
+        (visit.number, place, slot_text(terminal.yard[visit.number].slot))
+        for place, visit in enumerate(terminal.visits, start=1) if visit.exit is None]
+
+
+def listed_rows(office):
+    """The lines of all lists."""
+    return [
+        (*call, SIDES[side], number, line.port, int(line.is_done))
+        for (call, side, number), line in office.fold().terminal.lines.items()]
+
+
+def setting_rows(office):
+    """The set-up: version 1 of the tables, and each number without leading zeros."""
+    setup = office.setup
+    return [('version', '1'), ('terminal', setup.terminal), ('visits', str(setup.most_visits)), *setup.codes.items()]
+
+
+def block_rows(office):
+    """The plan of the yard; lanes are rows of slots."""
+    return [(block.letter, block.bays, block.rows, block.tiers) for block in office.setup.plan]
+
+
+def rows_of(office):
+    """What each table should hold."""
+    tables = {
+        'partner': partner_rows, 'interchange': interchange_rows, 'visit': visit_rows, 'place': place_rows,
+        'listed': listed_rows, 'setting': setting_rows, 'block': block_rows}
+    return {name: sorted(of(office)) for name, of in tables.items()}
+
+
+# ---- what a store holds
+
+def rows_in(path):
+    """What the tables of a store hold, and what SQLite itself finds wrong with it, by its own library. It reads a copy of
+    the file and of the log beside it, so that the store is left as it is."""
+    with tempfile.TemporaryDirectory(prefix='beside-') as folder:
+        copy = os.path.join(folder, 'store')
+        for end in ('', '-wal'):
+            if os.path.exists(path + end):
+                shutil.copyfile(path + end, copy + end)
+        store = sqlite3.connect(copy)
+        try:
+            return tables_of(store), faults_of(store)
+        except sqlite3.DatabaseError as fault:
+            return {}, [str(fault)]
+        finally:
+            store.close()
+
+
+def tables_of(store):
+    """All rows of each table, with the tables by the names that the store has."""
+    names = [name for (name,) in store.execute("SELECT name FROM sqlite_schema WHERE type = 'table'")]
+    tables = {name: 'no such columns' for name in names}
+    for name in set(names) & set(COLUMNS):
+        columns = [column[1] for column in store.execute('PRAGMA table_info(%s)' % name)]
+        if columns == COLUMNS[name].split():
+            tables[name] = sorted(store.execute('SELECT * FROM %s' % name))
+    return tables
+
+
+def faults_of(store):
+    """What is wrong by SQLite's own checks: nothing, of a sound store."""
+    checked = [line for (line,) in store.execute('PRAGMA integrity_check') if line != 'ok']
+    return checked + [str(row) for row in store.execute('PRAGMA foreign_key_check')]
