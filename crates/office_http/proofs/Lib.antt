@@ -4,3 +4,4 @@ pub mod Bodies
 pub mod Keys
 pub mod Values
 pub mod OneRequest
+pub mod Serving

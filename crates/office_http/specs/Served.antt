@@ -1,9 +1,10 @@
 -- The answer to a request, and what is done with the office.
-use Rattle.std.specs.Prelude.{◌≡◌, ◌⊎◌, ℕ, List, Option, None, Some}
+use Rattle.std.specs.Prelude.{◌≡◌, ◌⊎◌, ℕ, ◌≤◌, List, length, Option, None, Some}
 use Rattle.std.specs.Io.KnownBytes.{Appends}
 use Rattle.office_replies.specs.declared.response.Response.{Response}
 use Rattle.office_replies.specs.Delivering.{Delivers}
 use Rattle.office_replies.specs.Responses.{body_of, status_of}
+use Rattle.office_stream.specs.Streams.{Answered}
 use Rattle.office_queries.specs.declared.query.Query.{Query}
 use Rattle.office_queries.specs.declared.report_kind.ReportKind.{ReportKind}
 use Rattle.office_queries.specs.declared.report_kind.ReportKind.TheVariants as kind
@@ -63,6 +64,14 @@ AnswersTo stands answers tells ds stream old new written written' =
 abbrev pub AtMostOne : {D : Type 0} → (List (List ℕ) → D → Type 0) → (List (List ℕ) → List ℕ → Response → Type 0) → List (List ℕ) → D → Type 0
 AtMostOne stands answers ds new =
     stands ds new ⊎ ((text : List ℕ) × (response : Response) × Delivers stands answers ds text response new)
+
+-- at most so many texts were delivered, each answered at its place
+pub record AtMost {D : Type 0} (stands : List (List ℕ) → D → Type 0) (answers : List (List ℕ) → List ℕ → Response → Type 0)
+    (ds : List (List ℕ)) (count : ℕ) (new : D) : Type 0 where
+  pub texts : List (List ℕ)
+  pub responses : List Response
+  pub few : length texts ≤ count
+  pub answered : Answered stands answers ds texts responses new
 
 -- what holds after a failed read, and what after a failed write
 abbrev pub MatchFault : ServeFault → Type 0 → Type 0 → Type 0

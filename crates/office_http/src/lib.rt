@@ -16,6 +16,7 @@ mod routes;
 mod serve;
 mod serve_fault;
 mod server;
+mod timed_stream;
 
 pub use serve::serve_one;
 pub use serve_fault::ServeFault;

@@ -1,34 +1,55 @@
+ghost use Rattle.std.specs.Prelude.{ℕ, List};
+ghost use Rattle.office_http.specs.Served.{AtMost, AtMostOne};
+
 use crate::serve::serve_one;
+use crate::timed_stream::TimedStream;
 use office_queries::Report;
 use office_stream::Port;
 use std::alloc::Global;
 use std::io::Read;
 use std::net::{Shutdown, TcpListener, TcpStream};
-use std::time::Duration;
+use std::rt::Clock;
 
-/// Accepts so many connections, one after the other, and answers one request of each. A connection that fails is
-/// passed over, and so is one that gives or takes nothing for ten seconds.
-pub fn serve_on<D: Report>(alloc: Global, listener: &TcpListener, count: u32, desk: &mut D) {
-    for _ in 0..count {
+/// Accepts so many connections, one after the other, and answers one request of each. A connection that fails is passed
+/// over, and so is one that gives or takes nothing for ten seconds or is not done with within a minute.
+pub fn serve_on<C: Clock, D: Report>(
+    alloc: Global,
+    clock: &C,
+    listener: &TcpListener,
+    count: u32,
+    desk: &mut D,
+)
+    // At most so many texts are delivered, each answered at its place.
+    ensures steps { D.clean desk.new → (opening : D) (ds : List (List ℕ)) → D.stands opening ds desk.old
+        → AtMost (D.stands opening) (D.answers opening) ds count desk.new }
+
+    // Nothing is said of a desk whose records have not told the truth.
+    ensures stays { D.clean desk.new → D.clean desk.old }
+{
+    'connections: for _ in 0..count {
         if let Ok((stream, _)) = listener.accept() {
-            serve_stream(alloc, &stream, desk);
+            serve_stream(alloc, clock, &stream, desk);
         }
     }
 }
 
-fn serve_stream<D: Report>(alloc: Global, stream: &TcpStream, desk: &mut D) {
-    let limit = Some(Duration::from_secs(10));
-    if stream.set_read_timeout(limit).is_err() || stream.set_write_timeout(limit).is_err() {
+/// Answers one request, and then takes leave of the peer.
+fn serve_stream<C: Clock, D: Report>(alloc: Global, clock: &C, stream: &TcpStream, desk: &mut D)
+    ensures steps { D.clean desk.new → (opening : D) (ds : List (List ℕ)) → D.stands opening ds desk.old
+        → AtMostOne (D.stands opening) (D.answers opening) ds desk.new }
+    ensures stays { D.clean desk.new → D.clean desk.old }
+{
+    let Ok(timed) = TimedStream::new(stream, clock) else {
         return;
-    }
-    let _ = serve_one(alloc, &mut Port::new(stream), &mut Port::new(stream), desk);
+    };
+    let _ = serve_one(alloc, &mut Port::new(&timed), &mut Port::new(&timed), desk);
     let _ = stream.shutdown(Shutdown::Write);
-    drain(stream);
+    drain(&timed);
 }
 
 /// Reads what the peer still sends, up to 4 MiB, since closing a connection with unread input could take the response
 /// away from the peer.
-fn drain(mut stream: &TcpStream) {
+fn drain<C: Clock>(mut stream: &TimedStream<'_, C>) {
     let mut buffer = [0; 4096];
     for _ in 0..1024 {
         match stream.read(&mut buffer) {

@@ -1,5 +1,7 @@
+use crate::looked_at::is_looked_at;
 use crate::store::open_store;
-use crate::telling::{tell_fault, tell_stream, tell_unread};
+use crate::telling::{tell_fault, tell_stream, tell_tally, tell_unread};
+use crate::watched::Watched;
 use office_stream::{Port, run_stream};
 use std::fs::File;
 use std::io::{Read, Write};
@@ -32,10 +34,15 @@ fn deliver_all<R: Read, W: Write, E: Write>(
     writer: &mut Port<W>,
     errors: &mut Port<E>,
 ) -> u8 {
-    let mut desk = match open_store(rt, store) {
+    let desk = match open_store(rt, store) {
         Ok(desk) => desk,
         Err(fault) => return tell_fault(errors, &fault),
     };
-    let ended = run_stream(rt.alloc(), reader, writer, &mut desk, TURNS);
+    let looked_at = is_looked_at(rt);
+    let mut watched = Watched::new(desk, rt, looked_at);
+    let ended = run_stream(rt.alloc(), reader, writer, &mut watched, TURNS);
+    if looked_at {
+        tell_tally(rt.alloc(), errors, watched.tally());
+    }
     tell_stream(errors, ended)
 }

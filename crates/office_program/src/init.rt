@@ -1,7 +1,9 @@
+use crate::looked_at::is_looked_at;
 use crate::store::make_store;
 use crate::telling::{DONE, FAILED, REFUSED, print, tell, tell_fault, tell_unread};
-use office_setup_files::read_setup;
+use office_setup_files::{SetupFault, WrongRecord, first_wrong, read_setup};
 use office_stream::Port;
+use std::alloc::AllocError;
 use std::fs;
 use std::io::Write;
 
@@ -14,23 +16,48 @@ pub(crate) fn init<W: Write, E: Write>(
     writer: &mut Port<W>,
     errors: &mut Port<E>,
 ) -> u8 {
-    let Ok(partners) = fs::read(rt, partners) else {
+    let Ok(partner_file) = fs::read(rt, partners) else {
         return tell_unread(errors);
     };
-    let Ok(blocks) = fs::read(rt, blocks) else {
+    let Ok(block_file) = fs::read(rt, blocks) else {
         return tell_unread(errors);
     };
-    let setup = match read_setup(rt.alloc(), &partners, &blocks) {
+    let setup = match read_setup(rt.alloc(), &partner_file, &block_file) {
         Ok(setup) => setup,
         Err(fault) => {
-            let Ok(text) = format!(in rt.alloc(); "setup: {fault}\n") else {
-                return FAILED;
+            return match fault_text(rt, fault, (partners, &partner_file), (blocks, &block_file)) {
+                Ok(text) => tell(errors, text.as_str(), REFUSED),
+                Err(_) => FAILED,
             };
-            return tell(errors, text.as_str(), REFUSED);
         }
     };
     match make_store(rt, store, &setup) {
         Ok(()) => print(writer, "ready\n", DONE),
         Err(fault) => tell_fault(errors, &fault),
     }
+}
+
+// The fault's name, and for a person also which record shows it. Each file comes with its path.
+fn fault_text(
+    rt: &HostRuntime,
+    fault: SetupFault,
+    partners: (&str, &[u8]),
+    blocks: (&str, &[u8]),
+) -> Result<String, AllocError> {
+    let mut text = format!(in rt.alloc(); "setup: {fault}\n")?;
+    if is_looked_at(rt) {
+        let (partners_path, partners) = partners;
+        let (blocks_path, blocks) = blocks;
+        match first_wrong(rt.alloc(), partners, blocks, fault)? {
+            Some(WrongRecord::OfPartners(number)) => tell_record(&mut text, partners_path, number)?,
+            Some(WrongRecord::OfBlocks(number)) => tell_record(&mut text, blocks_path, number)?,
+            None => text.push_str("a record is missing\n")?,
+        }
+    }
+    Ok(text)
+}
+
+fn tell_record(text: &mut String, path: &str, number: usize) -> Result<(), AllocError> {
+    let place = format!(in text.allocator(); "{path}, record {number}\n")?;
+    text.push_str(place.as_str())
 }

@@ -5,9 +5,12 @@
 mod command;
 mod deliver;
 mod init;
+mod looked_at;
 mod report;
 mod serve;
 mod store;
+mod tally;
 mod telling;
+mod watched;
 
 pub use command::run;

@@ -32,6 +32,6 @@ pub(crate) fn serve<W: Write, E: Write>(
     if print(writer, listening.as_str(), DONE) != DONE {
         return FAILED;
     }
-    serve_on(alloc, &listener, count, &mut desk);
+    serve_on(alloc, rt, &listener, count, &mut desk);
     print(writer, served.as_str(), DONE)
 }

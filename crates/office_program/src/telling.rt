@@ -1,6 +1,8 @@
+use crate::tally::Tally;
 use office_replies::Worst;
 use office_stream::{Port, StreamFault};
 use office_tables::TableFault;
+use std::alloc::Global;
 use std::io::Write;
 
 /// Done.
@@ -55,5 +57,12 @@ pub(crate) fn tell_stream<E: Write>(errors: &mut Port<E>, ended: Result<Worst, S
         Err(StreamFault::Read) => tell_unread(errors),
         Err(StreamFault::Turns) => tell(errors, "turns\n", FAILED),
         Err(StreamFault::Write) => FAILED,
+    }
+}
+
+/// Tells how many interchanges were answered, and how.
+pub(crate) fn tell_tally<E: Write>(alloc: Global, errors: &mut Port<E>, tally: Tally) {
+    if let Ok(text) = format!(in alloc; "{tally}\n") {
+        let _ = errors.write_all(text.as_bytes());
     }
 }

@@ -12,6 +12,10 @@ mod rows;
 mod setup_fault;
 mod terminal;
 mod texts;
+mod wrong_record;
+mod wrong_records;
 
 pub use reading::read_setup;
 pub use setup_fault::SetupFault;
+pub use wrong_record::WrongRecord;
+pub use wrong_records::first_wrong;

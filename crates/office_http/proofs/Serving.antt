@@ -1,0 +1,36 @@
+-- One connection after the other.
+use Rattle.std.proofs.Common.{ℕ, ◌+◌, ◌≤◌, List, [], ◌∷◌, ◌++◌, length, inl, inr, arith}
+use Rattle.std.proofs.lemmas.List.{length_push}
+use Rattle.office_replies.specs.declared.response.Response.{Response}
+use Rattle.office_stream.specs.Streams.{Answered}
+use Rattle.office_replies.specs.Delivering.{deliveries}
+use Rattle.office_stream.proofs.Answering.{answered_more}
+use Rattle.office_http.specs.Served.{AtMost, AtMostOne}
+
+module _ {D : Type 0} (stands : List (List ℕ) → D → Type 0) (answers : List (List ℕ) → List ℕ → Response → Type 0) (ds : List (List ℕ)) where
+  pub none_yet : (now : D) → stands ds now → AtMost stands answers ds 0 now
+  none_yet now is = record {
+    texts = [];
+    responses = [];
+    few = omega arith;
+    answered = record { each = tt; stands_now = is };
+  }
+
+  grown : (texts : List (List ℕ)) (responses : List Response) (count : ℕ) (old new : D) → length texts ≤ count → Answered stands answers ds texts responses old →
+      AtMostOne stands answers (deliveries ds texts responses) new → AtMost stands answers ds (count + 1) new
+  grown texts responses count old new few before (inl same) = record {
+    texts = texts;
+    responses = responses;
+    few = omega (arith, few);
+    answered = record { each = before.each; stands_now = same };
+  }
+  grown texts responses count old new few before (inr (text, response, delivers)) = record {
+    texts = texts ++ text ∷ [];
+    responses = responses ++ response ∷ [];
+    few = omega (arith, few, length_push texts text);
+    answered = answered_more stands answers ds texts responses old new text response before delivers;
+  }
+
+  pub one_more : (count : ℕ) (old new : D) → AtMost stands answers ds count old → ((more : List (List ℕ)) → stands more old → AtMostOne stands answers more new) →
+      AtMost stands answers ds (count + 1) new
+  one_more count old new before next = grown before.texts before.responses count old new before.few before.answered (next _ before.answered.stands_now)
