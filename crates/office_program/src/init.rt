@@ -3,7 +3,7 @@ use crate::store::make_store;
 use crate::telling::{DONE, FAILED, REFUSED, print, tell, tell_fault, tell_unread};
 use office_setup_files::{SetupFault, WrongRecord, first_wrong, read_setup};
 use office_stream::Port;
-use std::alloc::AllocError;
+use std::alloc::{AllocError, Global};
 use std::fs;
 use std::io::Write;
 
@@ -49,15 +49,24 @@ fn fault_text(
         let (partners_path, partners) = partners;
         let (blocks_path, blocks) = blocks;
         match first_wrong(rt.alloc(), partners, blocks, fault)? {
-            Some(WrongRecord::OfPartners(number)) => tell_record(&mut text, partners_path, number)?,
-            Some(WrongRecord::OfBlocks(number)) => tell_record(&mut text, blocks_path, number)?,
+            Some(WrongRecord::OfPartners(number)) => {
+                tell_record(rt.alloc(), &mut text, partners_path, number)?
+            }
+            Some(WrongRecord::OfBlocks(number)) => {
+                tell_record(rt.alloc(), &mut text, blocks_path, number)?
+            }
             None => text.push_str("a record is missing\n")?,
         }
     }
     Ok(text)
 }
 
-fn tell_record(text: &mut String, path: &str, number: usize) -> Result<(), AllocError> {
-    let place = format!(in text.allocator(); "{path}, record {number}\n")?;
+fn tell_record(
+    alloc: Global,
+    text: &mut String,
+    path: &str,
+    number: usize,
+) -> Result<(), AllocError> {
+    let place = format!(in alloc; "{path}, record {number}\n")?;
     text.push_str(place.as_str())
 }

@@ -6,13 +6,12 @@ use crate::partners::partners_of;
 use crate::rows::read_rows;
 use crate::setup_fault::SetupFault;
 use crate::terminal::{limit_of, terminal_of};
-use crate::texts::{are_same, field};
 use crate::wrong_record::WrongRecord;
 use csv::{ByteRecord, StringRecord};
 use std::alloc::{AllocError, Global};
 
-/// Which record of the two files is the first to show a fault of theirs, for a person to look at. `None`: no record does, since
-/// one is missing.
+/// Which record of the two files shows a fault of theirs, for a person to look at: from it on each front of its file has that
+/// fault. `None`: no record does, since one is missing.
 pub fn first_wrong(
     alloc: Global,
     partners: &[u8],
@@ -48,13 +47,15 @@ fn wrong_partner(
 ) -> Result<Option<usize>, AllocError> {
     let count = rows.len();
     let texts = texts_of(alloc, rows)?;
+    let mut wrong = None;
     for number in 1..=texts.len() {
         let (front, _) = texts.split_at(number);
-        if is_partner_fault(alloc, front, fault)? {
-            return Ok(Some(number));
-        }
+        wrong = from_here(wrong, number, is_partner_fault(alloc, front, fault)?);
     }
-    Ok(behind(&texts, count, fault))
+    match fault {
+        SetupFault::Csv => Ok(wrong.or(behind(&texts, count))),
+        _ => Ok(wrong),
+    }
 }
 
 fn wrong_block(
@@ -64,24 +65,32 @@ fn wrong_block(
 ) -> Result<Option<usize>, AllocError> {
     let count = rows.len();
     let texts = texts_of(alloc, rows)?;
+    let mut wrong = None;
     for number in 1..=texts.len() {
         let (front, _) = texts.split_at(number);
-        if is_block_fault(alloc, front, fault)? {
-            return Ok(Some(number));
-        }
+        wrong = from_here(wrong, number, is_block_fault(alloc, front, fault)?);
     }
-    Ok(behind(&texts, count, fault))
-}
-
-// The record behind those that are texts, if there is one, which is why the files are at fault.
-fn behind(texts: &[StringRecord], count: usize, fault: SetupFault) -> Option<usize> {
     match fault {
-        SetupFault::Csv if texts.len() < count => Some(texts.len() + 1),
-        _ => None,
+        SetupFault::Csv => Ok(wrong.or(behind(&texts, count))),
+        _ => Ok(wrong),
     }
 }
 
-// Whether the last record of the front of a file of partners has that fault.
+// The record behind those that are texts, if there is one.
+fn behind(texts: &[StringRecord], count: usize) -> Option<usize> {
+    if texts.len() < count {
+        Some(texts.len() + 1)
+    } else {
+        None
+    }
+}
+
+// The first record from which on each front of the file is at fault, one front more being looked at.
+fn from_here(wrong: Option<usize>, number: usize, is_fault: bool) -> Option<usize> {
+    if is_fault { wrong.or(Some(number)) } else { None }
+}
+
+// Whether the front of a file of partners has that fault, and not for want of a record.
 fn is_partner_fault(
     alloc: Global,
     front: &[StringRecord],
@@ -95,28 +104,19 @@ fn is_partner_fault(
         SetupFault::Limit => "limit",
         SetupFault::Block | SetupFault::Memory => return Ok(false),
     };
-    match front {
-        [.., last] if are_same(field(last, 0), what) => is_fault_among(alloc, front, what),
-        _ => Ok(false),
-    }
-}
-
-// Whether the records of a kind are at fault.
-fn is_fault_among(
-    alloc: Global,
-    front: &[StringRecord],
-    what: &str,
-) -> Result<bool, AllocError> {
     let entries = section(alloc, front, what)?;
-    Ok(match what {
-        "terminal" => terminal_of(&entries).is_none(),
-        "partner" => partners_of(alloc, &entries)?.is_none(),
-        "code" => codes_of(&entries).is_none(),
+    if entries.is_empty() {
+        return Ok(false);
+    }
+    Ok(match fault {
+        SetupFault::Terminal => terminal_of(&entries).is_none(),
+        SetupFault::Partner => partners_of(alloc, &entries)?.is_none(),
+        SetupFault::Code => codes_of(&entries).is_none(),
         _ => limit_of(&entries).is_none(),
     })
 }
 
-// Whether the last record of the front of a file of blocks has that fault.
+// Whether the front of a file of blocks has that fault, and not for want of a record.
 fn is_block_fault(
     alloc: Global,
     front: &[StringRecord],

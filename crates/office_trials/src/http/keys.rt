@@ -35,7 +35,8 @@ fn assert_names(
     vessel: &str,
     voyage: &str,
 ) -> Result<(), Fail> {
-    let named = match read_query(alloc, ReportKind::List, key)? {
+    let query = read_query(alloc, ReportKind::List, key)?;
+    let named = match &query {
         Some(Query::List { call, .. }) => {
             call.vessel.as_str() == vessel && call.voyage.as_str() == voyage
         }
