@@ -1,6 +1,7 @@
-use crate::store::open_store;
+use crate::store::{Store, open_store};
 use crate::telling::{DONE, REFUSED, print, tell_fault};
 use office_command_line::ReportKind as Asked;
+use office_desk::Desk;
 use office_queries::{ReportKind, read_query};
 use office_stream::Port;
 use office_tables::TableFault;
@@ -30,7 +31,18 @@ fn find(
     kind: Asked,
     key: Option<&str>,
 ) -> Result<Option<String>, TableFault> {
-    let mut desk = open_store(rt, store)?;
+    match open_store(rt, store) {
+        Ok(mut desk) => find_in(rt, &mut desk, kind, key),
+        Err(fault) => Err(fault),
+    }
+}
+
+fn find_in(
+    rt: &HostRuntime,
+    desk: &mut Desk<Store>,
+    kind: Asked,
+    key: Option<&str>,
+) -> Result<Option<String>, TableFault> {
     let Some(query) = read_query(rt.alloc(), kind_of(kind), key.unwrap_or(""))? else {
         return Ok(None);
     };

@@ -1,5 +1,6 @@
-use crate::store::open_store;
+use crate::store::{Store, open_store};
 use crate::telling::{DONE, FAILED, print, tell, tell_fault};
+use office_desk::Desk;
 use office_http::serve_on;
 use office_stream::Port;
 use std::io::Write;
@@ -14,10 +15,20 @@ pub(crate) fn serve<W: Write, E: Write>(
     writer: &mut Port<W>,
     errors: &mut Port<E>,
 ) -> u8 {
-    let mut desk = match open_store(rt, store) {
-        Ok(desk) => desk,
-        Err(fault) => return tell_fault(errors, &fault),
-    };
+    match open_store(rt, store) {
+        Ok(mut desk) => serve_desk(rt, &mut desk, port, count, writer, errors),
+        Err(fault) => tell_fault(errors, &fault),
+    }
+}
+
+fn serve_desk<W: Write, E: Write>(
+    rt: &HostRuntime,
+    desk: &mut Desk<Store>,
+    port: u16,
+    count: u32,
+    writer: &mut Port<W>,
+    errors: &mut Port<E>,
+) -> u8 {
     let alloc = rt.alloc();
     let (Ok(address), Ok(listening), Ok(served)) = (
         format!(in alloc; "127.0.0.1:{port}"),
@@ -32,6 +43,6 @@ pub(crate) fn serve<W: Write, E: Write>(
     if print(writer, listening.as_str(), DONE) != DONE {
         return FAILED;
     }
-    serve_on(alloc, rt, &listener, count, &mut desk);
+    serve_on(alloc, rt, &listener, count, desk);
     print(writer, served.as_str(), DONE)
 }
