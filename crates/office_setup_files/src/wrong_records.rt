@@ -87,7 +87,11 @@ fn behind(texts: &[StringRecord], count: usize) -> Option<usize> {
 
 // The first record from which on each front of the file is at fault, one front more being looked at.
 fn from_here(wrong: Option<usize>, number: usize, is_fault: bool) -> Option<usize> {
-    if is_fault { wrong.or(Some(number)) } else { None }
+    if is_fault {
+        wrong.or(Some(number))
+    } else {
+        None
+    }
 }
 
 // Whether the front of a file of partners has that fault, and not for want of a record.

@@ -37,4 +37,4 @@ connections-preserved g c = elim c.match-accept.branch [
             (one_more stands answers ds c.connections.counter c.connections.desk c.connections.desk
             (c.connections.invariant.few (same clean) opening ds is) (λ more now. inl now));
       }
-  ]
+]
