@@ -4,6 +4,7 @@
     working.py     a process of the program at work: `deliver` and `serve`
     kills.py       SIGKILL at a random moment, many times a store
     calls.py       SIGKILL at each call of the system, and each call refused (with strace, if it is there)
+    power.py      what a loss of power may leave, made up from the calls (with strace)
     full.py        no room: a file system that is full, a limit on the size of files
     places.py      read-only files and folders, copies, SQLite's own library, readers that go away
     pairs.py       two processes on one store

@@ -10,8 +10,8 @@ import shutil
 import tempfile
 from collections import Counter
 
-from .books import Book, Different, prefilled
-from .working import Delivering
+from .books import Book, Different, expect, prefilled
+from .working import Delivering, run
 
 STRACE = shutil.which('strace')
 KINDS = ('pwrite64', 'fdatasync', 'fsync', 'ftruncate', 'write', 'pread64')
@@ -34,6 +34,11 @@ def count_calls(book, texts):
     with Delivering(book.program, book.store, front=strace(log)) as worker:
         worker.answers(texts, lambda line: None)
         worker.ended()
+    return calls_in(log)
+
+
+def calls_in(log):
+    """How many calls of each kind strace has noted."""
     with open(log, encoding='utf-8', errors='replace') as file:
         return Counter(re.findall(r'^\d+ +(\w+)\(', file.read(), re.MULTILINE))
 
@@ -99,11 +104,39 @@ def one_call(book, texts, what, counted):
         raise Different('seed %s, %s %s, call %d: %s' % (book.seed, fault or 'killed at', kind, place, different)) from different
 
 
+def init_killed_at(program, seed, kind, place, counted):
+    """`init` is killed as that call begins: there is no store, and it can be made, or it is whole."""
+    with tempfile.TemporaryDirectory(prefix='kill9-') as folder:
+        book = Book(program, folder, seed)
+        front = strace(os.path.join(folder, 'calls'), '-e', 'inject=%s:signal=SIGKILL:when=%d' % (kind, place))
+        run(*front, program, 'init', book.store, *book.files)
+        told = run(program, 'report', book.store, 'yard')
+        if told != ('', 'store: Store\n', 3):
+            expect('init again, over a store', ('', 'store: Store\n', 3), run(program, 'init', book.store, *book.files))
+        else:
+            book.init()
+        book.found(None)
+        book.looks()
+        counted['init killed at %s: %s' % (kind, told[1].strip() or 'whole')] += 1
+
+
+def each_call_of_init(program, seed, counted):
+    """All calls by which a store is made."""
+    with tempfile.TemporaryDirectory(prefix='kill9-') as folder:
+        book, log = Book(program, folder, seed), os.path.join(folder, 'calls')
+        run(*strace(log), program, 'init', book.store, *book.files)
+        calls = calls_in(log)
+    for kind in KINDS:
+        for place in range(1, calls[kind] + 1):
+            init_killed_at(program, seed, kind, place, counted)
+
+
 def try_calls(program, seed, counted):
     """A new store, and one whose log is about to be moved into the file."""
     if not STRACE:
         counted['not run: strace is not there'] = 1
         return
+    each_call_of_init(program, seed, counted)
     each_call(program, seed, 0, counted)
     each_call(program, seed, moving(program, seed), counted)
 

@@ -62,19 +62,19 @@ def with_no_room(book, worker, make_room, counted):
     lines, texts = [], book.upcoming(TEXTS)
     worker.answers(texts, lines.append)
     if not lines:
-        counted['could not open: ' + ' '.join(map(str, reversed(worker.ended())))] += 1
+        counted['no room: the process could not open: ' + ' '.join(map(str, reversed(worker.ended())))] += 1
         make_room()
         return
     expect('the answers', TEXTS, len(lines))
     refused = book.take(lines)
-    counted['answers with no room, or until then'] += len(lines)
-    counted['of them not now'] += refused
+    counted['no room: texts sent'] += len(lines)
+    counted['no room: of them answered not now'] += refused
     found, more = book.found(None), []
     make_room()
     worker.answers(texts, more.append)
     still = more.count(NOT_NOW)
-    counted['texts sent again once there was room, to the same process'] += len(more)
-    counted['of those not now'] += still
+    counted['room again: texts sent again to the same process'] += len(more)
+    counted['room again: of them answered not now'] += still
     expect('rows with no room', 'n', found)
     for text, line in zip(texts, more):
         if line != NOT_NOW:
@@ -102,7 +102,7 @@ def try_full_disk(program, seed, counted):
         if not is_open:
             mounted.fill(room)
             what = run(program, 'report', book.store, 'yard')
-            counted['report with no room: ' + (what[1].strip() or 'the yard')] += 1
+            counted['no room: report: ' + (what[1].strip() or 'the yard')] += 1
         with worker_of(book) as worker:
             if is_open:
                 one = []
@@ -133,11 +133,11 @@ def try_init(program, seed, counted):
         book = Book(program, folder, seed)
         mounted.fill(book.chance.randrange(400_000))
         printed, told, status = run(program, 'init', book.store, *book.files)
-        counted['init with no room: ' + (printed + told).strip()] += 1
+        counted['no room: init: ' + (printed + told).strip()] += 1
         mounted.make_room()
         if status:
             again = run(program, 'init', book.store, *book.files)
-            counted['init again once there is room: ' + (again[0] + again[1]).strip()] += 1
+            counted['room again: init: ' + (again[0] + again[1]).strip()] += 1
         book.found(None)
         book.looks()
 
