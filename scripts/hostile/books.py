@@ -83,8 +83,8 @@ class Book:
         return refused
 
     def found(self, in_flight):
-        """Which rows the store has: those after all answered, those with the one in flight too, or either, if they are the
-        same. Any other rows are a difference."""
+        """Which rows the store has: those after all answered, those with the one in flight too, or either, if they are
+        the same. Any other rows are a difference."""
         got, faults = rows_in(self.store)
         expect('integrity and foreign keys', [], faults)
         wanted = rows_of(self.office)
@@ -104,7 +104,8 @@ class Book:
 
     def looks(self):
         """The program opens the store and tells the yard."""
-        expect('report yard', (printed(self.office, 'yard')[0], '', 0), run(self.program, 'report', self.store, 'yard'))
+        got = run(self.program, 'report', self.store, 'yard')
+        expect('report yard', (printed(self.office, 'yard')[0], '', 0), got)
 
     def again(self):
         """All from the first once more, in one call: each line and the status. Then rows and each report."""
@@ -144,7 +145,8 @@ def prefilled(program, folder, seed, count):
     """A store to which so much was delivered in one call."""
     book = Book(program, folder, seed).init()
     text = ''.join(book.upcoming(count))
-    done = subprocess.run([program, 'deliver', book.store, '-'], input=text.encode('latin-1'), capture_output=True, check=False)
+    words = [program, 'deliver', book.store, '-']
+    done = subprocess.run(words, input=text.encode('latin-1'), capture_output=True, check=False)
     book.take(done.stdout.decode('utf-8').splitlines())
     expect('the answers', count, len(book.answered))
     return book

@@ -1,8 +1,8 @@
 """SIGKILL at each call by which the program writes, and each of these calls refused, with strace.
 
-A process takes three texts over a store that stands shortly before its log is moved into the file, or is new. For each of
-its calls of a kind the store is copied, and a process is stopped as that call begins, or that call is answered with a
-fault. So each place between two writes is met, which kills at random moments do not promise.
+A process takes three texts over a store that stands shortly before its log is moved into the file, or is new. For each
+of its calls of a kind the store is copied, and a process is stopped as that call begins, or that call is answered with
+a fault. So each place between two writes is met, which kills at random moments do not promise.
 """
 import os
 import re
@@ -17,7 +17,8 @@ STRACE = shutil.which('strace')
 KINDS = ('pwrite64', 'fdatasync', 'fsync', 'ftruncate', 'write', 'pread64')
 FAULTS = [
     ('pwrite64', 'ENOSPC'), ('pwrite64', 'EIO'), ('fdatasync', 'EIO'), ('fdatasync', 'ENOSPC'), ('fsync', 'EIO'),
-    ('ftruncate', 'EIO'), ('ftruncate', 'ENOSPC'), ('pread64', 'EIO')]
+    ('ftruncate', 'EIO'), ('ftruncate', 'ENOSPC'), ('pread64', 'EIO'),
+    ('write', 'ENOSPC')]
 TEXTS = 3
 MOST_READS = 20             # of pread64, which are many, some alone
 MOST_DELIVERIES = 600       # until the log is moved
@@ -64,15 +65,16 @@ def killed_at(book, texts, kind, place):
 
 def refused_at(book, texts, kind, fault, place):
     """That call is answered with a fault. A text that is answered not now is in effect whole or not at all, once the
-    program is started anew; sent again it is. Gives what was told."""
+    program is started anew; one whose answer could not be written likewise. Gives what was told."""
     lines = []
     front = strace(os.path.join(book.folder, 'calls'), '-e', 'inject=%s:error=%s:when=%d' % (kind, fault, place))
     with Delivering(book.program, book.store, front=front) as worker:
         worker.answers(texts, lines.append)
         status, told = worker.ended()
     refused = [text for text, line in zip(texts, lines) if line == '{"answer":"not now"}']
+    unanswered = texts[len(lines)] if kind == 'write' and len(lines) < len(texts) else None
     book.take(lines)
-    found = book.found(refused[0] if refused else None)
+    found = book.found(refused[0] if refused else unanswered)
     book.looks()
     return '%s, not now %d, %s' % (told.strip() or 'status %d' % status, len(refused), found)
 
@@ -92,7 +94,7 @@ def each_call(program, seed, before, counted):
 
 
 def one_call(book, texts, what, counted):
-    """One process, and then all is sent once more."""
+    """One process, killed or refused."""
     kind, fault, place = what
     try:
         if fault:
@@ -101,7 +103,8 @@ def one_call(book, texts, what, counted):
         else:
             counted['killed at %s: found %s' % (kind, killed_at(book, texts, kind, place))] += 1
     except Different as different:
-        raise Different('seed %s, %s %s, call %d: %s' % (book.seed, fault or 'killed at', kind, place, different)) from different
+        what = 'seed %s, %s %s, call %d' % (book.seed, fault or 'killed at', kind, place)
+        raise Different('%s: %s' % (what, different)) from different
 
 
 def init_killed_at(program, seed, kind, place, counted):

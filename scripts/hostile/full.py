@@ -58,7 +58,8 @@ def worker_of(book, **how):
 
 
 def with_no_room(book, worker, make_room, counted):
-    """Deliveries until there is no room, and some more; then room is made, and they are sent again to the same process."""
+    """Deliveries until there is no room, and some more; then room is made, and all of them are sent again to the same
+    process."""
     lines, texts = [], book.upcoming(TEXTS)
     worker.answers(texts, lines.append)
     if not lines:

@@ -8,7 +8,7 @@ import tempfile
 from contextlib import closing
 
 from .books import Different, expect, prefilled
-from .working import Delivering, Served, run
+from .working import Delivering, Served, post, run
 
 NO_STORE = ('', 'store: Store\n', 3)
 BEFORE = 12                 # deliveries
@@ -120,7 +120,8 @@ def try_copies(program, seed, counted):
         refused(book, 'a second name (hard link)', {}, counted)
         os.remove(os.path.join(folder, 'second.db'))
         os.symlink(book.store, os.path.join(other, 'link.db'))
-        expect('a link', run(program, 'report', book.store, 'yard'), run(program, 'report', os.path.join(other, 'link.db'), 'yard'))
+        wanted, linked = run(program, 'report', book.store, 'yard'), os.path.join(other, 'link.db')
+        expect('a link', wanted, run(program, 'report', linked, 'yard'))
         counted['a symbolic link: opens'] += 1
         book.again()
 
@@ -154,8 +155,7 @@ def try_hanging_up(program, seed, counted):
                 behind = book.upcoming(1)[0]
                 with socket.create_connection(('127.0.0.1', worker.port), 60) as client:
                     client.setsockopt(socket.SOL_SOCKET, socket.SO_LINGER, struct.pack('ii', 1, 0))
-                    client.sendall(
-                        ('POST /interchanges HTTP/1.1\r\nContent-Length: %d\r\n\r\n%s' % (len(behind), behind)).encode('latin-1'))
+                    client.sendall(post(behind).encode('latin-1'))
                 worker.exchange('GET /x HTTP/1.1\r\n\r\n')
                 found = book.found(behind)
                 counted['a client hangs up on serve, the delivery: found ' + found] += 1

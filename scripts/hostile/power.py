@@ -73,7 +73,8 @@ def torn(content, at, data, chance):
 def calls_of(book, texts):
     """The calls of a process that takes these texts: kind, path, bytes, numbers."""
     log = os.path.join(book.folder, 'calls')
-    front = [STRACE, '-qq', '-f', '-y', '-xx', '-s', '5000000', '-o', log, '-e', 'trace=pwrite64,fdatasync,fsync,ftruncate,write']
+    trace = 'trace=pwrite64,fdatasync,fsync,ftruncate,write'
+    front = [STRACE, '-qq', '-f', '-y', '-xx', '-s', '5000000', '-o', log, '-e', trace]
     lines = []
     with Delivering(book.program, book.store, front=front) as worker:
         worker.answers(texts, lines.append)

@@ -1,7 +1,7 @@
 """A process of the program at work on a store: `deliver DB -` over pipes, and `serve DB PORT COUNT` over sockets.
 
-Each has `answers(texts, read)`, which sends the texts and hands on each whole answer as it is read, until the process is
-gone or all are answered.
+Each has `answers(texts, read)`, which sends the texts and hands on each whole answer as it is read, until the process
+is gone or all are answered.
 """
 import socket
 import subprocess
@@ -14,6 +14,11 @@ def run(program, *words, **how):
     """What it prints, what it tells of faults, and its status."""
     done = subprocess.run([program, *words], stdin=subprocess.DEVNULL, capture_output=True, check=False, **how)
     return done.stdout.decode('utf-8'), done.stderr.decode('utf-8'), done.returncode
+
+
+def post(text):
+    """A request that delivers a text."""
+    return 'POST /interchanges HTTP/1.1\r\nContent-Length: %d\r\n\r\n%s' % (len(text), text)
 
 
 class Worker:
@@ -114,7 +119,7 @@ class Served(Worker):
     def answers(self, texts, read):
         """Each response that is whole is an answer: its body."""
         for text in texts:
-            response = self.exchange('POST /interchanges HTTP/1.1\r\nContent-Length: %d\r\n\r\n%s' % (len(text), text))
+            response = self.exchange(post(text))
             head, end, body = response.partition('\r\n\r\n')
             if not end or 'Content-Length: %d' % len(body) not in head.split('\r\n'):
                 break
