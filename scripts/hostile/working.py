@@ -112,7 +112,7 @@ class Served(Worker):
                 connection.shutdown(socket.SHUT_WR)
                 while not parts or parts[-1]:
                     parts.append(connection.recv(65536))
-        except ConnectionError:
+        except OSError:
             pass
         return b''.join(parts).decode('latin-1')
 
