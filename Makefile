@@ -1,4 +1,4 @@
-.PHONY: demo test build check strength refusals beside program bench
+.PHONY: demo test build check strength refusals beside program kill9 bench
 
 # The main job on a real interchange, by a build that proves nothing (`make build` leaves the proved program).
 demo:
@@ -35,6 +35,11 @@ beside:
 # What the program prints, tells and ends with, on files of its own: once it is built.
 program:
 	scripts/program
+
+# The program killed 1,000 times while deliveries are under way, without room, on files that are read-only or gone, and by
+# twos on one store, beside the model: once it is built.
+kill9:
+	scripts/kill9
 
 # The times of syntax, yard and stream.
 bench: build

@@ -1,1 +1,15 @@
-"""The program under what happens to processes, files and memory, beside the plain slow model of scripts/model."""
+"""The program under what happens to processes, files and memory, beside the plain slow model of scripts/model.
+
+    books.py       a store, what was delivered to it, and the rows that it has by the model
+    working.py     a process of the program at work: `deliver` and `serve`
+    kills.py       SIGKILL at a random moment, many times a store
+    calls.py       SIGKILL at each call of the system, and each call refused (with strace, if it is there)
+    power.py       what a loss of power may leave, made up from the calls (with strace)
+    full.py        no room: a file system that is full, a limit on the size of files
+    places.py      read-only files and folders, copies, SQLite's own library, readers that go away
+    pairs.py       two processes on one store
+    parts.py       all of these, with what was counted: scripts/kill9
+    memory.py      each allocation of a process refused in turn, by refuse.c: scripts/memory
+
+No process is stopped but those that were started here.
+"""

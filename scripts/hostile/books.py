@@ -1,0 +1,152 @@
+"""A store in a folder of its own, all that may be sent to it, and what is in effect by the model."""
+import copy
+import os
+import random
+import shutil
+import subprocess
+
+from model.cuts import cut
+from model.days import Day
+from model.http import response
+from model.office import Office, json_text
+from model.reports import printed
+from model.requests import every_key
+from model.rows import rows_in, rows_of
+from model.setup import DEMO, read_setup
+from model.setups import Files, files_of
+from model.stream import status
+
+from .working import Served, run
+
+NOT_NOW = '{"answer":"not now"}'
+PATHS = {'visits': '/visits/', 'list': '/lists/', 'ticket': '/tickets/', 'reply': '/replies/'}
+
+
+class Different(Exception):
+    """What the program did is not what the model has."""
+
+
+def expect(what, wanted, got):
+    """Stops where two values differ."""
+    if wanted != got:
+        raise Different('%s\n  model   %s\n  program %s' % (what, repr(wanted)[:3000], repr(got)[:3000]))
+
+
+class Book:
+    """A store of a random set-up. Texts are made as they are wanted, by the seed alone, and each is one interchange."""
+
+    def __init__(self, program, folder, seed):
+        self.program, self.folder, self.seed = program, folder, seed
+        self.store = os.path.join(folder, 'office.db')
+        files = Files(seed).both()
+        if read_setup(*files)[1] or seed % 3 == 0:
+            files = files_of(DEMO)
+        self.office = Office(read_setup(*files)[0], keeps_fold=True)
+        self.chance = random.Random('hostile %s' % seed)
+        self.day, self.texts, self.answered = Day(seed, self.office.setup), [], []
+        self.files = [self.file(name, text) for name, text in zip(('partners.csv', 'blocks.csv'), files)]
+
+    def file(self, name, text):
+        """A file in the folder, of those bytes."""
+        path = os.path.join(self.folder, name)
+        with open(path, 'w', encoding='latin-1', newline='') as file:
+            file.write(text)
+        return path
+
+    def init(self):
+        """Makes the store."""
+        expect('init', ('ready\n', '', 0), run(self.program, 'init', self.store, *self.files))
+        return self
+
+    def upcoming(self, count):
+        """The texts that were not answered, that many."""
+        while len(self.texts) < len(self.answered) + count:
+            text = self.day.delivery()
+            if cut(text) == ([text], None):
+                self.texts.append(text)
+        return self.texts[len(self.answered):len(self.answered) + count]
+
+    def line(self, text):
+        """The answer to a text, which is in effect from here on."""
+        return json_text(self.office.answer(text))
+
+    def take(self, lines):
+        """Answers that were read, each to the next text: in effect, unless they are not now. Gives how many were not."""
+        refused = 0
+        for line in lines:
+            text = self.upcoming(1)[0]
+            if line == NOT_NOW:
+                refused += 1
+            else:
+                expect('the answer to %r' % text, self.line(text), line)
+            self.answered.append(text)
+        return refused
+
+    def found(self, in_flight):
+        """Which rows the store has: those after all answered, those with the one in flight too, or either, if they are
+        the same. Any other rows are a difference."""
+        got, faults = rows_in(self.store)
+        expect('integrity and foreign keys', [], faults)
+        wanted = rows_of(self.office)
+        if in_flight is None:
+            expect('the rows after all answered', wanted, got)
+            return 'n'
+        further = copy.deepcopy(self.office)
+        further.answer(in_flight)
+        if rows_of(further) == wanted:
+            expect('the rows, which the one in flight leaves as they are', wanted, got)
+            return 'n or n+1'
+        if got == wanted:
+            return 'n'
+        expect('the rows with the one in flight', rows_of(further), got)
+        self.office = further
+        return 'n+1'
+
+    def looks(self):
+        """The program opens the store and tells the yard."""
+        got = run(self.program, 'report', self.store, 'yard')
+        expect('report yard', (printed(self.office, 'yard')[0], '', 0), got)
+
+    def again(self):
+        """All from the first once more, in one call: each line and the status. Then rows and each report."""
+        texts = list(self.answered)
+        answers = [self.office.answer(text) for text in texts]
+        wanted = ''.join(json_text(answer) + '\n' for answer in answers), '', status(answers)
+        got = run(self.program, 'deliver', self.store, self.file('again.edi', ''.join(texts)))
+        for place, lines in enumerate(zip(wanted[0].split('\n'), got[0].split('\n'))):
+            expect('the answer to number %d, sent again' % (place + 1), *lines)
+        expect('all sent again', wanted, got)
+        self.everything()
+        return len(texts)
+
+    def everything(self):
+        """The rows, and each report: the yard by command, all else by HTTP."""
+        self.found(None)
+        for kind in ('yard', 'yardcsv'):
+            expect(kind, (printed(self.office, kind)[0], '', 0), run(self.program, 'report', self.store, kind))
+        keys = [(kind, key) for kind, key in every_key(self.office) if key.isascii()]
+        with Served(self.program, self.store, len(keys) or 1) as served:
+            for kind, key in keys:
+                request = 'GET %s%s HTTP/1.1\r\n\r\n' % (PATHS[kind], key.replace('%', '%25').replace(' ', '%20'))
+                expect('GET %s %s' % (kind, key), response(self.office, request), served.exchange(request))
+
+    def copied(self, folder):
+        """The file and its log, copied into another folder."""
+        for end in ('', '-wal'):
+            if os.path.exists(self.store + end):
+                shutil.copy2(self.store + end, os.path.join(folder, 'office.db' + end))
+        other = copy.copy(self)
+        other.folder, other.store = folder, os.path.join(folder, 'office.db')
+        other.office, other.texts, other.answered = copy.deepcopy(self.office), list(self.texts), list(self.answered)
+        return other
+
+
+def prefilled(program, folder, seed, count):
+    """A store to which so much was delivered in one call."""
+    book = Book(program, folder, seed).init()
+    text = ''.join(book.upcoming(count))
+    words = [program, 'deliver', book.store, '-']
+    done = subprocess.run(words, input=text.encode('latin-1'), capture_output=True, check=False)
+    book.take(done.stdout.decode('utf-8').splitlines())
+    expect('the answers', count, len(book.answered))
+    return book

@@ -1,0 +1,117 @@
+"""SIGKILL at a random moment while deliveries are under way, many times a store.
+
+After each kill the rows have to be those after all texts whose answers were read, or after one more, the one in flight.
+Then the program opens the store, and is killed again. At the end all is sent once more, from the first on.
+"""
+import os
+import tempfile
+import threading
+from time import monotonic
+
+from .books import Book, Different, expect
+from .working import Delivering, Served
+
+KILLS = 40                  # a store: some 200 deliveries, so that the log is moved into the file at least once
+MOST = 10                   # deliveries from one kill to the next
+OPENING = 0.15              # of the kills: while the store is opened, before the first answer
+AHEAD = 12                  # texts that are sent ahead of the answers
+KINDS = ('deliver, one by one', 'deliver, ahead', 'serve')
+
+
+class Pace:
+    """How long the program takes to open a store and for one delivery, as it was seen so far."""
+
+    def __init__(self):
+        self.opening, self.delivery = 0.02, 0.005
+
+    def saw(self, opening, spans):
+        """One process more."""
+        self.opening += (opening - self.opening) / 8
+        for span in spans:
+            self.delivery += (span - self.delivery) / 32
+
+
+class Moment:
+    """When a process is killed: so many answers after its start, and a random time after that."""
+
+    def __init__(self, chance, worker, pace):
+        self.after = 0 if chance.random() < OPENING else chance.randint(1, MOST)
+        self.wait = chance.uniform(0, 1.3) * pace.opening if self.after == 0 else chance.uniform(0, 2) * pace.delivery
+        self.worker, self.pace, self.lines, self.times = worker, pace, [], [monotonic()]
+        self.killing = threading.Timer(self.wait, worker.process.kill)
+        if self.after == 0:
+            self.killing.start()
+
+    def read(self, line):
+        """An answer came; after the last of them the time runs."""
+        self.lines.append(line)
+        self.times.append(monotonic())
+        if len(self.lines) == self.after:
+            self.killing.start()
+
+    def over(self):
+        """The process is gone, and what was seen of its pace is kept."""
+        if self.killing.ident is None:
+            self.killing.start()
+        self.killing.join()
+        self.worker.process.wait()
+        spans = [later - earlier for earlier, later in zip(self.times, self.times[1:])]
+        if spans:
+            self.pace.saw(spans[0], spans[1:])
+
+
+def worker_of(kind, book):
+    """A process of one of the kinds."""
+    if kind == 'serve':
+        return Served(book.program, book.store)
+    return Delivering(book.program, book.store, ahead=kind.endswith('ahead'))
+
+
+def killed_once(book, pace, counted):
+    """A process at work, killed; the rows behind it; the program opens the store again."""
+    kind = book.chance.choice(KINDS)
+    texts = book.upcoming(MOST + AHEAD)
+    with worker_of(kind, book) as worker:
+        moment = Moment(book.chance, worker, pace)
+        worker.answers(texts, moment.read)
+        moment.over()
+        expect('stopped by SIGKILL', -9, worker.process.returncode)
+    book.take(moment.lines)
+    in_flight = texts[len(moment.lines)] if len(moment.lines) < len(texts) else None
+    found = book.found(in_flight)
+    book.looks()
+    counted['kills'] += 1
+    counted['kills of ' + kind] += 1
+    counted['kills before the first answer'] += not moment.lines
+    counted['answers read before kills'] += len(moment.lines)
+    counted['kills with a delivery in flight'] += in_flight is not None
+    counted['found ' + found] += 1
+
+
+def written(book):
+    """When the file was written last: that is where the log is moved into it."""
+    return os.stat(book.store).st_mtime_ns
+
+
+def killed_often(program, seed, kills, pace, counted):
+    """One store through all its kills, and to its end."""
+    with tempfile.TemporaryDirectory(prefix='kill9-') as folder:
+        book = Book(program, folder, seed).init()
+        try:
+            for _kill in range(kills):
+                before = written(book)
+                killed_once(book, pace, counted)
+                counted['the log moved into the file'] += written(book) != before
+            counted['deliveries sent again at the end'] += book.again()
+        except Different as fault:
+            raise Different('seed %s, kill %d: %s' % (seed, counted['kills'], fault)) from fault
+    counted['stores'] += 1
+
+
+def try_kills(program, kills, seed, counted):
+    """That many kills, over as many stores as they need."""
+    pace = Pace()
+    while counted['kills'] < kills:
+        killed_often(program, seed + counted['stores'], min(KILLS, kills - counted['kills']), pace, counted)
+    counted['milliseconds to open, as seen last'] = round(1000 * pace.opening, 1)
+    counted['milliseconds a delivery, as seen last'] = round(1000 * pace.delivery, 1)

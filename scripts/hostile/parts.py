@@ -1,0 +1,64 @@
+"""All parts, with what was counted: scripts/kill9."""
+import os
+import sys
+from collections import Counter
+from time import monotonic
+
+from . import calls, full, kills, pairs, places, power
+from .books import Different
+
+TOP = os.path.dirname(os.path.dirname(os.path.dirname(os.path.abspath(__file__))))
+PROGRAM = os.path.join(TOP, 'crates/office/out/office')
+KILLS = 1000
+PARTS = {
+    'calls': calls.try_calls, 'power': power.try_losses, 'full': full.try_all, 'places': places.try_all,
+    'pairs': pairs.try_all}
+
+USAGE = """usage: scripts/kill9 [KILLS [SEED]]
+       scripts/kill9 calls|power|full|places|pairs [SEED]
+
+SIGKILL while deliveries are under way, KILLS times (%d), and then each of the other parts; or one of these alone. The
+program is crates/office/out/office, or the one that OFFICE names in the environment.
+""" % KILLS
+
+
+def done(name, trial, *given):
+    """Runs one part, and prints what was counted and what differs; gives whether nothing does."""
+    counted, began, fault = Counter(), monotonic(), None
+    try:
+        trial(*given, counted)
+    except Different as different:
+        fault = different
+    print('%s, %d seconds' % (name, monotonic() - began))
+    for what, count in sorted(counted.items()):
+        print('%10s  %s' % (count, what))
+    print('differs: %s' % fault if fault else 'nothing differs')
+    sys.stdout.flush()
+    return fault is None
+
+
+def parts_of(words):
+    """The parts that are asked for: name, call, and what it is given."""
+    if words and words[0] in PARTS:
+        seed = int(words[1]) if len(words) > 1 else 1
+        return [(words[0], PARTS[words[0]], (seed,))] if len(words) <= 2 else None
+    if len(words) > 2:
+        return None
+    count, seed = (list(map(int, words)) + [KILLS, 1][len(words):])
+    return [('kills', kills.try_kills, (count, seed))] + [(name, trial, (seed,)) for name, trial in PARTS.items()]
+
+
+def main():
+    """Gives the status: 1 at the first difference, 2 for another command line or where there is no program."""
+    try:
+        parts = parts_of(sys.argv[1:])
+    except ValueError:
+        parts = None
+    if parts is None:
+        print(USAGE, end='', file=sys.stderr)
+        return 2
+    program = os.path.realpath(os.environ.get('OFFICE', PROGRAM))
+    if not os.access(program, os.X_OK):
+        print('%s is not built: make build' % program, file=sys.stderr)
+        return 2
+    return 0 if all(done(name, trial, program, *given) for name, trial, given in parts) else 1
