@@ -17,16 +17,14 @@ from model.rows import rows_in, rows_of
 from model.setup import DEMO
 from model.stream import lines
 
+from .books import Different, expect
+
 HERE = os.path.dirname(os.path.abspath(__file__))
 TOP = os.path.dirname(os.path.dirname(HERE))
 NOT_NOW = '{"answer":"not now"}'
 
 # what a process may tell that had no memory before it delivered anything
 FAILURES = {('', 'store: Memory\n', 3), ('', 'cannot read\n', 3), ('', '', 3)}
-
-
-class Different(Exception):
-    """The program did something else than it should have done."""
 
 
 class Refusing:
@@ -75,12 +73,6 @@ class Refusing:
                 os.remove(target + end)
             if os.path.exists(source + end):
                 shutil.copyfile(source + end, target + end)
-
-
-def expect(what, wanted, got):
-    """Different where it isn't so."""
-    if wanted != got:
-        raise Different('%s\n  wanted %s\n  got    %s' % (what, wanted, got))
 
 
 def line_of(office, text):
