@@ -1,0 +1,210 @@
+"""The rows of the table: what is measured, of the office and of the peer in the same run."""
+import os
+import subprocess
+import tempfile
+import time
+
+import streams
+from running import Server, Stream, command, least_seconds
+
+PART = 1000                 # interchanges that are timed together
+PARTS = 5                   # of which the least counts
+MARKS = [1000, 10000, 100000]
+PATIENCE = 240              # seconds that a stream may take
+IN_DEMO = 4                 # containers in the yard of the demonstration
+BACK = 10000                # texts that come in reverse order
+CONTAINERS = 10000          # in the yard that is reported
+REQUESTS = 2000
+
+
+class Row:
+    """A row: what, in which unit, the office's figure and the peer's (None where there is none), and what is wanted."""
+
+    def __init__(self, what, unit, office, peer=None, wanted=''):
+        self.what, self.unit, self.office, self.peer, self.wanted = what, unit, office, peer, wanted
+
+
+def least(parts, mark, of):
+    """The least cost of an interchange, in microseconds, among the parts that begin at a mark."""
+    costs = [of(part) for part in parts[mark // PART:mark // PART + PARTS]]
+    return min(costs) * 1e6 / PART if len(costs) == PARTS else None
+
+
+def by_clock(part):
+    """Seconds of a clock."""
+    return part.seconds
+
+
+def by_processor(part):
+    """Seconds of a processor, user and system."""
+    return part.processor
+
+
+def fed(both, texts):
+    """The parts of a stream, of each program, fed to them in turn, part by part, as far as patience goes."""
+    started, parts = time.monotonic(), [[] for _program in both]
+    for first in range(0, len(texts) - PART + 1, PART):
+        for program, taken in zip(both, parts):
+            taken.append(program.feed(texts[first:first + PART]))
+        if len({taken[-1].answers for taken in parts}) > 1:
+            raise SystemExit('bench: office and peer differ behind interchange %d' % first)
+        if time.monotonic() - started > PATIENCE:
+            break
+    for program in both:
+        program.close()
+    return parts
+
+
+def flat(parts, of):
+    """The cost at the last mark that was reached by that at the first, and that mark."""
+    reached = [mark for mark in MARKS if least(parts, mark, of) is not None]
+    if len(reached) < 2:
+        return None, None
+    return least(parts, reached[-1], of) / least(parts, reached[0], of), reached[-1]
+
+
+def per_mark(what, parts, of, wanted, marks):
+    """A row for each mark."""
+    rows = []
+    for mark in marks:
+        costs = [least(taken, mark, of) for taken in parts] + [None]
+        rows.append(Row('%s, %s kept' % (what, format(mark, ',')), 'us', costs[0], costs[1], wanted))
+    return rows
+
+
+def durable(stores, what, texts, wanted):
+    """Durable deliveries of a stream by the clock, whether they are flat by the processor, and the most memory."""
+    both = stores.streams(what.split()[0])
+    parts = fed(both, texts)
+    rows = per_mark(what + ', durable', parts, by_clock, wanted, MARKS)
+    rows += per_mark(what + ', processor alone', parts, by_processor, '', MARKS)
+    ratios = [flat(taken, by_processor) for taken in parts] + [(None, None)]
+    if ratios[0][1]:
+        name = '%s: %s kept by 1,000 kept, processor' % (what, format(ratios[0][1], ','))
+        rows.append(Row(name, 'times', ratios[0][0], ratios[1][0], '1.2'))
+    peaks = [program.peak for program in both] + [None]
+    rows.append(Row('%s: peak memory after %s' % (what, format(PART * len(parts[0]), ',')), 'MB', peaks[0], peaks[1]))
+    return rows
+
+
+def without_sync(stores):
+    """The same in a file system in memory, where a sync costs nothing."""
+    if not os.path.isdir('/dev/shm'):
+        return []
+    with tempfile.TemporaryDirectory(prefix='bench-', dir='/dev/shm') as folder:
+        parts = fed(stores.streams('gates', folder=folder), streams.gates(MARKS[1] + PARTS * PART))
+    return per_mark('gate-ins and gate-outs, store in memory (no sync)', parts, by_clock, '95', MARKS[:2])
+
+
+def own_work(stores):
+    """`office demo`, over tables in memory, beside the peer with no statement run."""
+    texts = streams.gates(MARKS[1] + PARTS * PART, IN_DEMO)
+    both = [Stream(stores.office, 'demo')]
+    if stores.peer:
+        both.append(Stream(stores.peer, 'own', stores.new('own', 'demo')))
+    parts = fed(both, texts)
+    return per_mark('gate-ins and gate-outs, tables in memory; peer: no store', parts, by_processor, '10', MARKS[:2])
+
+
+def reversed_order(stores):
+    """Texts that wait, and the one that closes the gap."""
+    texts, both = streams.reverse(BACK), stores.streams('reverse')
+    waiting = [program.feed(texts[:-1]) for program in both]
+    closing = [program.feed(texts[-1:]) for program in both]
+    for program in both:
+        program.close()
+    if len({part.answers for part in waiting}) > 1 or len({part.answers for part in closing}) > 1:
+        raise SystemExit('bench: office and peer differ in reverse order')
+    early = [part.seconds * 1e6 / BACK for part in waiting] + [None]
+    close = [part.seconds * 1e3 for part in closing] + [None]
+    return [
+        Row('10,000 texts in reverse order, durable, each', 'us', early[0], early[1]),
+        Row('the text that closes their gap', 'ms', close[0], close[1])]
+
+
+def opening(stores):
+    """Opening the stores that the longest stream has left."""
+    office, peer = stores.path('office-gate-ins'), stores.path('peer-gate-ins')
+    spent = least_seconds(3, stores.office, 'report', office, 'visits', streams.box(0)) * 1e3
+    rows_only = all_rows = None
+    if stores.peer:
+        rows_only = least_seconds(3, stores.peer, 'opened', peer) * 1e3
+        all_rows = least_seconds(3, stores.peer, 'rows', peer) * 1e3
+    return [
+        Row('opening the store that they leave, and one report', 'ms', spent, rows_only, '1200'),
+        Row('the same; the peer reads all rows', 'ms', spent, all_rows)]
+
+
+def filled(stores):
+    """Stores of a large yard that is filled, with a load list."""
+    both = stores.streams('yard')
+    for program in both:
+        program.feed(streams.filling(CONTAINERS))
+        program.close()
+    return stores.path('office-yard'), stores.path('peer-yard')
+
+
+def reports(stores):
+    """Reports of a yard of 10,000 containers, the opening of the store in them."""
+    office, peer = filled(stores)
+    rows = []
+    for kind, key in (('yard', ()), ('yardcsv', ()), ('visits', (streams.box(5000),)), ('ticket', ('HAULA/50',)), ('reply', ('HAULA/50',))):
+        spent = least_seconds(3, stores.office, 'report', office, kind, *key) * 1e3
+        other = least_seconds(3, stores.peer, 'report', peer) * 1e3 if stores.peer and kind == 'yard' else None
+        rows.append(Row('report %s, 10,000 containers, with opening' % kind, 'ms', spent, other))
+    return rows
+
+
+def served(stores, client, name, requests, words):
+    """Microseconds a request over HTTP, of the office and of the peer."""
+    spent, responses = [], set()
+    for program, store in zip((stores.office, stores.peer), ('office-' + name, 'peer-' + name)):
+        if program:
+            server = Server(program, 'serve', stores.path(store), str(free_port()), str(requests))
+            seconds, response = server.asked(client, *words)
+            server.close()
+            spent.append(seconds * 1e6 / requests)
+            responses.add(response)
+    if len(responses) > 1:
+        raise SystemExit('bench: office and peer differ over HTTP')
+    return spent + [None]
+
+
+def http(stores, client):
+    """Requests over HTTP, one connection each."""
+    gates = streams.gates(3 * REQUESTS)
+    posts = stores.file('posts.edi', ''.join(text + '\n' for text in gates))
+    for program in ('office', 'peer'):
+        stores.new(program + '-http')
+    post = served(stores, client, 'http', len(gates), [posts])
+    small = served(stores, client, 'http', REQUESTS, ['/yard', str(REQUESTS)])
+    large = served(stores, client, 'yard', 200, ['/yard', '200'])
+    return [
+        Row('durable POST of a gate-in or gate-out', 'us', post[0], post[1], '290'),
+        Row('GET /yard, 200 containers', 'us', small[0], small[1]),
+        Row('GET /yard, 10,000 containers', 'us', large[0], large[1])]
+
+
+def free_port():
+    """A port that nobody listens on."""
+    import socket
+    with socket.socket() as free:
+        free.bind(('127.0.0.1', 0))
+        return free.getsockname()[1]
+
+
+def syntax(top):
+    """The shares of a C scanner's speed, by the bench of edi_syntax."""
+    script = os.path.join(top, 'crates', 'edi_syntax', 'bench.sh')
+    done = subprocess.run([script], stdout=subprocess.PIPE, check=False)
+    if done.returncode != 0:
+        return [Row('syntax: %s failed' % script, 'us', None)]
+    times = {}
+    for line in done.stdout.decode().splitlines():
+        name, _colon, rest = line.partition(':')
+        if rest.split()[1:2] in (['us'], ['us,']):
+            times[name] = float(rest.split()[0])
+    wanted = {'open and walk': '0.50', 'cut in pieces': '0.33', 'by messages': '0.50'}
+    return [
+        Row('syntax, a megabyte: %s; peer: the scanner' % name, 'us', spent, times['C scanner'], wanted.get(name, ''))
+        for name, spent in times.items() if name != 'C scanner']
