@@ -36,8 +36,6 @@ beside:
 program:
 	scripts/program
 
-# The times of syntax, yard and stream.
+# What the office costs, in one table, with a plain C program over libsqlite3 beside it: some fifteen minutes.
 bench: build
-	crates/edi_syntax/bench.sh
-	crates/yard_core/bench.sh
-	crates/office/bench.sh
+	bench/bench

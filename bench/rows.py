@@ -1,11 +1,13 @@
 """The rows of the table: what is measured, of the office and of the peer in the same run."""
 import os
+import shutil
+import socket
 import subprocess
 import tempfile
 import time
 
 import streams
-from running import Server, Stream, command, least_seconds
+from running import Server, Stream, instructions, least_seconds
 
 PART = 1000                 # interchanges that are timed together
 PARTS = 5                   # of which the least counts
@@ -15,13 +17,15 @@ IN_DEMO = 4                 # containers in the yard of the demonstration
 BACK = 10000                # texts that come in reverse order
 CONTAINERS = 10000          # in the yard that is reported
 REQUESTS = 2000
+FEW, MORE = 100, 600        # deliveries whose instructions are counted; the difference is without start and opening
 
 
 class Row:
-    """A row: what, in which unit, the office's figure and the peer's (None where there is none), and what is wanted."""
+    """A row: what, in which unit, the office's figure and the peer's (None if there is none), what is wanted of the office,
+    and whether it is a rate, which is told a second too."""
 
-    def __init__(self, what, unit, office, peer=None, wanted=''):
-        self.what, self.unit, self.office, self.peer, self.wanted = what, unit, office, peer, wanted
+    def __init__(self, what, unit, office, peer=None, wanted='', is_rate=False):
+        self.what, self.unit, self.office, self.peer, self.wanted, self.is_rate = what, unit, office, peer, wanted, is_rate
 
 
 def least(parts, mark, of):
@@ -40,16 +44,18 @@ def by_processor(part):
     return part.processor
 
 
-def fed(both, texts):
-    """The parts of a stream, of each program, fed to them in turn, part by part, as far as patience goes."""
+def fed(both, texts, reached=lambda count: None):
+    """The parts of a stream, of each program, fed to them in turn, part by part, as far as patience goes. Before each part
+    `reached` is told how many interchanges were fed."""
     started, parts = time.monotonic(), [[] for _program in both]
     for first in range(0, len(texts) - PART + 1, PART):
+        if time.monotonic() - started > PATIENCE:
+            break
+        reached(first)
         for program, taken in zip(both, parts):
             taken.append(program.feed(texts[first:first + PART]))
         if len({taken[-1].answers for taken in parts}) > 1:
             raise SystemExit('bench: office and peer differ behind interchange %d' % first)
-        if time.monotonic() - started > PATIENCE:
-            break
     for program in both:
         program.close()
     return parts
@@ -68,32 +74,62 @@ def per_mark(what, parts, of, wanted, marks):
     rows = []
     for mark in marks:
         costs = [least(taken, mark, of) for taken in parts] + [None]
-        rows.append(Row('%s, %s kept' % (what, format(mark, ',')), 'us', costs[0], costs[1], wanted))
+        rows.append(Row('%s, %s kept' % (what, format(mark, ',')), 'us', costs[0], costs[1], wanted, of is by_clock))
     return rows
 
 
-def durable(stores, what, texts, wanted):
-    """Durable deliveries of a stream by the clock, whether they are flat by the processor, and the most memory."""
-    both = stores.streams(what.split()[0])
-    parts = fed(both, texts)
-    rows = per_mark(what + ', durable', parts, by_clock, wanted, MARKS)
-    rows += per_mark(what + ', processor alone', parts, by_processor, '', MARKS)
+def long_stream(stores, what, texts):
+    """A long stream over stores in a file system in memory, if there is one: cost without sync, whether it is flat, the most
+    memory; then durable deliveries over the stores that were there at the marks."""
+    name = what.split()[0]
+    with tempfile.TemporaryDirectory(prefix='bench-', dir='/dev/shm' if os.path.isdir('/dev/shm') else None) as folder:
+        both = stores.streams(name, folder=folder)
+        parts = fed(both, texts, lambda count: stores.save(folder, name, count) if count in MARKS else None)
+        stores.save(folder, name, 'end')
+    rows = per_mark(what + ', no sync', parts, by_clock, '95', MARKS)
     ratios = [flat(taken, by_processor) for taken in parts] + [(None, None)]
     if ratios[0][1]:
-        name = '%s: %s kept by 1,000 kept, processor' % (what, format(ratios[0][1], ','))
-        rows.append(Row(name, 'times', ratios[0][0], ratios[1][0], '1.2'))
+        after = '%s: at %s kept by at 1,000, processor' % (what, format(ratios[0][1], ','))
+        rows.append(Row(after, 'times', ratios[0][0], ratios[1][0], '1.2'))
     peaks = [program.peak for program in both] + [None]
     rows.append(Row('%s: peak memory after %s' % (what, format(PART * len(parts[0]), ',')), 'MB', peaks[0], peaks[1]))
-    return rows
+    return rows + [row for mark in MARKS if mark < PART * len(parts[0]) for row in durable(stores, what, texts, mark)]
 
 
-def without_sync(stores):
-    """The same in a file system in memory, where a sync costs nothing."""
-    if not os.path.isdir('/dev/shm'):
+def durable(stores, what, texts, mark):
+    """Durable deliveries over the stores that were there at a mark."""
+    both = stores.continued('%s-%d' % (what.split()[0], mark))
+    parts = fed(both, texts[mark:mark + PARTS * PART])
+    costs = [least(taken, 0, by_clock) for taken in parts] + [None]
+    return [Row('%s, durable, %s kept' % (what, format(mark, ',')), 'us', costs[0], costs[1], '210', True)]
+
+
+def counted(stores, program, store, texts):
+    """Instructions of a delivery on a copy of a store, without those of start and opening."""
+    totals = []
+    for count in (FEW, MORE):
+        stream = stores.file('counted.edi', ''.join(text + '\n' for text in texts[:count]))
+        copy = stores.copy(store, stores.path('counted'))
+        words = [program, 'deliver', copy] + (['-'] if program == stores.office else [])
+        totals.append(instructions(stream, *words))
+    return (totals[1] - totals[0]) / (MORE - FEW)
+
+
+def counts(stores):
+    """Instructions of a delivery over the stores that were there at the first and the last mark."""
+    if not shutil.which('valgrind'):
         return []
-    with tempfile.TemporaryDirectory(prefix='bench-', dir='/dev/shm') as folder:
-        parts = fed(stores.streams('gates', folder=folder), streams.gates(MARKS[1] + PARTS * PART))
-    return per_mark('gate-ins and gate-outs, store in memory (no sync)', parts, by_clock, '95', MARKS[:2])
+    texts, rows, costs = streams.gates(MARKS[-1] + MORE), [], []
+    for mark in (MARKS[0], MARKS[-1]):
+        store = stores.path('%s-gate-ins-%d' % ('peer' if stores.peer else 'office', mark))
+        if not os.path.exists(store):
+            return []
+        cost = [counted(stores, program, store, texts[mark:]) for program in (stores.office, stores.peer) if program] + [None]
+        costs.append(cost)
+        rows.append(Row('gate-ins and gate-outs, instructions, %s kept' % format(mark, ','), 'thousands', *(
+            number and number / 1000 for number in cost[:2])))
+    ratios = [after and after / before for before, after in zip(*costs)]
+    return rows + [Row('the latter by the former', 'times', ratios[0], ratios[1], '1.2')]
 
 
 def own_work(stores):
@@ -118,20 +154,20 @@ def reversed_order(stores):
     early = [part.seconds * 1e6 / BACK for part in waiting] + [None]
     close = [part.seconds * 1e3 for part in closing] + [None]
     return [
-        Row('10,000 texts in reverse order, durable, each', 'us', early[0], early[1]),
+        Row('10,000 texts in reverse order, durable, each', 'us', early[0], early[1], '', True),
         Row('the text that closes their gap', 'ms', close[0], close[1])]
 
 
 def opening(stores):
     """Opening the stores that the longest stream has left."""
-    office, peer = stores.path('office-gate-ins'), stores.path('peer-gate-ins')
+    office, peer = stores.path('office-gate-ins-end'), stores.path('peer-gate-ins-end')
     spent = least_seconds(3, stores.office, 'report', office, 'visits', streams.box(0)) * 1e3
     rows_only = all_rows = None
     if stores.peer:
         rows_only = least_seconds(3, stores.peer, 'opened', peer) * 1e3
         all_rows = least_seconds(3, stores.peer, 'rows', peer) * 1e3
     return [
-        Row('opening the store that they leave, and one report', 'ms', spent, rows_only, '1200'),
+        Row('opening the store that gate-ins and gate-outs leave, with a small report', 'ms', spent, rows_only, '1200'),
         Row('the same; the peer reads all rows', 'ms', spent, all_rows)]
 
 
@@ -180,31 +216,44 @@ def http(stores, client):
     small = served(stores, client, 'http', REQUESTS, ['/yard', str(REQUESTS)])
     large = served(stores, client, 'yard', 200, ['/yard', '200'])
     return [
-        Row('durable POST of a gate-in or gate-out', 'us', post[0], post[1], '290'),
-        Row('GET /yard, 200 containers', 'us', small[0], small[1]),
-        Row('GET /yard, 10,000 containers', 'us', large[0], large[1])]
+        Row('durable POST of a gate-in or gate-out', 'us', post[0], post[1], '290', True),
+        Row('GET /yard, 200 containers', 'us', small[0], small[1], '', True),
+        Row('GET /yard, 10,000 containers', 'us', large[0], large[1], '', True)]
 
 
 def free_port():
     """A port that nobody listens on."""
-    import socket
     with socket.socket() as free:
         free.bind(('127.0.0.1', 0))
         return free.getsockname()[1]
 
 
+def printed_by(top, crate):
+    """The lines of the bench of a crate."""
+    done = subprocess.run([os.path.join(top, 'crates', crate, 'bench.sh')], stdout=subprocess.PIPE, check=False)
+    return done.stdout.decode().splitlines() if done.returncode == 0 else []
+
+
+def yard(top):
+    """Calls on a nearly full yard of twenty blocks, by the bench of yard_core."""
+    rows = []
+    for line in printed_by(top, 'yard_core'):
+        call, _colon, rest = line.partition(':')
+        if ' in 20' in rest:
+            rows.append(Row('the yard alone: %s, 20 blocks' % call, 'ns', float(rest.split(', ')[1].split()[0])))
+    return rows or [Row('the yard alone: crates/yard_core/bench.sh failed', 'ns', None)]
+
+
 def syntax(top):
-    """The shares of a C scanner's speed, by the bench of edi_syntax."""
-    script = os.path.join(top, 'crates', 'edi_syntax', 'bench.sh')
-    done = subprocess.run([script], stdout=subprocess.PIPE, check=False)
-    if done.returncode != 0:
-        return [Row('syntax: %s failed' % script, 'us', None)]
+    """A megabyte beside a plain C scanner, by the bench of edi_syntax."""
     times = {}
-    for line in done.stdout.decode().splitlines():
+    for line in printed_by(top, 'edi_syntax'):
         name, _colon, rest = line.partition(':')
         if rest.split()[1:2] in (['us'], ['us,']):
             times[name] = float(rest.split()[0])
-    wanted = {'open and walk': '0.50', 'cut in pieces': '0.33', 'by messages': '0.50'}
+    if 'C scanner' not in times:
+        return [Row('syntax: crates/edi_syntax/bench.sh failed', 'us', None)]
+    wanted = {'open and walk': '2.0 times', 'cut in pieces': '3.0 times', 'by messages': '2.0 times'}
     return [
-        Row('syntax, a megabyte: %s; peer: the scanner' % name, 'us', spent, times['C scanner'], wanted.get(name, ''))
+        Row('syntax, a megabyte: %s; peer: a C scanner' % name, 'us', spent, times['C scanner'], wanted.get(name, ''))
         for name, spent in times.items() if name != 'C scanner']

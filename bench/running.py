@@ -1,6 +1,8 @@
 """Programs that are measured: a stream that is fed in parts, a command, a server."""
 import hashlib
 import os
+import re
+import select
 import subprocess
 import threading
 import time
@@ -9,6 +11,9 @@ import time
 def processor_seconds(process):
     """User and system time that a running process has had, by its own clock of the kernel."""
     return time.clock_gettime_ns((~process.pid << 3) | 2) / 1e9
+
+
+PATIENCE = 600              # seconds that an answer may take
 
 
 class Part:
@@ -33,6 +38,8 @@ class Stream:
         writer = threading.Thread(target=self.write, args=(data,))
         writer.start()
         while wanted > 0:
+            if not select.select([self.process.stdout], [], [], PATIENCE)[0]:
+                raise SystemExit('bench: %s holds answers back' % ' '.join(self.process.args))
             piece = os.read(self.process.stdout.fileno(), 1 << 16)
             if not piece:
                 raise SystemExit('bench: %s ended early' % ' '.join(self.process.args))
@@ -73,6 +80,15 @@ def least_seconds(times, *words):
         seconds = time.monotonic() - started
         least = seconds if least is None else min(least, seconds)
     return least
+
+
+def instructions(path, *words):
+    """How many instructions a program runs on a file as its input, by valgrind."""
+    with open(path, 'rb') as file:
+        done = subprocess.run(
+            ['valgrind', '--tool=cachegrind', '--cache-sim=no', '--cachegrind-out-file=/dev/null', *words], stdin=file,
+            stdout=subprocess.DEVNULL, stderr=subprocess.PIPE, check=True)
+    return int(re.search(rb'I +refs: +([0-9,]+)', done.stderr).group(1).replace(b',', b''))
 
 
 class Server:

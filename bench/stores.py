@@ -37,13 +37,15 @@ class Stores:
 
     def copy(self, store, path):
         """A copy of a store, with its log."""
-        for end in ('', '-wal'):
+        for end in ('', '-wal', '-shm'):
+            if os.path.exists(path + end):
+                os.remove(path + end)
             if os.path.exists(store + end):
                 shutil.copyfile(store + end, path + end)
         return path
 
     def new(self, name, yard='large', folder=None):
-        """An empty store."""
+        """A store to which nothing was delivered."""
         return self.copy(self.path(yard), os.path.join(folder or self.folder, name + '.db'))
 
     def streams(self, name, yard='large', folder=None):
@@ -51,6 +53,20 @@ class Stores:
         both = [Stream(self.office, 'deliver', self.new('office-' + name, yard, folder), '-')]
         if self.peer:
             both.append(Stream(self.peer, 'deliver', self.new('peer-' + name, yard, folder)))
+        return both
+
+    def save(self, folder, name, mark):
+        """Copies of the stores of a stream that has come to a mark."""
+        for program in ('office', 'peer'):
+            store = os.path.join(folder, '%s-%s.db' % (program, name))
+            if os.path.exists(store):
+                self.copy(store, self.path('%s-%s-%s' % (program, name, mark)))
+
+    def continued(self, name):
+        """Office and peer over copies of stores of that name."""
+        both = [Stream(self.office, 'deliver', self.copy(self.path('office-' + name), self.path('office-more')), '-')]
+        if self.peer:
+            both.append(Stream(self.peer, 'deliver', self.copy(self.path('peer-' + name), self.path('peer-more'))))
         return both
 
     def agree(self, name, yard, texts):
