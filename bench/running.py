@@ -55,12 +55,12 @@ class Stream:
         self.process.stdin.flush()
 
     def close(self):
-        """Ends the input, and keeps the most memory that the program has had, in megabytes."""
+        """Keeps the most memory that the program has had, in megabytes, and ends its input."""
+        with open('/proc/%d/status' % self.process.pid, encoding='ascii') as status:
+            self.peak = int(re.search(r'VmHWM:\s+(\d+)', status.read()).group(1)) / 1024
         self.process.stdin.close()
         self.process.stdout.read()
-        _pid, status, usage = os.wait4(self.process.pid, 0)
-        self.process.returncode = os.waitstatus_to_exitcode(status)
-        self.peak = usage.ru_maxrss / 1024
+        self.process.wait()
 
 
 def command(*words):

@@ -1,5 +1,4 @@
 /* The yard: which container stands in which cells. */
-#include <stdio.h>
 #include <stdlib.h>
 #include <string.h>
 #include "peer.h"
@@ -76,16 +75,16 @@ bool read_slot(struct text text, struct slot *slot) {
 }
 
 void slot_name(struct slot slot, char name[8]) {
-    char digits[32];
-    snprintf(digits, sizeof digits, "%c%03d%02d%d", 'A' + slot.block, slot.bay, slot.row, slot.tier);
+    const char digits[8] = { 'A' + slot.block, '0' + slot.bay / 100, '0' + slot.bay / 10 % 10, '0' + slot.bay % 10, '0' + slot.row / 10,
+        '0' + slot.row % 10, '0' + slot.tier, 0 };
     memcpy(name, digits, 8);
 }
 
+/* Slots by their names. */
+static int order_of(struct slot slot) { return ((slot.block * 1000 + slot.bay) * 100 + slot.row) * 10 + slot.tier; }
+
 static int by_slot(const void *one, const void *other) {
-    char names[2][8];
-    slot_name((*(struct container *const *)one)->slot, names[0]);
-    slot_name((*(struct container *const *)other)->slot, names[1]);
-    return strcmp(names[0], names[1]);
+    return order_of((*(struct container *const *)one)->slot) - order_of((*(struct container *const *)other)->slot);
 }
 
 void yard_report(struct yard *yard, struct buffer *to) {
@@ -96,9 +95,14 @@ void yard_report(struct yard *yard, struct buffer *to) {
     qsort(all, count, sizeof *all, by_slot);
     append_word(to, "YARD\n");
     for (size_t i = 0; i < count; i++) {
-        char line[64], name[8];
+        char name[8];
         slot_name(all[i]->slot, name);
-        append(to, line, snprintf(line, sizeof line, "%s %s %s %s\n", name, all[i]->box, all[i]->size, all[i]->laden ? "FULL" : "EMPTY"));
+        append(to, name, 7);
+        append(to, " ", 1);
+        append(to, all[i]->box, 11);
+        append(to, " ", 1);
+        append(to, all[i]->size, 4);
+        append_word(to, all[i]->laden ? " FULL\n" : " EMPTY\n");
     }
     append_number(to, count);
     append_word(to, " CONTAINERS\n");
