@@ -195,34 +195,35 @@ def reports(stores):
     return rows
 
 
-def served(stores, client, name, requests, words):
-    """Microseconds a request over HTTP, of the office and of the peer."""
+def served(stores, client, paths, requests, words):
+    """Microseconds a request over HTTP, of the office and of the peer, over their stores."""
     spent, responses = [], set()
-    for program, store in zip((stores.office, stores.peer), ('office-' + name, 'peer-' + name)):
+    for program, path in zip((stores.office, stores.peer), paths):
         if program:
-            server = Server(program, 'serve', stores.path(store), str(free_port()), str(requests))
+            server = Server(program, 'serve', path, str(free_port()), str(requests))
             seconds, response = server.asked(client, *words)
             server.close()
             spent.append(seconds * 1e6)
             responses.add(response)
     if len(responses) > 1:
         raise SystemExit('bench: office and peer differ over HTTP')
-    return spent + [None]
+    return (spent + [None])[:2]
 
 
 def http(stores, client):
-    """Requests over HTTP, one connection each."""
-    gates = streams.gates(REQUESTS)
+    """Requests over HTTP, one connection each; after `reports`, whose stores have the large yard."""
+    gates, yard = streams.gates(REQUESTS), ['/yard', str(REQUESTS)]
     posts = stores.file('posts.edi', ''.join(text + '\n' for text in gates))
-    for program in ('office', 'peer'):
-        stores.new(program + '-http')
-    post = served(stores, client, 'http', len(gates), [posts])
-    small = served(stores, client, 'http', REQUESTS, ['/yard', str(REQUESTS)])
-    large = served(stores, client, 'yard', 200, ['/yard', '200'])
+    disk = [stores.new(program + '-http') for program in ('office', 'peer')]
+    large = [stores.path(program + '-yard') for program in ('office', 'peer')]
+    with tempfile.TemporaryDirectory(prefix='bench-', dir=IN_MEMORY) as folder:
+        memory = [stores.new(program + '-http', folder=folder) for program in ('office', 'peer')]
+        unsynced = served(stores, client, memory, REQUESTS, [posts])
     return [
-        Row('durable POST of a gate-in or gate-out', 'us', post[0], post[1], '1.45 times', True),
-        Row('GET /yard, 200 containers', 'us', small[0], small[1], '', True),
-        Row('GET /yard, 10,000 containers', 'us', large[0], large[1], '', True)]
+        Row('POST of a gate-in or gate-out, no sync', 'us', *unsynced, '', True),
+        Row('the same, durable', 'us', *served(stores, client, disk, REQUESTS, [posts]), '1.45 times', True),
+        Row('GET /yard, 200 containers', 'us', *served(stores, client, disk, REQUESTS, yard), '', True),
+        Row('GET /yard, 10,000 containers', 'us', *served(stores, client, large, 200, ['/yard', '200']), '', True)]
 
 
 def free_port():
