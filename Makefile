@@ -1,4 +1,4 @@
-.PHONY: demo test build check strength refusals beside program bench
+.PHONY: demo test build check strength refusals beside program clients fuzz bench
 
 # The main job on a real interchange, by a build that proves nothing (`make build` leaves the proved program).
 demo:
@@ -35,6 +35,14 @@ beside:
 # What the program prints, tells and ends with, on files of its own: once it is built.
 program:
 	scripts/program
+
+# Real clients against `office serve`, curl and sockets, kind ones and others: once it is built, some 80 seconds.
+clients:
+	scripts/clients
+
+# A million mutated inputs beside the model, in rounds: `make fuzz` or `make fuzz COUNT=1000 SEED=7`. Once it is built.
+fuzz:
+	scripts/fuzz $(COUNT) $(SEED)
 
 # The times of syntax, yard and stream.
 bench: build
