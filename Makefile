@@ -42,7 +42,7 @@ clients:
 
 # A million mutated inputs beside the model, in rounds: `make fuzz` or `make fuzz COUNT=1000 SEED=7`. Once it is built.
 fuzz:
-	scripts/fuzz $(COUNT) $(SEED)
+	scripts/fuzz $(or $(COUNT),1000000) $(SEED)
 
 # The times of syntax, yard and stream.
 bench: build

@@ -110,8 +110,7 @@ def stop_once(checks, path, number, trial):
         stopper.cancel()
         if len(answered) == SENT:
             server.process.send_signal(number)
-        server.process.communicate()
-        checks.expect(name + ' ends it', -number, server.process.returncode)
+        checks.expect(name + ' ends it', ('', -number), server.wait())
         checks.expect(name + ', answers before', owed[:len(answered)], answered)
         server.start()
         sent_again(checks, name, server, owed, len(answered))

@@ -119,8 +119,7 @@ def served_so_many(checks, path):
         server.connect().close()
         server.same(checks, 'the second of three', get('/yard'))
         server.same(checks, 'the third of three', post(gate_in(1)))
-        printed, _told = server.process.communicate(timeout=60)
-        checks.expect('served 3', ('served 3\n', 0), (printed, server.process.returncode))
+        checks.expect('served 3', ('served 3\n', 0), server.wait())
         done = subprocess.run(['curl', '-sS', server.url('/yard')], capture_output=True, check=False)
         checks.expect('nothing listens behind it', 7, done.returncode)
 

@@ -5,10 +5,14 @@ import time
 from collections import Counter, deque
 from concurrent.futures import ProcessPoolExecutor
 
+from model.beside import EVERY_KIND
+
+from .bounded import peaks_of
 from .rounds import run_round
 
 TOP = os.path.dirname(os.path.dirname(os.path.dirname(os.path.abspath(__file__))))
 COUNT = 1000000
+MOST_GROWTH = 2048          # KiB, on ten times the input
 NOT_MUTATED = 'as they were, beside these'
 
 USAGE = """usage: scripts/fuzz [COUNT [SEED]]
@@ -55,6 +59,7 @@ class Sums:
             print('%s:' % title)
             for kind, count in sorted(counted.items()):
                 print('%10d  %s' % (count, kind))
+        print('never came: ' + (', '.join(kind for kind in EVERY_KIND if kind not in self.compared) or 'none'))
         print('peak memory (VmHWM), KiB: ' + ', '.join('%s %d' % pair for pair in sorted(self.peaks.items())))
         print('seeds that differ: ' + (' '.join(map(str, self.differing)) or 'none'))
 
@@ -77,6 +82,15 @@ def run_rounds(path, count, seed, jobs):
     return sums
 
 
+def told_peaks(path):
+    """Prints the peak of memory on inputs that grow while what is kept doesn't; gives whether one grew with them."""
+    grown = False
+    for name, few, many in peaks_of(path):
+        grown |= many > few + MOST_GROWTH
+        print('peak memory, %s: %d KiB, and on ten times as much %d KiB' % (name, few, many))
+    return grown
+
+
 def main():
     """Runs the rounds that are asked for. Gives the status."""
     words = sys.argv[1:]
@@ -90,4 +104,5 @@ def main():
     count, seed = int(words[0]) if words else COUNT, int(words[1]) if len(words) == 2 else 1
     sums = run_rounds(path, count, seed, int(os.environ.get('JOBS', '2')))
     sums.told()
-    return 1 if sums.differing else 0
+    grown = count > 1 and told_peaks(path)
+    return 1 if sums.differing or grown else 0

@@ -15,6 +15,11 @@ TELLING_VALUES = [
     '102', '16', '20', '34', '36', '43', '44', '45', '46', 'YMV', '22G1', '42G1', 'L5G1', '10G1', '240229', '230229', '2400',
     '2359', '202402292359', '20240229', '20230229', '00000229', '99991231', 'ABCU0000017', 'ABCU0000018', 'abcu0000017',
     'A001011', 'A002011', 'A001012', 'A000011', 'A009011', 'TERM1', 'HAULA', 'HAULB', 'LINEA', 'QUAY1', 'YARD1', '9123456']
+FIELDS = [
+    '', '0', '1', '2', '01', '6', '7', '12', '13', '40', '41', '000000040', '0000000040', '999999999', '1000000000', '-1', '+1',
+    ' 1', '34', '36', '43', '44', '45', '46', 'YMV', 'ABC', 'ABCD', 'a', 'X' * 35, 'X' * 36, 'a.b-c_9', 'A/B', 'A B', '\xc3\xa9',
+    '\xe9', '"A"', '"A""B"', '"A,B"', '"A', 'A"', 'gate', 'line', 'quay', 'yard', 'Gate', 'gate-in', 'gate-out', 'yard-move',
+    'load-list', 'discharge-list', 'load-report', 'discharge-report', 'visits', 'TERM1', 'HAULA', 'LINEA']
 LONGEST_RUN = 12
 
 
@@ -139,18 +144,19 @@ def lines_spliced(random, text, other):
 
 
 def field_changed(random, text, other):
-    """One field between commas and ends of lines is another."""
-    fields = list(re.finditer(r'[^,\r\n]+', text))
+    """One field behind a comma is another: a value at a limit, or a field of another text."""
+    fields = list(re.finditer(r'(?<=,)[^,\r\n]*', text))
     if not fields:
         return byte_placed(random, text, other)
     place = random.choice(fields)
-    field = random.choice(TELLING_VALUES + ['gate', 'line', 'quay', 'yard', 'terminal', 'partner', 'code', 'limit', 'visits', '40', '12'])
+    others = re.findall(r'[^,\r\n]+', other) or ['']
+    field = random.choice(FIELDS if random.random() < 0.5 else others)
     return text[:place.start()] + field + text[place.end():]
 
 
 BYTES = [(3, byte_changed), (2, bytes_dropped), (2, bytes_doubled), (2, byte_placed)]
 INTERCHANGE = BYTES + [(1, cut), (1, spliced), (6, segments_spliced), (8, value_changed), (3, separator_changed)]
-FILE = BYTES + [(0.5, cut), (0.5, spliced), (4, lines_spliced), (4, field_changed)]
+FILE = BYTES + [(0.5, cut), (0.5, spliced), (6, lines_spliced), (16, field_changed)]
 HEAD = BYTES + [(0.5, cut), (0.5, spliced), (2, lines_spliced)]
 KEY = BYTES + [(1, cut), (1, spliced)]
 
@@ -162,6 +168,14 @@ def mutated(random, text, other, table):
         for _mutation in range(random.choice([1, 1, 1, 2, 3])):
             found = weighted(random, table)(random, found or 'X', other or 'X')
     return found
+
+
+def mutated_file(random, text, other):
+    """A file so mutated, most often behind its first line."""
+    if random.random() < 0.1:
+        return mutated(random, text, other, FILE)
+    header, rest = re.match(r'([^\r\n]*[\r\n]*)(.*)', text, re.DOTALL).groups()
+    return header + mutated(random, rest or 'A', other, FILE)
 
 
 def mutated_interchange(random, text, other):

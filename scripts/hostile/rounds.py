@@ -20,7 +20,7 @@ from model.stores import Beside
 from model.stream import answers, lines, status
 from model.syntax import LONGEST_TEXT, segments_of
 
-from .mutations import FILE, HEAD, KEY, mutated, mutated_interchange, weighted
+from .mutations import HEAD, KEY, mutated, mutated_file, mutated_interchange, weighted
 from .sampled import Sampled
 
 # how many of each a round has
@@ -71,10 +71,10 @@ class Round:
 
     def spoiled_setup(self, files, others, count):
         """One of the two files mutated, or both."""
-        which = self.random.choice([(0,), (1,), (0, 1)])
+        which = self.random.choice([(0,), (0,), (1,), (1,), (0, 1)])
         texts = list(files)
         for place in which:
-            texts[place] = mutated(self.random, texts[place], others[place], FILE)
+            texts[place] = mutated_file(self.random, texts[place], others[place])
         folder = os.path.join(self.program.folder, 'setup %d' % count)
         os.mkdir(folder)
         program = Sampled(self.path, folder)

@@ -74,6 +74,10 @@ class Served:
         self.process = subprocess.Popen(words, stdout=subprocess.PIPE, encoding='utf-8')
         self.process.stdout.readline()
 
+    def wait(self):
+        """What it printed since, and its status."""
+        return self.process.stdout.read(), self.process.wait(SECONDS)
+
     def __enter__(self):
         return self
 
@@ -84,7 +88,8 @@ class Served:
     def stop(self):
         """Ends it at once."""
         self.process.kill()
-        self.process.communicate()
+        self.process.wait()
+        self.process.stdout.close()
 
     def ask(self, request):
         """The response to a request over a socket, which is ended behind it."""
