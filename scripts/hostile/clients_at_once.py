@@ -28,6 +28,7 @@ def at_once(requests, ask):
     came, ready = [None] * len(requests), threading.Barrier(len(requests))
 
     def client(place):
+        """One of them."""
         ready.wait()
         try:
             came[place] = ask(requests[place])
@@ -54,7 +55,8 @@ def two_hundred(checks, path):
             name = 'client %d of %d' % (number, CLIENTS)
             if response.startswith('HTTP/1.1 202'):
                 waits = body_of(response)
-                checks.expect(name + ' waits', ('waiting', number, 'HAULA'), tuple(waits[key] for key in ('answer', 'number', 'partner')))
+                told = waits['answer'], waits['number'], waits['partner']
+                checks.expect(name + ' waits', ('waiting', number, 'HAULA'), told)
                 checks.expect(name + ' waits for one before it', True, 1 <= waits['next'] < number)
             else:
                 checks.expect(name, owed[number], response)

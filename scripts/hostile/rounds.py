@@ -10,7 +10,6 @@ from model.beside import kinds_of
 from model.cuts import cut
 from model.days import Day
 from model.http import response
-from model.moments import are_digits
 from model.office import Office
 from model.reports import printed, text_of
 from model.requests import get, known, of_length, post, question, random_request, report_path, request
@@ -28,8 +27,8 @@ STREAMED = 160              # mutated interchanges in each of its streams
 REQUESTED = 260             # mutated requests
 SETUPS = 2                  # mutated set-ups
 KEYS = 2                    # mutated keys by the command
-ROWS_EVERY = 8              # of so many rounds one has its rows compared
-LARGE_EVERY = 60            # and one has interchanges of a MiB, or nearly
+THOROUGH_EVERY = 4          # of so many rounds one has its rows compared, and its streams cut as one
+LARGE_EVERY = 240           # and one, which is thorough too, has interchanges of a MiB, or nearly
 
 REQUEST_KINDS = [(9, 'body'), (6, 'head'), (2, 'key'), (2, 'length'), (1, 'plain')]
 
@@ -42,6 +41,7 @@ class Round:
         self.random = random.Random('fuzz %d' % seed)
         self.beside, self.inputs, self.path = Beside(path), Counter(), path
         self.program, self.office, self.day, self.broken = None, None, None, []
+        self.is_thorough = seed % THOROUGH_EVERY == 0
 
     def run(self):
         """All of it. Gives what was put in, what was compared, what differs, and the peaks of memory."""
@@ -53,7 +53,7 @@ class Round:
             self.streams()
             self.keys()
             self.requests()
-            if self.seed % ROWS_EVERY == 0:
+            if self.is_thorough:
                 self.beside.rows(self.name, self.program, self.office)
             return self.inputs, self.beside.counted, self.beside.shown, self.program.peaks
 
@@ -80,7 +80,7 @@ class Round:
         program = Sampled(self.path, folder)
         office = self.beside.init('%s, set-up %d' % (self.name, count), program, texts)
         self.inputs['set-up files'] += 1
-        if office and self.seed % ROWS_EVERY == 0:
+        if office and self.is_thorough:
             self.beside.rows('%s, set-up %d' % (self.name, count), program, office)
 
     # ---- streams
@@ -91,7 +91,7 @@ class Round:
         texts, found = [self.day.delivery()], 0
         while found < count:
             text = self.day.delivery()
-            for _variant in range(self.random.choice([1, 1, 2, 3])):
+            for _variant in range(self.random.choice([1, 2, 3, 4])):
                 yield mutated_interchange(self.random, text, self.random.choice(texts)), True
                 found += 1
             yield text, False
@@ -100,20 +100,23 @@ class Round:
     def stream(self):
         """Mutated interchanges one after the other. One that can't be cut may stand at the end alone, so most such are kept
         for requests."""
-        texts = []
+        texts, interchanges = [], []
         for text, is_mutated in self.variants(STREAMED):
-            if cut(text)[1]:
+            found, fault = cut(text)
+            if fault:
                 self.broken.append(text)
                 continue
+            interchanges += found
             texts.append(text + self.day.pick([(3, ''), (2, '\n'), (1, '\r\n')]))
             self.inputs['interchanges in streams' if is_mutated else 'as they were, beside these'] += 1
         if self.seed % LARGE_EVERY == 0:
             texts.append(self.large())
+            interchanges.append(texts[-1])
             self.inputs['interchanges of a MiB'] += 1
         if self.random.random() < 0.7 and self.broken:
             self.inputs['ends of streams that can\'t be cut'] += 1
-            return ''.join(texts), self.broken.pop() + self.random.choice(['', texts[0]])
-        return ''.join(texts), ''
+            return ''.join(texts), self.broken.pop() + self.random.choice(['', texts[0]]), interchanges
+        return ''.join(texts), '', interchanges
 
     def large(self):
         """An interchange with a long segment, so that its length is at the limit."""
@@ -131,9 +134,13 @@ class Round:
             self.answered('demo', Office(DEMO, keeps_fold=True), partial(self.program.fed, ['demo']))
 
     def answered(self, kind, office, program):
-        """A stream: every line, and the status."""
-        front, end = self.stream()
-        given = answers(office, front + end)
+        """A stream: every line, and the status. The model cuts each of its texts by itself, and in thorough rounds the whole
+        stream."""
+        front, end, interchanges = self.stream()
+        if self.is_thorough:
+            given = answers(office, front + end)
+        else:
+            given = [office.answer(text) for text in interchanges] + answers(office, end)
         wanted = text_of(lines(given)), '', status(given)
         self.beside.expect(kind, self.name, wanted, program(front, end))
         self.beside.counted.update(kind for answer in given for kind in kinds_of(answer))
