@@ -1,5 +1,5 @@
-"""Clients that hold the office up: one that sends nothing, one that sends slowly, one that doesn't read, one that resets. Each
-is given up within the limits of docs/DECISIONS.md, and others are served behind it."""
+"""Clients that hold the office up: ones that send nothing or slowly, that don't read or slowly, that reset. Each is given up
+within limits, and others are served behind it."""
 import threading
 import time
 
@@ -80,11 +80,35 @@ def unread(checks, path):
         with server.connect(TOO_SMALL) as connection:
             connection.sendall(get('/replies/HAULA/1').encode('latin-1'))
             time.sleep(0.2)
-            behind(checks, server, "a client that doesn't read", READ_LIMIT + DRAIN_LIMIT + SLACK)
+            behind(checks, server, "a client that doesn't read", REQUEST_LIMIT + DRAIN_LIMIT + SLACK)
         with server.connect() as connection:
             connection.sendall(get('/yard').encode('latin-1'))
             time.sleep(0.2)
             behind(checks, server, "a client that reads nothing of a short one and stays", DRAIN_LIMIT + SLACK)
+
+
+def slow_reader(checks, path):
+    """It asks for a long reply and reads a little of it every five seconds."""
+    with Served(path) as server:
+        server.same(checks, 'a reply of megabytes', post(long_reply()))
+        with server.connect(TOO_SMALL) as connection:
+            connection.sendall(get('/replies/HAULA/1').encode('latin-1'))
+            reader = threading.Thread(target=sip, args=[connection, SLOWEST])
+            reader.start()
+            time.sleep(0.2)
+            behind(checks, server, 'a client that reads a little every five seconds', REQUEST_LIMIT + DRAIN_LIMIT + SLACK)
+            reader.join()
+
+
+def sip(connection, seconds):
+    """Reads a little every five seconds, until the peer is gone or the time is over."""
+    for _time in range(seconds // 5):
+        time.sleep(5)
+        try:
+            if not connection.recv(TOO_SMALL):
+                return
+        except OSError:
+            return
 
 
 def resets(checks, path):
@@ -101,4 +125,4 @@ def resets(checks, path):
         server.same(checks, 'nothing of it was delivered', get('/replies/HAULA/2'))
 
 
-CHECKS = [slow, silent, unread, resets, slow_but_whole]
+CHECKS = [slow, slow_reader, silent, unread, resets, slow_but_whole]
