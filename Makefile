@@ -36,7 +36,7 @@ beside:
 program:
 	scripts/program
 
-# Real clients against `office serve`, curl and sockets, kind ones and others: once it is built, some 80 seconds.
+# Real clients against `office serve`, curl and sockets, kind ones and others: once it is built, some 100 seconds.
 clients:
 	scripts/clients
 

@@ -1,5 +1,6 @@
 """Mutated inputs against the plain slow model: scripts/fuzz."""
 import os
+import signal
 import sys
 import time
 from collections import Counter, deque
@@ -65,17 +66,22 @@ class Sums:
 
 
 def run_rounds(path, count, seed, jobs):
-    """Rounds until so many inputs were mutated, some at a time, told in the order of their seeds."""
-    sums, running = Sums(), deque()
-    with ProcessPoolExecutor(jobs) as pool:
-        while sums.mutated() < count:
-            while len(running) < 2 * jobs and (not running or count > 1):
-                running.append(pool.submit(run_round, path, seed))
-                seed += 1
-            at, done = running.popleft().result()
-            sums.add(at, done)
-            if sums.rounds % 20 == 0 or done[2]:
-                print(sums.line(at), flush=True)
+    """Rounds until so many inputs were mutated, or until it is interrupted, some at a time, told in the order of their
+    seeds."""
+    sums, running, at = Sums(), deque(), seed
+    with ProcessPoolExecutor(jobs, initializer=signal.signal, initargs=(signal.SIGINT, signal.SIG_IGN)) as pool:
+        try:
+            while sums.mutated() < count:
+                while len(running) < 2 * jobs and (not running or count > 1):
+                    running.append(pool.submit(run_round, path, seed))
+                    seed += 1
+                at, done = running.popleft().result()
+                sums.add(at, done)
+                if sums.rounds % 20 == 0 or done[2]:
+                    print(sums.line(at), flush=True)
+        except KeyboardInterrupt:
+            signal.signal(signal.SIGINT, signal.SIG_IGN)
+            print('interrupted: go on with seed %d' % (at + 1))
         for left in running:
             left.cancel()
     print(sums.line(at))
@@ -102,6 +108,7 @@ def main():
         print('%s is not built: make build' % path, file=sys.stderr)
         return 2
     count, seed = int(words[0]) if words else COUNT, int(words[1]) if len(words) == 2 else 1
+    signal.signal(signal.SIGINT, signal.default_int_handler)
     sums = run_rounds(path, count, seed, int(os.environ.get('JOBS', '2')))
     sums.told()
     grown = count > 1 and told_peaks(path)
