@@ -1,4 +1,4 @@
-.PHONY: demo test build check strength refusals beside program kill9 bench
+.PHONY: demo test build check strength refusals beside program kill9 memory clients fuzz bench
 
 # The main job on a real interchange, by a build that proves nothing (`make build` leaves the proved program).
 demo:
@@ -41,8 +41,18 @@ program:
 kill9:
 	scripts/kill9
 
-# The times of syntax, yard and stream.
+# The program with each allocation refused in turn, beside the model: once it is built.
+memory:
+	scripts/memory
+
+# Real clients against `office serve`, curl and sockets, kind ones and others: once it is built, some 80 seconds.
+clients:
+	scripts/clients
+
+# A million mutated inputs beside the model, in rounds: `make fuzz` or `make fuzz COUNT=1000 SEED=7`. Once it is built.
+fuzz:
+	scripts/fuzz $(or $(COUNT),1000000) $(SEED)
+
+# What the office costs, in one table, with a plain C program over libsqlite3 beside it: some fifteen minutes.
 bench: build
-	crates/edi_syntax/bench.sh
-	crates/yard_core/bench.sh
-	crates/office/bench.sh
+	bench/bench

@@ -9,12 +9,16 @@ const REQUEST: u64 = 60;
 /// How many seconds one read or write may take.
 const TURN: u64 = 10;
 
-/// A connection that gives up where a read or write takes longer than ten seconds, and a minute after it was accepted.
+/// How many seconds a read may take once the response is written.
+const PARTING: u64 = 1;
+
+/// A connection that gives up where a read or write takes too long, and a minute after it was accepted.
 #[derive(Drop)]
 pub(crate) struct TimedStream<'a, C: Clock> {
     stream: &'a TcpStream,
     clock: &'a C,
     accepted: Instant,
+    seconds: u64,
 }
 
 impl<'a, C: Clock> TimedStream<'a, C> {
@@ -23,14 +27,25 @@ impl<'a, C: Clock> TimedStream<'a, C> {
             stream,
             clock,
             accepted: Instant::now(clock)?,
+            seconds: TURN,
         })
+    }
+
+    /// The same connection once the response is written: nobody waits long for a peer that doesn't close it.
+    pub(crate) fn parting(&self) -> TimedStream<'a, C> {
+        TimedStream {
+            stream: self.stream,
+            clock: self.clock,
+            accepted: self.accepted,
+            seconds: PARTING,
+        }
     }
 
     /// How long the next read or write may take.
     fn turn(&self) -> io::Result<Duration> {
         let spent = self.accepted.elapsed(self.clock)?;
         match Duration::from_secs(REQUEST).checked_sub(spent) {
-            Some(left) if !left.is_zero() => Ok(left.min(Duration::from_secs(TURN))),
+            Some(left) if !left.is_zero() => Ok(left.min(Duration::from_secs(self.seconds))),
             _ => Err(ErrorKind::TimedOut.into()),
         }
     }

@@ -2,6 +2,7 @@ use crate::looked_at::is_looked_at;
 use crate::store::open_store;
 use crate::telling::{tell_fault, tell_stream, tell_tally, tell_unread};
 use crate::watched::Watched;
+use office_replies::Deliver;
 use office_stream::{Port, run_stream};
 use std::fs::File;
 use std::io::{Read, Write};
@@ -34,10 +35,20 @@ fn deliver_all<R: Read, W: Write, E: Write>(
     writer: &mut Port<W>,
     errors: &mut Port<E>,
 ) -> u8 {
-    let desk = match open_store(rt, store) {
-        Ok(desk) => desk,
-        Err(fault) => return tell_fault(errors, &fault),
-    };
+    match open_store(rt, store) {
+        Ok(desk) => deliver_to(rt, desk, reader, writer, errors),
+        Err(fault) => tell_fault(errors, &fault),
+    }
+}
+
+// A person sees how far it is, and in the end how the interchanges were answered.
+fn deliver_to<D: Deliver, R: Read, W: Write, E: Write>(
+    rt: &HostRuntime,
+    desk: D,
+    reader: &mut Port<R>,
+    writer: &mut Port<W>,
+    errors: &mut Port<E>,
+) -> u8 {
     let looked_at = is_looked_at(rt);
     let mut watched = Watched::new(desk, rt, looked_at);
     let ended = run_stream(rt.alloc(), reader, writer, &mut watched, TURNS);

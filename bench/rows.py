@@ -1,0 +1,264 @@
+"""The rows of the table: what is measured, of the office and of the peer in the same run."""
+import os
+import shutil
+import socket
+import subprocess
+import tempfile
+import time
+
+import streams
+from running import Server, Stream, instructions, least_seconds
+
+PART = 1000                 # interchanges that are timed together
+PARTS = 5                   # of which the least counts
+SHORT, SHORTS = 250, 12     # the same for durable ones: other programs' syncs disturb them, and a part is to have some rest
+MARKS = [1000, 10000, 100000]
+IN_MEMORY = '/dev/shm' if os.path.isdir('/dev/shm') else None    # where a sync costs nothing
+PATIENCE = 100              # seconds that a stream may take
+IN_DEMO = 4                 # containers in the yard of the demonstration
+BACK = 10000                # texts that come in reverse order
+CONTAINERS = 10000          # in the yard that is reported
+REQUESTS = 2000
+FEW, MORE = 100, 600        # deliveries whose instructions are counted; the difference is without start and opening
+
+
+class Row:
+    """A row: what, in which unit, the office's figure and the peer's (None if there is none), what is wanted of the office,
+    and whether it is a rate, which is told a second too."""
+
+    def __init__(self, what, unit, office, peer=None, wanted='', is_rate=False):
+        self.what, self.unit, self.office, self.peer, self.wanted, self.is_rate = what, unit, office, peer, wanted, is_rate
+
+
+def least(parts, mark, of):
+    """The least cost of an interchange, in microseconds, among the parts that begin at a mark."""
+    costs = [of(part) for part in parts[mark // PART:mark // PART + PARTS]]
+    return min(costs) * 1e6 / PART if len(costs) == PARTS else None
+
+
+def by_clock(part):
+    """Seconds of a clock."""
+    return part.seconds
+
+
+def by_processor(part):
+    """Seconds of a processor, user and system."""
+    return part.processor
+
+
+def fed(both, texts, size, reached=lambda count: None):
+    """The parts of a stream, of each program, fed to them in turn, part by part, as far as patience goes. Before each part
+    `reached` is told how many interchanges were fed."""
+    started, parts = time.monotonic(), [[] for _program in both]
+    for first in range(0, len(texts) - size + 1, size):
+        if time.monotonic() - started > PATIENCE:
+            break
+        reached(first)
+        for program, taken in zip(both, parts):
+            taken.append(program.feed(texts[first:first + size]))
+        if len({taken[-1].answers for taken in parts}) > 1:
+            raise SystemExit('bench: office and peer differ behind interchange %d' % first)
+    for program in both:
+        program.close()
+    return parts
+
+
+def flat(parts, of):
+    """The cost at the last mark that was reached by that at the first, and that mark."""
+    reached = [mark for mark in MARKS if least(parts, mark, of) is not None]
+    if len(reached) < 2:
+        return None, None
+    return least(parts, reached[-1], of) / least(parts, reached[0], of), reached[-1]
+
+
+def per_mark(what, parts, of, wanted, marks):
+    """A row for each mark."""
+    rows = []
+    for mark in marks:
+        costs = [least(taken, mark, of) for taken in parts] + [None]
+        rows.append(Row('%s, %s kept' % (what, format(mark, ',')), 'us', costs[0], costs[1], wanted, of is by_clock))
+    return rows
+
+
+def long_stream(stores, what, texts):
+    """A long stream over stores in a file system in memory, if there is one: cost without sync, whether it is flat, the most
+    memory; then durable deliveries over the stores that were there at the marks."""
+    name = what.split()[0].strip(',')
+    with tempfile.TemporaryDirectory(prefix='bench-', dir=IN_MEMORY) as folder:
+        both = stores.streams(name, folder=folder)
+        parts = fed(both, texts, PART, lambda count: stores.save(folder, name, count) if count in MARKS else None)
+        stores.save(folder, name, 'end')
+    rows = per_mark(what + ', no sync', parts, by_clock, '2.26 times', MARKS)
+    ratios = [flat(taken, by_processor) for taken in parts] + [(None, None)]
+    if ratios[0][1]:
+        after = '%s: at %s kept by at 1,000, processor' % (what, format(ratios[0][1], ','))
+        rows.append(Row(after, 'times', ratios[0][0], ratios[1][0], 'at most 1.2'))
+    peaks = [program.peak for program in both] + [None]
+    rows.append(Row('%s: peak memory after %s' % (what, format(PART * len(parts[0]), ',')), 'MB', peaks[0], peaks[1]))
+    return rows + [row for mark in MARKS if mark < PART * len(parts[0]) for row in durable(stores, what, texts, mark)]
+
+
+def durable(stores, what, texts, mark):
+    """Durable deliveries over the stores that were there at a mark."""
+    both = stores.continued('%s-%d' % (what.split()[0].strip(','), mark))
+    parts = fed(both, texts[mark:mark + SHORTS * SHORT], SHORT)
+    costs = [min(part.seconds for part in taken) * 1e6 / SHORT for taken in parts] + [None]
+    return [Row('%s, durable, %s kept' % (what, format(mark, ',')), 'us', costs[0], costs[1], '1.67 times', True)]
+
+
+def counted(stores, program, store, texts):
+    """Instructions of a delivery on a copy of a store, without those of start and opening."""
+    totals = []
+    for count in (FEW, MORE):
+        stream = stores.file('counted.edi', ''.join(text + '\n' for text in texts[:count]))
+        copy = stores.copy(store, stores.path('counted'))
+        words = [program, 'deliver', copy] + (['-'] if program == stores.office else [])
+        totals.append(instructions(stream, *words))
+    return (totals[1] - totals[0]) / (MORE - FEW)
+
+
+def counts(stores):
+    """Instructions of a delivery over the stores that were there at the first and the last mark."""
+    if not shutil.which('valgrind'):
+        return []
+    texts, rows, costs = streams.gates(MARKS[-1] + MORE), [], []
+    for mark in (MARKS[0], MARKS[-1]):
+        store = stores.path('%s-gate-ins-%d' % ('peer' if stores.peer else 'office', mark))
+        if not os.path.exists(store):
+            return []
+        cost = [counted(stores, program, store, texts[mark:]) for program in (stores.office, stores.peer) if program] + [None]
+        costs.append(cost)
+        rows.append(Row('gate-ins and gate-outs, instructions, %s kept' % format(mark, ','), 'thousands', *(
+            number and number / 1000 for number in cost[:2])))
+    ratios = [after and after / before for before, after in zip(*costs)]
+    return rows + [Row('the latter by the former', 'times', ratios[0], ratios[1], 'at most 1.2')]
+
+
+def own_work(stores):
+    """`office demo`, over tables in memory, beside the peer with no statement run."""
+    texts = streams.gates(MARKS[1] + PARTS * PART, IN_DEMO)
+    both = [Stream(stores.office, 'demo')]
+    if stores.peer:
+        both.append(Stream(stores.peer, 'own', stores.new('own', 'demo')))
+    parts = fed(both, texts, PART)
+    return per_mark('gate-ins and gate-outs, tables in memory; peer: no store', parts, by_processor, '2.17 times', MARKS[:2])
+
+
+def reversed_order(stores):
+    """Texts that wait, and the one that closes the gap, over stores in a file system in memory, if there is one."""
+    texts = streams.reverse(BACK)
+    with tempfile.TemporaryDirectory(prefix='bench-', dir=IN_MEMORY) as folder:
+        both = stores.streams('reverse', folder=folder)
+        waiting = [program.feed(texts[:-1]) for program in both]
+        closing = [program.feed(texts[-1:]) for program in both]
+        for program in both:
+            program.close()
+    if len({part.answers for part in waiting}) > 1 or len({part.answers for part in closing}) > 1:
+        raise SystemExit('bench: office and peer differ in reverse order')
+    early = [part.seconds * 1e6 / BACK for part in waiting] + [None]
+    close = [part.seconds * 1e3 for part in closing] + [None]
+    return [
+        Row('10,000 texts in reverse order, no sync, each', 'us', early[0], early[1], '', True),
+        Row('the text that closes their gap', 'ms', close[0], close[1])]
+
+
+def opening(stores):
+    """Opening the stores that the longest stream has left."""
+    office, peer = stores.path('office-gate-ins-end'), stores.path('peer-gate-ins-end')
+    spent = least_seconds(3, stores.office, 'report', office, 'visits', streams.box(0)) * 1e3
+    rows_only = all_rows = None
+    if stores.peer:
+        rows_only = least_seconds(3, stores.peer, 'opened', peer) * 1e3
+        all_rows = least_seconds(3, stores.peer, 'rows', peer) * 1e3
+    return [
+        Row('opening the store that gate-ins and gate-outs leave, with a small report', 'ms', spent, rows_only, '1200 ms'),
+        Row('the same; the peer reads all rows', 'ms', spent, all_rows)]
+
+
+def filled(stores):
+    """Stores of a large yard that is filled, with a load list."""
+    both = stores.streams('yard')
+    for program in both:
+        program.feed(streams.filling(CONTAINERS))
+        program.close()
+    return stores.path('office-yard'), stores.path('peer-yard')
+
+
+def reports(stores):
+    """Reports of a yard of 10,000 containers, the opening of the store in them."""
+    office, peer = filled(stores)
+    rows = []
+    for kind, key in (('yard', ()), ('yardcsv', ()), ('visits', (streams.box(5000),)), ('ticket', ('HAULA/50',)), ('reply', ('HAULA/50',))):
+        spent = least_seconds(3, stores.office, 'report', office, kind, *key) * 1e3
+        other = least_seconds(3, stores.peer, 'report', peer) * 1e3 if stores.peer and kind == 'yard' else None
+        rows.append(Row('report %s, 10,000 containers, with opening' % kind, 'ms', spent, other))
+    return rows
+
+
+def served(stores, client, paths, requests, words):
+    """Microseconds a request over HTTP, of the office and of the peer, over their stores."""
+    spent, responses = [], set()
+    for program, path in zip((stores.office, stores.peer), paths):
+        if program:
+            server = Server(program, 'serve', path, str(free_port()), str(requests))
+            seconds, response = server.asked(client, *words)
+            server.close()
+            spent.append(seconds * 1e6)
+            responses.add(response)
+    if len(responses) > 1:
+        raise SystemExit('bench: office and peer differ over HTTP')
+    return (spent + [None])[:2]
+
+
+def http(stores, client):
+    """Requests over HTTP, one connection each; after `reports`, whose stores have the large yard."""
+    gates, yard = streams.gates(REQUESTS), ['/yard', str(REQUESTS)]
+    posts = stores.file('posts.edi', ''.join(text + '\n' for text in gates))
+    disk = [stores.new(program + '-http') for program in ('office', 'peer')]
+    large = [stores.path(program + '-yard') for program in ('office', 'peer')]
+    with tempfile.TemporaryDirectory(prefix='bench-', dir=IN_MEMORY) as folder:
+        memory = [stores.new(program + '-http', folder=folder) for program in ('office', 'peer')]
+        unsynced = served(stores, client, memory, REQUESTS, [posts])
+    return [
+        Row('POST of a gate-in or gate-out, no sync', 'us', *unsynced, '', True),
+        Row('the same, durable', 'us', *served(stores, client, disk, REQUESTS, [posts]), '1.45 times', True),
+        Row('GET /yard, 200 containers', 'us', *served(stores, client, disk, REQUESTS, yard), '', True),
+        Row('GET /yard, 10,000 containers', 'us', *served(stores, client, large, 200, ['/yard', '200']), '', True)]
+
+
+def free_port():
+    """A port that nobody listens on."""
+    with socket.socket() as free:
+        free.bind(('127.0.0.1', 0))
+        return free.getsockname()[1]
+
+
+def printed_by(top, crate):
+    """The lines of the bench of a crate."""
+    done = subprocess.run([os.path.join(top, 'crates', crate, 'bench.sh')], stdout=subprocess.PIPE, check=False)
+    return done.stdout.decode().splitlines() if done.returncode == 0 else []
+
+
+def yard(top):
+    """Calls on a nearly full yard of twenty blocks, by the bench of yard_core."""
+    rows = []
+    for line in printed_by(top, 'yard_core'):
+        call, _colon, rest = line.partition(':')
+        if ' in 20' in rest:
+            rows.append(Row('the yard alone: %s, 20 blocks' % call, 'ns', float(rest.split(', ')[1].split()[0])))
+    return rows or [Row('the yard alone: crates/yard_core/bench.sh failed', 'ns', None)]
+
+
+def syntax(top):
+    """A megabyte beside a plain C scanner, by the bench of edi_syntax."""
+    times = {}
+    for line in printed_by(top, 'edi_syntax'):
+        name, _colon, rest = line.partition(':')
+        if rest.split()[1:2] in (['us'], ['us,']):
+            times[name] = float(rest.split()[0])
+    if 'C scanner' not in times:
+        return [Row('syntax: crates/edi_syntax/bench.sh failed', 'us', None)]
+    wanted = {'open and walk': '2.0 times', 'cut in pieces': '3.0 times', 'by messages': '2.0 times'}
+    return [
+        Row('syntax, a megabyte: %s; peer: a C scanner' % name, 'us', spent, times['C scanner'], wanted.get(name, ''))
+        for name, spent in times.items() if name != 'C scanner']

@@ -1,0 +1,161 @@
+"""The streams of the bench, each a list of interchanges of one line of text each, and the set-up that they are for.
+
+All are the same at each run: what is drawn is drawn by a seed.
+"""
+import random
+
+from model.names import check_digit
+
+PARTNERS = '\n'.join([
+    'what,name,value', 'terminal,TERM1,', 'partner,HAULA,gate', 'partner,HAULB,gate', 'partner,LINEA,line',
+    'partner,QUAYA,quay', 'partner,YARDA,yard', ''])
+LARGE_YARD = 'block,bays,rows,tiers\n' + ''.join('%s,40,12,6\n' % letter for letter in 'ABCDEFGH')
+SMALL_YARD = 'block,bays,rows,tiers\nA,3,2,3\nB,2,1,2\n'
+
+TYPES = {'34': 'CODECO', '36': 'CODECO', 'YMV': 'CODECO', '43': 'COPRAR', '45': 'COPRAR', '44': 'COARRI', '46': 'COARRI'}
+IN_YARD = 200               # containers that are in the yard at a time, while others come and go
+LIST = 10                   # lines of a load list, each followed by its gate-in and then by its load
+SEED = 'bench'
+
+
+def box(serial):
+    """A container's number, with its check digit."""
+    front = 'ABCU%06d' % serial
+    return front + str(check_digit(front))
+
+
+def size_of(serial):
+    """Every third is a forty."""
+    return '42G1' if serial % 3 == 2 else '22G1'
+
+
+class Group:
+    """What a message says of one container."""
+
+    def __init__(self, number, size='', slot='', booking='', port='', moment='', laden=True):
+        self.head = 'EQD+CN+%s+%s:102:5+++%s' % (number, size, '5' if laden else '4')
+        self.parts = [
+            part % value for part, value in (
+                ('RFF+BN:%s', booking), ('DTM+7:%s:203', moment), ('LOC+ZZZ+%s', slot), ('LOC+11+%s:139:6', port)) if value]
+
+    def segments(self):
+        """Its segments."""
+        return [self.head] + self.parts
+
+
+def message(reference, code, groups, call=None):
+    """A message of that code, for a vessel's call (vessel and voyage) if there is one."""
+    segments = ['UNH+%d+%s:D:95B:UN:ITG14' % (reference, TYPES[code]), 'BGM+%s+%d+9' % (code, reference)]
+    if call:
+        segments.append('TDT+20+%s+1++172:20+++%s:146' % (call[1], call[0]))
+    for group in groups:
+        segments += group.segments()
+    return segments + ['UNT+%d+%d' % (len(segments) + 1, reference)]
+
+
+def interchange(partner, number, *messages):
+    """An interchange of a partner's."""
+    segments = ['UNB+UNOA:3+%s+TERM1+240305:0910+%06d' % (partner, number)]
+    for segments_of_message in messages:
+        segments += segments_of_message
+    return ''.join(segment + "'" for segment in segments + ['UNZ+%d+%06d' % (len(messages), number)])
+
+
+class Numbers:
+    """Counts each partner's interchanges."""
+
+    def __init__(self):
+        self.last = {}
+
+    def send(self, partner, *messages):
+        """The partner's next interchange."""
+        self.last[partner] = self.last.get(partner, 0) + 1
+        return interchange(partner, self.last[partner], *messages)
+
+
+def gate_in(serial, slot=''):
+    """A gate-in of one container."""
+    return message(1, '34', [Group(box(serial), size_of(serial), slot, booking='BOOK%d' % serial, moment='202403050910')])
+
+
+def gates(count, in_yard=IN_YARD):
+    """Gate-ins and gate-outs in turn, from one haulier, with so many containers in the yard."""
+    numbers, texts = Numbers(), []
+    for serial in range(count):
+        texts.append(numbers.send('HAULA', gate_in(serial)))
+        if serial >= in_yard:
+            texts.append(numbers.send('HAULA', message(1, '36', [Group(box(serial - in_yard))])))
+        if len(texts) >= count:
+            break
+    return texts[:count]
+
+
+def lists(count):
+    """Load lists of ten lines, each followed by the ten gate-ins and the ten loads; a call has 500 lines."""
+    numbers, texts, serial = Numbers(), [], 0
+    while len(texts) < count:
+        call, serials = ('9123456', 'V%d' % (serial // 500)), range(serial, serial + LIST)
+        serial += LIST
+        listed = [Group(box(each), port='NLRTM') for each in serials]
+        texts.append(numbers.send('LINEA', message(1, '45', listed, call)))
+        texts += [numbers.send('HAULA', gate_in(each)) for each in serials]
+        texts += [numbers.send('QUAYA', message(1, '46', [Group(box(each))], call)) for each in serials]
+    return texts[:count]
+
+
+def reverse(count):
+    """So many texts of one haulier in reverse order, and then the one that closes the gap."""
+    def turn(number):
+        serial = number // 2
+        return gate_in(serial) if number % 2 else message(1, '36', [Group(box(serial - 1))])
+    return [interchange('HAULA', number, turn(number)) for number in range(count + 1, 0, -1)]
+
+
+def filling(count):
+    """Gate-ins of so many containers, a hundred in a message."""
+    numbers, texts = Numbers(), []
+    for first in range(0, count, 100):
+        groups = [Group(box(serial), size_of(serial), moment='202403050910') for serial in range(first, first + 100)]
+        texts.append(numbers.send('HAULA', message(1, '34', groups)))
+    return texts
+
+
+# ---- all orders, and what is refused of them
+
+SLOTS = ['A001011', 'A001012', 'A002011', 'A002012', 'A003021', 'A004021', 'B001011', 'B002011', 'B009011', 'A001015', '']
+CALLS = [('9123456', 'V1'), ('9123456', 'V2'), ('VESSEL B', 'W?+1')]
+SENDERS = {'34': 'HAULA', '36': 'HAULB', 'YMV': 'YARDA', '43': 'LINEA', '45': 'LINEA', '44': 'QUAYA', '46': 'QUAYA'}
+
+
+def drawn_group(chance, code):
+    """What a message of that code may say of one of a few containers."""
+    serial = chance.randrange(30)
+    slot = chance.choice([slot for slot in SLOTS if slot or code != 'YMV'])
+    return Group(
+        box(serial), size_of(serial), slot if chance.random() < 0.6 or code == 'YMV' else '',
+        booking=chance.choice(['', 'B?:1', 'BOOKING 7']), port=chance.choice(['', 'NLRTM']),
+        moment=chance.choice(['', '202403061200']), laden=chance.random() < 0.7)
+
+
+def drawn_messages(chance, code):
+    """One to three messages of a code, of one to four containers each."""
+    return [
+        message(reference, code, [drawn_group(chance, code) for _group in range(chance.randint(1, 4))],
+                None if TYPES[code] == 'CODECO' else chance.choice(CALLS))
+        for reference in range(1, chance.randint(1, 3) + 1)]
+
+
+def mixed(count):
+    """All seven orders over a few containers and a small yard, so that most reasons for a refusal come up; some early,
+    some again, some under a number that is used."""
+    chance, numbers, texts = random.Random(SEED), Numbers(), []
+    while len(texts) < count:
+        code = chance.choice(['34', '34', '36', 'YMV', '43', '45', '44', '46'])
+        text = numbers.send(SENDERS[code], *drawn_messages(chance, code))
+        texts.insert(max(0, len(texts) - chance.choice([0, 0, 0, 1, 3])), text)
+        if chance.random() < 0.1:
+            texts.append(chance.choice(texts))
+        if chance.random() < 0.05:
+            sender = SENDERS[code]
+            texts.append(interchange(sender, chance.randint(1, numbers.last[sender]), *drawn_messages(chance, code)))
+    return texts

@@ -1,0 +1,39 @@
+"""Real clients against `office serve`: curl and sockets, kind ones and others. scripts/clients."""
+import os
+import sys
+import time
+from concurrent.futures import ThreadPoolExecutor
+
+from . import clients_at_once, clients_by_curl, clients_in_the_way
+from .served import Checks
+
+TOP = os.path.dirname(os.path.dirname(os.path.dirname(os.path.abspath(__file__))))
+CHECKS = clients_in_the_way.CHECKS + clients_at_once.CHECKS + clients_by_curl.CHECKS
+
+
+def tried(checks, check, path):
+    """A check; a fault of its own counts as failed."""
+    try:
+        check(checks, path)
+    except Exception as fault:
+        checks.expect('%s: %r' % (check.__name__, fault), 'an end', 'a fault')
+
+
+def main():
+    """Runs all checks, those that wait beside the others. Gives the status."""
+    named = sys.argv[1] if len(sys.argv) > 1 else os.environ.get('OFFICE')
+    path = os.path.realpath(named or os.path.join(TOP, 'crates/office/out/office'))
+    if not os.access(path, os.X_OK):
+        print('clients: %s is not built (make build)' % path)
+        return 2
+    checks, started = Checks(), time.monotonic()
+    with ThreadPoolExecutor(len(clients_in_the_way.CHECKS) + 1) as pool:
+        waiting = [pool.submit(tried, checks, check, path) for check in clients_in_the_way.CHECKS]
+        for check in CHECKS[len(waiting):]:
+            tried(checks, check, path)
+        for done in waiting:
+            done.result()
+    print('\n'.join(sorted(checks.measured)))
+    print('%d seconds' % (time.monotonic() - started))
+    print('%d passed, %d failed' % (checks.passed, checks.failed))
+    return 1 if checks.failed else 0
