@@ -10,6 +10,14 @@
     pairs.py       two processes on one store
     parts.py       all of these, with what was counted: scripts/kill9
     memory.py      each allocation of a process refused in turn, by refuse.c: scripts/memory
+    served.py      `serve` over a new store with the model's office beside it
+    clients_*.py   curl and sockets: each route and form; many at once; slow ones, and ones that go away
+    clients.py     all of these: scripts/clients
+    mutations.py   texts with bytes, segments, values and lines changed
+    rounds.py      a round of mutated inputs from its seed: set-up files, streams, keys, requests, and the rows behind them
+    sampled.py     the program with the peak of its memory
+    bounded.py     those peaks on inputs of which nothing more is kept
+    fuzz.py        round after round: scripts/fuzz
 
 No process is stopped but those that were started here.
 """
