@@ -68,7 +68,7 @@ impl<S: Alter + Drop> Desk<S> {
     ghost use Rattle.office_desk.specs.Desks.{IsSound, OpensAt};
 
     /// The desk of a store that holds an office: its set-up and its terminal are those that the tables hold. Where it is
-    /// refused, the connection is given up, and no row has changed.
+    /// refused, the connection is given up.
     pub fn open(alloc: Global, conn: Connection<S>) -> Result<Desk<S>, TableFault>
         requires idle { conn.in_transaction ≡ false }
         ensures opens { IfOk result (λ desk. IsSound S.Store desk → (content : SetupContent) (ds : List (List ℕ)) (rows : Rows) →
