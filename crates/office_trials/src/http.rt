@@ -4,6 +4,7 @@ mod failing;
 mod keys;
 mod long;
 mod rows;
+mod waiting;
 
 use crate::office::pieces::Pieces;
 use office_commands::open_demo::open_demo;

@@ -23,7 +23,7 @@ const NO_LENGTH: &[u8] =
 const TOO_LONG: &[u8] =
     b"HTTP/1.1 413 Payload Too Large\r\nContent-Type: application/json\r\nContent-Length: 21\r\nConnection: close\r\n\r\n{\"answer\":\"too long\"}";
 
-const EMPTY_YARD: &[u8] =
+pub(super) const EMPTY_YARD: &[u8] =
     b"HTTP/1.1 200 OK\r\nContent-Type: text/plain\r\nContent-Length: 18\r\nConnection: close\r\n\r\nYARD\n0 CONTAINERS\n";
 
 /// A delivery that waits.
