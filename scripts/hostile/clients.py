@@ -1,5 +1,6 @@
 """Real clients against `office serve`: curl and sockets, kind ones and others. scripts/clients."""
 import os
+import signal
 import sys
 import time
 from concurrent.futures import ThreadPoolExecutor
@@ -26,6 +27,7 @@ def main():
     if not os.access(path, os.X_OK):
         print('clients: %s is not built (make build)' % path)
         return 2
+    signal.signal(signal.SIGINT, signal.default_int_handler)     # which a shell may have had ignored, and its servers too
     checks, started = Checks(), time.monotonic()
     with ThreadPoolExecutor(len(clients_in_the_way.CHECKS) + 1) as pool:
         waiting = [pool.submit(tried, checks, check, path) for check in clients_in_the_way.CHECKS]

@@ -7,7 +7,7 @@ from .served import Served, gate_in, get, post, received, reset
 
 READ_LIMIT = 10             # seconds for a read or a write
 REQUEST_LIMIT = 60          # seconds for a request
-DRAIN_LIMIT = 10            # seconds for what is read and dropped behind a response
+DRAIN_LIMIT = 1             # seconds for a read of what is dropped behind a response
 SLACK = 3
 SLOWEST = REQUEST_LIMIT + DRAIN_LIMIT + SLACK + 4    # seconds that the slow client goes on
 

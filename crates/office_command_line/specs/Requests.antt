@@ -1,11 +1,13 @@
 -- What the words of a command line ask for.
-use Rattle.std.specs.Prelude.{◌≡◌, ℕ, Bool, true, false, cond, ◌&&◌, nat_le, List, length, Option, None, Some, codes}
+use Rattle.std.specs.Prelude.{◌≡◌, ℕ, Bool, true, false, cond, ◌&&◌, nat_le, List, [], length, Option, None, Some, codes}
 use Rattle.std.specs.Option.{option_map, option_and_then}
 use Rattle.std.specs.List.{list_all}
 use Rattle.std.specs.Char.{is_ascii_digit}
 use Rattle.std.specs.Str.{bytes_eq}
 use Rattle.std.specs.Str.Parse.{digits_value}
-use Rattle.clap.specs.Words.{Row, Text, first_of, subcommand_of, takes}
+use Rattle.clap.specs.Words.{Row, Text, first_of, subcommand_of, kind_of, fault_of, IsAmong}
+use Rattle.clap.specs.declared.error.kind.ErrorKind.{ErrorKind}
+use Rattle.clap.specs.declared.error.kind.ErrorKind.TheVariants.{DisplayHelp, DisplayVersion}
 use Rattle.office_command_line.specs.Commands.{office_app}
 use Rattle.office_command_line.specs.declared.command_fault.CommandFault.{CommandFault}
 use Rattle.office_command_line.specs.declared.command_fault.CommandFault.TheVariants.{Words, Values, Memory}
@@ -103,18 +105,47 @@ asked_by name rows =
 abbrev pub met_asks : Option (Text × List Row) → Option Asked
 met_asks met = option_and_then (λ (m : Text × List Row). asked_by m.0 m.1) met
 
--- the subcommand that was met asks for nothing
+-- how a subcommand is called
+abbrev pub usage_line : Text → Text
+usage_line name =
+    cond (bytes_eq name (codes "serve")) (codes "usage: office serve DB PORT COUNT\n")
+    (cond (bytes_eq name (codes "report")) (codes "usage: office report DB KIND [KEY]\n") (codes "usage: office COMMAND\n"))
+
+-- how the subcommand is called that was met
+abbrev pub usage_of : Option (Text × List Row) → Text
+usage_of None = usage_line []
+usage_of (Some met) = usage_line met.0
+
+-- the subcommand that was met asks for nothing, and its usage is told
 abbrev pub RefusesMet : Option (Text × List Row) → CommandFault → Type 0
 RefusesMet met (Words error) = ⊥
-RefusesMet met (Values line) = met_asks met ≡ None
+RefusesMet met (Values line) = (met_asks met ≡ None) × (line.now ≡ usage_of met)
 RefusesMet met Memory = ⊥
 
 -- what `clap` states for the words
 abbrev pub words_ask : List Text → Option Asked
 words_ask words = met_asks (subcommand_of office_app words)
 
--- why words ask for nothing: `clap` doesn't take them, or what it states for them is no request, or memory was refused
+-- `clap` takes the words, and they ask for that
+abbrev pub WordsAsk : List Text → Asked → Type 0
+WordsAsk words what = (fault_of office_app words ≡ []) × (words_ask words ≡ Some what)
+
+-- why words ask for nothing: a fault that `clap` finds in them, a call for help or for the version being one; or it takes
+-- them, and they are no request; or memory was refused
 abbrev pub RefusesWords : List Text → CommandFault → Type 0
-RefusesWords words (Words error) = ¬ (takes office_app words ≡ true)
-RefusesWords words (Values line) = words_ask words ≡ None
+RefusesWords words (Words error) = IsAmong (kind_of error) (fault_of office_app words)
+RefusesWords words (Values line) =
+    (fault_of office_app words ≡ []) × (words_ask words ≡ None) × (line.now ≡ usage_of (subcommand_of office_app words))
 RefusesWords words Memory = Unit {0}
+
+-- help and the version are results
+abbrev pub is_result : ErrorKind → Bool
+is_result DisplayHelp = true
+is_result DisplayVersion = true
+is_result _ = false
+
+-- its text was asked for
+abbrev pub is_asked : CommandFault → Bool
+is_asked (Words error) = is_result (kind_of error)
+is_asked (Values line) = false
+is_asked Memory = false

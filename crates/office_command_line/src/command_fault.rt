@@ -1,4 +1,5 @@
 use clap::Error;
+use clap::error::ErrorKind;
 use std::fmt;
 
 /// Why a command line asks for nothing that the program does. `Display` gives what to print, in whole lines.
@@ -13,10 +14,18 @@ pub enum CommandFault {
 }
 
 impl CommandFault {
+    ghost use Rattle.std.specs.Prelude.{◌≡◌};
+    ghost use Rattle.office_command_line.specs.Requests.{is_asked};
+
     /// Whether the text was asked for, as help or as the version: then it is a result and no fault.
-    pub fn is_asked(&self) -> bool {
+    pub fn is_asked(&self) -> bool
+        ensures { result ≡ is_asked self.now }
+    {
         match self {
-            CommandFault::Words(error) => !error.use_stderr(),
+            CommandFault::Words(error) => matches!(
+                error.kind(),
+                ErrorKind::DisplayHelp | ErrorKind::DisplayVersion
+            ),
             CommandFault::Values(_) => false,
             CommandFault::Memory => false,
         }

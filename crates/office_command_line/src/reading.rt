@@ -1,7 +1,7 @@
 ghost use Rattle.std.specs.Prelude.{◌≡◌, IfOk, IfErr, map};
 ghost use Rattle.std.specs.Option.{option_map};
 ghost use Rattle.clap.specs.Words.{found_of, rows_of, subcommand_rows_of, first_of};
-ghost use Rattle.office_command_line.specs.Requests.{asked, init_asked, deliver_asked, serve_asked, report_asked, report_with, asked_by, met_asks, words_ask, kind_said, wants_key, RefusesWords, RefusesMet};
+ghost use Rattle.office_command_line.specs.Requests.{asked, init_asked, deliver_asked, serve_asked, report_asked, report_with, asked_by, met_asks, kind_said, usage_line, wants_key, RefusesWords, RefusesMet, WordsAsk};
 
 use crate::command_fault::CommandFault;
 use crate::numbers::number_upto;
@@ -14,7 +14,7 @@ use std::alloc::Global;
 
 /// What the words of a command line ask for, of which the first is the program's name.
 pub fn read_command<'a>(alloc: Global, words: &'a [&'a str]) -> Result<Request<'a>, CommandFault>
-    ensures ok { IfOk result (λ request. words_ask (map (λ word. word.now) words.entry.now) ≡ Some (asked request)) }
+    ensures ok { IfOk result (λ request. WordsAsk (map (λ word. word.now) words.entry.now) (asked request)) }
     ensures err { IfErr result (RefusesWords (map (λ word. word.now) words.entry.now)) }
 {
     let Ok(office) = office_command(alloc) else {
@@ -44,7 +44,9 @@ fn request_in<'a>(matches: &ArgMatches<'a>) -> Result<Request<'a>, CommandFault>
 }
 
 // How a command is called.
-fn usage_of(name: &str) -> &'static str {
+fn usage_of(name: &str) -> &'static str
+    ensures { result.now ≡ usage_line name.now }
+{
     match name {
         "serve" => "usage: office serve DB PORT COUNT\n",
         "report" => "usage: office report DB KIND [KEY]\n",

@@ -154,3 +154,13 @@ SayFiles partners blocks setup = (p b : List Record) × AreRows partners p × Ar
 abbrev pub RefuseFiles : Text → Text → SetupFault → Type 0
 RefuseFiles partners blocks Memory = Unit {0}
 RefuseFiles partners blocks fault = (p b : List Record) × AreRows partners p × AreRows blocks b × IsLowest p b fault
+
+-- as the program prints it
+abbrev pub fault_name : SetupFault → Text
+fault_name Csv = codes "Csv"
+fault_name Terminal = codes "Terminal"
+fault_name Partner = codes "Partner"
+fault_name Code = codes "Code"
+fault_name Limit = codes "Limit"
+fault_name BlockFault = codes "Block"
+fault_name Memory = codes "Memory"

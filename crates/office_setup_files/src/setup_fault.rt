@@ -24,8 +24,12 @@ pub enum SetupFault {
 }
 
 impl SetupFault {
+    ghost use Rattle.office_setup_files.specs.Said.{fault_name};
+
     /// Its name.
-    pub fn name(self) -> &'static str {
+    pub fn name(self) -> &'static str
+        ensures { result.now ≡ fault_name self }
+    {
         match self {
             SetupFault::Csv => "Csv",
             SetupFault::Terminal => "Terminal",
