@@ -249,16 +249,22 @@ def yard(top):
     return rows or [Row('the yard alone: crates/yard_core/bench.sh failed', 'ns', None)]
 
 
-def syntax(top):
-    """A megabyte beside a plain C scanner, by the bench of edi_syntax."""
+def beside_a_scanner(top, crate, wanted):
+    """A megabyte beside a plain C scanner, by the bench of a crate."""
     times = {}
-    for line in printed_by(top, 'edi_syntax'):
+    for line in printed_by(top, crate):
         name, _colon, rest = line.partition(':')
         if rest.split()[1:2] in (['us'], ['us,']):
             times[name] = float(rest.split()[0])
     if 'C scanner' not in times:
-        return [Row('syntax: crates/edi_syntax/bench.sh failed', 'us', None)]
-    wanted = {'open and walk': '2.0 times', 'cut in pieces': '3.0 times', 'by messages': '2.0 times'}
+        return [Row('a megabyte: crates/%s/bench.sh failed' % crate, 'us', None)]
     return [
-        Row('syntax, a megabyte: %s; peer: a C scanner' % name, 'us', spent, times['C scanner'], wanted.get(name, ''))
+        Row('%s, a megabyte: %s; peer: a C scanner' % (crate, name), 'us', spent, times['C scanner'], wanted.get(name, ''))
         for name, spent in times.items() if name != 'C scanner']
+
+
+def syntax(top):
+    """What is read of an interchange of a megabyte: its syntax, and its messages as orders."""
+    return (
+        beside_a_scanner(top, 'edi_syntax', {'open and walk': '2.0 times', 'cut in pieces': '3.0 times'})
+        + beside_a_scanner(top, 'edi_messages', {'open and read': '2.0 times'}))

@@ -18,10 +18,12 @@ from model.setup import DEMO
 from model.stream import lines
 
 from .books import Different, expect
+from .memory_of_others import try_others
 
 HERE = os.path.dirname(os.path.abspath(__file__))
 TOP = os.path.dirname(os.path.dirname(HERE))
 NOT_NOW = '{"answer":"not now"}'
+LAST_TAKEN = '12-haulier-a-gate-out.edi'       # of the day; behind it are repeats and a clash
 
 # what a process may tell that had no memory before it delivered anything
 FAILURES = {('', 'store: Memory\n', 3), ('', 'cannot read\n', 3), ('', '', 3)}
@@ -142,6 +144,8 @@ def try_day(program, steps, counted):
         setup = [os.path.join(TOP, 'examples/setup', name) for name in ('partners.csv', 'blocks.csv')]
         refusing.run(['init', refusing.store, *setup])
         for name, text in texts:
+            if name == LAST_TAKEN:
+                try_others(refusing, office, setup, text, steps, counted)
             refuse_each(refusing, name, office, text, steps, counted)
             wanted = line_of(office, text) + '\n'
             expect(name, wanted, refusing.run(['deliver', refusing.store, refusing.file('once.edi', text)])[0])

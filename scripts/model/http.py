@@ -38,7 +38,7 @@ ROUTES = [
 
 PHRASES = {
     200: 'OK', 202: 'Accepted', 400: 'Bad Request', 404: 'Not Found', 405: 'Method Not Allowed', 409: 'Conflict',
-    411: 'Length Required', 413: 'Payload Too Large'}
+    411: 'Length Required', 413: 'Payload Too Large', 503: 'Service Unavailable'}
 STATUSES = {'taken': 200, 'repeat': 200, 'waiting': 202, 'clash': 409, 'refused': 400}
 
 

@@ -3,6 +3,7 @@ pub mod CodeTexts
 pub mod Meanings
 pub mod SlotTexts
 pub mod PurposeLemmas
+pub mod SurveyLemmas
 pub mod LineLemmas
 pub mod ContrlLemmas
 pub mod ContrlCounts

@@ -1,9 +1,79 @@
-use crate::part::Part;
-use edi_segments::Segment;
+ghost use Rattle.std.specs.Prelude.{◌≡◌, codes};
+ghost use Rattle.std.specs.List.{find};
+ghost use Rattle.std.specs.Option.{option_map};
+ghost use Rattle.std.proofs.Props.{props};
+ghost use Rattle.edi_segments.specs.Segment.{content};
+ghost use Rattle.edi_messages.specs.Parts.{part_left, is_qualified, states_moment};
 
-/// An equipment with the segments that speak of it.
+use crate::part::{
+    Part, PartEnd, is_qualified, keep_first, keep_first_places, next_of_group, states_moment,
+};
+use edi_segments::Segment;
+use edi_syntax::MessageSegments;
+
+/// An equipment with the segments that speak of it, and what one look at each of these finds.
 #[derive(Clone, Copy)]
 pub(crate) struct Group<'a> {
+    /// The equipment.
     pub equipment: Segment<'a>,
+    /// The segments that speak of it.
     pub details: Part<'a>,
+    /// The first of them that states a moment.
+    pub moment: Option<Segment<'a>>,
+    /// The first that is about a slot of the yard.
+    pub slot: Option<Segment<'a>>,
+    /// The first that is about a port of discharge.
+    pub port: Option<Segment<'a>>,
+    /// The first that is about a booking.
+    pub booking: Option<Segment<'a>>,
+    /// What stands behind them.
+    pub behind: MessageSegments<'a>,
+    ghost timed: { option_map content moment
+        ≡ find states_moment (part_left details) } by { Prim.hlevel props },
+    ghost placed: { option_map content slot
+        ≡ find (is_qualified (codes "LOC") (codes "ZZZ")) (part_left details) } by { Prim.hlevel props },
+    ghost bound: { option_map content port
+        ≡ find (is_qualified (codes "LOC") (codes "11")) (part_left details) } by { Prim.hlevel props },
+    ghost booked: { option_map content booking
+        ≡ find (is_qualified (codes "RFF") (codes "BN")) (part_left details) } by { Prim.hlevel props },
+}
+
+impl<'a> Group<'a> {
+    ghost use Rattle.std.specs.Prelude.{◌≤◌, length};
+    ghost use Rattle.edi_syntax.specs.Frames.{message_segments_left};
+    ghost use Rattle.edi_messages.specs.Parts.{before_end, groups_of};
+    ghost use Rattle.edi_messages.specs.Spans.{group_content};
+
+    /// The group that the equipment begins, by one look at each segment that speaks of it.
+    pub fn of(equipment: Segment<'a>, segments: MessageSegments<'a>) -> Group<'a>
+        ensures group { group_content result ≡ record {
+          equipment = content equipment.entry;
+          details = before_end
+              PartEnd.Group (message_segments_left segments.entry);
+        } }
+        ensures others { groups_of (message_segments_left result.behind)
+            ≡ groups_of (message_segments_left segments.entry) }
+        ensures shorter { length (message_segments_left result.behind)
+            ≤ length (message_segments_left segments.entry) }
+    {
+        let mut moment = None;
+        let mut slot = None;
+        let mut port = None;
+        let mut booking = None;
+        let mut behind = segments;
+        while let Some(segment) = next_of_group(&mut behind) {
+            keep_first(&mut moment, segment, states_moment(&segment));
+            keep_first_places(&mut slot, &mut port, segment);
+            keep_first(&mut booking, segment, is_qualified(&segment, b"RFF", b"BN"));
+        }
+        Group {
+            equipment,
+            details: Part::new(segments, PartEnd::Group),
+            moment,
+            slot,
+            port,
+            booking,
+            behind,
+        }
+    }
 }

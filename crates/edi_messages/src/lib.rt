@@ -31,6 +31,7 @@ mod purpose_span;
 mod read;
 mod reading;
 pub mod rejection;
+mod survey;
 mod texts;
 pub mod verdict;
 

@@ -21,11 +21,11 @@ pub(crate) fn read_order(
     alloc: Global,
     purpose: PurposeSpan<'_>,
     opened: Moment,
-    group: Group<'_>,
+    group: &Group<'_>,
 ) -> Result<Result<Order, LineFault>, AllocError>
     ensures { IfOk result
         (λ read. result_map_both order_content (λ fault. fault) read ≡ order_of
-        (purpose_spanned purpose.entry) opened (group_content group.entry)) }
+        (purpose_spanned purpose.entry) opened (group_content group.now)) }
 {
     match purpose {
         PurposeSpan::GateIn => gate_in(alloc, opened, group),
@@ -41,11 +41,11 @@ pub(crate) fn read_order(
 fn gate_in(
     alloc: Global,
     opened: Moment,
-    group: Group<'_>,
+    group: &Group<'_>,
 ) -> Result<Result<Order, LineFault>, AllocError>
     ensures { IfOk result
         (λ read. result_map_both order_content (λ fault. fault) read ≡ read_gate_in opened
-        (group_content group.entry)) }
+        (group_content group.now)) }
 {
     match read_entry(alloc, opened, group)? {
         Ok(entry) => Ok(Ok(Order::GateIn(entry))),
@@ -53,17 +53,17 @@ fn gate_in(
     }
 }
 
-fn gate_out(opened: Moment, group: Group<'_>) -> Result<Order, LineFault>
+fn gate_out(opened: Moment, group: &Group<'_>) -> Result<Order, LineFault>
     ensures { result_map_both order_content (λ fault. fault) result ≡ read_gate_out opened
-        (group_content group.entry) }
+        (group_content group.now) }
 {
     let number = read_number(group)?;
     let moment = read_moment(opened, group)?;
     Ok(Order::GateOut { number, moment })
 }
 
-fn yard_move(group: Group<'_>) -> Result<Order, LineFault>
-    ensures { result_map_both order_content (λ fault. fault) result ≡ read_yard_move (group_content group.entry) }
+fn yard_move(group: &Group<'_>) -> Result<Order, LineFault>
+    ensures { result_map_both order_content (λ fault. fault) result ≡ read_yard_move (group_content group.now) }
 {
     let number = read_number(group)?;
     let slot = read_slot(group)?;
@@ -73,11 +73,11 @@ fn yard_move(group: Group<'_>) -> Result<Order, LineFault>
 fn discharge_line(
     alloc: Global,
     call: CallSpan<'_>,
-    group: Group<'_>,
+    group: &Group<'_>,
 ) -> Result<Result<Order, LineFault>, AllocError>
     ensures { IfOk result
         (λ read. result_map_both order_content (λ fault. fault) read ≡ read_discharge_line
-        (call_spanned call.entry) (group_content group.entry)) }
+        (call_spanned call.entry) (group_content group.now)) }
 {
     match read_number(group) {
         Ok(number) => {
@@ -91,11 +91,11 @@ fn discharge_line(
 fn load_line(
     alloc: Global,
     call: CallSpan<'_>,
-    group: Group<'_>,
+    group: &Group<'_>,
 ) -> Result<Result<Order, LineFault>, AllocError>
     ensures { IfOk result
         (λ read. result_map_both order_content (λ fault. fault) read ≡ read_load_line
-        (call_spanned call.entry) (group_content group.entry)) }
+        (call_spanned call.entry) (group_content group.now)) }
 {
     match read_number(group) {
         Ok(number) => {
@@ -111,11 +111,11 @@ fn discharge(
     alloc: Global,
     call: CallSpan<'_>,
     opened: Moment,
-    group: Group<'_>,
+    group: &Group<'_>,
 ) -> Result<Result<Order, LineFault>, AllocError>
     ensures { IfOk result
         (λ read. result_map_both order_content (λ fault. fault) read ≡ read_discharge
-        (call_spanned call.entry) opened (group_content group.entry)) }
+        (call_spanned call.entry) opened (group_content group.now)) }
 {
     match read_entry(alloc, opened, group)? {
         Ok(entry) => {
@@ -130,11 +130,11 @@ fn load(
     alloc: Global,
     call: CallSpan<'_>,
     opened: Moment,
-    group: Group<'_>,
+    group: &Group<'_>,
 ) -> Result<Result<Order, LineFault>, AllocError>
     ensures { IfOk result
         (λ read. result_map_both order_content (λ fault. fault) read ≡ read_load (call_spanned call.entry)
-        opened (group_content group.entry)) }
+        opened (group_content group.now)) }
 {
     let number = match read_number(group) {
         Ok(number) => number,
@@ -155,11 +155,11 @@ fn load(
 fn read_entry(
     alloc: Global,
     opened: Moment,
-    group: Group<'_>,
+    group: &Group<'_>,
 ) -> Result<Result<Entry, LineFault>, AllocError>
     ensures { IfOk result
         (λ read. result_map_both entry_content (λ fault. fault) read ≡ read_entry opened
-        (group_content group.entry)) }
+        (group_content group.now)) }
 {
     match read_entry_facts(opened, group) {
         Ok(facts) => {

@@ -1,12 +1,9 @@
-ghost use Rattle.std.specs.Prelude.{◌≡◌, ℕ};
-ghost use Rattle.std.specs.Option.{option_map};
-ghost use Rattle.std.specs.List.{find};
+ghost use Rattle.std.specs.Prelude.{◌≡◌, ◌∷◌, [], codes, cond, false, MatchOption, IfNone, IfSome, Option, Some, None};
+ghost use Rattle.std.specs.Option.{option_map, option_or};
 ghost use Rattle.std.specs.Str.{bytes_eq};
-ghost use Rattle.std.specs.Iterator.{YieldsFirstBy, item_count};
-ghost use Rattle.edi_segments.specs.Text.{has_tag};
 ghost use Rattle.edi_syntax.specs.Frames.{message_segments_left};
 ghost use Rattle.edi_segments.specs.Segment.{content, value};
-ghost use Rattle.edi_messages.specs.Parts.{ends_part, before_end, part_left, is_qualified, states_moment};
+ghost use Rattle.edi_messages.specs.Parts.{is_equipment, ends_part, before_end, part_left, is_qualified, states_moment};
 
 use edi_segments::{Component, Segment};
 use edi_syntax::MessageSegments;
@@ -23,12 +20,12 @@ pub(crate) enum PartEnd {
 }
 
 impl PartEnd {
-    fn is_before(self, segment: &Segment<'_>) -> bool
+    pub fn is_before(self, segment: &Segment<'_>) -> bool
         ensures { result ≡ ends_part self (content segment.now) }
     {
         match self {
-            PartEnd::Equipment => segment.has_tag(b"EQD"),
-            PartEnd::Group => segment.has_tag(b"EQD") || segment.has_tag(b"CNT"),
+            PartEnd::Equipment => is_equipment(segment),
+            PartEnd::Group => is_equipment(segment) || segment.has_tag(b"CNT"),
             PartEnd::Whole => false,
         }
     }
@@ -51,34 +48,22 @@ impl<'a> Part<'a> {
             end,
         }
     }
-
-    /// The whole message.
-    pub fn whole(segments: MessageSegments<'a>) -> Part<'a>
-        ensures { part_left result ≡ message_segments_left segments.entry }
-    {
-        Part {
-            rest: segments,
-            end: PartEnd::Whole,
-        }
-    }
 }
 
-impl<'a> Iterator for Part<'a> {
-    type Item = Segment<'a>;
-
-    ghost next_gives = { YieldsFirstBy content part_left };
-
-    ghost remaining = { item_count part_left };
-
-    fn next(&mut self) -> Option<Segment<'a>> {
-        let mut rest = self.rest;
-        let segment = rest.next()?;
-        if self.end.is_before(&segment) {
-            return None;
-        }
-        self.rest = rest;
-        Some(segment)
+/// The next segment of a group.
+pub(crate) fn next_of_group<'a>(rest: &mut MessageSegments<'a>) -> Option<Segment<'a>>
+    ensures left { MatchOption result (before_end PartEnd.Group (message_segments_left rest.old) ≡ []) (λ segment.
+        message_segments_left rest.old ≡ content segment ∷ message_segments_left rest.new) }
+    ensures inside { IfSome result (λ segment. ends_part PartEnd.Group (content segment) ≡ false) }
+    ensures same { IfNone result (rest.new ≡ rest.old) }
+{
+    let mut ahead = *rest;
+    let segment = ahead.next()?;
+    if PartEnd::Group.is_before(&segment) {
+        return None;
     }
+    *rest = ahead;
+    Some(segment)
 }
 
 /// The component has this value.
@@ -88,55 +73,56 @@ pub(crate) fn is_value(component: Component<'_>, text: &[u8]) -> bool
     component.equals(text)
 }
 
-fn is_qualified(segment: &Segment<'_>, tag: &[u8], qualifier: &[u8]) -> bool
+pub(crate) fn is_equipment(segment: &Segment<'_>) -> bool
+    ensures { result ≡ is_equipment (content segment.now) }
+{
+    segment.has_tag(b"EQD")
+}
+
+/// The segment has the tag and the qualifier.
+#[inline(always)]
+pub(crate) fn is_qualified(segment: &Segment<'_>, tag: &[u8], qualifier: &[u8]) -> bool
     ensures { result ≡ is_qualified tag.now qualifier.now (content segment.now) }
 {
     segment.has_tag(tag) && is_value(segment.component(1, 1), qualifier)
 }
 
-fn states_moment(segment: &Segment<'_>) -> bool
+pub(crate) fn states_moment(segment: &Segment<'_>) -> bool
     ensures { result ≡ states_moment (content segment.now) }
 {
-    segment.has_tag(b"DTM")
-        && (is_value(segment.component(1, 3), b"203") || is_value(segment.component(1, 3), b"102"))
+    if !segment.has_tag(b"DTM") {
+        return false;
+    }
+    let format = segment.component(1, 3);
+    is_value(format, b"203") || is_value(format, b"102")
 }
 
-/// The first segment with the tag.
-pub(crate) fn first_tagged<'a>(part: Part<'a>, tag: &[u8]) -> Option<Segment<'a>>
-    ensures { option_map content result ≡ find (has_tag tag.now) (part_left part.entry) }
+/// Keeps the segment where it is what is sought and none was found before it.
+#[inline(always)]
+pub(crate) fn keep_first<'a>(found: &mut Option<Segment<'a>>, segment: Segment<'a>, is_sought: bool)
+    ensures { option_map content found.new ≡ option_or (option_map content found.old)
+        (cond is_sought (Some (content segment.entry)) None) }
 {
-    for segment in part {
-        if segment.has_tag(tag) {
-            return Some(segment);
-        }
+    if is_sought && found.is_none() {
+        *found = Some(segment);
     }
-    None
 }
 
-/// The first segment with the tag and the qualifier.
-pub(crate) fn first_qualified<'a>(
-    part: Part<'a>,
-    tag: &[u8],
-    qualifier: &[u8],
-) -> Option<Segment<'a>>
-    ensures { option_map content result ≡ find (is_qualified tag.now qualifier.now) (part_left part.entry) }
+/// Keeps the first segment about a slot of the yard and the first about a port of discharge.
+#[inline(always)]
+pub(crate) fn keep_first_places<'a>(
+    slot: &mut Option<Segment<'a>>,
+    port: &mut Option<Segment<'a>>,
+    segment: Segment<'a>,
+)
+    ensures slot { option_map content slot.new ≡ option_or (option_map content slot.old)
+        (cond (is_qualified (codes "LOC") (codes "ZZZ") (content segment.entry)) (Some (content segment.entry)) None) }
+    ensures port { option_map content port.new ≡ option_or (option_map content port.old)
+        (cond (is_qualified (codes "LOC") (codes "11") (content segment.entry)) (Some (content segment.entry)) None) }
 {
-    for segment in part {
-        if is_qualified(&segment, tag, qualifier) {
-            return Some(segment);
-        }
+    if segment.has_tag(b"LOC") {
+        let qualifier = segment.component(1, 1);
+        keep_first(slot, segment, is_value(qualifier, b"ZZZ"));
+        keep_first(port, segment, is_value(qualifier, b"11"));
     }
-    None
-}
-
-/// The first segment that states a moment.
-pub(crate) fn first_moment(part: Part<'_>) -> Option<Segment<'_>>
-    ensures { option_map content result ≡ find states_moment (part_left part.entry) }
-{
-    for segment in part {
-        if states_moment(&segment) {
-            return Some(segment);
-        }
-    }
-    None
 }

@@ -7,31 +7,31 @@ ghost use Rattle.edi_messages.specs.Spans.{call_spanned, purpose_spanned};
 
 use crate::call_span::CallSpan;
 use crate::codes::Codes;
-use crate::faults::{names_call, order_kind, transport};
+use crate::faults::{names_call, order_kind};
 use crate::order_kind::OrderKind;
 use crate::purpose_span::PurposeSpan;
-use edi_syntax::Frame;
+use crate::survey::Survey;
 
 /// What the message is for.
-pub(crate) fn purpose<'a>(frame: &Frame<'a>, codes: &Codes) -> Option<PurposeSpan<'a>>
-    ensures { option_map purpose_spanned result ≡ purpose_of codes.now (message frame.now) }
+pub(crate) fn purpose<'a>(survey: &Survey<'a>, codes: &Codes) -> Option<PurposeSpan<'a>>
+    ensures { option_map purpose_spanned result ≡ purpose_of codes.now (message survey.now.frame) }
 {
-    match order_kind(frame, codes)? {
+    match order_kind(survey, codes)? {
         OrderKind::GateIn => Some(PurposeSpan::GateIn),
         OrderKind::GateOut => Some(PurposeSpan::GateOut),
         OrderKind::Move => Some(PurposeSpan::Move),
-        OrderKind::ListDischarge => Some(PurposeSpan::ListDischarge(call(frame)?)),
-        OrderKind::ListLoad => Some(PurposeSpan::ListLoad(call(frame)?)),
-        OrderKind::Discharge => Some(PurposeSpan::Discharge(call(frame)?)),
-        OrderKind::Load => Some(PurposeSpan::Load(call(frame)?)),
+        OrderKind::ListDischarge => Some(PurposeSpan::ListDischarge(call(survey)?)),
+        OrderKind::ListLoad => Some(PurposeSpan::ListLoad(call(survey)?)),
+        OrderKind::Discharge => Some(PurposeSpan::Discharge(call(survey)?)),
+        OrderKind::Load => Some(PurposeSpan::Load(call(survey)?)),
     }
 }
 
 /// The call that the heading names.
-fn call<'a>(frame: &Frame<'a>) -> Option<CallSpan<'a>>
-    ensures { option_map call_spanned result ≡ call_in (message frame.now) }
+fn call<'a>(survey: &Survey<'a>) -> Option<CallSpan<'a>>
+    ensures { option_map call_spanned result ≡ call_in (message survey.now.frame) }
 {
-    let transport = transport(frame)?;
+    let transport = survey.transport?;
     if names_call(&transport) {
         Some(CallSpan { transport })
     } else {

@@ -5,21 +5,21 @@ ghost use Rattle.box6346.specs.ContainerNumber.{number_of};
 ghost use Rattle.box6346.specs.SizeCode.{size_of};
 ghost use Rattle.box6346.specs.SlotName.{slot_of};
 ghost use Rattle.edi_segments.specs.Segment.{content, value};
-ghost use Rattle.edi_messages.specs.Orders.{is_laden, booking, moment_stated, moment_of_length, read_number, read_size, read_moment, read_slot, names_slot, read_slot_if_named, read_entry};
+ghost use Rattle.edi_messages.specs.Orders.{is_laden, booking, moment_stated, moment_of_length, read_number, read_size, read_moment, read_slot, read_slot_if_named, read_entry};
 ghost use Rattle.edi_messages.specs.Spans.{group_content, entry_with};
 
 use crate::entry_facts::EntryFacts;
 use crate::group::Group;
 use crate::line_fault::LineFault;
-use crate::part::{first_moment, first_qualified, is_value};
+use crate::part::is_value;
 use box6346::{BoxNumber, NumberFault, SizeFault, SizeType, Slot};
 use edi_moments::Moment;
 use edi_segments::{Component, Segment};
 
 /// What a group says of a container that comes into the yard, or the first fault of its line.
-pub(crate) fn read_entry_facts(opened: Moment, group: Group<'_>) -> Result<EntryFacts, LineFault>
-    ensures { result_map_both (entry_with (booking (group_content group.entry))) (λ fault. fault)
-        result ≡ read_entry opened (group_content group.entry) }
+pub(crate) fn read_entry_facts(opened: Moment, group: &Group<'_>) -> Result<EntryFacts, LineFault>
+    ensures { result_map_both (entry_with (booking (group_content group.now))) (λ fault. fault)
+        result ≡ read_entry opened (group_content group.now) }
 {
     let number = read_number(group)?;
     let size_type = read_size(group)?;
@@ -35,8 +35,8 @@ pub(crate) fn read_entry_facts(opened: Moment, group: Group<'_>) -> Result<Entry
 }
 
 /// The number of the group's container.
-pub(crate) fn read_number(group: Group<'_>) -> Result<BoxNumber, LineFault>
-    ensures { result ≡ read_number (group_content group.entry) }
+pub(crate) fn read_number(group: &Group<'_>) -> Result<BoxNumber, LineFault>
+    ensures { result ≡ read_number (group_content group.now) }
 {
     match number_of(group.equipment.component(2, 1)) {
         Ok(number) => Ok(number),
@@ -55,8 +55,8 @@ fn number_of(component: Component<'_>) -> Result<BoxNumber, NumberFault>
     }
 }
 
-fn read_size(group: Group<'_>) -> Result<SizeType, LineFault>
-    ensures { result ≡ read_size (group_content group.entry) }
+fn read_size(group: &Group<'_>) -> Result<SizeType, LineFault>
+    ensures { result ≡ read_size (group_content group.now) }
 {
     match size_of(group.equipment.component(3, 1)) {
         Ok(size_type) => Ok(size_type),
@@ -84,8 +84,8 @@ fn slot_of(component: Component<'_>) -> Option<Slot>
     }
 }
 
-fn is_laden(group: Group<'_>) -> bool
-    ensures { result ≡ is_laden (group_content group.entry) }
+fn is_laden(group: &Group<'_>) -> bool
+    ensures { result ≡ is_laden (group_content group.now) }
 {
     !is_value(group.equipment.component(6, 1), b"4")
 }
@@ -119,10 +119,10 @@ fn moment_of_eight(text: Component<'_>) -> Option<Moment>
     }
 }
 
-pub(crate) fn read_moment(opened: Moment, group: Group<'_>) -> Result<Moment, LineFault>
-    ensures { result ≡ read_moment opened (group_content group.entry) }
+pub(crate) fn read_moment(opened: Moment, group: &Group<'_>) -> Result<Moment, LineFault>
+    ensures { result ≡ read_moment opened (group_content group.now) }
 {
-    match first_moment(group.details) {
+    match group.moment {
         Some(segment) => match moment_stated(&segment) {
             Some(moment) => Ok(moment),
             None => Err(LineFault::Moment),
@@ -132,10 +132,10 @@ pub(crate) fn read_moment(opened: Moment, group: Group<'_>) -> Result<Moment, Li
 }
 
 #[tactic(auto, unfolding(box6346::specs::SlotName::slot_of))]
-pub(crate) fn read_slot(group: Group<'_>) -> Result<Slot, LineFault>
-    ensures { result ≡ read_slot (group_content group.entry) }
+pub(crate) fn read_slot(group: &Group<'_>) -> Result<Slot, LineFault>
+    ensures { result ≡ read_slot (group_content group.now) }
 {
-    let slot = match first_qualified(group.details, b"LOC", b"ZZZ") {
+    let slot = match group.slot {
         Some(segment) => slot_of(segment.component(2, 1)),
         None => None,
     };
@@ -145,20 +145,18 @@ pub(crate) fn read_slot(group: Group<'_>) -> Result<Slot, LineFault>
     }
 }
 
-fn read_slot_if_named(group: Group<'_>) -> Result<Option<Slot>, LineFault>
-    ensures { result ≡ read_slot_if_named (group_content group.entry) }
+fn read_slot_if_named(group: &Group<'_>) -> Result<Option<Slot>, LineFault>
+    ensures { result ≡ read_slot_if_named (group_content group.now) }
 {
-    if !names_slot(group) {
+    let Some(segment) = group.slot else {
+        return Ok(None);
+    };
+    let name = segment.component(2, 1);
+    if name.is_empty() {
         return Ok(None);
     }
-    Ok(Some(read_slot(group)?))
-}
-
-fn names_slot(group: Group<'_>) -> bool
-    ensures { result ≡ names_slot (group_content group.entry) }
-{
-    match first_qualified(group.details, b"LOC", b"ZZZ") {
-        Some(segment) => !segment.component(2, 1).is_empty(),
-        None => false,
+    match slot_of(name) {
+        Some(slot) => Ok(Some(slot)),
+        None => Err(LineFault::SlotText),
     }
 }

@@ -15,10 +15,10 @@ use crate::line_refusal::LineRefusal;
 use crate::message::Message;
 use crate::message_fault::MessageFault;
 use crate::orders::read_order;
-use crate::part::{Part, PartEnd};
 use crate::purpose::{call_of, kind_of, purpose};
 use crate::purpose_span::PurposeSpan;
 use crate::read::read_number;
+use crate::survey::look_through;
 use crate::texts::own_call;
 use edi_moments::Moment;
 use edi_syntax::{Frame, MessageSegments};
@@ -39,10 +39,11 @@ pub fn read_message(
         (λ fault. MatchResult (reading codes.now opened (message frame.now))
         (λ _. fault ≡ MessageFault.Memory) (λ lowest. fault ≡ lowest)) }
 {
-    if let Some(fault) = message_fault(frame, codes) {
+    let survey = look_through(frame);
+    if let Some(fault) = message_fault(&survey, codes) {
         return Err(fault);
     }
-    let Some(purpose) = purpose(frame, codes) else {
+    let Some(purpose) = purpose(&survey, codes) else {
         return Err(MessageFault::Code);
     };
     match build(alloc, frame, opened, purpose) {
@@ -93,11 +94,9 @@ fn read_lines(
     let mut rest = segments;
     while let Some(segment) = rest.next() {
         if is_container(&segment) {
-            let group = Group {
-                equipment: segment,
-                details: Part::new(rest, PartEnd::Group),
-            };
-            lines.push(read_line(alloc, purpose, opened, group)?)?;
+            let group = Group::of(segment, rest);
+            lines.push(read_line(alloc, purpose, opened, &group)?)?;
+            rest = group.behind;
         }
     }
     Ok(lines)
@@ -107,11 +106,11 @@ fn read_line(
     alloc: Global,
     purpose: PurposeSpan<'_>,
     opened: Moment,
-    group: Group<'_>,
+    group: &Group<'_>,
 ) -> Result<Line, AllocError>
     ensures { IfOk result
         (λ line. line_content line ≡ line_of (purpose_spanned purpose.entry) opened
-        (group_content group.entry)) }
+        (group_content group.now)) }
 {
     match read_order(alloc, purpose, opened, group)? {
         Ok(order) => Ok(Line::Order(order)),

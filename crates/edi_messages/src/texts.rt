@@ -10,7 +10,6 @@ use crate::call::Call;
 use crate::call_span::CallSpan;
 use crate::faults::is_name;
 use crate::group::Group;
-use crate::part::first_qualified;
 use edi_segments::Component;
 use std::alloc::{AllocError, Global};
 
@@ -19,7 +18,7 @@ fn own_text(alloc: Global, component: Component<'_>) -> Result<String, AllocErro
     requires { IsTrue (list_all is_printable (value component)) }
     ensures { IfOk result (λ text. string_bytes text ≡ value component.entry) }
 {
-    let mut text = String::new(alloc);
+    let mut text = String::with_capacity(alloc, component.len())?;
     for byte in component.bytes() {
         text.push(char::from(byte))?;
     }
@@ -48,20 +47,20 @@ pub(crate) fn own_call(alloc: Global, call: CallSpan<'_>) -> Result<Call, AllocE
 }
 
 /// The booking that a group names, or an empty text.
-pub(crate) fn own_booking(alloc: Global, group: Group<'_>) -> Result<String, AllocError>
-    ensures { IfOk result (λ text. string_bytes text ≡ booking (group_content group.entry)) }
+pub(crate) fn own_booking(alloc: Global, group: &Group<'_>) -> Result<String, AllocError>
+    ensures { IfOk result (λ text. string_bytes text ≡ booking (group_content group.now)) }
 {
-    match first_qualified(group.details, b"RFF", b"BN") {
+    match group.booking {
         Some(segment) => own_name(alloc, segment.component(1, 2)),
         None => Ok(String::new(alloc)),
     }
 }
 
 /// The port of discharge that a group names, or an empty text.
-pub(crate) fn own_port(alloc: Global, group: Group<'_>) -> Result<String, AllocError>
-    ensures { IfOk result (λ text. string_bytes text ≡ port (group_content group.entry)) }
+pub(crate) fn own_port(alloc: Global, group: &Group<'_>) -> Result<String, AllocError>
+    ensures { IfOk result (λ text. string_bytes text ≡ port (group_content group.now)) }
 {
-    match first_qualified(group.details, b"LOC", b"11") {
+    match group.port {
         Some(segment) => own_name(alloc, segment.component(2, 1)),
         None => Ok(String::new(alloc)),
     }

@@ -3,7 +3,6 @@ use Rattle.std.proofs.Common.{◌≡◌, ℕ, Bool, true, false, cond, List, [],
 use Rattle.std.specs.Option.{unwrap_or, is_none}
 use Rattle.std.specs.List.{find, list_all}
 use Rattle.std.specs.Str.{bytes_eq}
-use Rattle.std.proofs.lemmas.List.{append-nil}
 use Rattle.edi_segments.specs.Text.{Content}
 use Rattle.edi_segments.specs.Interchange.{interchange_of, segments_in}
 use Rattle.edi_segments.specs.declared.syntax_fault.SyntaxFault.{SyntaxFault}
@@ -35,8 +34,7 @@ plain header fault (Some partner) (Some error) (inr e) = absurd cc
 pub refused_plainly : (header : Content) (fault : Fault) (sender error : Option ℕ) → (sender ≡ None) ⊎ (error ≡ None) →
     GivesOrNotNow (refusal_to header fault sender error) (response.Refused fault)
 refused_plainly header fault sender error e =
-    ap (λ body. answer_with (kinds.Refused fault) (fault_status fault) body worst.Refused) (append-nil (refusal_text fault ++ []) ∙ append-nil (refusal_text fault))
-    ∙ sym (plain header fault sender error e)
+    sym (plain header fault sender error e)
 
 -- a text is refused for one fault
 one_fault : (P : Parties) (text : List ℕ) (fault other : Fault) → admission P text ≡ Err fault → admission P text ≡ Err other → fault ≡ other

@@ -1,10 +1,10 @@
-ghost use Rattle.std.specs.Prelude.{◌≡◌, ℕ, List, ◌+◌, ◌<◌, ◌≤◌, IfOk, IfErr, length};
+ghost use Rattle.std.specs.Prelude.{◌≡◌, ℕ, List, ◌+◌, ◌<◌, ◌≤◌, false, IfNone, IfSome, IfOk, IfErr, length};
 ghost use Rattle.edi_segments.specs.Interchange.{segments_in};
 ghost use Rattle.edi_syntax.specs.Envelope.{header_of};
 ghost use Rattle.office_replies.specs.declared.fault.Fault.{Fault};
 ghost use Rattle.office_setup.specs.Parties.{parties_of};
 ghost use Rattle.office_setup.specs.declared.setup.Setup.{Setup};
-ghost use Rattle.office_admission.specs.Admission.{admission, sender_of};
+ghost use Rattle.office_admission.specs.Admission.{admission, is_for, sender_of};
 ghost use Rattle.office_admission.specs.Outcomes.{IsAdmitted, IsRefused, IsOpened};
 
 use crate::admitted::Admitted;
@@ -31,6 +31,23 @@ pub fn admit<'a>(setup: &Setup, text: &'a [u8]) -> Result<Admitted<'a>, Refusal<
         Some(place) => admit_from(setup, place, head),
         None => Err(Refusal::Plain(stranger_fault(head))),
     }
+}
+
+/// The interchange that a text is, if it is admitted for that partner.
+pub fn admit_for<'a>(setup: &Setup, partner: u16, text: &'a [u8]) -> Option<Admitted<'a>>
+    requires { length setup.now.partners.items ≤ 999 }
+    ensures none { IfNone result (is_for partner (admission (parties_of setup.now) text.now) ≡ false) }
+    ensures admitted { IfSome result (IsAdmitted setup.now text.now) }
+    ensures partner { IfSome result (λ admitted. admitted.partner ≡ partner) }
+{
+    let admitted = match admit(setup, text) {
+        Ok(admitted) => admitted,
+        Err(_) => return None,
+    };
+    if admitted.partner != partner {
+        return None;
+    }
+    Some(admitted)
 }
 
 /// The fault of a text whose sender has no account.

@@ -5,6 +5,6 @@ mod admission;
 mod admitted;
 mod refusal;
 
-pub use admission::admit;
+pub use admission::{admit, admit_for};
 pub use admitted::Admitted;
 pub use refusal::Refusal;

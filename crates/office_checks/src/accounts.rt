@@ -8,8 +8,8 @@ ghost use Rattle.office_checks.specs.Contents.{partner_content};
 ghost use Rattle.office_checks.specs.declared.partner_row.PartnerRow.{PartnerRow};
 
 use crate::partner_row::PartnerRow;
-use crate::texts::{are_same, is_party_code};
-use office_setup::Account;
+use crate::texts::are_same;
+use office_setup::{Account, MOST_PARTNERS, is_party_code};
 use std::alloc::{AllocError, Global};
 
 /// Whether these are 1 to 999 accounts, numbered 1, 2, .. as they stand, with codes of partners, no two alike, and next
@@ -29,7 +29,7 @@ pub(crate) fn are_accounts(partners: &[PartnerRow]) -> bool
 fn is_counted(partners: &[PartnerRow]) -> bool
     ensures { IsTrue result ↔ ((1 ≤ length partners.now) × (length partners.now ≤ 999)) }
 {
-    1 <= partners.len() && partners.len() <= 999
+    1 <= partners.len() && partners.len() <= MOST_PARTNERS
 }
 
 // Whether accounts are numbered 1, 2, .. as they stand, each with a next number from 1 to 1,000,000,000.

@@ -6,9 +6,10 @@ ghost use Rattle.office_checks.specs.Said.{setting_names, names_of, values_of, c
 
 use crate::setting::Setting;
 use crate::settings::Settings;
-use crate::texts::{are_same, is_party_code};
+use crate::texts::are_same;
 use edi_messages::CodeTable;
 use itoa::Buffer;
+use office_setup::{MOST_VISITS, is_party_code};
 use std::alloc::Global;
 use terminal_core::RestoreFault;
 
@@ -141,7 +142,7 @@ fn limit_of(text: &str) -> Option<u32>
 fn is_limit(number: u32, text: &str) -> bool
     ensures { IsTrue result ↔ ((1 ≤ number) × (number ≤ 999999999) × (text.now ≡ decimal number)) }
 {
-    1 <= number && number <= 999_999_999 && is_decimal(number, text)
+    1 <= number && number <= MOST_VISITS && is_decimal(number, text)
 }
 
 fn is_decimal(number: u32, text: &str) -> bool

@@ -3,32 +3,6 @@ ghost use Rattle.std.specs.List.{list_all};
 ghost use Rattle.edi_messages.specs.Forms.{is_name_if_any};
 ghost use Rattle.edi_messages.specs.Texts.{is_name};
 ghost use Rattle.edi_segments.specs.Characters.{is_printable};
-ghost use Rattle.office_setup.specs.Given.{is_party_byte, is_party_code};
-
-/// Whether a text is the code of a terminal or of a partner: 1 to 35 letters, digits, hyphens, dots and underscores.
-pub(crate) fn is_party_code(text: &str) -> bool
-    ensures { result ≡ is_party_code text.now }
-{
-    let bytes = text.as_bytes();
-    1 <= bytes.len() && bytes.len() <= 35 && are_party_bytes(bytes)
-}
-
-fn are_party_bytes(bytes: &[u8]) -> bool
-    ensures { result ≡ list_all is_party_byte bytes.now }
-{
-    bytes.iter().all(|byte| is_party_byte(*byte))
-}
-
-fn is_party_byte(byte: u8) -> bool
-    ensures { result ≡ is_party_byte byte }
-{
-    byte.is_ascii_uppercase()
-        || byte.is_ascii_lowercase()
-        || byte.is_ascii_digit()
-        || byte == b'-'
-        || byte == b'.'
-        || byte == b'_'
-}
 
 /// Whether a text is a name: 1 to 35 bytes from space to tilde.
 pub(crate) fn is_name(text: &str) -> bool

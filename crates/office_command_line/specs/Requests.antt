@@ -11,8 +11,8 @@ use Rattle.clap.specs.declared.error.kind.ErrorKind.TheVariants.{DisplayHelp, Di
 use Rattle.office_command_line.specs.Commands.{office_app}
 use Rattle.office_command_line.specs.declared.command_fault.CommandFault.{CommandFault}
 use Rattle.office_command_line.specs.declared.command_fault.CommandFault.TheVariants.{Words, Values, Memory}
-use Rattle.office_command_line.specs.declared.report_kind.ReportKind.{ReportKind}
-use Rattle.office_command_line.specs.declared.report_kind.ReportKind.TheVariants.{Yard, YardTable, Visits, List as VesselList, Ticket, Reply}
+use Rattle.office_queries.specs.declared.report_kind.ReportKind.{ReportKind}
+use Rattle.office_queries.specs.declared.report_kind.ReportKind.TheVariants.{Yard, YardTable, Visits, List as VesselList, Ticket, Reply}
 use Rattle.office_command_line.specs.declared.request.Request.{Request}
 use Rattle.office_command_line.specs.declared.request.Request.TheVariants as request
 

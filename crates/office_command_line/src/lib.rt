@@ -6,10 +6,8 @@ mod command_fault;
 mod numbers;
 mod office;
 mod reading;
-mod report_kind;
 mod request;
 
 pub use command_fault::CommandFault;
 pub use reading::read_command;
-pub use report_kind::ReportKind;
 pub use request::Request;

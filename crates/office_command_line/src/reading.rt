@@ -6,10 +6,10 @@ ghost use Rattle.office_command_line.specs.Requests.{asked, init_asked, deliver_
 use crate::command_fault::CommandFault;
 use crate::numbers::number_upto;
 use crate::office::office_command;
-use crate::report_kind::ReportKind;
 use crate::request::Request;
 use clap::ArgMatches;
 use clap::error::ErrorKind;
+use office_queries::ReportKind;
 use std::alloc::Global;
 
 /// What the words of a command line ask for, of which the first is the program's name.

@@ -1,4 +1,4 @@
-use crate::report_kind::ReportKind;
+use office_queries::ReportKind;
 
 /// What a command line asks for.
 #[derive(Clone, Copy)]

@@ -4,7 +4,7 @@ ghost use Rattle.office_setup.specs.Setups.{setup_content, account_contents};
 ghost use Rattle.office_commands.specs.Demo.{IsDemo, demo_codes, demo_content, demo_partners};
 
 use edi_messages::{CodeTable, PartnerKind};
-use office_setup::{Account, Setup};
+use office_setup::{Account, MOST_VISITS, Setup};
 use std::alloc::{AllocError, Global};
 use yard_core::Block;
 
@@ -33,7 +33,7 @@ fn with_codes(alloc: Global, table: CodeTable) -> Result<Setup, AllocError>
         codes: table,
         partners: demo_partners(alloc)?,
         blocks: [block].as_slice().to_vec(alloc)?,
-        visit_limit: 999_999_999,
+        visit_limit: MOST_VISITS,
     })
 }
 

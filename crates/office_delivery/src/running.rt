@@ -1,10 +1,11 @@
-ghost use Rattle.std.specs.Prelude.{◌≡◌, ℕ, ◌+◌, ◌++◌, [], ◌∷◌, ◌<◌, ◌≤◌, All, IfOk, IfSome, OnOk, length};
+ghost use Rattle.std.specs.Prelude.{◌≡◌, ℕ, List, ◌+◌, ◌++◌, [], ◌∷◌, ◌<◌, ◌≤◌, All, IfOk, IfSome, OnOk, length};
 ghost use Rattle.std.specs.Option.{option_map};
 ghost use Rattle.sqlite.specs.Held.{state};
 ghost use Rattle.sqlite.specs.State.{HasCleanDisk};
 ghost use Rattle.office_rows.specs.Rows.{Rows};
 ghost use Rattle.office_rows.specs.Stored.{HasRows};
 ghost use Rattle.office_rows.specs.Tables.{office_schema};
+ghost use Rattle.office_admission.specs.Outcomes.{IsAdmitted};
 ghost use Rattle.office_taking.specs.Taking.{machine_of};
 ghost use Rattle.office_history.specs.Cascade.{AreTakenFrom, text_in, texts_with};
 ghost use Rattle.office_delivery.specs.Reading.{IsSame, OnlyReads};
@@ -12,7 +13,8 @@ ghost use Rattle.office_delivery.specs.Taken.{taken_contents};
 ghost use Rattle.office_delivery.specs.Taking.{IsNumbered};
 
 use crate::taken::Taken;
-use crate::taking::take_text;
+use crate::taking::{take_admitted, take_text};
+use office_admission::Admitted;
 use office_setup::Setup;
 use office_tables::{Kept, TableFault, kept};
 use partner_core::LAST_NUMBER;
@@ -20,22 +22,21 @@ use sqlite::{Alter, Connection};
 use std::alloc::{AllocError, Global};
 use terminal_core::Terminal;
 
-/// Takes the text of a partner's next interchange, and then each text that becomes next by it, as far as the tables keep one.
+/// Takes a partner's next interchange, and then each text that becomes next by it, as far as the tables keep one.
 /// It writes nothing. Where it fails, the terminal may hold part of the run, and is to be given up.
 pub fn take_run<S: Alter>(
     alloc: Global,
     conn: &mut Connection<S>,
     setup: &Setup,
     terminal: &mut Terminal,
-    partner: u16,
+    admitted: &Admitted<'_>,
     number: u32,
-    text: &[u8],
 ) -> Result<Vec<Taken>, TableFault>
     requires few { length setup.now.partners.items ≤ 999 }
     requires number { number ≤ LAST_NUMBER }
-    ensures taken { HasCleanDisk (state S.Store conn.new) → IfOk result (λ taken. (rows : Rows) →
-        HasRows rows (state S.Store conn.old).now → IsNumbered partner rows →
-        AreTakenFrom partner (texts_with rows partner number text.now) number (machine_of setup.now terminal.old)
+    ensures taken { HasCleanDisk (state S.Store conn.new) → IfOk result (λ taken. (rows : Rows) (text : List ℕ) →
+        HasRows rows (state S.Store conn.old).now → IsNumbered admitted.now.partner rows → IsAdmitted setup.now text admitted.now →
+        AreTakenFrom admitted.now.partner (texts_with rows admitted.now.partner number text) number (machine_of setup.now terminal.old)
         (taken_contents taken.items) (machine_of setup.now terminal.new)) }
     ensures first { IfOk result (λ taken. 1 ≤ length taken.items) }
     ensures numbers { IfOk result (λ taken. All (λ t. t.number < 1000000000) taken.items) }
@@ -44,7 +45,8 @@ pub fn take_run<S: Alter>(
     ensures reads { OnlyReads (state S.Store conn.old) (state S.Store conn.new) }
 {
     let mut taken = Vec::new(alloc);
-    let first = take_text(alloc, setup, terminal, partner, number, text)?;
+    let partner = admitted.partner;
+    let first = take_admitted(alloc, setup, terminal, admitted, number)?;
     append(&mut taken, first)?;
     let mut last = number;
     while let Some(text) = text_behind(conn, partner, last)? {

@@ -1,18 +1,39 @@
-ghost use Rattle.std.specs.Prelude.{◌≡◌, ◌≤◌, false, length, IfNone, IfSome, IfOk};
-ghost use Rattle.office_setup.specs.Parties.{parties_of};
-ghost use Rattle.office_admission.specs.Admission.{admission, is_for};
+ghost use Rattle.std.specs.Prelude.{◌≡◌, ℕ, List, ◌≤◌, length, IfOk};
 ghost use Rattle.office_admission.specs.Outcomes.{IsAdmitted};
 ghost use Rattle.office_taking.specs.Taking.{machine_of};
 ghost use Rattle.office_delivery.specs.Taken.{taken_content};
 ghost use Rattle.office_delivery.specs.Taking.{IsTaken};
 
 use crate::taken::Taken;
-use office_admission::{Admitted, admit};
+use office_admission::{Admitted, admit_for};
 use office_replies::reply;
 use office_setup::Setup;
 use office_taking::take;
 use std::alloc::{AllocError, Global};
 use terminal_core::Terminal;
+
+/// Takes a partner's interchange under a number. Where memory is refused, the terminal may hold part of it, and is to be
+/// given up.
+pub(crate) fn take_admitted(
+    alloc: Global,
+    setup: &Setup,
+    terminal: &mut Terminal,
+    admitted: &Admitted<'_>,
+    number: u32,
+) -> Result<Taken, AllocError>
+    ensures taken { IfOk result (λ taken. (text : List ℕ) → IsAdmitted setup.now text admitted.now →
+        IsTaken admitted.now.partner number text (machine_of setup.now terminal.old)
+        (taken_content taken) (machine_of setup.now terminal.new)) }
+    ensures number { IfOk result (λ taken. taken.number ≡ number) }
+{
+    let mut changes = Vec::new(alloc);
+    let reply = take(alloc, setup, terminal, admitted, &mut changes)?;
+    Ok(Taken {
+        number,
+        reply,
+        changes,
+    })
+}
 
 /// Takes the text that is kept under a partner's number. One that is not admitted for that partner changes nothing, and its
 /// reply tells of no message. Where memory is refused, the terminal may hold part of it, and is to be given up.
@@ -28,40 +49,15 @@ pub(crate) fn take_text(
     ensures { IfOk result (λ taken. IsTaken partner number text.now (machine_of setup.now terminal.old)
         (taken_content taken) (machine_of setup.now terminal.new)) }
 {
-    let mut changes = Vec::new(alloc);
-    match admitted_for(setup, partner, text) {
-        Some(admitted) => {
-            let reply = take(alloc, setup, terminal, &admitted, &mut changes)?;
-            Ok(Taken {
-                number,
-                reply,
-                changes,
-            })
-        }
+    match admit_for(setup, partner, text) {
+        Some(admitted) => take_admitted(alloc, setup, terminal, &admitted, number),
         None => {
             let reply = reply(alloc, "", &[])?;
             Ok(Taken {
                 number,
                 reply,
-                changes,
+                changes: Vec::new(alloc),
             })
         }
     }
-}
-
-/// The interchange that a text is, where it is admitted for that partner.
-fn admitted_for<'a>(setup: &Setup, partner: u16, text: &'a [u8]) -> Option<Admitted<'a>>
-    requires { length setup.now.partners.items ≤ 999 }
-    ensures none { IfNone result (is_for partner (admission (parties_of setup.now) text.now) ≡ false) }
-    ensures admitted { IfSome result (IsAdmitted setup.now text.now) }
-    ensures partner { IfSome result (λ admitted. admitted.partner ≡ partner) }
-{
-    let admitted = match admit(setup, text) {
-        Ok(admitted) => admitted,
-        Err(_) => return None,
-    };
-    if admitted.partner != partner {
-        return None;
-    }
-    Some(admitted)
 }

@@ -1,5 +1,5 @@
 -- What is known of a text that was admitted, or refused.
-use Rattle.std.proofs.Common.{◌≡◌, ℕ, ◌-◌, ◌≤◌, List, [], Result, Ok, Err, Some, refl, sym, ap, subst, ◌∙◌, string_bytes}
+use Rattle.std.proofs.Common.{◌≡◌, ℕ, ◌-◌, ◌≤◌, List, [], Ok, Err, Some, refl, sym, ap, subst, ◌∙◌, string_bytes}
 use Rattle.std.specs.Prelude.{slice_get}
 use Rattle.std.specs.Option.{unwrap_or}
 use Rattle.std.proofs.lemmas.Option.{slice_get-map}
@@ -9,13 +9,15 @@ use Rattle.edi_syntax.specs.Envelope.{header_of}
 use Rattle.edi_syntax.specs.Header.{control_number}
 use Rattle.partner_core.specs.Numbered.{with_number}
 use Rattle.partner_core.proofs.Numbered.{with_number-below}
+use Rattle.office_replies.specs.Contents.{GivesOrNotNow}
+use Rattle.office_replies.specs.declared.fault.Fault.{Fault}
 use Rattle.office_replies.specs.declared.response.Response.{Response}
 use Rattle.office_setup.specs.Parties.{Parties, parties_of, partner_codes}
 use Rattle.office_setup.specs.declared.account.Account.{Account}
 use Rattle.office_setup.specs.declared.setup.Setup.{Setup}
 use Rattle.office_admission.specs.Admission.{admission, number_in}
 use Rattle.office_admission.specs.Outcomes.{IsRefused, fault_in}
-use Rattle.office_admission.specs.Refusals.{RefusedSurely}
+use Rattle.office_admission.specs.Refusals.{RefusedSurely, refusal_of}
 use Rattle.office_admission.specs.declared.refusal.Refusal.{Refusal}
 use Rattle.office_admission.specs.declared.refusal.Refusal.TheVariants.{Plain, WithContrl}
 
@@ -41,3 +43,18 @@ numbered P text segments partner number same is admits =
 pub code_at : (accounts : List Account) (partner : ℕ) (account : Account) → 1 ≤ partner → slice_get accounts (partner - 1) ≡ Some account →
     unwrap_or (with_number (partner_codes accounts) partner) [] ≡ string_bytes account.code
 code_at accounts partner account positive e = rw (with_number-below (partner_codes accounts) partner positive, slice_get-map (λ other. string_bytes other.code) accounts (partner - 1), e) refl
+
+-- a refusal is that of the fault for which the text is refused
+pub refused_so : (setup : Setup) (delivered text : List ℕ) (refusal : Refusal) (fault : Fault) (given : Response) → text ≡ interchange_of delivered → IsRefused setup text refusal →
+    admission (parties_of setup) (interchange_of delivered) ≡ Err fault → GivesOrNotNow (refusal_of (parties_of setup) (header_of (segments_in text)) (fault_in refusal)) given →
+    GivesOrNotNow (refusal_of (parties_of setup) (header_of (segments_in (interchange_of delivered))) fault) given
+refused_so setup delivered text refusal fault given is refused e gives =
+    let P = parties_of setup in
+    let both : Err (fault_in refusal) ≡ Err fault = sym (refused_for setup text refusal refused) ∙ ap (admission P) is ∙ e in
+    let same : fault_in refusal ≡ fault = cc in
+    subst (λ f. GivesOrNotNow (refusal_of P (header_of (segments_in (interchange_of delivered))) f) given) same
+    (subst (λ other. GivesOrNotNow (refusal_of P (header_of (segments_in other)) (fault_in refusal)) given) is gives)
+
+-- what is admitted is never refused
+pub never_refused : (P : Parties) (delivered text : List ℕ) (place : ℕ × ℕ) (fault : Fault) → text ≡ interchange_of delivered → admission P text ≡ Ok place → admission P (interchange_of delivered) ≡ Err fault → ⊥
+never_refused P delivered text place fault is admits e = let never : Ok place ≡ Err fault = sym admits ∙ ap (admission P) is ∙ e in absurd cc

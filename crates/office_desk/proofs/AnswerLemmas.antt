@@ -1,10 +1,9 @@
 -- The answers that responses are.
 use Rattle.std.proofs.Common.{◌≡◌, ℕ, List, [], ◌∷◌, ◌≤◌, length, Some, String, string_bytes, codes, refl, sym, ap, subst, ◌∙◌, arith}
 use Rattle.std.specs.Prelude.{slice_index_or}
-use Rattle.std.proofs.lemmas.List.{append-nil}
 use Rattle.std.specs.declared.alloc.Global.{Global}
 use Rattle.partner_core.specs.Answers as told
-use Rattle.office_replies.specs.Bodies.{head_text, waiting_text, clash_text}
+use Rattle.office_replies.specs.Bodies.{answer_text, waiting_text, clash_text}
 use Rattle.office_replies.specs.Contents.{content_of}
 use Rattle.office_replies.specs.declared.response.Response.TheVariants as response
 use Rattle.sqlite.specs.State.{State}
@@ -19,21 +18,21 @@ use Rattle.office_delivery.specs.declared.taken.Taken.{Taken}
 use Rattle.office_desk.specs.Answers.{told_answer}
 use Rattle.office_desk.specs.Telling.{TakesNext}
 
-pub taken_is : (head reply : String Global) (number : ℕ) (code : List ℕ) → string_bytes head ≡ head_text (codes "taken") number code →
-    content_of (response.Taken head reply) ≡ told_answer code number (told.Taken (Some (string_bytes reply)))
-taken_is head reply number code is = rw is refl
+pub taken_is : (body : String Global) (reply : List ℕ) (number : ℕ) (code : List ℕ) → string_bytes body ≡ answer_text (codes "taken") number code reply →
+    content_of (response.Taken body) ≡ told_answer code number (told.Taken (Some reply))
+taken_is body reply number code is = rw is refl
 
-pub repeat_is : (head reply : String Global) (number : ℕ) (code : List ℕ) → string_bytes head ≡ head_text (codes "repeat") number code →
-    content_of (response.Repeat head reply) ≡ told_answer code number (told.Repeat (Some (string_bytes reply)))
-repeat_is head reply number code is = rw is refl
+pub repeat_is : (body : String Global) (reply : List ℕ) (number : ℕ) (code : List ℕ) → string_bytes body ≡ answer_text (codes "repeat") number code reply →
+    content_of (response.Repeat body) ≡ told_answer code number (told.Repeat (Some reply))
+repeat_is body reply number code is = rw is refl
 
 pub waiting_is : (body : String Global) (next number : ℕ) (code : List ℕ) → string_bytes body ≡ waiting_text next number code →
     content_of (response.Waiting body) ≡ told_answer code number (told.Waiting next)
-waiting_is body next number code is = rw (append-nil (string_bytes body), append-nil (string_bytes body), is) refl
+waiting_is body next number code is = rw is refl
 
 pub clash_is : (body : String Global) (number : ℕ) (code : List ℕ) → string_bytes body ≡ clash_text number code →
     content_of (response.Clash body) ≡ told_answer code number told.Clash
-clash_is body number code is = rw (append-nil (string_bytes body), append-nil (string_bytes body), is) refl
+clash_is body number code is = rw is refl
 
 -- ---- a run
 
@@ -41,18 +40,18 @@ split : (first : Taken) (items : List Taken) → 1 ≤ length items → first �
 split first [] some is = absurd (omega (arith, some))
 split first (x ∷ items) some is = (items, ap (λ t. t ∷ items) (sym is))
 
-pub takes_next : (rows : Rows) (partner number : ℕ) (text code : List ℕ) (old new : MachineState) (head : String Global) (first : Taken) (items : List Taken) (was mid end : State) →
+pub takes_next : (rows : Rows) (partner number : ℕ) (text code : List ℕ) (old new : MachineState) (body : String Global) (first : Taken) (items : List Taken) (was mid end : State) →
     1 ≤ length items → first ≡ slice_index_or items 0 first → AreTakenFrom partner (texts_with rows partner number text) number old (taken_contents items) new →
-    string_bytes head ≡ head_text (codes "taken") number code → HasRows rows was.now → was.now ≡ was.committed → IsSame was mid →
-    Commits (with_run partner number text (taken_contents items)) mid end → TakesNext rows partner number text code old (response.Taken head first.reply) new end
-takes_next rows partner number text code old new head first items was mid end some is taken bytes has settled same wrote =
+    string_bytes body ≡ answer_text (codes "taken") number code (string_bytes first.reply) → HasRows rows was.now → was.now ≡ was.committed → IsSame was mid →
+    Commits (with_run partner number text (taken_contents items)) mid end → TakesNext rows partner number text code old (response.Taken body) new end
+takes_next rows partner number text code old new body first items was mid end some is taken bytes has settled same wrote =
     let parts = split first items some is in
     let before : HasRows rows mid.committed = subst (HasRows rows) (settled ∙ sym same.committed) has in
     record {
       first = taken_content first;
       later = taken_contents parts.0;
       taken = subst (λ l. AreTakenFrom partner (texts_with rows partner number text) number old (taken_contents l) new) parts.1 taken;
-      answers = taken_is head first.reply number code bytes;
+      answers = taken_is body (string_bytes first.reply) number code bytes;
       has = subst (λ l. HasRows (with_run partner number text (taken_contents l) rows) end.committed) parts.1 (wrote.rows rows before);
       is_open = wrote.is_open;
       alone = wrote.alone;

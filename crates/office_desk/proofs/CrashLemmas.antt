@@ -1,5 +1,5 @@
 -- What a crash leaves behind each delivery.
-use Rattle.std.proofs.Common.{◌≡◌, ◌⊎◌, inl, inr, ℕ, ◌+◌, ◌<◌, List, [], ◌∷◌, ◌++◌, None, Some, Result, Ok, Err, IfOk, OnOk, OnErr, refl, sym, ap, subst, ◌∙◌, arith}
+use Rattle.std.proofs.Common.{◌≡◌, ◌⊎◌, inl, inr, ℕ, ◌+◌, ◌<◌, List, [], ◌∷◌, ◌++◌, None, Some, Option, Result, Ok, Err, IfOk, IsTrue, OnOk, OnErr, sym, subst, ◌∙◌, arith}
 use Rattle.sqlite.specs.State.{State, HasCleanDisk, Survives}
 use Rattle.sqlite.specs.Tree.{Trees}
 use Rattle.edi_segments.specs.Interchange.{interchange_of}
@@ -15,14 +15,13 @@ use Rattle.office_rows.specs.Tables.{office_schema}
 use Rattle.office_setup.specs.Given.{IsGiven}
 use Rattle.office_setup.specs.Setups.{SetupContent}
 use Rattle.office_admission.specs.Admission.{admission}
-use Rattle.office_history.specs.After.{AreAfter, SaysSame, delivered_to, machine_after, machine_with, parties_in}
+use Rattle.office_history.specs.After.{AreAfter, delivered_to, machine_after, machine_with, parties_in}
 use Rattle.office_history.specs.Cascade.{AreTakenFrom, text_in, texts_with, with_run}
 use Rattle.office_history.specs.Laws.{IsFor}
-use Rattle.office_history.proofs.Alike.{after_same}
 use Rattle.office_history.proofs.Lawful.{refused_adds, used_adds, early_adds, next_adds}
 use Rattle.office_delivery.specs.Reading.{OnlyReads}
-use Rattle.office_desk.specs.Crashes.{HasCommitted, IsAfter, Leaves, LeavesEither, LeavesBehind}
-use Rattle.office_desk.specs.Telling.{Comes, IsBeside, IsRunDone}
+use Rattle.office_desk.specs.Crashes.{HasCommitted, IsAfter, Leaves, LeavesBehind}
+use Rattle.office_desk.specs.Telling.{Comes, Holds, IsBeside, IsRunDone}
 
 -- ---- calls that only read
 
@@ -101,8 +100,8 @@ module _ (content : SetupContent) (ds : List (List ℕ)) (delivered : List ℕ) 
 
   -- what is told of what a crash leaves, by the answer
   pub answered_behind : (given : Response) (s : State) → Leaves content (ds ++ delivered ∷ []) s → LeavesBehind content ds delivered given s
-  answered_behind (response.Taken head reply) s leaves = leaves
-  answered_behind (response.Repeat head reply) s leaves = leaves
+  answered_behind (response.Taken body) s leaves = leaves
+  answered_behind (response.Repeat body) s leaves = leaves
   answered_behind (response.Waiting body) s leaves = leaves
   answered_behind (response.Clash body) s leaves = leaves
   answered_behind (response.Refused fault) s leaves = leaves
@@ -113,9 +112,7 @@ module _ (content : SetupContent) (ds : List (List ℕ)) (delivered : List ℕ) 
 pub committed_leaves : (content : SetupContent) (ds : List (List ℕ)) (s : State) (rows : Rows) → HasCommitted s → HasRows rows s.committed → AreAfter content ds rows → Leaves content ds s
 committed_leaves content ds s rows done has after db left = record { rows = rows; are = subst (AreRows rows) (sym (done.alone db left)) has.rows_are; after = after }
 
--- ---- a set-up that says the same
-
-pub leaves_same : (own content : SetupContent) (ds : List (List ℕ)) (old new : State) → SaysSame own content → ((db : Trees) → new.may_leave db → old.may_leave db) → Leaves content ds old → Leaves own ds new
-leaves_same own content ds old new says less leaves db left =
-    let is = leaves db (less db left) in
-    record { rows = is.rows; are = is.are; after = after_same own content ds is.rows says is.after }
+-- while it is open, a crash leaves what was committed alone, so the rows that are held
+pub held_leaves : (content : SetupContent) (ds : List (List ℕ)) (s : State) (terminal : Option TerminalState) → IsTrue s.is_open → ((db : Trees) → s.may_leave db → db ≡ s.committed.trees) →
+    Holds content ds s.committed terminal → Leaves content ds s
+held_leaves content ds s terminal is_open alone holds = committed_leaves content ds s holds.rows (record { is_open = is_open; alone = alone }) holds.has holds.after

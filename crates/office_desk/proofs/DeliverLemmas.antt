@@ -1,5 +1,5 @@
 -- One delivery more to a desk.
-use Rattle.std.proofs.Common.{◌≡◌, ℕ, List, [], ◌∷◌, ◌++◌, Some, Ok, Err, string_bytes, refl, sym, ap, subst, ◌∙◌}
+use Rattle.std.proofs.Common.{◌≡◌, ℕ, List, [], ◌∷◌, ◌++◌, Ok, Err, string_bytes, refl, sym, ap, subst, ◌∙◌}
 use Rattle.std.proofs.lemmas.Simd.{map-map}
 use Rattle.sqlite.specs.Held.{state}
 use Rattle.sqlite_trees.specs.declared.store.Store.{Ghosts}
@@ -28,7 +28,7 @@ use Rattle.office_desk.proofs.Admitted.{refused_for}
 use Rattle.office_desk.specs.Telling.{Answers, Comes, Holds}
 use Rattle.office_desk.specs.Desks.{StandsFor, answers_for}
 use Rattle.office_desk.specs.declared.desk.Desk.{Desk}
-use Rattle.office_desk.specs.Crashes.{Leaves, LeavesBehind, LeavesEither}
+use Rattle.office_desk.specs.Crashes.{Leaves, LeavesBehind}
 use Rattle.office_desk.proofs.CrashLemmas.{answered_behind, refused_leaves}
 use Rattle.office_desk.proofs.HoldLemmas.{beside_same}
 
@@ -59,8 +59,8 @@ module _ {S : Type 0} (g : Ghosts S) (content : SetupContent) where
 
   answers_or_not : (ds : List (List ℕ)) (delivered : List ℕ) (given : Response) (desk : Desk S g) → GivesOrNotNow (answer ds delivered) given → RefusedSurely (parties_in content) (interchange_of delivered) given →
       StandsFor g content ds desk → StandsFor g content (ds ++ delivered ∷ []) desk → Next ds delivered given desk
-  answers_or_not ds delivered (response.Taken head reply) desk gives surely before after = (gives, after)
-  answers_or_not ds delivered (response.Repeat head reply) desk gives surely before after = (gives, after)
+  answers_or_not ds delivered (response.Taken body) desk gives surely before after = (gives, after)
+  answers_or_not ds delivered (response.Repeat body) desk gives surely before after = (gives, after)
   answers_or_not ds delivered (response.Waiting body) desk gives surely before after = (gives, after)
   answers_or_not ds delivered (response.Clash body) desk gives surely before after = (gives, after)
   answers_or_not ds delivered (response.Refused fault) desk gives surely before after = (gives, after)
@@ -69,8 +69,8 @@ module _ {S : Type 0} (g : Ghosts S) (content : SetupContent) where
 
   answers_now : (ds : List (List ℕ)) (delivered : List ℕ) (given : Response) (desk : Desk S g) (code : List ℕ) (number : ℕ) (kind : Told) → content_of given ≡ told_answer code number kind →
       content_of given ≡ answer ds delivered → StandsFor g content (ds ++ delivered ∷ []) desk → Next ds delivered given desk
-  answers_now ds delivered (response.Taken head reply) desk code number kind e is after = (is, after)
-  answers_now ds delivered (response.Repeat head reply) desk code number kind e is after = (is, after)
+  answers_now ds delivered (response.Taken body) desk code number kind e is after = (is, after)
+  answers_now ds delivered (response.Repeat body) desk code number kind e is after = (is, after)
   answers_now ds delivered (response.Waiting body) desk code number kind e is after = (is, after)
   answers_now ds delivered (response.Clash body) desk code number kind e is after = (is, after)
   answers_now ds delivered (response.Refused fault) desk code number kind e is after = (is, after)

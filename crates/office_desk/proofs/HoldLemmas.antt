@@ -1,5 +1,5 @@
 -- What the desk holds behind each delivery.
-use Rattle.std.proofs.Common.{◌≡◌, ℕ, ◌+◌, ◌<◌, ◌≤◌, Bool, true, false, cond, List, [], ◌∷◌, ◌++◌, Option, None, Some, Result, Ok, Err, IfOk, OnOk, String, string_bytes, refl, sym, ap, subst, ◌∙◌, arith}
+use Rattle.std.proofs.Common.{◌≡◌, ℕ, ◌+◌, ◌<◌, Bool, true, false, cond, List, [], ◌∷◌, ◌++◌, Option, None, Some, Result, Ok, Err, IfOk, OnOk, String, string_bytes, refl, sym, ap, subst, ◌∙◌, arith}
 use Rattle.std.specs.declared.alloc.Global.{Global}
 use Rattle.std.specs.Option.{option_map, option_and_then}
 use Rattle.std.specs.Cmp.Lexicographic.{same_text, other_text}
@@ -9,10 +9,9 @@ use Rattle.sqlite_rules.proofs.ListLemmas.{has_filtered, has_contained, contains
 use Rattle.sqlite.specs.Effect.{Database}
 use Rattle.sqlite.specs.State.{State}
 use Rattle.edi_segments.specs.Interchange.{interchange_of}
-use Rattle.partner_core.specs.Answers.{Told, Taken, Repeat, Waiting, Clash, answer_by}
+use Rattle.partner_core.specs.Answers.{Told, Waiting, answer_by}
 use Rattle.partner_core.specs.Deliveries.{run}
 use Rattle.partner_core.specs.Standings.{standing_of, is_same_text}
-use Rattle.partner_core.specs.declared.standing.Standing.{Standing}
 use Rattle.partner_core.specs.declared.standing.Standing.TheVariants.{Known, Other}
 use Rattle.terminal_core.specs.State.{TerminalState}
 use Rattle.office_replies.specs.Contents.{content_of}
@@ -20,14 +19,14 @@ use Rattle.office_replies.specs.declared.response.Response.{Response}
 use Rattle.office_rows.specs.Rows.{Interchange, Rows}
 use Rattle.office_rows.specs.Effects.{with_kept}
 use Rattle.office_rows.specs.Stored.{HasRows}
-use Rattle.office_setup.specs.Parties.{partner_codes, partner_kinds}
+use Rattle.office_setup.specs.Parties.{partner_kinds}
 use Rattle.office_setup.specs.Setups.{SetupContent, setup_content}
 use Rattle.office_setup.specs.declared.setup.Setup.{Setup}
 use Rattle.office_setup.specs.Given.{IsGiven}
-use Rattle.office_tables.specs.Answers.{IsKept, IsNextOf, RepliesAs, has_id, pair_of}
+use Rattle.office_tables.specs.Answers.{IsKept, IsNextOf, RepliesAs, has_id}
 use Rattle.office_tables.specs.declared.kept_interchange.Kept.{Kept}
-use Rattle.office_taking.specs.Taking.{MachineState, machine_of}
-use Rattle.office_history.specs.Cascade.{TakenContent, AreTakenFrom, text_in, texts_with, with_run}
+use Rattle.office_taking.specs.Taking.{machine_of}
+use Rattle.office_history.specs.Cascade.{AreTakenFrom, text_in, texts_with, with_run}
 use Rattle.office_history.specs.After.{AreAfter, AreKeptOnce, delivered_to, machine_after, machine_with, parties_in, reply_in, reply_if_any}
 use Rattle.office_history.specs.Laws.{IsFor, AnswersBy, told_of}
 use Rattle.office_history.proofs.Lawful.{used_adds, early_adds, next_adds}

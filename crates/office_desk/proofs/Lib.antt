@@ -4,4 +4,5 @@ pub mod CrashLemmas
 pub mod HoldLemmas
 pub mod DeliverLemmas
 pub mod PartLemmas
+pub mod OfficeLemmas
 pub mod ReportLemmas

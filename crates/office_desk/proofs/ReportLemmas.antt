@@ -1,5 +1,5 @@
 -- What the tables tell of an interchange, as reports tell it.
-use Rattle.std.proofs.Common.{◌≡◌, ℕ, Bool, true, false, List, Option, None, Some, string_bytes, option_map, is_some, refl, sym, ap, subst, ◌∙◌}
+use Rattle.std.proofs.Common.{◌≡◌, ℕ, true, false, List, Option, None, Some, string_bytes, option_map, is_some, refl, sym, ap, subst, ◌∙◌}
 use Rattle.std.specs.Option.{option_and_then}
 use Rattle.terminal_core.specs.Rows.{VisitContent}
 use Rattle.office_reports.specs.Tickets.{ticket_text}
@@ -11,7 +11,6 @@ use Rattle.office_history.specs.Cascade.{text_in}
 use Rattle.office_delivery.proofs.ReadLemmas.{none_kept, no_text, text_kept}
 use Rattle.office_setup.specs.Parties.{Parties, partner_codes, partner_from}
 use Rattle.office_setup.specs.Setups.{setup_content}
-use Rattle.office_setup.specs.declared.account.Account.{Account}
 use Rattle.office_setup.specs.declared.setup.Setup.{Setup}
 use Rattle.office_desk.specs.Reports.{TellsReply, partner_called, reply_text, ticket_told}
 use Rattle.office_desk.proofs.DeliverLemmas.{parties_same}
@@ -56,8 +55,8 @@ module _ (rows : Rows) (partner number : ℕ) (once : AreKeptOnce rows.interchan
       sym (ap (ticket_told visits code partner number) (reply_of_kept kept is ∙ ap (option_map string_bytes) (none_if (option_and_then (λ (k : Kept). k.reply) kept) none)))
 
 -- who is found among the accounts
-pub called : (setup : Setup) (accounts : List Account) (code own : List ℕ) (found : Option ℕ) → found ≡ partner_from 1 code (partner_codes accounts) → accounts ≡ setup.partners.items → code ≡ own →
+pub called : (setup : Setup) (code own : List ℕ) (found : Option ℕ) → found ≡ partner_from 1 code (partner_codes setup.partners.items) → code ≡ own →
     partner_called (setup_content setup) own ≡ found
-called setup accounts code own found is same is_own =
+called setup code own found is is_own =
     ap (λ (P : Parties). partner_from 1 own P.partners) (sym (parties_same setup))
-    ∙ ap (λ (l : List Account). partner_from 1 own (partner_codes l)) (sym same) ∙ ap (λ (c : List ℕ). partner_from 1 c (partner_codes accounts)) (sym is_own) ∙ sym is
+    ∙ ap (λ (c : List ℕ). partner_from 1 c (partner_codes setup.partners.items)) (sym is_own) ∙ sym is

@@ -1,5 +1,5 @@
 -- What a delivery is answered.
-use Rattle.std.specs.Prelude.{◌≡◌, ℕ, List, [], Option, None, Some, Result, Ok, Err, codes}
+use Rattle.std.specs.Prelude.{◌≡◌, ℕ, List, [], Result, Ok, Err, codes}
 use Rattle.std.specs.Option.{unwrap_or}
 use Rattle.edi_segments.specs.Interchange.{interchange_of, segments_in}
 use Rattle.edi_syntax.specs.Envelope.{header_of}
@@ -22,11 +22,11 @@ use Rattle.office_admission.specs.Refusals.{refusal_of, MayBeNotNow}
 
 -- the answer to an interchange of the partner with a code that is taken, with its reply
 abbrev pub taken_answer : List ℕ → ℕ → List ℕ → AnswerContent
-taken_answer code number reply = answer_with (kinds.Taken reply) 200 (answer_text (codes "taken") number code reply) worst.Fine
+taken_answer code number reply = answer_with kinds.Taken 200 (answer_text (codes "taken") number code reply) worst.Fine
 
 -- the answer to one that was taken before
 abbrev pub repeat_answer : List ℕ → ℕ → List ℕ → AnswerContent
-repeat_answer code number reply = answer_with (kinds.Repeat reply) 200 (answer_text (codes "repeat") number code reply) worst.Fine
+repeat_answer code number reply = answer_with kinds.Repeat 200 (answer_text (codes "repeat") number code reply) worst.Fine
 
 -- what the runs tell of a number of the partner with a code
 abbrev pub told_answer : List ℕ → ℕ → Told → AnswerContent

@@ -28,6 +28,10 @@ Leaves content ds s = (db : Trees) → s.may_leave db → IsAfter content ds db
 abbrev pub LeavesEither : SetupContent → List (List ℕ) → List ℕ → State → Type 0
 LeavesEither content ds delivered s = (db : Trees) → s.may_leave db → IsAfter content ds db ⊎ IsAfter content (ds ++ delivered ∷ []) db
 
+-- a crash leaves nothing that it would not have left before
+abbrev pub LeavesNoMore : State → State → Type 0
+LeavesNoMore old new = (db : Trees) → new.may_leave db → old.may_leave db
+
 -- what is answered stands, and a delivery that is answered NotNow is there whole or not at all
 abbrev pub LeavesBehind : SetupContent → List (List ℕ) → List ℕ → Response → State → Type 0
 LeavesBehind content ds delivered response.NotNow s = LeavesEither content ds delivered s

@@ -1,10 +1,17 @@
 -- Where a desk stands, and what it answers.
-use Rattle.std.specs.Prelude.{◌≡◌, ℕ, List, IsTrue}
+use Rattle.std.specs.Prelude.{◌≡◌, ℕ, List, Err, IsTrue}
 use Rattle.sqlite.specs.Held.{state}
-use Rattle.sqlite.specs.State.{State, HasCleanDisk}
+use Rattle.sqlite.specs.State.{HasCleanDisk}
 use Rattle.sqlite_trees.specs.declared.store.Store.{Ghosts}
+use Rattle.edi_segments.specs.Interchange.{interchange_of, segments_in}
+use Rattle.edi_syntax.specs.Envelope.{header_of}
+use Rattle.office_replies.specs.Contents.{GivesOrNotNow}
+use Rattle.office_replies.specs.declared.fault.Fault.{Fault}
 use Rattle.office_replies.specs.declared.response.Response.{Response}
+use Rattle.office_setup.specs.Parties.{parties_of}
 use Rattle.office_setup.specs.Setups.{SetupContent, setup_content}
+use Rattle.office_admission.specs.Admission.{admission}
+use Rattle.office_admission.specs.Refusals.{refusal_of}
 use Rattle.office_taking.specs.Taking.{interchange_taken}
 use Rattle.office_history.specs.After.{SaysSame, parties_in, opening_of}
 use Rattle.office_desk.specs.Answers.{AnswersNext}
@@ -21,12 +28,11 @@ pub record StandsFor {S : Type 0} (g : Ghosts S) (content : SetupContent) (ds : 
   pub setup : setup_content desk.setup ≡ content
   pub holds : Holds content ds (state g desk.conn).committed desk.terminal
 
--- a desk that was opened on the rows after those deliveries: its set-up says the same, it stands there, and opening gave a crash
--- nothing else to leave
-pub record OpensAt {S : Type 0} (g : Ghosts S) (content : SetupContent) (ds : List (List ℕ)) (found : State) (desk : Desk S g) : Type 0 where
+-- a desk that was opened on the rows after those deliveries: its set-up says the same, it stands there, and a crash leaves these
+pub record OpensAt {S : Type 0} (g : Ghosts S) (content : SetupContent) (ds : List (List ℕ)) (desk : Desk S g) : Type 0 where
   pub says : SaysSame (setup_content desk.setup) content
   pub stands : StandsFor g (setup_content desk.setup) ds desk
-  pub leaves : Leaves content ds found → Leaves (setup_content desk.setup) ds (state g desk.conn)
+  pub leaves : Leaves (setup_content desk.setup) ds (state g desk.conn)
 
 -- it stands there for the set-up of the desk that opened
 abbrev pub DeskStands : {S : Type 0} (g : Ghosts S) → Desk S g → List (List ℕ) → Desk S g → Type 0
@@ -37,3 +43,9 @@ answers_for content ds delivered given = AnswersNext interchange_taken (parties_
 
 abbrev pub DeskAnswers : {S : Type 0} (g : Ghosts S) → Desk S g → List (List ℕ) → List ℕ → Response → Type 0
 DeskAnswers g opening ds delivered given = answers_for (setup_content opening.setup) ds delivered given
+
+-- a text that is refused is answered so, or NotNow, and the desk is as it was
+abbrev pub Refuses : {S : Type 0} (g : Ghosts S) → List ℕ → Desk S g → Response → Desk S g → Type 0
+Refuses g delivered old given new =
+    (fault : Fault) → admission (parties_of old.setup) (interchange_of delivered) ≡ Err fault →
+    (new.conn ≡ old.conn) × (new.setup ≡ old.setup) × (new.terminal ≡ old.terminal) × GivesOrNotNow (refusal_of (parties_of old.setup) (header_of (segments_in (interchange_of delivered))) fault) given

@@ -1,5 +1,6 @@
 pub mod Answers
 pub mod Telling
 pub mod Crashes
+pub mod Offices
 pub mod Desks
 pub mod Reports

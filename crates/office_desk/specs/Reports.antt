@@ -1,5 +1,5 @@
 -- What the desk tells: the reports of the rows that it holds.
-use Rattle.std.specs.Prelude.{◌≡◌, ℕ, List, [], ◌∷◌, Option, None, Some, codes, string_bytes}
+use Rattle.std.specs.Prelude.{◌≡◌, ℕ, List, Option, None, Some, codes, string_bytes}
 use Rattle.sqlite.specs.Held.{state}
 use Rattle.sqlite_trees.specs.declared.store.Store.{Ghosts}
 use Rattle.edi_messages.specs.Owned.{call_content}
@@ -19,6 +19,7 @@ use Rattle.office_reports.specs.Lists.{IsListReport}
 use Rattle.office_reports.specs.Tickets.{ticket_text}
 use Rattle.office_reports.specs.Visits.{visit_report}
 use Rattle.office_reports.specs.Yard.{IsYardReport}
+use Rattle.office_desk.specs.Offices.{DeskHolds}
 use Rattle.office_desk.specs.Telling.{Holds}
 use Rattle.office_desk.specs.declared.desk.Desk.{Desk}
 
@@ -70,7 +71,8 @@ pub record TellsAfter (content : SetupContent) (ds : List (List ℕ)) (query : Q
   pub after : AreAfter content ds rows
   pub tells : TellsOf content (machine_after content ds).terminal rows query found
 
--- whatever was delivered to the desk, it tells what the rows after that tell
-abbrev pub DeskTells : {S : Type 0} (g : Ghosts S) → Desk S g → Query → Option (List ℕ) → Type 0
-DeskTells g desk query found =
-    (ds : List (List ℕ)) → Holds (setup_content desk.setup) ds (state g desk.conn).committed desk.terminal → TellsAfter (setup_content desk.setup) ds query found
+-- what the desk tells, whatever rows it has: those after deliveries tell what the rows after that tell; those of any office
+-- tell what they are
+pub record DeskTells {S : Type 0} (g : Ghosts S) (desk : Desk S g) (query : Query) (found : Option (List ℕ)) : Type 0 where
+  pub after : (ds : List (List ℕ)) → Holds (setup_content desk.setup) ds (state g desk.conn).committed desk.terminal → TellsAfter (setup_content desk.setup) ds query found
+  pub office : (rows : Rows) (terminal : TerminalState) → DeskHolds g desk rows terminal → TellsOf (setup_content desk.setup) terminal rows query found

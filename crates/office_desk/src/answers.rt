@@ -6,7 +6,7 @@ ghost use Rattle.partner_core.specs.Standings.{standing_of};
 ghost use Rattle.office_replies.specs.Contents.{content_of};
 ghost use Rattle.office_desk.specs.Answers.{told_answer};
 
-use office_replies::{Response, answer_head, clash, waiting};
+use office_replies::{Response, answered, clash, waiting};
 use office_tables::Kept;
 use partner_core::{Standing, judge};
 use std::alloc::{AllocError, Global};
@@ -41,21 +41,21 @@ fn answer_known(
         (answer_by Known next (option_map string_bytes reply) None)) }
 {
     match reply {
-        Some(reply) => answer_repeat(alloc, reply, code, number),
+        Some(reply) => answer_repeat(alloc, &reply, code, number),
         None => answer_waiting(alloc, next, code, number),
     }
 }
 
 fn answer_repeat(
     alloc: Global,
-    reply: String,
+    reply: &str,
     code: &str,
     number: u32,
 ) -> Result<Response, AllocError>
-    ensures { IfOk result (λ response. content_of response ≡ told_answer code.now number (Repeat (Some (string_bytes reply)))) }
+    ensures { IfOk result (λ response. content_of response ≡ told_answer code.now number (Repeat (Some reply.now))) }
 {
-    let head = answer_head(alloc, "repeat", number, code)?;
-    Ok(Response::Repeat { head, reply })
+    let body = answered(alloc, "repeat", number, code, reply)?;
+    Ok(Response::Repeat(body))
 }
 
 fn answer_clash(alloc: Global, code: &str, number: u32) -> Result<Response, AllocError>

@@ -65,7 +65,9 @@ impl<S: Alter + Drop> Desk<S> {
     ghost use Rattle.office_rows.specs.Rows.{Rows};
     ghost use Rattle.office_rows.specs.Stored.{HasRows};
     ghost use Rattle.office_history.specs.After.{AreAfter};
+    ghost use Rattle.office_rows.specs.Tables.{office_schema};
     ghost use Rattle.office_desk.specs.Desks.{IsSound, OpensAt};
+    ghost use Rattle.office_desk.specs.Offices.{OpensOffice};
 
     /// The desk of a store that holds an office: its set-up and its terminal are those that the tables hold. Where it is
     /// refused, the connection is given up.
@@ -73,7 +75,9 @@ impl<S: Alter + Drop> Desk<S> {
         requires idle { conn.in_transaction ≡ false }
         ensures opens { IfOk result (λ desk. IsSound S.Store desk → (content : SetupContent) (ds : List (List ℕ)) (rows : Rows) →
             IsGiven content → HasRows rows (state S.Store conn).committed → AreAfter content ds rows →
-            OpensAt S.Store content ds (state S.Store conn) desk) }
+            OpensAt S.Store content ds desk) }
+        ensures office { IfOk result (λ desk. IsSound S.Store desk → (state S.Store conn).committed.schema ≡ office_schema →
+            OpensOffice S.Store (state S.Store conn) desk) }
     {
         let mut conn = conn;
         let is_idle = conn.is_autocommit();
@@ -86,13 +90,23 @@ impl<S: Alter + Drop> Desk<S> {
 impl<S: Alter + Drop> Desk<S> {
     ghost use Rattle.std.specs.Prelude.{string_bytes};
     ghost use Rattle.std.specs.Option.{option_map};
+    ghost use Rattle.sqlite.specs.Held.{state};
+    ghost use Rattle.sqlite.specs.State.{HasCleanDisk};
+    ghost use Rattle.terminal_core.specs.State.{TerminalState};
+    ghost use Rattle.office_rows.specs.Rows.{Rows};
+    ghost use Rattle.office_rows.specs.Tables.{office_schema};
+    ghost use Rattle.office_desk.specs.Crashes.{LeavesNoMore};
     ghost use Rattle.office_desk.specs.Desks.{IsSound, DeskStands};
+    ghost use Rattle.office_desk.specs.Offices.{DeskHolds};
     ghost use Rattle.office_desk.specs.Reports.{DeskTells};
 
     /// What the rows tell at a query, if there is something. No row changes.
     pub fn told(&mut self, alloc: Global, query: &Query) -> Result<Option<String>, TableFault>
         ensures told { IsSound S.Store self.new → IfOk result (λ found. DeskTells S.Store self.old query.now (option_map string_bytes found)) }
         ensures same { IsSound S.Store self.new → (opening : Desk S S.Store) (ds : List (List ℕ)) → DeskStands S.Store opening ds self.old → DeskStands S.Store opening ds self.new }
+        ensures holds { IsSound S.Store self.new → (rows : Rows) (terminal : TerminalState) → DeskHolds S.Store self.old rows terminal → DeskHolds S.Store self.new rows terminal }
+        ensures crash { IsSound S.Store self.old → HasCleanDisk (state S.Store self.new.conn) →
+            (state S.Store self.old.conn).committed.schema ≡ office_schema → LeavesNoMore (state S.Store self.old.conn) (state S.Store self.new.conn) }
         ensures stays { IsSound S.Store self.new → IsSound S.Store self.old }
     {
         let is_idle = self.conn.is_autocommit();
@@ -107,7 +121,14 @@ impl<S: Alter + Drop> Desk<S> {
 impl<S: Alter + Drop> Report for Desk<S> {
     ghost use Rattle.std.specs.Prelude.{string_bytes};
     ghost use Rattle.std.specs.Option.{option_map};
+    ghost use Rattle.sqlite.specs.Held.{state};
+    ghost use Rattle.sqlite.specs.State.{HasCleanDisk};
+    ghost use Rattle.terminal_core.specs.State.{TerminalState};
+    ghost use Rattle.office_rows.specs.Rows.{Rows};
+    ghost use Rattle.office_rows.specs.Tables.{office_schema};
+    ghost use Rattle.office_desk.specs.Crashes.{LeavesNoMore};
     ghost use Rattle.office_desk.specs.Desks.{IsSound, DeskStands};
+    ghost use Rattle.office_desk.specs.Offices.{DeskHolds};
     ghost use Rattle.office_desk.specs.Reports.{DeskTells};
 
     ghost tells = { DeskTells S.Store };
@@ -115,6 +136,9 @@ impl<S: Alter + Drop> Report for Desk<S> {
     fn report(&mut self, alloc: Global, query: &Query) -> Result<Option<String>, NotNow>
         ensures told { IsSound S.Store self.new → IfOk result (λ found. DeskTells S.Store self.old query.now (option_map string_bytes found)) }
         ensures same { IsSound S.Store self.new → (opening : Desk S S.Store) (ds : List (List ℕ)) → DeskStands S.Store opening ds self.old → DeskStands S.Store opening ds self.new }
+        ensures holds { IsSound S.Store self.new → (rows : Rows) (terminal : TerminalState) → DeskHolds S.Store self.old rows terminal → DeskHolds S.Store self.new rows terminal }
+        ensures crash { IsSound S.Store self.old → HasCleanDisk (state S.Store self.new.conn) →
+            (state S.Store self.old.conn).committed.schema ≡ office_schema → LeavesNoMore (state S.Store self.old.conn) (state S.Store self.new.conn) }
         ensures stays { IsSound S.Store self.new → IsSound S.Store self.old }
     {
         match self.told(alloc, query) {
@@ -128,8 +152,8 @@ impl<S: Alter + Drop> Deliver for Desk<S> {
     ghost use Rattle.sqlite.specs.Held.{state};
     ghost use Rattle.sqlite.specs.State.{HasCleanDisk};
     ghost use Rattle.office_admission.specs.Refusals.{RefusedSurely};
-    ghost use Rattle.office_desk.specs.Crashes.{Leaves, LeavesBehind};
-    ghost use Rattle.office_desk.specs.Desks.{IsSound, DeskStands, DeskAnswers};
+    ghost use Rattle.office_desk.specs.Crashes.{LeavesBehind};
+    ghost use Rattle.office_desk.specs.Desks.{IsSound, DeskStands, DeskAnswers, Refuses};
 
     ghost clean = { IsSound S.Store };
 
@@ -143,8 +167,9 @@ impl<S: Alter + Drop> Deliver for Desk<S> {
             Delivers (DeskStands S.Store opening) (DeskAnswers S.Store opening) ds delivered.now result self.new }
         ensures stays { IsSound S.Store self.new → IsSound S.Store self.old }
         ensures crash { IsSound S.Store self.old → HasCleanDisk (state S.Store self.new.conn) → (opening : Desk S S.Store) (ds : List (List ℕ)) →
-            DeskStands S.Store opening ds self.old → Leaves (setup_content opening.setup) ds (state S.Store self.old.conn) →
+            DeskStands S.Store opening ds self.old →
             LeavesBehind (setup_content opening.setup) ds delivered.now result (state S.Store self.new.conn) }
+        ensures refused { Refuses S.Store delivered.now self.old result self.new }
         ensures sure { RefusedSurely (parties_of self.old.setup) (interchange_of delivered.now) result }
     {
         let text = interchange_text(delivered);
@@ -153,16 +178,15 @@ impl<S: Alter + Drop> Deliver for Desk<S> {
             Err(refusal) => return refusal.answer(alloc),
         };
         let number = admitted.envelope.head().number();
-        let partner = admitted.partner;
         let setup = &self.setup;
-        let code = setup.partners[partner as usize - 1].code.as_str();
+        let code = setup.partners[admitted.partner as usize - 1].code.as_str();
         let taken = take_in(
             alloc,
             &mut self.conn,
             setup,
             &mut self.terminal,
             code,
-            partner,
+            &admitted,
             number,
             text,
         );

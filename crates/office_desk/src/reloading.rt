@@ -8,6 +8,8 @@ ghost use Rattle.office_setup.specs.Given.{IsGiven};
 ghost use Rattle.office_setup.specs.Setups.{SetupContent};
 ghost use Rattle.office_history.specs.After.{AreAfter};
 ghost use Rattle.office_delivery.specs.Reading.{IsSame, OnlyReads};
+ghost use Rattle.terminal_core.specs.State.{TerminalState};
+ghost use Rattle.office_desk.specs.Offices.{HoldsOffice};
 ghost use Rattle.office_desk.specs.Telling.{IsBeside};
 
 use office_loading::load;
@@ -25,6 +27,8 @@ pub(crate) fn terminal_of<S: Alter>(
     ensures beside { HasCleanDisk (state S.Store conn.new) → IfOk result (λ now.
         (content : SetupContent) (ds : List (List ℕ)) (rows : Rows) → IsGiven content →
         HasRows rows (state S.Store conn.old).now → AreAfter content ds rows → IsBeside content ds beside → IsBeside content ds (Some now)) }
+    ensures office { HasCleanDisk (state S.Store conn.new) → IfOk result (λ now. (content : SetupContent) (rows : Rows) (terminal : TerminalState) →
+        HoldsOffice content rows terminal (state S.Store conn.old).now beside → now ≡ terminal) }
     ensures same { HasCleanDisk (state S.Store conn.new) → (state S.Store conn.old).now.schema ≡ office_schema →
         OnOk result (IsSame (state S.Store conn.old) (state S.Store conn.new)) }
     ensures reads { OnlyReads (state S.Store conn.old) (state S.Store conn.new) }

@@ -6,6 +6,7 @@ ghost use Rattle.partner_core.specs.Deliveries.{run};
 ghost use Rattle.office_rows.specs.Rows.{Rows};
 ghost use Rattle.office_rows.specs.Stored.{HasRows};
 ghost use Rattle.office_setup.specs.Setups.{setup_content};
+ghost use Rattle.office_admission.specs.Outcomes.{IsAdmitted};
 ghost use Rattle.office_setup.specs.Given.{IsGiven};
 ghost use Rattle.office_history.specs.After.{AreAfter, delivered_to};
 ghost use Rattle.office_history.specs.Cascade.{text_in};
@@ -18,6 +19,7 @@ use crate::early::take_early;
 use crate::found::{Found, look};
 use crate::next::take_next;
 use crate::reloading::terminal_of;
+use office_admission::Admitted;
 use office_replies::Response;
 use office_setup::Setup;
 use office_tables::TableFault;
@@ -33,38 +35,39 @@ pub(crate) fn take_in<S: Alter>(
     setup: &Setup,
     terminal: &mut Option<Terminal>,
     code: &str,
-    partner: u16,
+    admitted: &Admitted<'_>,
     number: u32,
     text: &[u8],
 ) -> Result<Response, TableFault>
     requires idle { (state S.Store conn.old).in_transaction ≡ false }
     requires given { IsGiven (setup_content setup.now) }
     requires number { number ≤ LAST_NUMBER }
+    requires admitted { IsAdmitted setup.now text.now admitted.now }
     ensures idle { (state S.Store conn.new).in_transaction ≡ false }
     ensures ok { HasCleanDisk (state S.Store conn.new) → IsTrue (state S.Store conn.new).is_open → IfOk result (λ response.
         (ds : List (List ℕ)) (delivered : List ℕ) →
         Holds (setup_content setup.now) ds (state S.Store conn.old).committed terminal.old →
-        Comes (setup_content setup.now) delivered text.now partner number →
-        Answers (setup_content setup.now) ds delivered partner number code.now response (state S.Store conn.new).committed terminal.new) }
+        Comes (setup_content setup.now) delivered text.now admitted.now.partner number →
+        Answers (setup_content setup.now) ds delivered admitted.now.partner number code.now response (state S.Store conn.new).committed terminal.new) }
     ensures err { HasCleanDisk (state S.Store conn.new) → IsTrue (state S.Store conn.new).is_open → OnErr result ((ds : List (List ℕ)) →
         Holds (setup_content setup.now) ds (state S.Store conn.old).committed terminal.old →
         Holds (setup_content setup.now) ds (state S.Store conn.new).committed terminal.new) }
     ensures leaves { HasCleanDisk (state S.Store conn.new) → IsTrue (state S.Store conn.old).is_open → OnOk result ((ds : List (List ℕ)) (delivered : List ℕ) →
         Holds (setup_content setup.now) ds (state S.Store conn.old).committed terminal.old → Leaves (setup_content setup.now) ds (state S.Store conn.old) →
-        Comes (setup_content setup.now) delivered text.now partner number → Leaves (setup_content setup.now) (ds ++ delivered ∷ []) (state S.Store conn.new)) }
+        Comes (setup_content setup.now) delivered text.now admitted.now.partner number → Leaves (setup_content setup.now) (ds ++ delivered ∷ []) (state S.Store conn.new)) }
     ensures crash { HasCleanDisk (state S.Store conn.new) → IsTrue (state S.Store conn.old).is_open → OnErr result ((ds : List (List ℕ)) (delivered : List ℕ) →
         Holds (setup_content setup.now) ds (state S.Store conn.old).committed terminal.old → Leaves (setup_content setup.now) ds (state S.Store conn.old) →
-        Comes (setup_content setup.now) delivered text.now partner number → LeavesEither (setup_content setup.now) ds delivered (state S.Store conn.new)) }
+        Comes (setup_content setup.now) delivered text.now admitted.now.partner number → LeavesEither (setup_content setup.now) ds delivered (state S.Store conn.new)) }
     ensures was_open { HasCleanDisk (state S.Store conn.new) → IsTrue (state S.Store conn.new).is_open → IsTrue (state S.Store conn.old).is_open }
     ensures clean { HasCleanDisk (state S.Store conn.new) → HasCleanDisk (state S.Store conn.old) }
 {
     let is_idle = conn.is_autocommit();
     prove!(is_idle);
-    let Found { kept, next } = look(conn, partner, number)?;
+    let Found { kept, next } = look(conn, admitted.partner, number)?;
     match kept {
         Some(kept) => Ok(answer_used(alloc, kept, next, code, number, text)?),
         None => take_new(
-            alloc, conn, setup, terminal, next, code, partner, number, text,
+            alloc, conn, setup, terminal, next, code, admitted, number, text,
         ),
     }
 }
@@ -77,34 +80,35 @@ fn take_new<S: Alter>(
     terminal: &mut Option<Terminal>,
     next: u32,
     code: &str,
-    partner: u16,
+    admitted: &Admitted<'_>,
     number: u32,
     text: &[u8],
 ) -> Result<Response, TableFault>
     requires idle { (state S.Store conn.old).in_transaction ≡ false }
     requires given { IsGiven (setup_content setup.now) }
     requires number { number ≤ LAST_NUMBER }
+    requires admitted { IsAdmitted setup.now text.now admitted.now }
     ensures idle { (state S.Store conn.new).in_transaction ≡ false }
     ensures ok { HasCleanDisk (state S.Store conn.new) → IsTrue (state S.Store conn.new).is_open → IfOk result (λ response.
         (ds : List (List ℕ)) (delivered : List ℕ) (rows : Rows) →
         HasRows rows (state S.Store conn.old).now → (state S.Store conn.old).now ≡ (state S.Store conn.old).committed →
         AreAfter (setup_content setup.now) ds rows → IsBeside (setup_content setup.now) ds terminal.old →
-        text_in rows partner number ≡ None → next ≡ run (delivered_to (setup_content setup.now) ds) partner + 1 →
-        Comes (setup_content setup.now) delivered text.now partner number →
-        Answers (setup_content setup.now) ds delivered partner number code.now response (state S.Store conn.new).committed terminal.new) }
+        text_in rows admitted.now.partner number ≡ None → next ≡ run (delivered_to (setup_content setup.now) ds) admitted.now.partner + 1 →
+        Comes (setup_content setup.now) delivered text.now admitted.now.partner number →
+        Answers (setup_content setup.now) ds delivered admitted.now.partner number code.now response (state S.Store conn.new).committed terminal.new) }
     ensures err { HasCleanDisk (state S.Store conn.new) → IsTrue (state S.Store conn.new).is_open → OnErr result (
         (ds : List (List ℕ)) (rows : Rows) →
         HasRows rows (state S.Store conn.old).now → (state S.Store conn.old).now ≡ (state S.Store conn.old).committed →
         AreAfter (setup_content setup.now) ds rows → IsBeside (setup_content setup.now) ds terminal.old →
         Holds (setup_content setup.now) ds (state S.Store conn.new).committed terminal.new) }
     ensures commits { HasCleanDisk (state S.Store conn.new) → OnOk result ((rows : Rows) → HasRows rows (state S.Store conn.old).now →
-        (state S.Store conn.old).now ≡ (state S.Store conn.old).committed → IsNumbered partner rows → HasCommitted (state S.Store conn.new)) }
+        (state S.Store conn.old).now ≡ (state S.Store conn.old).committed → IsNumbered admitted.now.partner rows → HasCommitted (state S.Store conn.new)) }
     ensures crash { HasCleanDisk (state S.Store conn.new) → OnErr result (
         (ds : List (List ℕ)) (delivered : List ℕ) (rows : Rows) →
         HasRows rows (state S.Store conn.old).now → (state S.Store conn.old).now ≡ (state S.Store conn.old).committed →
         AreAfter (setup_content setup.now) ds rows → IsBeside (setup_content setup.now) ds terminal.old →
-        text_in rows partner number ≡ None → next ≡ run (delivered_to (setup_content setup.now) ds) partner + 1 →
-        Comes (setup_content setup.now) delivered text.now partner number →
+        text_in rows admitted.now.partner number ≡ None → next ≡ run (delivered_to (setup_content setup.now) ds) admitted.now.partner + 1 →
+        Comes (setup_content setup.now) delivered text.now admitted.now.partner number →
         (db : Trees) → (state S.Store conn.new).may_leave db →
         (state S.Store conn.old).may_leave db ⊎ IsAfter (setup_content setup.now) (ds ++ delivered ∷ []) db) }
     ensures was_open { HasCleanDisk (state S.Store conn.new) → IsTrue (state S.Store conn.new).is_open → IsTrue (state S.Store conn.old).is_open }
@@ -114,10 +118,10 @@ fn take_new<S: Alter>(
         return Err(TableFault::Damaged);
     }
     if next < number {
-        return take_early(alloc, conn, next, code, partner, number, text);
+        return take_early(alloc, conn, next, code, admitted.partner, number, text);
     }
     let now = terminal_of(alloc, conn, terminal.take())?;
-    let (answer, now) = take_next(alloc, conn, setup, now, code, partner, number, text)?;
+    let (answer, now) = take_next(alloc, conn, setup, now, code, admitted, number, text)?;
     *terminal = Some(now);
     Ok(answer)
 }

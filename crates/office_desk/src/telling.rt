@@ -1,23 +1,21 @@
-ghost use Rattle.std.specs.Prelude.{◌≡◌, ◌≤◌, IfOk, is_some, length, codes, string_bytes, option_map};
+ghost use Rattle.std.specs.Prelude.{◌≡◌, ◌≤◌, IfOk, is_some, length, string_bytes, option_map};
 ghost use Rattle.sqlite.specs.Held.{state};
 ghost use Rattle.sqlite.specs.State.{HasCleanDisk};
 ghost use Rattle.office_rows.specs.Rows.{Rows};
 ghost use Rattle.office_rows.specs.Stored.{HasRows};
 ghost use Rattle.office_rows.specs.Tables.{office_schema};
-ghost use Rattle.office_setup.specs.Parties.{partner_codes, partner_from};
 ghost use Rattle.office_setup.specs.Setups.{setup_content};
 ghost use Rattle.office_history.specs.After.{AreKeptOnce, reply_in};
 ghost use Rattle.office_history.specs.Cascade.{text_in};
 ghost use Rattle.office_delivery.specs.Reading.{IsSame, OnlyReads};
-ghost use Rattle.office_replies.specs.Bodies.{answer_text};
 ghost use Rattle.std.specs.Option.{option_and_then};
 ghost use Rattle.office_desk.specs.Reports.{TellsOf, TellsReply, reply_text, ticket_told};
 
 use crate::found::{Found, look};
 use office_queries::Query;
-use office_replies::{answer_head, waiting};
+use office_replies::{answered, waiting};
 use office_reports::{list_report, ticket, visit_report, yard_csv, yard_report};
-use office_setup::{Account, Setup};
+use office_setup::Setup;
 use office_tables::{Kept, TableFault};
 use sqlite::{Alter, Connection};
 use std::alloc::{AllocError, Global};
@@ -42,30 +40,15 @@ pub(crate) fn tell<S: Alter>(
         Query::YardTable => Ok(Some(yard_csv(alloc, terminal)?)),
         Query::Visits(container) => Ok(visit_report(alloc, setup, terminal, *container)?),
         Query::List { call, side } => Ok(list_report(alloc, terminal, call, *side)?),
-        Query::Ticket { partner, number } => match partner_called(&setup.partners, partner) {
+        Query::Ticket { partner, number } => match setup.partner_called(partner) {
             Some(id) => tell_ticket(alloc, conn, terminal, partner, id, *number),
             None => Ok(None),
         },
-        Query::Reply { partner, number } => match partner_called(&setup.partners, partner) {
+        Query::Reply { partner, number } => match setup.partner_called(partner) {
             Some(id) => tell_reply(alloc, conn, partner, id, *number),
             None => Ok(None),
         },
     }
-}
-
-// The number of the partner of a code.
-fn partner_called(accounts: &[Account], code: &str) -> Option<u16>
-    requires few { length accounts.now ≤ 999 }
-    ensures { result ≡ partner_from 1 code.now (partner_codes accounts.now) }
-{
-    let mut partner = 1;
-    for account in accounts {
-        if code == account.code.as_str() {
-            return Some(partner);
-        }
-        partner += 1;
-    }
-    None
 }
 
 // What an interchange did, if it was taken.
@@ -131,17 +114,7 @@ fn tell_kept(
 {
     let Kept { text: _, reply } = kept;
     match reply {
-        Some(reply) => repeat_text(alloc, &reply, code, number),
+        Some(reply) => answered(alloc, "repeat", number, code, &reply),
         None => waiting(alloc, next, number, code),
     }
-}
-
-// The answer to an interchange that was taken before.
-fn repeat_text(alloc: Global, reply: &str, code: &str, number: u32) -> Result<String, AllocError>
-    ensures { IfOk result (λ text. string_bytes text ≡ answer_text (codes "repeat") number code.now reply.now) }
-{
-    let mut text = answer_head(alloc, "repeat", number, code)?;
-    text.push_str(reply)?;
-    text.push_str("}")?;
-    Ok(text)
 }

@@ -11,3 +11,4 @@ pub mod Sorting
 pub mod Kept
 pub mod Accounted
 pub mod Offices
+pub mod Once

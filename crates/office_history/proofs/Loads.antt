@@ -8,11 +8,12 @@ use Rattle.std.specs.Ordering.{eq_by_cmp}
 use Rattle.std.proofs.lemmas.Bool.{cases_order}
 use Rattle.std.proofs.lemmas.Fmt.{decimal_injective}
 use Rattle.std.proofs.lemmas.List.Sums.{length-filter}
-use Rattle.std.proofs.lemmas.List.Sorted.{IsPermutation-sym, Contains-permutation}
+use Rattle.std.proofs.lemmas.List.Sorted.{IsPermutation-map, IsPermutation-sym, IsPermutation-trans, Contains-permutation}
 use Rattle.sqlite.specs.declared.types.Value.{Value}
 use Rattle.sqlite.specs.declared.types.Value.TheVariants.{Text}
 use Rattle.sqlite.specs.Order.{Row, column}
 use Rattle.sqlite.specs.Effect.{Database}
+use Rattle.sqlite.specs.Table.{Table}
 use Rattle.box6346.specs.declared.slot.Slot.{Slot}
 use Rattle.box6346.specs.SlotName.{IsNamed, slot_of, slot_text}
 use Rattle.box6346.proofs.SlotNames.{names_are_read_again_lem}
@@ -50,6 +51,8 @@ use Rattle.office_rows.specs.Effects.{stands_for, is_line}
 use Rattle.office_rows.specs.ByKey.{standing_by, lines_by, line_entry, ArePlacedOnce, AreListedOnce}
 use Rattle.office_rows.specs.Opening.{setting, settings_of}
 use Rattle.office_rows.specs.Opened.{OpenedRows, Shows}
+use Rattle.office_rows.specs.Shown.{columns_at, ShowsTable}
+use Rattle.office_rows.proofs.Listed.{unmapped}
 use Rattle.office_rows.specs.Office.{settings_by_name, AreAccounts, IsOffice}
 use Rattle.office_rows.specs.Tables.{partner, visit, place, listed, block, setting as settings_table}
 use Rattle.office_history.specs.After.{SaysSame, AreAfter, accounts_from, machine_after, delivered_to, opening_of}
@@ -419,3 +422,75 @@ module _ (content : SetupContent) (ds : List (List ℕ)) (rows : Rows) (db : Dat
 
   pub says_same : SaysSame other content
   says_same = record { terminal = terminal_same; codes = texts_same; partners = partners_same; blocks = blocks_same; limit = limit_same }
+
+-- ---- two offices that one database shows
+
+-- what shows twice has the same columns, in some order
+shown_twice : {A : Type 0} (table : Table) (columns key : List ℕ) (values : A → Row) (xs ys : List A) (db : Database) → ShowsTable table columns key db (map values xs) → ShowsTable table columns key db (map values ys)
+    → (zs : List A) × IsPermutation xs zs × (map values ys ≡ map values zs)
+shown_twice table columns key values xs ys db one two =
+    let shuffled = IsPermutation-map (columns_at columns) one.by_key two.by_key (IsPermutation-trans _ _ _ (IsPermutation-sym _ _ one.same) two.same) in
+    unmapped values xs (map values ys) (subst (IsPermutation (map values xs)) (sym two.is) (subst (λ l. IsPermutation l (map (columns_at columns) two.by_key)) (sym one.is) shuffled))
+
+module _ (db : Database) (one two : OpenedRows) (content other : SetupContent) (state own : TerminalState)
+    (shows : Shows db one) (also : Shows db two) (office : IsOffice one content state) (second : IsOffice two other own) where
+  visits_of : one.visits ≡ state.visits
+  visits_of = ap (λ (r : TerminalRows). r.visits) office.terminal
+
+  other_visits_of : two.visits ≡ own.visits
+  other_visits_of = ap (λ (r : TerminalRows). r.visits) second.terminal
+
+  both_visits : one.visits ≡ two.visits
+  both_visits =
+      let in_order = shown_twice visit (0 ∷ 1 ∷ 2 ∷ 3 ∷ 4 ∷ 5 ∷ 6 ∷ 7 ∷ 8 ∷ 9 ∷ 10 ∷ 11 ∷ 12 ∷ 13 ∷ []) (0 ∷ []) visit_values one.visits two.visits db shows.visits also.visits in
+      let same : two.visits ≡ in_order.0 = same_records IsFormedVisit visit_values visit_one two.visits in_order.0
+      (λ v inside. second.formed.visits v (subst (λ l. Contains l v) other_visits_of inside))
+      (λ v inside. office.formed.visits v (subst (λ l. Contains l v) visits_of (Contains-permutation in_order.0 one.visits v (IsPermutation-sym one.visits in_order.0 in_order.1) inside)))
+      in_order.2 in
+      let mine : Rises (λ (v : VisitContent). v.number) 0 one.visits = subst (Rises (λ (v : VisitContent). v.number) 0) (sym visits_of) (numbered_rise 1 0 state.visits refl office.whole.numbered) in
+      let theirs : Rises (λ (v : VisitContent). v.number) 0 two.visits = subst (Rises (λ (v : VisitContent). v.number) 0) (sym other_visits_of) (numbered_rise 1 0 own.visits refl second.whole.numbered) in
+      rising_same (λ (v : VisitContent). v.number) 0 one.visits two.visits mine theirs (subst (IsPermutation one.visits) (sym same) in_order.1)
+
+  both_places : standing_by one.places ≡ standing_by two.places
+  both_places =
+      let in_order = shown_twice place (0 ∷ 1 ∷ 2 ∷ []) (0 ∷ []) place_values one.places two.places db shows.places also.places in
+      let same : two.places ≡ in_order.0 = same_records (λ (p : PlaceContent). IsNamed p.slot) place_values place_one two.places in_order.0
+      (named_place two.places own second.placed_once (ap (λ (r : TerminalRows). r.places) second.terminal) second.formed)
+      (λ p inside. named_place one.places state office.placed_once (ap (λ (r : TerminalRows). r.places) office.terminal) office.formed p
+      (Contains-permutation in_order.0 one.places p (IsPermutation-sym one.places in_order.0 in_order.1) inside))
+      in_order.2 in
+      sym (ap standing_by same ∙ places_same one.places in_order.0 office.placed_once in_order.1)
+
+  both_lines : lines_by one.lines ≡ lines_by two.lines
+  both_lines =
+      let in_order = shown_twice listed (0 ∷ 1 ∷ 2 ∷ 3 ∷ 4 ∷ 5 ∷ []) (0 ∷ 1 ∷ 2 ∷ 3 ∷ []) line_values one.lines two.lines db shows.lines also.lines in
+      let same : two.lines ≡ in_order.0 = same_records (λ _. Unit {0}) line_values line_one two.lines in_order.0 (λ _ _. tt) (λ _ _. tt) in_order.2 in
+      sym (ap lines_by same ∙ lines_same one.lines in_order.0 office.listed_once in_order.1)
+
+  both_blocks : content.blocks ≡ other.blocks
+  both_blocks =
+      let in_order = shown_twice block (0 ∷ 1 ∷ 2 ∷ 3 ∷ []) (0 ∷ []) block_values one.blocks two.blocks db shows.blocks also.blocks in
+      let same : two.blocks ≡ in_order.0 = same_records (λ _. Unit {0}) block_values block_one two.blocks in_order.0 (λ _ _. tt) (λ _ _. tt) in_order.2 in
+      let shuffled : IsPermutation content.blocks other.blocks = subst (IsPermutation content.blocks) (sym same ∙ second.blocks) (subst (λ l. IsPermutation l in_order.0) office.blocks in_order.1) in
+      rising_same letter_key 0 content.blocks other.blocks (blocks_rise 0 content.blocks office.given.by_letter office.given.plan.apart (any_head content.blocks))
+      (blocks_rise 0 other.blocks second.given.by_letter second.given.plan.apart (any_head other.blocks)) shuffled
+
+  both_settings : IsPermutation (settings_by_name content) (settings_by_name other)
+  both_settings =
+      let in_order = shown_twice settings_table (0 ∷ 1 ∷ []) (0 ∷ []) setting_values one.settings two.settings db shows.settings also.settings in
+      let same : two.settings ≡ in_order.0 = same_records (λ _. Unit {0}) setting_values setting_one two.settings in_order.0 (λ _ _. tt) (λ _ _. tt) in_order.2 in
+      subst (IsPermutation (settings_by_name content)) (sym same ∙ second.settings) (subst (λ l. IsPermutation l in_order.0) office.settings in_order.1)
+
+  both_limits : content.visit_limit ≡ other.visit_limit
+  both_limits =
+      let written : decimal other.visit_limit ≡ decimal content.visit_limit =
+      value_one (codes "visits") _ _ (found_same (is_named (codes "visits")) (settings_by_name content) (settings_by_name other) (omega arith) both_settings) in
+      let low : other.visit_limit ≤ 999999999 = second.given.limit.1 in
+      let high : content.visit_limit ≤ 999999999 = office.given.limit.1 in
+      sym (decimal_injective other.visit_limit content.visit_limit (omega arith) (omega arith) written)
+
+  -- one database shows one terminal
+  pub one_terminal : state ≡ own
+  one_terminal =
+      state_of_rows state own office.whole second.whole (office.plan ∙ both_blocks ∙ sym second.plan) (office.limit ∙ both_limits ∙ sym second.limit)
+      (sym office.terminal ∙ (λ i. record { visits = both_visits i; places = both_places i; lines = both_lines i }) ∙ second.terminal)

@@ -1,5 +1,5 @@
 -- What a few writes in a row append.
-use Rattle.std.proofs.Common.{◌≡◌, ℕ, ◌+◌, List, ◌++◌, length, Option, None, append_assoc, length-append, refl, sym, ap, subst, ◌∙◌}
+use Rattle.std.proofs.Common.{◌≡◌, ℕ, List, ◌++◌, length, Option, refl, subst}
 use Rattle.std.specs.Io.KnownBytes.{Appends}
 use Rattle.std.proofs.KnownBytes.{Appends-trans}
 use Rattle.office_http.specs.Responses.{response_head, response_bytes}
@@ -27,20 +27,3 @@ whole a b c status status' kind allowed allowed' body body' text same_status sam
     let is : response_head status kind allowed (length body) ++ text ≡ response_head status' kind allowed' (length body') ++ body' =
     rw (same_status, same_allowed, same_text, same_body) refl in
     subst (Appends a c) is (two_pieces a b c (response_head status kind allowed (length body)) text head written)
-
--- a response whose body is written in three parts
-pub in_parts : (a b c d e : Option (List ℕ)) (status status' : ℕ) (kind : ContentType) (front reply back front' reply' back' : List ℕ) →
-    status ≡ status' → front ≡ front' → reply ≡ reply' → back ≡ back' →
-    Appends a b (response_head status kind None (length front + length reply + length back)) → Appends b c front → Appends c d reply → Appends d e back →
-    Appends a e (response_bytes status' kind None ((front' ++ reply') ++ back'))
-unfolding response_bytes
-in_parts a b c d e status status' kind front reply back front' reply' back' same_status same_front same_reply same_back head first second third =
-    let parts = four_pieces a b c d e (response_head status kind None (length front + length reply + length back)) front reply back head first second third in
-    let size : length front + length reply + length back ≡ length ((front ++ reply) ++ back) =
-    ap (λ (n : ℕ). n + length back) (sym (length-append front reply)) ∙ sym (length-append (front ++ reply) back) in
-    let is : response_head status kind None (length front + length reply + length back) ++ (front ++ (reply ++ back))
-    ≡ response_head status' kind None (length ((front' ++ reply') ++ back')) ++ ((front' ++ reply') ++ back') =
-    ap (λ (n : ℕ). response_head status kind None n ++ (front ++ (reply ++ back))) size
-    ∙ ap (λ (t : List ℕ). response_head status kind None (length ((front ++ reply) ++ back)) ++ t) (sym (append_assoc front reply back))
-    ∙ rw (same_status, same_front, same_reply, same_back) refl in
-    subst (Appends a e) is parts

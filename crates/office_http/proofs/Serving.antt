@@ -1,11 +1,13 @@
--- One connection after the other.
+-- One connection after the other, and a refusal.
 use Rattle.std.proofs.Common.{ℕ, ◌+◌, ◌≤◌, List, [], ◌∷◌, ◌++◌, length, inl, inr, arith}
 use Rattle.std.proofs.lemmas.List.{length_push}
 use Rattle.office_replies.specs.declared.response.Response.{Response}
 use Rattle.office_stream.specs.Streams.{Answered}
 use Rattle.office_replies.specs.Delivering.{deliveries}
 use Rattle.office_stream.proofs.Answering.{answered_more}
-use Rattle.office_http.specs.Served.{AtMost, AtMostOne}
+use Rattle.office_http.specs.Served.{AtMost, AtMostOne, Refuses}
+use Rattle.office_http.specs.declared.request.Request.{Request}
+use Rattle.office_http.specs.declared.request.Request.TheVariants.{Delivery, Report, Refused}
 
 module _ {D : Type 0} (stands : List (List ℕ) → D → Type 0) (answers : List (List ℕ) → List ℕ → Response → Type 0) (ds : List (List ℕ)) where
   pub none_yet : (now : D) → stands ds now → AtMost stands answers ds 0 now
@@ -34,3 +36,10 @@ module _ {D : Type 0} (stands : List (List ℕ) → D → Type 0) (answers : Lis
   pub one_more : (count : ℕ) (old new : D) → AtMost stands answers ds count old → ((more : List (List ℕ)) → stands more old → AtMostOne stands answers more new) →
       AtMost stands answers ds (count + 1) new
   one_more count old new before next = grown before.texts before.responses count old new before.few before.answered (next _ before.answered.stands_now)
+
+-- a refusal, with other words of what is written
+pub refuses_so : {D : Type 0} (request : Request) (old new : D) (P Q : List ℕ → Type 0) → ((bytes : List ℕ) → P bytes → Q bytes) →
+    Refuses request old new P → Refuses request old new Q
+refuses_so (Delivery body) old new P Q on none = tt
+refuses_so (Report kind query) old new P Q on none = tt
+refuses_so (Refused refusal) old new P Q on (same, written) = (same, on _ written)

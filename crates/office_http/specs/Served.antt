@@ -47,6 +47,12 @@ Does stands answers tells ds (Report kind query) old new bytes =
     × (((found : Option (List ℕ)) × tells old query found × (bytes ≡ report_bytes kind found)) ⊎ (bytes ≡ refusal_bytes NotNow))
 Does stands answers tells ds (Refused refusal) old new bytes = (new ≡ old) × (bytes ≡ refusal_bytes refusal)
 
+-- a refusal, whatever office it is: it isn't touched, and these bytes are written
+abbrev pub Refuses : {D : Type 0} → Request → D → D → (List ℕ → Type 0) → Type 0
+Refuses (Delivery body) old new IsWritten = Unit {0}
+Refuses (Report kind query) old new IsWritten = Unit {0}
+Refuses (Refused refusal) old new IsWritten = (new ≡ old) × IsWritten (refusal_bytes refusal)
+
 -- what a stream asks for was done
 pub record Serves {D : Type 0} (stands : List (List ℕ) → D → Type 0) (answers : List (List ℕ) → List ℕ → Response → Type 0)
     (tells : D → Query → Option (List ℕ) → Type 0) (ds : List (List ℕ)) (stream : List ℕ) (old new : D) (bytes : List ℕ) : Type 0 where

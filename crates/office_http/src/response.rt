@@ -54,12 +54,8 @@ pub(crate) fn write_answer<W: Write>(port: &mut Port<W>, response: &Response) ->
     ensures succeeds { OnOk result (port.new.failed ≡ port.old.failed) }
     ensures fails { OnErr result (port.new.failed ≡ true) }
 {
-    let (front, reply, back) = (response.front(), response.reply(), response.back());
-    let size = front.len() as u128 + reply.len() as u128 + back.len() as u128;
-    write_head(port, status_code(response), ContentType::Json, None, size)?;
-    port.write_all(front.as_bytes())?;
-    port.write_all(reply.as_bytes())?;
-    port.write_all(back.as_bytes())
+    let body = response.body();
+    write_text(port, status_code(response), ContentType::Json, body)
 }
 
 fn status_code(response: &Response) -> StatusCode

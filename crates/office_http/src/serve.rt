@@ -1,6 +1,8 @@
-ghost use Rattle.std.specs.Prelude.{◌≡◌, ◌≤◌, ◌+◌, ℕ, List, true, IfErr, OnOk, OnErr, IfSome};
+ghost use Rattle.std.specs.Prelude.{◌≡◌, ◌⊎◌, ◌≤◌, ◌+◌, ℕ, List, true, IfErr, OnOk, OnErr, IfSome, Err};
 ghost use Rattle.std.specs.Io.KnownBytes.{Appends};
-ghost use Rattle.office_http.specs.Served.{AnswersTo, AtMostOne, content_of, Does, MatchFault, Serves};
+ghost use Rattle.office_http.specs.Requests.{Asks};
+ghost use Rattle.office_http.specs.Served.{AnswersTo, AtMostOne, content_of, Does, MatchFault, Refuses, Serves};
+ghost use Rattle.office_http.specs.declared.request.Request.{Request};
 ghost use Rattle.office_http.specs.declared.request.Request.TheVariants.{Report};
 
 use crate::content_type::ContentType;
@@ -42,6 +44,11 @@ pub fn serve_one<R: Read, W: Write, D: Report>(
     ensures steps { D.clean desk.new → (opening : D) (ds : List (List ℕ)) → D.stands opening ds desk.old
         → AtMostOne (D.stands opening) (D.answers opening) ds desk.new }
 
+    // A refusal leaves the desk as it was, whatever desk it is, and exactly its bytes are written.
+    ensures refused { IfSome (R.remaining reader.old.inner) (λ stream. (result ≡ Err ServeFault.Read)
+        ⊎ ((request : Request) × Asks stream request × Refuses request desk.old desk.new
+        (λ bytes. OnOk result (Appends (W.contents writer.old.inner) (W.contents writer.new.inner) bytes)))) }
+
     // Nothing is said of a desk whose records have not told the truth.
     ensures stays { D.clean desk.new → D.clean desk.old }
 
@@ -50,15 +57,39 @@ pub fn serve_one<R: Read, W: Write, D: Report>(
 
     // At Ok neither port has failed.
     ensures sound { OnOk result ((reader.new.failed ≡ reader.old.failed) × (writer.new.failed ≡ writer.old.failed)) }
+
+    // All that was written is flushed.
+    ensures flushed { OnOk result (writer.new.flushed ≡ true) }
 {
     let request = match read_request(alloc, reader) {
         Ok(request) => request,
         Err(_) => return Err(ServeFault::Read),
     };
-    match answer(alloc, writer, desk, request) {
+    match send_answer(alloc, writer, desk, request) {
         Ok(()) => Ok(()),
         Err(_) => Err(ServeFault::Write),
     }
+}
+
+/// Does what a request asks for, writes its response, and flushes it.
+fn send_answer<W: Write, D: Report>(
+    alloc: Global,
+    writer: &mut Port<W>,
+    desk: &mut D,
+    request: Request,
+) -> io::Result<()>
+    ensures does { D.clean desk.new → (opening : D) (ds : List (List ℕ)) → D.stands opening ds desk.old
+        → (bytes : List ℕ) × Does (D.stands opening) (D.answers opening) D.tells ds request desk.old desk.new bytes
+        × OnOk result (Appends (W.contents writer.old.inner) (W.contents writer.new.inner) bytes) }
+    ensures refused { Refuses request desk.old desk.new
+        (λ bytes. OnOk result (Appends (W.contents writer.old.inner) (W.contents writer.new.inner) bytes)) }
+    ensures kept { OnOk result (writer.new.failed ≡ writer.old.failed) }
+    ensures fails { OnErr result (writer.new.failed ≡ true) }
+    ensures flushed { OnOk result (writer.new.flushed ≡ true) }
+    ensures stays { D.clean desk.new → D.clean desk.old }
+{
+    answer(alloc, writer, desk, request)?;
+    writer.flush()
 }
 
 /// Does what a request asks for, and writes its response.
@@ -71,6 +102,8 @@ fn answer<W: Write, D: Report>(
     ensures does { D.clean desk.new → (opening : D) (ds : List (List ℕ)) → D.stands opening ds desk.old
         → (bytes : List ℕ) × Does (D.stands opening) (D.answers opening) D.tells ds request desk.old desk.new bytes
         × OnOk result (Appends (W.contents writer.old.inner) (W.contents writer.new.inner) bytes) }
+    ensures refused { Refuses request desk.old desk.new
+        (λ bytes. OnOk result (Appends (W.contents writer.old.inner) (W.contents writer.new.inner) bytes)) }
     ensures kept { OnOk result (writer.new.failed ≡ writer.old.failed) }
     ensures fails { OnErr result (writer.new.failed ≡ true) }
     ensures stays { D.clean desk.new → D.clean desk.old }

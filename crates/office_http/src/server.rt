@@ -4,7 +4,7 @@ ghost use Rattle.office_http.specs.Served.{AtMost, AtMostOne};
 use crate::serve::serve_one;
 use crate::timed_stream::TimedStream;
 use office_queries::Report;
-use office_stream::Port;
+use office_stream::{Gathered, Port};
 use std::alloc::Global;
 use std::io::Read;
 use std::net::{Shutdown, TcpListener, TcpStream};
@@ -33,7 +33,7 @@ pub fn serve_on<C: Clock, D: Report>(
     }
 }
 
-/// Answers one request, and then takes leave of the peer.
+/// Answers one request, in one write if the response is small, and then takes leave of the peer.
 fn serve_stream<C: Clock, D: Report>(alloc: Global, clock: &C, stream: &TcpStream, desk: &mut D)
     ensures steps { D.clean desk.new → (opening : D) (ds : List (List ℕ)) → D.stands opening ds desk.old
         → AtMostOne (D.stands opening) (D.answers opening) ds desk.new }
@@ -42,7 +42,8 @@ fn serve_stream<C: Clock, D: Report>(alloc: Global, clock: &C, stream: &TcpStrea
     let Ok(timed) = TimedStream::new(stream, clock) else {
         return;
     };
-    let _ = serve_one(alloc, &mut Port::new(&timed), &mut Port::new(&timed), desk);
+    let mut writer = Port::new(Gathered::new(&timed));
+    let _ = serve_one(alloc, &mut Port::new(&timed), &mut writer, desk);
     let _ = stream.shutdown(Shutdown::Write);
     drain(&timed.parting());
 }

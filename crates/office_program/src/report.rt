@@ -1,6 +1,5 @@
 use crate::store::{Store, open_store};
 use crate::telling::{DONE, REFUSED, print, tell_fault};
-use office_command_line::ReportKind as Asked;
 use office_desk::Desk;
 use office_queries::{ReportKind, read_query};
 use office_stream::Port;
@@ -12,7 +11,7 @@ use std::io::Write;
 pub(crate) fn report<W: Write, E: Write>(
     rt: &HostRuntime,
     store: &str,
-    kind: Asked,
+    kind: ReportKind,
     key: Option<&str>,
     writer: &mut Port<W>,
     errors: &mut Port<E>,
@@ -28,7 +27,7 @@ pub(crate) fn report<W: Write, E: Write>(
 fn find(
     rt: &HostRuntime,
     store: &str,
-    kind: Asked,
+    kind: ReportKind,
     key: Option<&str>,
 ) -> Result<Option<String>, TableFault> {
     match open_store(rt, store) {
@@ -40,10 +39,10 @@ fn find(
 fn find_in(
     rt: &HostRuntime,
     desk: &mut Desk<Store>,
-    kind: Asked,
+    kind: ReportKind,
     key: Option<&str>,
 ) -> Result<Option<String>, TableFault> {
-    let Some(query) = read_query(rt.alloc(), kind_of(kind), key.unwrap_or(""))? else {
+    let Some(query) = read_query(rt.alloc(), kind, key.unwrap_or(""))? else {
         return Ok(None);
     };
     match desk.told(rt.alloc(), &query)? {
@@ -59,15 +58,4 @@ fn in_lines(text: String) -> Result<String, AllocError> {
         text.push('\n')?;
     }
     Ok(text)
-}
-
-fn kind_of(kind: Asked) -> ReportKind {
-    match kind {
-        Asked::Yard => ReportKind::Yard,
-        Asked::YardTable => ReportKind::YardTable,
-        Asked::Visits => ReportKind::Visits,
-        Asked::List => ReportKind::List,
-        Asked::Ticket => ReportKind::Ticket,
-        Asked::Reply => ReportKind::Reply,
-    }
 }

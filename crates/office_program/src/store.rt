@@ -1,5 +1,5 @@
 use office_desk::Desk;
-use office_setup::Setup;
+use office_setup::{MOST_PARTNERS, Setup};
 use office_tables::{TableFault, create};
 use sqlite::{Connection, Error, ErrorCode, File, FileStore};
 use std::fs;
@@ -32,7 +32,7 @@ fn is_there(rt: &HostRuntime, path: &str) -> bool {
 /// Makes the tables of a store with the rows of a set-up, wholly or not at all. A file that isn't there is made.
 pub(crate) fn make_store(rt: &HostRuntime, path: &str, setup: &Setup) -> Result<(), TableFault> {
     let mut conn = Connection::open(rt, path)?;
-    if !conn.is_autocommit() || setup.partners.len() > 999 {
+    if !conn.is_autocommit() || setup.partners.len() > MOST_PARTNERS {
         return Err(TableFault::Store(NO_STORE));
     }
     create(&mut conn, setup)

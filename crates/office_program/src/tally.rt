@@ -25,8 +25,8 @@ impl Tally {
     /// Counts one answer more.
     pub(crate) fn count(&mut self, response: &Response) {
         let counter = match response {
-            Response::Taken { .. } => &mut self.taken,
-            Response::Repeat { .. } => &mut self.repeated,
+            Response::Taken(_) => &mut self.taken,
+            Response::Repeat(_) => &mut self.repeated,
             Response::Waiting(_) => &mut self.waiting,
             Response::Clash(_) | Response::Refused(_) | Response::Rejected { .. } => {
                 &mut self.refused

@@ -1,5 +1,5 @@
 -- A body that stands ready as text is the JSON of its value.
-use Rattle.std.proofs.Common.{◌≡◌, ◌≢◌, ℕ, List, ◌∷◌, ◌∙◌, ◌++◌, [], refl, append-nil}
+use Rattle.std.proofs.Common.{◌≡◌, ◌≢◌, ℕ, List, ◌∷◌, [], refl}
 use Rattle.serde_json.specs.Written.{compact_text}
 use Rattle.serde_json.proofs.OnLiterals.{serde_json_on_literals}
 use Rattle.edi_segments.specs.declared.syntax_fault.SyntaxFault.TheVariants as syntax
@@ -32,7 +32,7 @@ refusal_text-data fault.UnknownSender = refl
 refusal_text-data fault.WrongRecipient = refl
 
 pub refused_body-data : (fault : Fault) → body_of (Refused fault) ≡ compact_text (refusal_data fault)
-refused_body-data fault = append-nil (refusal_text fault ++ []) ∙ append-nil (refusal_text fault) ∙ refusal_text-data fault
+refused_body-data fault = refusal_text-data fault
 
 pub not_now_body-data : body_of NotNow ≡ compact_text not_now_data
 unfolding serde_json_on_literals

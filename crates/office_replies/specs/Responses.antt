@@ -1,5 +1,5 @@
 -- Answers to deliveries: their status, their body, and how bad they are.
-use Rattle.std.specs.Prelude.{ℕ, List, [], ◌++◌, codes, string_bytes}
+use Rattle.std.specs.Prelude.{ℕ, List, codes, string_bytes}
 use Rattle.edi_segments.specs.declared.syntax_fault.SyntaxFault.{SyntaxFault}
 use Rattle.edi_segments.specs.declared.syntax_fault.SyntaxFault.TheVariants as syntax
 use Rattle.office_replies.specs.Refusals.{refusal_text}
@@ -21,40 +21,26 @@ fault_status fault.UnknownSender = 400
 fault_status fault.WrongRecipient = 400
 
 abbrev pub status_of : Response → ℕ
-status_of (Taken head reply) = 200
-status_of (Repeat head reply) = 200
+status_of (Taken body) = 200
+status_of (Repeat body) = 200
 status_of (Waiting body) = 202
 status_of (Clash body) = 409
 status_of (Refused fault) = fault_status fault
 status_of (Rejected fault body) = fault_status fault
 status_of NotNow = 503
 
--- a body in its parts: what stands before a reply, the reply, and what stands behind it
-abbrev pub front_of : Response → List ℕ
-front_of (Taken head reply) = string_bytes head
-front_of (Repeat head reply) = string_bytes head
-front_of (Waiting body) = string_bytes body
-front_of (Clash body) = string_bytes body
-front_of (Refused fault) = refusal_text fault
-front_of (Rejected fault body) = string_bytes body
-front_of NotNow = codes "{\"answer\":\"not now\"}"
-
-abbrev pub reply_in : Response → List ℕ
-reply_in (Taken head reply) = string_bytes reply
-reply_in (Repeat head reply) = string_bytes reply
-reply_in response = []
-
-abbrev pub back_of : Response → List ℕ
-back_of (Taken head reply) = codes "}"
-back_of (Repeat head reply) = codes "}"
-back_of response = []
-
 abbrev pub body_of : Response → List ℕ
-body_of response = front_of response ++ reply_in response ++ back_of response
+body_of (Taken body) = string_bytes body
+body_of (Repeat body) = string_bytes body
+body_of (Waiting body) = string_bytes body
+body_of (Clash body) = string_bytes body
+body_of (Refused fault) = refusal_text fault
+body_of (Rejected fault body) = string_bytes body
+body_of NotNow = codes "{\"answer\":\"not now\"}"
 
 abbrev pub worst_of : Response → Worst
-worst_of (Taken head reply) = worst.Fine
-worst_of (Repeat head reply) = worst.Fine
+worst_of (Taken body) = worst.Fine
+worst_of (Repeat body) = worst.Fine
 worst_of (Waiting body) = worst.Fine
 worst_of (Clash body) = worst.Refused
 worst_of (Refused fault) = worst.Refused

@@ -1,33 +1,34 @@
-ghost use Rattle.std.specs.Prelude.{◌≡◌, ◌++◌, codes, IfOk, string_bytes};
+ghost use Rattle.std.specs.Prelude.{◌≡◌, IfOk, string_bytes};
 ghost use Rattle.json.specs.Print.{quoted};
 ghost use Rattle.serde_json.specs.Data.{Data};
 ghost use Rattle.serde_json.specs.View.{view};
 ghost use Rattle.serde_json.specs.Written.{compact_text};
-ghost use Rattle.office_replies.specs.Bodies.{head_text, answer_data, waiting_data, waiting_text};
+ghost use Rattle.office_replies.specs.Bodies.{answer_data, answer_text, waiting_data, waiting_text};
 ghost use Rattle.office_replies.specs.Bodies.{clash_data, clash_text, refused_data, refused_text};
 
 use serde_json::{Value, json};
 use std::alloc::{AllocError, Global};
 
-/// What the body for an interchange that was taken, now or before, has before its reply; behind the
-/// reply stands `}`. `answer` says whether it was taken now.
-pub fn answer_head(
+/// The body for an interchange that was taken, now or before; `answer` says which. The reply is a text of JSON.
+pub fn answered(
     alloc: Global,
     answer: &str,
     number: u32,
     partner: &str,
+    reply: &str,
 ) -> Result<String, AllocError>
     ensures bytes { IfOk result (λ s.
-        string_bytes s ≡ head_text answer.now number partner.now) }
+        string_bytes s ≡ answer_text answer.now number partner.now reply.now) }
 
     // Where the reply is the JSON of a value, the whole is the JSON of the answer.
-    ensures json { IfOk result (λ s. (d : Data) →
-        string_bytes s ++ compact_text d ++ codes "}"
-        ≡ compact_text (answer_data answer.now number partner.now d)) }
+    ensures json { IfOk result (λ s. (d : Data) → reply.now ≡ compact_text d →
+        string_bytes s ≡ compact_text (answer_data answer.now number partner.now d)) }
 {
     let answer = quoted_text(alloc, answer)?;
     let partner = quoted_text(alloc, partner)?;
-    format!(in alloc; "{{\"answer\":{answer},\"number\":{number},\"partner\":{partner},\"reply\":")
+    format!(in alloc;
+        "{{\"answer\":{answer},\"number\":{number},\"partner\":{partner},\"reply\":{reply}}}"
+    )
 }
 
 /// The body for an interchange that waits for the partner's next number.

@@ -16,7 +16,7 @@ mod response;
 mod text;
 mod worst;
 
-pub use body::{answer_head, clash, refused, waiting};
+pub use body::{answered, clash, refused, waiting};
 pub use deliver::Deliver;
 pub use fault::Fault;
 pub use kept::reply;

@@ -5,9 +5,9 @@ ghost use Rattle.office_reports.specs.Export.{IsYardExport, IsBetweenRecords, Ha
 ghost use Rattle.office_reports.specs.Export.{header_record, export_text, standing_record, load_field};
 
 use crate::standing::Standing;
-use crate::texts::text_of;
 use crate::yard::standings;
 use csv::{Error, Writer, WriterBuilder};
+use office_replies::text_of;
 use std::alloc::{AllocError, Global};
 use std::collections::BTreeMap;
 use terminal_core::Terminal;

@@ -1,9 +1,10 @@
-ghost use Rattle.std.specs.Prelude.{◌≡◌, ◌++◌, map, IfOk, OnOk, string_bytes, encode_utf8_all};
+ghost use Rattle.std.specs.Prelude.{◌≡◌, ◌++◌, map, IfOk, OnOk, string_bytes};
 ghost use Rattle.edi_moments.specs.Moments.{moment_text};
 ghost use Rattle.office_reports.specs.Names.{slot_name, load_name, phrase, line};
 
 use box6346::{BoxNumber, SizeType, Slot};
 use edi_moments::Moment;
+use office_replies::text_of;
 use std::alloc::{AllocError, Global};
 
 /// Appends a line of these words, with a space between each two and LF at the end.
@@ -53,15 +54,4 @@ pub(crate) fn load_name(is_laden: bool) -> &'static str
     ensures { result.now ≡ load_name is_laden }
 {
     if is_laden { "FULL" } else { "EMPTY" }
-}
-
-/// Bytes as text, each of them as the character of its number: ASCII stays as it is.
-pub(crate) fn text_of(alloc: Global, bytes: &[u8]) -> Result<String, AllocError>
-    ensures { IfOk result (λ text. string_bytes text ≡ encode_utf8_all bytes.now) }
-{
-    let mut text = String::new(alloc);
-    for byte in bytes {
-        text.push(char::from(*byte))?;
-    }
-    Ok(text)
 }

@@ -2,7 +2,11 @@
 #![tactic(auto)]
 
 mod account;
+mod limits;
+mod party_codes;
 mod setup;
 
 pub use account::Account;
+pub use limits::{MOST_PARTNERS, MOST_VISITS};
+pub use party_codes::is_party_code;
 pub use setup::Setup;

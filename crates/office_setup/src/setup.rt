@@ -1,4 +1,4 @@
-ghost use Rattle.std.specs.Prelude.{◌≡◌, ◌<◌, ◌+◌, IfOk, IfSome, length};
+ghost use Rattle.std.specs.Prelude.{◌≡◌, ◌<◌, ◌≤◌, ◌+◌, IfOk, IfSome, length};
 ghost use Rattle.std.specs.Option.{option_map};
 ghost use Rattle.edi_segments.specs.Segment.{value};
 ghost use Rattle.office_setup.specs.Parties.{partner_from, partner_codes};
@@ -56,6 +56,21 @@ impl Setup {
                 return Some(place);
             }
             place += 1;
+        }
+        None
+    }
+
+    /// The number of the first partner with a code, from 1.
+    pub fn partner_called(&self, code: &str) -> Option<u16>
+        requires { length self.now.partners.items ≤ 999 }
+        ensures { result ≡ partner_from 1 code.now (partner_codes self.now.partners.items) }
+    {
+        let mut partner = 1;
+        for account in &self.partners {
+            if code == account.code.as_str() {
+                return Some(partner);
+            }
+            partner += 1;
         }
         None
     }

@@ -8,9 +8,9 @@ ghost use Rattle.office_setup_files.specs.Entries.{entry_content};
 ghost use Rattle.office_setup_files.specs.Said.{are_apart, names_of, kind_said, partner_said, ArePartners, AreNoPartners};
 
 use crate::entry::Entry;
-use crate::texts::{are_same, is_party_code};
+use crate::texts::are_same;
 use edi_messages::PartnerKind;
-use office_setup::Account;
+use office_setup::{Account, MOST_PARTNERS, is_party_code};
 use std::alloc::{AllocError, Global};
 
 /// The accounts of the partners. `None`: they aren't 1 to 999, each with a code of its own and a kind.
@@ -31,7 +31,7 @@ pub(crate) fn partners_of(
 fn is_counted(entries: &[Entry<'_>]) -> bool
     ensures { IsTrue result ↔ ((1 ≤ length entries.now) × (length entries.now ≤ 999)) }
 {
-    1 <= entries.len() && entries.len() <= 999
+    1 <= entries.len() && entries.len() <= MOST_PARTNERS
 }
 
 /// Whether no two entries have one name.

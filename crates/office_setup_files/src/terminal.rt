@@ -5,10 +5,8 @@ ghost use Rattle.office_setup_files.specs.Said.{terminal_said, limit_in, limit_s
 
 use crate::entry::Entry;
 use crate::numbers::number_of;
-use crate::texts::{are_same, is_party_code};
-
-/// How many visits may be recorded where the file says no limit.
-const USUAL_LIMIT: u32 = 999_999_999;
+use crate::texts::are_same;
+use office_setup::{MOST_VISITS, is_party_code};
 
 /// The code of the terminal.
 pub(crate) fn terminal_of<'a>(entries: &[Entry<'a>]) -> Option<&'a str>
@@ -20,12 +18,12 @@ pub(crate) fn terminal_of<'a>(entries: &[Entry<'a>]) -> Option<&'a str>
     }
 }
 
-/// How many visits may be recorded.
+/// How many visits may be recorded: as many as there may be, if the file says no limit.
 pub(crate) fn limit_of(entries: &[Entry<'_>]) -> Option<u32>
     ensures { result ≡ limit_said (map entry_content entries.now) }
 {
     match entries {
-        [] => Some(USUAL_LIMIT),
+        [] => Some(MOST_VISITS),
         [entry] if are_same(entry.name, "visits") => limit_in(number_of(entry.value)),
         _ => None,
     }

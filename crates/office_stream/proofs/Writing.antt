@@ -1,7 +1,7 @@
--- What a failed write leaves of a text.
-use Rattle.std.proofs.Common.{◌≡◌, ℕ, List, ◌++◌, take, drop, Option, Result, Ok, Err, OnErr, append_assoc, sym, ap, ◌∙◌}
-use Rattle.std.specs.Io.KnownBytes.{Appends}
-use Rattle.std.proofs.KnownBytes.{Appends-trans}
+-- What a failed write leaves of a text, and what a write behind others makes.
+use Rattle.std.proofs.Common.{◌≡◌, ℕ, List, [], ◌++◌, take, drop, Option, Result, Ok, Err, OnOk, OnErr, append_assoc, append-nil, sym, ap, subst, ◌∙◌}
+use Rattle.std.specs.Io.KnownBytes.{Appends, Keeps, WriteAppends, append_known}
+use Rattle.std.proofs.KnownBytes.{Appends-trans, Appends-kept, Keeps-trans, append_known-kept, append_known-passed}
 use Rattle.std.proofs.lemmas.List.{take-append-drop}
 use Rattle.office_stream.specs.Fronts.{AppendsFront}
 
@@ -17,6 +17,14 @@ pub front_behind : (a b c : Option (List ℕ)) (text more : List ℕ) → Append
 front_behind a b c text more before (front, (behind, is), writes) =
     (text ++ front, (behind, ap (λ y. text ++ y) is ∙ sym (append_assoc text front behind)), Appends-trans a b c text front before writes)
 
+-- a text that was written, and kept by a flush that failed
+pub front_kept : (a b c : Option (List ℕ)) (text : List ℕ) → Appends a b text → Keeps b c → AppendsFront a c text
+front_kept a b c text writes keeps = (text, ([], sym (append-nil text)), Appends-kept a b c text writes keeps)
+
+pub on_ok : {T E : Type 0} (r : Result T E) (P : Type 0) → P → OnOk r P
+on_ok (Ok value) P holds = holds
+on_ok (Err e) P holds = tt
+
 pub on_err : {T E : Type 0} (r : Result T E) (P : Type 0) → P → OnErr r P
 on_err (Ok value) P holds = tt
 on_err (Err e) P holds = holds
@@ -24,3 +32,10 @@ on_err (Err e) P holds = holds
 pub on_err_weaker : {T E : Type 0} (r : Result T E) (P Q : Type 0) → (P → Q) → OnErr r P → OnErr r Q
 on_err_weaker (Ok value) P Q on holds = tt
 on_err_weaker (Err e) P Q on holds = on holds
+
+-- a write past a buffer of which nothing is left
+pub written_past : {E : Type 0} (a b c : Option (List ℕ)) (held : List ℕ) (r : Result ℕ E) (text : List ℕ) → Keeps a (append_known b held) → held ≡ [] →
+    WriteAppends b c r text → WriteAppends a (append_known c held) r text
+written_past a b c held (Ok n) text keeps none writes =
+    subst (Appends a (append_known c held)) (append-nil (take n text)) (append_known-passed a b c held held (take n text) [] keeps none writes (sym (append-nil held)))
+written_past a b c held (Err e) text keeps none kept = Keeps-trans a (append_known b held) (append_known c held) keeps (append_known-kept b c held kept)

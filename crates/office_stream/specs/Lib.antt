@@ -3,3 +3,4 @@ pub mod Lines
 pub mod Streams
 pub mod Pieces
 pub mod Faults
+pub mod Gathering

@@ -1,7 +1,8 @@
-ghost use Rattle.std.specs.Prelude.{◌≡◌, ◌++◌, ℕ, List, [], ◌∷◌, Option, None, Some, true, IfOk, IfErr, OnOk};
+ghost use Rattle.std.specs.Prelude.{◌≡◌, ◌++◌, ℕ, List, [], ◌∷◌, Option, None, Some, true, IfOk, IfErr, OnOk, OnErr};
 ghost use Rattle.std.specs.Io.KnownBytes.{Appends};
 ghost use Rattle.edi_cutter.specs.Cuts.{pending};
 ghost use Rattle.office_replies.specs.Responses.{body_of, worst_of};
+ghost use Rattle.office_stream.specs.Fronts.{AppendsFront};
 ghost use Rattle.office_stream.specs.Lines.{line};
 ghost use Rattle.office_stream.specs.Pieces.{AnsweredOne, DeliveredOne, EndsPiece, PieceAnswered};
 ghost use Rattle.office_stream.specs.Streams.{LineCutShort};
@@ -10,11 +11,27 @@ use crate::line::write_response;
 use crate::port::Port;
 use crate::stream_fault::StreamFault;
 use edi_cutter::{CutFault, Cutter};
-use office_replies::{Deliver, Worst};
+use office_replies::{Deliver, Response, Worst};
 use std::alloc::Global;
-use std::io::Write;
+use std::io::{self, Write};
 
-/// Delivers an interchange, and writes the line that answers it.
+/// Writes the line of a response, and flushes it. After an error a front of it is written.
+fn send_response<W: Write>(writer: &mut Port<W>, response: &Response) -> io::Result<()>
+    ensures ok { OnOk result
+        (Appends (W.contents writer.old.inner) (W.contents writer.new.inner)
+        (line (body_of response.now))) }
+    ensures front { OnErr result
+        (AppendsFront (W.contents writer.old.inner) (W.contents writer.new.inner)
+        (line (body_of response.now))) }
+    ensures kept { OnOk result (writer.new.failed ≡ writer.old.failed) }
+    ensures err { OnErr result (writer.new.failed ≡ true) }
+    ensures flushed { OnOk result (writer.new.flushed ≡ true) }
+{
+    write_response(writer, response)?;
+    writer.flush()
+}
+
+/// Delivers an interchange, and sends the line that answers it.
 fn answer_one<W: Write, D: Deliver>(
     alloc: Global,
     text: &[u8],
@@ -26,6 +43,7 @@ fn answer_one<W: Write, D: Deliver>(
         → AnsweredOne (D.stands opening) (D.answers opening) ds text.now desk.new worst
         (W.contents writer.old.inner) (W.contents writer.new.inner)) }
     ensures kept { OnOk result (writer.new.failed ≡ writer.old.failed) }
+    ensures flushed { OnOk result (writer.new.flushed ≡ true) }
     ensures err { IfErr result
         (λ fault. (fault ≡ StreamFault.Write) × (writer.new.failed ≡ true)) }
     ensures stays { D.clean desk.new → D.clean desk.old }
@@ -35,7 +53,7 @@ fn answer_one<W: Write, D: Deliver>(
         (W.contents writer.old.inner) (W.contents writer.new.inner)) }
 {
     let response = desk.deliver(alloc, text);
-    match write_response(writer, &response) {
+    match send_response(writer, &response) {
         Ok(()) => Ok(response.worst()),
         Err(_) => Err(StreamFault::Write),
     }
@@ -59,6 +77,7 @@ pub(crate) fn answer_piece<W: Write, D: Deliver>(
         (W.contents writer.old.inner) (W.contents writer.new.inner)) }
     ensures running { IfOk result (λ done. done.1 ≡ None → cutter.new.fault ≡ None) }
     ensures kept { OnOk result (writer.new.failed ≡ writer.old.failed) }
+    ensures flushed { OnOk result (writer.old.flushed ≡ true → writer.new.flushed ≡ true) }
     ensures err { IfErr result
         (λ fault. (fault ≡ StreamFault.Write) × (writer.new.failed ≡ true)) }
     ensures stays { D.clean desk.new → D.clean desk.old }

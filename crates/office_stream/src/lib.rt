@@ -3,6 +3,7 @@
 #![tactic(auto)]
 
 mod answer;
+mod gathered;
 pub mod laws;
 mod line;
 mod port;
@@ -10,6 +11,7 @@ mod stream;
 mod stream_end;
 mod stream_fault;
 
+pub use gathered::Gathered;
 pub use port::Port;
 pub use stream::run_stream;
 pub use stream_fault::StreamFault;

@@ -34,9 +34,7 @@ pub(crate) fn write_response<W: Write>(writer: &mut Port<W>, response: &Response
     ensures kept { OnOk result (writer.new.failed ≡ writer.old.failed) }
     ensures err { OnErr result (writer.new.failed ≡ true) }
 {
-    writer.write_all(response.front().as_bytes())?;
-    writer.write_all(response.reply().as_bytes())?;
-    write_line(writer, response.back())
+    write_line(writer, response.body())
 }
 
 /// Writes what stands behind the last answer. After an error a front of it is written.

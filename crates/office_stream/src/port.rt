@@ -1,18 +1,20 @@
-ghost use Rattle.std.specs.Prelude.{◌≡◌, ℕ, ◌+◌, ◌-◌, ◌^◌, ◌==◌, min, true, false, IfOk, OnOk, OnErr};
+ghost use Rattle.std.specs.Prelude.{◌≡◌, ℕ, ◌+◌, ◌-◌, ◌^◌, ◌≤◌, ◌==◌, min, length, take, true, false};
+ghost use Rattle.std.specs.Prelude.{IfOk, OnOk, OnErr};
 ghost use Rattle.std.specs.Io.{ReadsAtMost, WritesAtMost};
 ghost use Rattle.std.specs.Io.KnownBytes.{ReadConsumes, WriteAppends, Keeps, Appends};
 ghost use Rattle.office_stream.specs.Fronts.{AppendsFront};
 
 use std::io::{Error, ErrorKind, Read, Result, Write};
 
-/// A reader or a writer, whether a read or a write of it has failed, how many reads were made, and whether the last of them
-/// found the end.
+/// A reader or a writer, whether a read or a write of it has failed, how many reads were made, whether the last of them
+/// found the end, and whether all that was written was flushed.
 #[derive(Drop)]
 pub struct Port<T> {
     inner: T,
     failed: bool,
     reads: u64,
     ended: bool,
+    flushed: bool,
 }
 
 impl<T> Port<T> {
@@ -22,12 +24,14 @@ impl<T> Port<T> {
         ensures fresh { result.failed ≡ false }
         ensures unread { result.reads ≡ 0 }
         ensures going { result.ended ≡ false }
+        ensures flushed { result.flushed ≡ true }
     {
         Port {
             inner,
             failed: false,
             reads: 0,
             ended: false,
+            flushed: true,
         }
     }
 
@@ -40,6 +44,7 @@ impl<T> Port<T> {
             failed: _,
             reads: _,
             ended: _,
+            flushed: _,
         } = self;
         inner
     }
@@ -53,6 +58,7 @@ impl<T> Port<T> {
             failed,
             reads: _,
             ended: _,
+            flushed: _,
         } = self;
         *failed
     }
@@ -69,6 +75,13 @@ impl<T> Port<T> {
         ensures { result ≡ self.now.ended }
     {
         self.ended
+    }
+
+    /// Whether nothing was written since the last flush that succeeded.
+    pub fn flushed(&self) -> bool
+        ensures { result ≡ self.now.flushed }
+    {
+        self.flushed
     }
 }
 
@@ -106,7 +119,9 @@ impl<W: Write> Write for Port<W> {
         ensures succeeds { OnOk result (self.new.failed ≡ self.old.failed) }
         ensures fails { OnErr result (self.new.failed ≡ true) }
         ensures uncounted { self.new.reads ≡ self.old.reads }
+        ensures unflushed { self.new.flushed ≡ false }
     {
+        self.flushed = false;
         match self.inner.write(buf) {
             Ok(count) => Ok(count),
             Err(error) => {
@@ -121,9 +136,13 @@ impl<W: Write> Write for Port<W> {
         ensures succeeds { OnOk result (self.new.failed ≡ self.old.failed) }
         ensures fails { OnErr result (self.new.failed ≡ true) }
         ensures uncounted { self.new.reads ≡ self.old.reads }
+        ensures flushed { OnOk result (self.new.flushed ≡ true) }
     {
         match self.inner.flush() {
-            Ok(()) => Ok(()),
+            Ok(()) => {
+                self.flushed = true;
+                Ok(())
+            }
             Err(error) => {
                 self.failed = true;
                 Err(error)
@@ -139,8 +158,11 @@ impl<W: Write> Write for Port<W> {
         ensures succeeds { OnOk result (self.new.failed ≡ self.old.failed) }
         ensures fails { OnErr result (self.new.failed ≡ true) }
         ensures uncounted { self.new.reads ≡ self.old.reads }
+        ensures unflushed { self.new.flushed ≡ false }
     {
-        match write_whole(&mut self.inner, buf) {
+        self.flushed = false;
+        let (_, written) = write_whole(&mut self.inner, buf);
+        match written {
             Ok(()) => Ok(()),
             Err(error) => {
                 self.failed = true;
@@ -150,23 +172,24 @@ impl<W: Write> Write for Port<W> {
     }
 }
 
-/// Writes bytes in as many writes as it takes. A write that was interrupted is made again. After an error a front of the bytes
-/// is written.
-fn write_whole<W: Write>(writer: &mut W, bytes: &[u8]) -> Result<()>
-    ensures bytes { OnOk result (Appends (W.contents writer.old) (W.contents writer.new) bytes.now) }
-    ensures front { OnErr result (AppendsFront (W.contents writer.old) (W.contents writer.new) bytes.now) }
+/// Writes bytes in as many writes as it takes, and tells how many were written. A write that was interrupted is made
+/// again.
+pub(crate) fn write_whole<W: Write>(writer: &mut W, bytes: &[u8]) -> (usize, Result<()>)
+    ensures bound { result.0 ≤ length bytes.now }
+    ensures whole { OnOk result.1 (result.0 ≡ length bytes.now) }
+    ensures bytes { Appends (W.contents writer.old) (W.contents writer.new) (take result.0 bytes.now) }
 {
-    let mut rest = bytes;
+    let mut written = 0;
     'writes: for _ in 0..u64::MAX {
-        if rest.is_empty() {
-            return Ok(());
+        if written == bytes.len() {
+            return (written, Ok(()));
         }
-        match writer.write(rest) {
-            Ok(0) => return Err(Error::from(ErrorKind::WriteZero)),
-            Ok(count) => rest = &rest[count..],
+        match writer.write(&bytes[written..]) {
+            Ok(0) => return (written, Err(Error::from(ErrorKind::WriteZero))),
+            Ok(count) => written += count,
             Err(error) if error.kind() == ErrorKind::Interrupted => {}
-            Err(error) => return Err(error),
+            Err(error) => return (written, Err(error)),
         }
     }
-    Err(Error::from(ErrorKind::TimedOut))
+    (written, Err(Error::from(ErrorKind::TimedOut)))
 }

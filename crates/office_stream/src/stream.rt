@@ -1,4 +1,5 @@
-ghost use Rattle.std.specs.Prelude.{◌≡◌, ℕ, ◌+◌, ◌-◌, ◌^◌, ◌≤◌, ◌<◌, min, List, true, false, IfOk, IfErr, OnOk};
+ghost use Rattle.std.specs.Prelude.{◌≡◌, ◌≢◌, ℕ, ◌+◌, ◌-◌, ◌^◌, ◌≤◌, ◌<◌, min, List, true, false};
+ghost use Rattle.std.specs.Prelude.{IfOk, IfErr, OnOk, OnErr};
 ghost use Rattle.std.specs.Io.KnownBytes.{Appends};
 ghost use Rattle.office_replies.specs.Responses.{worse_of};
 ghost use Rattle.office_stream.specs.Fronts.{AppendsFront};
@@ -14,12 +15,12 @@ use crate::stream_fault::StreamFault;
 use edi_cutter::Cutter;
 use office_replies::{Deliver, Worst};
 use std::alloc::Global;
-use std::io::{Read, Write};
+use std::io::{self, Read, Write};
 
-/// Delivers each interchange of what a reader gives, in order, and writes the body of its answer and LF as soon as it is
-/// answered. Where the stream ends within an interchange, or can't be cut further, a last line says so. Answers the worst
-/// of the answers: a cut counts as a refusal, and a cut for want of memory as NotNow. After so many reads without the end it
-/// answers Turns.
+/// Delivers each interchange of what a reader gives, in order, and writes the body of its answer and LF, and flushes
+/// them, as soon as it is answered. Where the stream ends within an interchange, or can't be cut further, a last line
+/// says so. Answers the worst of the answers: a cut counts as a refusal, and a cut for want of memory as NotNow. After so
+/// many reads without the end it answers Turns.
 pub fn run_stream<R: Read, W: Write, D: Deliver>(
     alloc: Global,
     reader: &mut Port<R>,
@@ -63,6 +64,11 @@ pub fn run_stream<R: Read, W: Write, D: Deliver>(
         × (0 < turns → reader.new.ended ≡ false))) }
     ensures sound { OnOk result ((reader.new.failed ≡ reader.old.failed)
         × (writer.new.failed ≡ writer.old.failed)) }
+
+    // All that was written is flushed, but after a failed write.
+    ensures flushed { OnOk result (writer.new.flushed ≡ true) }
+    ensures told { IfErr result (λ fault. fault ≢ StreamFault.Write
+        → writer.old.flushed ≡ true → writer.new.flushed ≡ true) }
 {
     let mut cutter = Cutter::new(alloc);
     let mut buffer = [0; 4096];
@@ -90,7 +96,7 @@ pub fn run_stream<R: Read, W: Write, D: Deliver>(
     Err(StreamFault::Turns)
 }
 
-/// Writes what stands behind the last answer.
+/// Sends what stands behind the last answer.
 fn finish<W: Write>(
     writer: &mut Port<W>,
     end: StreamEnd,
@@ -100,12 +106,27 @@ fn finish<W: Write>(
     ensures writes { OnOk result
         (Appends (W.contents writer.old.inner) (W.contents writer.new.inner) (end_text end)) }
     ensures kept { OnOk result (writer.new.failed ≡ writer.old.failed) }
+    ensures flushed { OnOk result (writer.new.flushed ≡ true) }
     ensures err { IfErr result
         (λ fault. (fault ≡ StreamFault.Write) × (writer.new.failed ≡ true)
         × AppendsFront (W.contents writer.old.inner) (W.contents writer.new.inner) (end_text end)) }
 {
-    match write_end(writer, end) {
+    match send_end(writer, end) {
         Ok(()) => Ok(worst.or(end_worst(end))),
         Err(_) => Err(StreamFault::Write),
     }
+}
+
+/// Writes what stands behind the last answer, and flushes it. After an error a front of it is written.
+fn send_end<W: Write>(writer: &mut Port<W>, end: StreamEnd) -> io::Result<()>
+    ensures ok { OnOk result
+        (Appends (W.contents writer.old.inner) (W.contents writer.new.inner) (end_text end)) }
+    ensures front { OnErr result
+        (AppendsFront (W.contents writer.old.inner) (W.contents writer.new.inner) (end_text end)) }
+    ensures kept { OnOk result (writer.new.failed ≡ writer.old.failed) }
+    ensures flushed { OnOk result (writer.new.flushed ≡ true) }
+    ensures err { OnErr result (writer.new.failed ≡ true) }
+{
+    write_end(writer, end)?;
+    writer.flush()
 }

@@ -78,14 +78,6 @@ pub not_for : (machine : MachineState) (partner : ℕ) (text : List ℕ) → is_
 not_for machine partner text other =
     ap (λ b. cond b (taken_of machine partner (segments_in text) (with_number machine.kinds partner)) (nothing_taken machine)) other
 
-pub refused_is : (setup : Setup) (text : List ℕ) (refusal : Refusal) → IsRefused setup text refusal → (fault : Fault) × (admission (parties_of setup) text ≡ Err fault)
-refused_is setup text (Plain fault) is = (fault, is.0)
-refused_is setup text (WithContrl fault error head) is = (fault, is.0)
-
--- what is refused is for nobody
-pub refused_for : (partner : ℕ) (found : Result (ℕ × ℕ) Fault) (fault : Fault) → found ≡ Err fault → is_for partner found ≡ false
-refused_for partner found fault is = ap (is_for partner) is
-
 -- what is admitted for one partner is not for another
 pub another_for : (partner other : ℕ) (found : Result (ℕ × ℕ) Fault) (number : ℕ) → found ≡ Ok (other, number) → (other == partner) ≡ false → is_for partner found ≡ false
 another_for partner other found number is differs = ap (is_for partner) is ∙ differs

@@ -1,10 +1,8 @@
-ghost use Rattle.std.specs.Prelude.{◌≡◌, ◌≤◌, length, IfSome, IfNone};
-ghost use Rattle.office_admission.specs.Outcomes.{IsAdmitted};
-ghost use Rattle.terminal_core.specs.State.{TerminalState};
-ghost use Rattle.office_taking.specs.Taking.{interchange_taken, machine_of, nothing_taken};
+ghost use Rattle.std.specs.Prelude.{◌≡◌, ◌≤◌, length};
+ghost use Rattle.office_taking.specs.Taking.{machine_of};
 
 use crate::taking::take;
-use office_admission::{Admitted, admit};
+use office_admission::admit_for;
 use office_replies::reply;
 use office_setup::Setup;
 use partner_core::Machine;
@@ -48,32 +46,13 @@ impl TerminalMachine {
     }
 }
 
-/// The interchange that a text is, where it is admitted for that partner.
-fn admitted_for<'a>(setup: &Setup, partner: u16, text: &'a [u8]) -> Option<Admitted<'a>>
-    requires { length setup.now.partners.items ≤ 999 }
-    ensures none { IfNone result ((terminal : TerminalState) →
-        interchange_taken (machine_of setup.now terminal) partner text.now
-        ≡ nothing_taken (machine_of setup.now terminal)) }
-    ensures admitted { IfSome result (IsAdmitted setup.now text.now) }
-    ensures partner { IfSome result (λ admitted. admitted.partner ≡ partner) }
-{
-    let admitted = match admit(setup, text) {
-        Ok(admitted) => admitted,
-        Err(_) => return None,
-    };
-    if admitted.partner != partner {
-        return None;
-    }
-    Some(admitted)
-}
-
 impl Machine for TerminalMachine {
     ghost use Rattle.office_taking.specs.Taking.{interchange_taken};
 
     ghost taken = { interchange_taken };
 
     fn step(&mut self, alloc: Global, partner: u16, text: &[u8]) -> Result<String, AllocError> {
-        let Some(admitted) = admitted_for(&self.setup, partner, text) else {
+        let Some(admitted) = admit_for(&self.setup, partner, text) else {
             return reply(alloc, "", &[]);
         };
         let mut terminal = self.terminal.copy(alloc)?;

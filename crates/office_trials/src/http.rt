@@ -6,17 +6,18 @@ mod long;
 mod rows;
 mod waiting;
 
+use crate::office::failing_writer::FailingWriter;
 use crate::office::pieces::Pieces;
 use office_commands::open_demo::open_demo;
 use office_http::serve_one;
 use office_queries::Report;
-use office_stream::Port;
+use office_stream::{Gathered, Port};
 use std::alloc::Global;
 use std::io::Read;
 use std::process::Abort;
 use std::test::Fail;
 
-/// One request is served, and answered so.
+/// One request is served, and answered so in one write.
 fn assert_served<R: Read + Drop, D: Report>(
     rt: &impl Abort,
     alloc: Global,
@@ -24,10 +25,14 @@ fn assert_served<R: Read + Drop, D: Report>(
     desk: &mut D,
     response: &[u8],
 ) {
-    let mut writer = Port::new(Vec::new(alloc));
-    let served = serve_one(alloc, &mut Port::new(reader), &mut writer, desk);
+    let mut writer = FailingWriter {
+        written: Vec::new(alloc),
+        writes: 1,
+    };
+    let mut output = Port::new(Gathered::new(&mut writer));
+    let served = serve_one(alloc, &mut Port::new(reader), &mut output, desk);
     assert!(rt; served.is_ok());
-    assert_eq!(rt; writer.into_inner().as_slice(), response);
+    assert_eq!(rt; writer.written.as_slice(), response);
 }
 
 /// One request after the other is served by a desk to which nothing had been delivered, and answered so: each twice, where it

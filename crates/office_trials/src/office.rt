@@ -57,10 +57,7 @@ fn assert_answers_from<D: Deliver>(
 ) -> Result<(), Fail> {
     for (delivered, expected) in rows {
         let response = desk.deliver(alloc, delivered);
-        let mut body = String::from_str(alloc, response.front())?;
-        body.push_str(response.reply())?;
-        body.push_str(response.back())?;
-        assert_eq!(rt; body.as_str(), *expected);
+        assert_eq!(rt; response.body(), *expected);
     }
     Ok(())
 }

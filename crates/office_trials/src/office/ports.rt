@@ -5,7 +5,7 @@ use super::failing_writer::FailingWriter;
 use super::pieces::Pieces;
 use office_commands::demonstrate;
 use office_commands::open_demo::open_demo;
-use office_stream::{Port, StreamFault, run_stream};
+use office_stream::{Gathered, Port, StreamFault, run_stream};
 use std::alloc::Global;
 use std::io::Read;
 use std::process::Abort;
@@ -140,11 +140,11 @@ fn a_failed_read_leaves_what_was_answered(rt: HostRuntime) -> Result<(), Fail> {
     Ok(())
 }
 
-/// A line is four writes: what stands before the reply, the reply, what stands behind it, and LF.
+/// A line is two writes: the body and LF.
 #[test]
 fn a_failed_write_leaves_what_was_delivered(rt: HostRuntime) -> Result<(), Fail> {
     let whole = lines(rt.alloc(), &TAKEN, &[])?;
-    for writes in 0..12 {
+    for writes in 0..6 {
         let mut desk = open_demo(rt.alloc())?;
         let writer = FailingWriter {
             written: Vec::new(rt.alloc()),
@@ -167,7 +167,7 @@ fn a_failed_write_leaves_what_was_delivered(rt: HostRuntime) -> Result<(), Fail>
         );
 
         // The interchange whose line was cut short was delivered: it comes again as a repeat.
-        let delivered = writes / 4 + 1;
+        let delivered = writes / 2 + 1;
         let mut again = Port::new(Vec::new(rt.alloc()));
         let run = run_stream(
             rt.alloc(),
@@ -179,6 +179,31 @@ fn a_failed_write_leaves_what_was_delivered(rt: HostRuntime) -> Result<(), Fail>
         assert!(&rt; run.is_ok());
         let expected = lines(rt.alloc(), &REPEATED[..delivered], &TAKEN[delivered..])?;
         assert_eq!(&rt; again.into_inner().as_slice(), expected.as_slice());
+    }
+    Ok(())
+}
+
+/// A line that is gathered is one write, and is passed on before the next one.
+#[test]
+fn a_gathered_line_is_one_write(rt: HostRuntime) -> Result<(), Fail> {
+    for writes in 0..4 {
+        let mut desk = open_demo(rt.alloc())?;
+        let mut writer = FailingWriter {
+            written: Vec::new(rt.alloc()),
+            writes,
+        };
+        let mut output = Port::new(Gathered::new(&mut writer));
+        let run = run_stream(
+            rt.alloc(),
+            &mut Port::new(STREAM),
+            &mut output,
+            &mut desk,
+            100,
+        );
+        assert_eq!(&rt; run.is_ok(), writes == 3);
+        assert_eq!(&rt; output.flushed(), writes == 3);
+        let expected = lines(rt.alloc(), &TAKEN[..writes], &[])?;
+        assert_eq!(&rt; writer.written.as_slice(), expected.as_slice());
     }
     Ok(())
 }

@@ -3,4 +3,6 @@ use Rattle.std.proofs.Common.{refl}
 use Rattle.edi_messages.proofs.faults.miscounts_equipment.Goals as goal
 
 pub returns-in-Some : goal.returns-in-Some
-returns-in-Some c = rw (← c.in-Some.ensures, c.is_equipment_count.ensures, c.component.ensures, c.segments.ensures) refl
+returns-in-Some c =
+    let survey = c.args.survey.now in
+    rw (c.is_count.ensures, c.component.ensures, survey.equipped, ← survey.controlled, c.in-Some.is) refl

@@ -16,19 +16,24 @@ pub loop-taken-init : goal.loop-taken-init
 loop-taken-init g c =
     let old = state g.S.Store c.args.conn.now in
     let pushed : c.append.new.taken.items ≡ c.in_ok-first.first ∷ [] = c.in_ok-append.ensures ∙ ap (λ l. l ++ c.in_ok-first.first ∷ []) c.new-taken.ensures.items in
-    let is = c.in_ok-first.ensures in
+    let is = c.in_ok-first.ensures.taken in
     record {
       after = omega arith;
       last = c.requires.number;
       some = omega (arith, ap length pushed);
-      numbers = subst (All (λ (t : Taken). t.number < 1000000000)) (sym pushed) (All-push (λ (t : Taken). t.number < 1000000000) [] c.in_ok-first.first (λ k d below. absurd (omega (arith, below))) (below_last c.in_ok-first.first.number c.args.number is.number_is c.requires.number));
+      numbers = subst (All (λ (t : Taken). t.number < 1000000000)) (sym pushed) (All-push (λ (t : Taken). t.number < 1000000000) [] c.in_ok-first.first (λ k d below. absurd (omega (arith, below))) (below_last c.in_ok-first.first.number c.args.number c.in_ok-first.ensures.number c.requires.number));
       same = λ clean at. same_here old;
       reads = reads_here old;
-      taken = λ rows clean has numbered. first_pushed rows c.args.partner c.args.number _ _ c.args.text.now c.in_ok-first.first c.append.new.taken.items pushed is;
+      taken = λ rows text clean has numbered admits.
+          first_pushed rows c.args.admitted.now.partner c.args.number _ _ text c.in_ok-first.first c.append.new.taken.items pushed (is text admits);
     }
 
 pub returns-in_err-text-clause-reads : goal.returns-in_err-text-clause-reads
 returns-in_err-text-clause-reads g c =
+    reads_then (state g.S.Store c.args.conn.now) (state g.S.Store c.loop-taken.conn) (state g.S.Store c.text_behind.new.conn) c.loop-taken.invariant.same c.loop-taken.invariant.reads c.text_behind.ensures.reads
+
+pub returns-in_err-next-clause-reads : goal.returns-in_err-next-clause-reads
+returns-in_err-next-clause-reads g c =
     reads_then (state g.S.Store c.args.conn.now) (state g.S.Store c.loop-taken.conn) (state g.S.Store c.text_behind.new.conn) c.loop-taken.invariant.same c.loop-taken.invariant.reads c.text_behind.ensures.reads
 
 pub returns-in_err-append-2-clause-reads : goal.returns-in_err-append-2-clause-reads
@@ -48,15 +53,16 @@ returns-clause-same g c clean at =
     same_then old mid new first (c.in_ok-text.ensures.same clean (ap (λ db. db.schema) first.now ∙ at))
 
 pub returns-clause-taken : goal.returns-clause-taken
-returns-clause-taken g c clean rows has numbered =
+returns-clause-taken g c clean rows text has numbered admits =
     let old = state g.S.Store c.args.conn.now in
     let mid = state g.S.Store c.loop-taken.conn in
     let before : HasCleanDisk mid = c.text_behind.ensures.reads.clean clean in
     let first : IsSame old mid = c.loop-taken.invariant.same before has.schema in
     let found = c.in_ok-text.ensures.text clean rows (subst (HasRows rows) (sym first.now) has) numbered in
-    let none : text_in rows c.args.partner (c.loop-taken.last + 1) ≡ None = rw c.in_default.is at found in
-    all_taken c.args.partner (texts_with rows c.args.partner c.args.number c.args.text.now) c.args.number (c.loop-taken.last + 1) _ _ (taken_contents c.loop-taken.taken.items)
-    (c.loop-taken.invariant.taken rows before has numbered) (texts_behind rows c.args.partner c.args.number c.loop-taken.last c.args.text.now None c.loop-taken.invariant.after none)
+    let partner = c.args.admitted.now.partner in
+    let none : text_in rows partner (c.loop-taken.last + 1) ≡ None = rw c.in_default.is at found in
+    all_taken partner (texts_with rows partner c.args.number text) c.args.number (c.loop-taken.last + 1) _ _ (taken_contents c.loop-taken.taken.items)
+    (c.loop-taken.invariant.taken rows text before has numbered admits) (texts_behind rows partner c.args.number c.loop-taken.last text None c.loop-taken.invariant.after none)
 
 pub loop-taken-preserved : goal.loop-taken-preserved
 loop-taken-preserved g c =
@@ -77,9 +83,10 @@ loop-taken-preserved g c =
           let first : IsSame old mid = before.same (c.text_behind.ensures.reads.clean clean) at in
           same_then old mid new first (c.in_ok-text.ensures.same clean (ap (λ db. db.schema) first.now ∙ at));
       reads = reads_then old mid new before.same before.reads c.text_behind.ensures.reads;
-      taken = λ rows clean has numbered.
+      taken = λ rows text clean has numbered admits.
           let first : IsSame old mid = before.same (c.text_behind.ensures.reads.clean clean) has.schema in
-          let found : text_in rows c.args.partner (c.loop-taken.last + 1) ≡ Some c.in-Some.text.items = rw c.in-Some.is at (c.in_ok-text.ensures.text clean rows (subst (HasRows rows) (sym first.now) has) numbered) in
-          more_pushed rows c.args.partner c.args.number c.loop-taken.last _ _ _ c.args.text.now c.in-Some.text.items c.loop-taken.taken.items next c.append-in-Some.new.taken.items pushed before.after found
-          (before.taken rows (c.text_behind.ensures.reads.clean clean) has numbered) (rw c.deref.ensures.value at is);
+          let partner = c.args.admitted.now.partner in
+          let found : text_in rows partner (c.loop-taken.last + 1) ≡ Some c.in-Some.text.items = rw c.in-Some.is at (c.in_ok-text.ensures.text clean rows (subst (HasRows rows) (sym first.now) has) numbered) in
+          more_pushed rows partner c.args.number c.loop-taken.last _ _ _ text c.in-Some.text.items c.loop-taken.taken.items next c.append-in-Some.new.taken.items pushed before.after found
+          (before.taken rows text (c.text_behind.ensures.reads.clean clean) has numbered admits) (rw c.deref.ensures.value at is);
     }

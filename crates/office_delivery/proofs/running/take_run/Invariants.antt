@@ -1,9 +1,10 @@
-use Rattle.std.proofs.Common.{◌≡◌, ◌+◌, ◌<◌, ◌≤◌, ◌-◌, All, length}
+use Rattle.std.proofs.Common.{◌≡◌, ℕ, List, ◌+◌, ◌<◌, ◌≤◌, ◌-◌, All, length}
 use Rattle.sqlite.specs.Held.{state}
 use Rattle.sqlite.specs.State.{HasCleanDisk}
 use Rattle.office_rows.specs.Rows.{Rows}
 use Rattle.office_rows.specs.Stored.{HasRows}
 use Rattle.office_rows.specs.Tables.{office_schema}
+use Rattle.office_admission.specs.Outcomes.{IsAdmitted}
 use Rattle.office_taking.specs.Taking.{machine_of}
 use Rattle.office_history.specs.Cascade.{texts_with}
 use Rattle.office_delivery.specs.Reading.{IsSame, OnlyReads}
@@ -24,8 +25,8 @@ invariant-loop-taken g l =
       numbers : All (λ (t : Taken). t.number < 1000000000) l.taken.items;
       same : HasCleanDisk now → old.now.schema ≡ office_schema → IsSame old now;
       reads : OnlyReads old now;
-      taken : (rows : Rows) → HasCleanDisk now → HasRows rows old.now → IsNumbered l.partner rows →
-          AreTakenTo l.partner (texts_with rows l.partner l.number l.text) l.number (machine_of l.setup l.fn.terminal) (taken_contents l.taken.items) (l.last + 1) (machine_of l.setup l.terminal);
+      taken : (rows : Rows) (text : List ℕ) → HasCleanDisk now → HasRows rows old.now → IsNumbered l.admitted.partner rows → IsAdmitted l.setup text l.admitted →
+          AreTakenTo l.admitted.partner (texts_with rows l.admitted.partner l.number text) l.number (machine_of l.setup l.fn.terminal) (taken_contents l.taken.items) (l.last + 1) (machine_of l.setup l.terminal);
     }
 
 abbrev pub decreases-loop-taken : goal.decreases-loop-taken

@@ -19,9 +19,9 @@ returns-clause-ok g c clean rows has settled numbered =
     let items = c.in_ok-taken.taken.items in
     let before : HasCleanDisk mid = omega (arith, c.write_run.ensures.crash.clean) in
     let same : IsSame old mid = c.in_ok-taken.ensures.same before has.schema in
-    let wrote : Commits (with_run c.args.partner c.args.number c.args.text.now (taken_contents items)) mid new = rw c.deref.ensures.value at (c.in_ok-write_run.ensures.ok clean) in
-    takes_next rows c.args.partner c.args.number c.args.text.now c.args.code.now (machine_of c.args.setup.now c.args.terminal) (machine_of c.args.setup.now c.take_run.new.terminal) c.in_ok-head.head c.swap_remove-reply.result items old mid new
-    c.in_ok-taken.ensures.first c.swap_remove-reply.ensures.value (c.in_ok-taken.ensures.taken before rows has numbered) c.in_ok-head.ensures.bytes has settled same wrote
+    let wrote : Commits (with_run c.args.admitted.now.partner c.args.number c.args.text.now (taken_contents items)) mid new = rw c.deref.ensures.value at (c.in_ok-write_run.ensures.ok clean) in
+    takes_next rows c.args.admitted.now.partner c.args.number c.args.text.now c.args.code.now (machine_of c.args.setup.now c.args.terminal) (machine_of c.args.setup.now c.take_run.new.terminal) c.in_ok-body.body c.index.result.now items old mid new
+    c.in_ok-taken.ensures.first c.index.ensures (c.in_ok-taken.ensures.taken before rows c.args.text.now has numbered c.requires.admitted) (rw c.as_str.ensures.value at c.in_ok-body.ensures.bytes) has settled same wrote
 
 pub returns-in_err-write_run-clause-crash : goal.returns-in_err-write_run-clause-crash
 returns-in_err-write_run-clause-crash g c clean = on_err c.from_residual-in_err-write_run.result (λ rows has settled numbered db left.
@@ -31,11 +31,11 @@ returns-in_err-write_run-clause-crash g c clean = on_err c.from_residual-in_err-
     let items = c.in_ok-taken.taken.items in
     let before : HasCleanDisk mid = omega (arith, c.write_run.ensures.crash.clean, clean) in
     let same : IsSame old mid = c.in_ok-taken.ensures.same before has.schema in
-    let wrote : mid.may_leave db ⊎ IsWhole (with_run a.partner a.number a.text.now (taken_contents items)) mid db = rw c.deref.ensures.value at (c.write_run.ensures.crash.crash clean db left) in
+    let wrote : mid.may_leave db ⊎ IsWhole (with_run a.admitted.now.partner a.number a.text.now (taken_contents items)) mid db = rw c.deref.ensures.value at (c.write_run.ensures.crash.crash clean db left) in
     either_of (reads_less old mid before has.schema c.take_run.ensures.reads db)
     (λ is. record {
       taken = taken_contents items;
       new = machine_of a.setup.now c.take_run.new.terminal;
-      are_taken = c.in_ok-taken.ensures.taken before rows has numbered;
+      are_taken = c.in_ok-taken.ensures.taken before rows a.text.now has numbered c.requires.admitted;
       are = is rows (subst (HasRows rows) (settled ∙ sym same.committed) has);
     }) wrote)

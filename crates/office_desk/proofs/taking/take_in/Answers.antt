@@ -1,4 +1,4 @@
-use Rattle.std.proofs.Common.{◌≡◌, [], ◌∷◌, ◌++◌, None, Some, not, sym, ap, subst, ◌∙◌}
+use Rattle.std.proofs.Common.{◌≡◌, inl, [], ◌∷◌, ◌++◌, None, Some, not, sym, ap, subst, ◌∙◌}
 use Rattle.sqlite.specs.Held.{state}
 use Rattle.office_rows.specs.Stored.{HasRows}
 use Rattle.office_rows.proofs.StepLemmas.{if_ok}
@@ -7,7 +7,7 @@ use Rattle.office_tables.specs.Answers.{IsKept}
 use Rattle.office_delivery.specs.Reading.{IsSame}
 use Rattle.office_delivery.proofs.ReadLemmas.{no_text, text_kept}
 use Rattle.office_desk.proofs.HoldLemmas.{used_answers, next_is, numbered}
-use Rattle.office_desk.proofs.CrashLemmas.{committed_leaves, either_of, on_err_then, on_told, reads_less, used_leaves}
+use Rattle.office_desk.proofs.CrashLemmas.{committed_leaves, either_of, on_err, on_err_then, on_told, reads_less, used_leaves}
 use Rattle.office_desk.proofs.taking.take_in.Goals as goal
 
 pub returns-in_ok-answer_used-in-Some-clause-ok : goal.returns-in_ok-answer_used-in-Some-clause-ok
@@ -21,8 +21,8 @@ returns-in_ok-answer_used-in-Some-clause-ok g c clean is_open ds delivered holds
     let same : IsSame old mid = c.in_ok-kept.ensures.same clean has.schema in
     let found = c.in_ok-kept.field-0 in
     let kept_is : found.kept ≡ Some c.in-Some.kept = let e = c.in_ok-kept.kept-is in let is = c.in-Some.is in cc in
-    let kept : IsKept a.partner a.number holds.rows (Some c.in-Some.kept) = subst (IsKept a.partner a.number holds.rows) kept_is (c.in_ok-kept.ensures.kept clean holds.rows has) in
-    used_answers content ds holds.rows delivered a.text.now a.partner a.number found.next a.code.now c.in-Some.kept c.in_ok-answer_used-in-Some.field-0 old.now mid.committed a.terminal.now
+    let kept : IsKept a.admitted.now.partner a.number holds.rows (Some c.in-Some.kept) = subst (IsKept a.admitted.now.partner a.number holds.rows) kept_is (c.in_ok-kept.ensures.kept clean holds.rows has) in
+    used_answers content ds holds.rows delivered a.text.now a.admitted.now.partner a.number found.next a.code.now c.in-Some.kept c.in_ok-answer_used-in-Some.field-0 old.now mid.committed a.terminal.now
     holds.after has (settled ∙ sym same.committed) holds.beside comes kept (c.in_ok-kept.ensures.next clean holds.rows has) c.in_ok-answer_used-in-Some.ensures
 
 pub returns-in-None-clause-ok : goal.returns-in-None-clause-ok
@@ -38,10 +38,10 @@ returns-in-None-clause-ok g c clean is_open =
     let same : IsSame old mid = c.in_ok-kept.ensures.same before has.schema in
     let found = c.in_ok-kept.field-0 in
     let kept_is : found.kept ≡ None = let e = c.in_ok-kept.kept-is in let is = c.in-None.is in cc in
-    let kept : IsKept a.partner a.number holds.rows None = subst (IsKept a.partner a.number holds.rows) kept_is (c.in_ok-kept.ensures.kept before holds.rows has) in
-    let none = no_text a.partner a.number holds.rows kept in
+    let kept : IsKept a.admitted.now.partner a.number holds.rows None = subst (IsKept a.admitted.now.partner a.number holds.rows) kept_is (c.in_ok-kept.ensures.kept before holds.rows has) in
+    let none = no_text a.admitted.now.partner a.number holds.rows kept in
     told ds delivered holds.rows (subst (HasRows holds.rows) (sym same.now) has) (same.now ∙ settled ∙ sym same.committed) holds.after holds.beside none
-    (next_is content ds holds.rows a.partner found.next holds.after (c.in_ok-kept.ensures.next before holds.rows has)) comes)
+    (next_is content ds holds.rows a.admitted.now.partner found.next holds.after (c.in_ok-kept.ensures.next before holds.rows has)) comes)
     (c.take_new.ensures.ok clean is_open)
 
 pub returns-in_ok-answer_used-in-Some-clause-leaves : goal.returns-in_ok-answer_used-in-Some-clause-leaves
@@ -54,9 +54,9 @@ returns-in_ok-answer_used-in-Some-clause-leaves g c clean was_open ds delivered 
     let has : HasRows holds.rows old.now = subst (HasRows holds.rows) (sym settled) holds.has in
     let found = c.in_ok-kept.field-0 in
     let kept_is : found.kept ≡ Some c.in-Some.kept = let e = c.in_ok-kept.kept-is in let is = c.in-Some.is in cc in
-    let kept : IsKept a.partner a.number holds.rows (Some c.in-Some.kept) = subst (IsKept a.partner a.number holds.rows) kept_is (c.in_ok-kept.ensures.kept clean holds.rows has) in
-    used_leaves content ds delivered holds.rows a.partner a.number c.in-Some.kept.text.items old mid holds.after comes.is_for
-    (text_kept a.partner a.number holds.rows c.in-Some.kept holds.after.kept_once kept) (reads_less old mid clean has.schema c.look.ensures.reads) leaves
+    let kept : IsKept a.admitted.now.partner a.number holds.rows (Some c.in-Some.kept) = subst (IsKept a.admitted.now.partner a.number holds.rows) kept_is (c.in_ok-kept.ensures.kept clean holds.rows has) in
+    used_leaves content ds delivered holds.rows a.admitted.now.partner a.number c.in-Some.kept.text.items old mid holds.after comes.is_for
+    (text_kept a.admitted.now.partner a.number holds.rows c.in-Some.kept holds.after.kept_once kept) (reads_less old mid clean has.schema c.look.ensures.reads) leaves
 
 pub returns-in-None-clause-leaves : goal.returns-in-None-clause-leaves
 returns-in-None-clause-leaves g c clean was_open =
@@ -72,13 +72,13 @@ returns-in-None-clause-leaves g c clean was_open =
     let same : IsSame old mid = c.in_ok-kept.ensures.same before has.schema in
     let found = c.in_ok-kept.field-0 in
     let kept_is : found.kept ≡ None = let e = c.in_ok-kept.kept-is in let is = c.in-None.is in cc in
-    let kept : IsKept a.partner a.number holds.rows None = subst (IsKept a.partner a.number holds.rows) kept_is (c.in_ok-kept.ensures.kept before holds.rows has) in
-    let none = no_text a.partner a.number holds.rows kept in
+    let kept : IsKept a.admitted.now.partner a.number holds.rows None = subst (IsKept a.admitted.now.partner a.number holds.rows) kept_is (c.in_ok-kept.ensures.kept before holds.rows has) in
+    let none = no_text a.admitted.now.partner a.number holds.rows kept in
     let there : HasRows holds.rows mid.now = subst (HasRows holds.rows) (sym same.now) has in
     let still : mid.now ≡ mid.committed = same.now ∙ settled ∙ sym same.committed in
-    let done = committed holds.rows there still (numbered content ds holds.rows a.partner holds.after) in
+    let done = committed holds.rows there still (numbered content ds holds.rows a.admitted.now.partner holds.after) in
     let after = (told done.is_open ds delivered holds.rows there still holds.after holds.beside none
-    (next_is content ds holds.rows a.partner found.next holds.after (c.in_ok-kept.ensures.next before holds.rows has)) comes).holds in
+    (next_is content ds holds.rows a.admitted.now.partner found.next holds.after (c.in_ok-kept.ensures.next before holds.rows has)) comes).holds in
     committed_leaves content (ds ++ delivered ∷ []) new after.rows done after.has after.after)
 
 pub returns-in-None-clause-crash : goal.returns-in-None-clause-crash
@@ -94,9 +94,32 @@ returns-in-None-clause-crash g c clean was_open =
     let same : IsSame old mid = c.in_ok-kept.ensures.same before has.schema in
     let found = c.in_ok-kept.field-0 in
     let kept_is : found.kept ≡ None = let e = c.in_ok-kept.kept-is in let is = c.in-None.is in cc in
-    let kept : IsKept a.partner a.number holds.rows None = subst (IsKept a.partner a.number holds.rows) kept_is (c.in_ok-kept.ensures.kept before holds.rows has) in
-    let none = no_text a.partner a.number holds.rows kept in
+    let kept : IsKept a.admitted.now.partner a.number holds.rows None = subst (IsKept a.admitted.now.partner a.number holds.rows) kept_is (c.in_ok-kept.ensures.kept before holds.rows has) in
+    let none = no_text a.admitted.now.partner a.number holds.rows kept in
     either_of (λ first. leaves db (reads_less old mid before has.schema c.look.ensures.reads db first)) (λ after. after)
     (told ds delivered holds.rows (subst (HasRows holds.rows) (sym same.now) has) (same.now ∙ settled ∙ sym same.committed) holds.after holds.beside none
-    (next_is content ds holds.rows a.partner found.next holds.after (c.in_ok-kept.ensures.next before holds.rows has)) comes db left))
+    (next_is content ds holds.rows a.admitted.now.partner found.next holds.after (c.in_ok-kept.ensures.next before holds.rows has)) comes db left))
     (c.take_new.ensures.crash clean)
+
+pub returns-in-None-clause-err : goal.returns-in-None-clause-err
+returns-in-None-clause-err g c clean is_open =
+    let a = c.args in
+    let content = setup_content a.setup.now in
+    let old = state g.S.Store a.conn.now in
+    let mid = state g.S.Store c.look.new.conn in
+    let before = c.take_new.ensures.clean clean in
+    let settled : old.now ≡ old.committed = c.is_autocommit-is_idle.ensures.settled (c.is_autocommit-is_idle.ensures.value ∙ ap not c.requires.idle) (c.look.ensures.reads.was_open before (c.take_new.ensures.was_open clean is_open)) in
+    on_err_then c.take_new.result (λ told. λ ds holds.
+    let has : HasRows holds.rows old.now = subst (HasRows holds.rows) (sym settled) holds.has in
+    let same : IsSame old mid = c.in_ok-kept.ensures.same before has.schema in
+    told ds holds.rows (subst (HasRows holds.rows) (sym same.now) has) (same.now ∙ settled ∙ sym same.committed) holds.after holds.beside)
+    (c.take_new.ensures.err clean is_open)
+
+pub returns-in_err-answer_used-in-Some-clause-crash : goal.returns-in_err-answer_used-in-Some-clause-crash
+returns-in_err-answer_used-in-Some-clause-crash g c clean was_open = on_err c.from_residual-in_err-answer_used-in-Some.result (λ ds delivered holds leaves comes db left.
+    let a = c.args in
+    let old = state g.S.Store a.conn.now in
+    let mid = state g.S.Store c.look.new.conn in
+    let settled : old.now ≡ old.committed = c.is_autocommit-is_idle.ensures.settled (c.is_autocommit-is_idle.ensures.value ∙ ap not c.requires.idle) was_open in
+    let has : HasRows holds.rows old.now = subst (HasRows holds.rows) (sym settled) holds.has in
+    inl (leaves db (reads_less old mid clean has.schema c.look.ensures.reads db left)))

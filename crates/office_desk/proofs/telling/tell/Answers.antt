@@ -10,7 +10,7 @@ returns-in-Some-clause-told g c clean =
     let a = c.args in
     let content = setup_content a.setup.now in
     let own = string_bytes c.in-Ticket.partner in
-    let there : partner_called content own ≡ Some c.in-Some.id = called a.setup.now c.deref.result.now c.deref-in-Ticket.result.now own (Some c.in-Some.id) (sym c.in-Some.is ∙ c.partner_called.ensures) c.deref.ensures.value c.deref-in-Ticket.ensures in
+    let there : partner_called content own ≡ Some c.in-Some.id = called a.setup.now c.deref.result.now own (Some c.in-Some.id) (sym c.in-Some.is ∙ c.partner_called.ensures) c.deref.ensures in
     if_ok c.tell_ticket.result (λ found told. λ rows has once.
     subst (λ q. TellsOf content a.terminal.now rows q (option_map string_bytes found)) (sym c.in-Ticket.is)
     (rw c.deref-in-Some.ensures at (told rows has once) ∙ sym (ap (ticket_of a.terminal.now.visits rows own c.in-Ticket.number) there)))
@@ -21,7 +21,7 @@ returns-in-None-clause-told g c clean rows has once =
     let a = c.args in
     let content = setup_content a.setup.now in
     let own = string_bytes c.in-Ticket.partner in
-    let there : partner_called content own ≡ None = called a.setup.now c.deref.result.now c.deref-in-Ticket.result.now own None (sym c.in-None.is ∙ c.partner_called.ensures) c.deref.ensures.value c.deref-in-Ticket.ensures in
+    let there : partner_called content own ≡ None = called a.setup.now c.deref.result.now own None (sym c.in-None.is ∙ c.partner_called.ensures) c.deref.ensures in
     subst (λ q. TellsOf content a.terminal.now rows q None) (sym c.in-Ticket.is) (sym (ap (ticket_of a.terminal.now.visits rows own c.in-Ticket.number) there))
 
 pub returns-in-Some-partner_called-clause-told : goal.returns-in-Some-partner_called-clause-told
@@ -30,7 +30,7 @@ returns-in-Some-partner_called-clause-told g c clean =
     let content = setup_content a.setup.now in
     let own = string_bytes c.in-Reply.partner in
     let id = c.in-Some-partner_called.id in
-    let there : partner_called content own ≡ Some id = called a.setup.now c.deref-in-Reply.result.now c.deref-in-Reply-2.result.now own (Some id) (sym c.in-Some-partner_called.is ∙ c.partner_called-in-Reply.ensures) c.deref-in-Reply.ensures.value c.deref-in-Reply-2.ensures in
+    let there : partner_called content own ≡ Some id = called a.setup.now c.deref-in-Reply.result.now own (Some id) (sym c.in-Some-partner_called.is ∙ c.partner_called-in-Reply.ensures) c.deref-in-Reply.ensures in
     if_ok c.tell_reply.result (λ found told. λ rows has once.
     subst (λ q. TellsOf content a.terminal.now rows q (option_map string_bytes found)) (sym c.in-Reply.is)
     (subst (λ p. TellsReplyOf rows own c.in-Reply.number p (option_map string_bytes found)) (sym there) (rw c.deref-in-Some-partner_called.ensures at (told rows has once))))
@@ -41,5 +41,5 @@ returns-in-None-partner_called-clause-told g c clean rows has once =
     let a = c.args in
     let content = setup_content a.setup.now in
     let own = string_bytes c.in-Reply.partner in
-    let there : partner_called content own ≡ None = called a.setup.now c.deref-in-Reply.result.now c.deref-in-Reply-2.result.now own None (sym c.in-None-partner_called.is ∙ c.partner_called-in-Reply.ensures) c.deref-in-Reply.ensures.value c.deref-in-Reply-2.ensures in
+    let there : partner_called content own ≡ None = called a.setup.now c.deref-in-Reply.result.now own None (sym c.in-None-partner_called.is ∙ c.partner_called-in-Reply.ensures) c.deref-in-Reply.ensures in
     subst (λ q. TellsOf content a.terminal.now rows q None) (sym c.in-Reply.is) (subst (λ p. TellsReplyOf rows own c.in-Reply.number p None) (sym there) refl)

@@ -8,6 +8,7 @@ pub pieces-init : goal.pieces-init
 pieces-init g c = record {
   running = c.requires;
   kept = refl;
+  flushed = λ all. all;
   stays = λ clean. clean;
   done = λ clean opening ds at. nothing_done (g.D.Deliver.stands opening) (g.D.Deliver.answers opening) ds (pending c.args.cutter.now) c.args.piece.now _ _ _ at;
 }
@@ -24,6 +25,7 @@ pieces-preserved g c =
     record {
       running = some.2;
       kept = one.kept ∙ c.pieces.invariant.kept;
+      flushed = λ all. one.flushed;
       stays = λ clean. c.pieces.invariant.stays (one.stays clean);
       done = λ clean opening ds at.
           rw c.or-worst.ensures

@@ -1,4 +1,4 @@
-use Rattle.std.proofs.Common.{◌≡◌, ℕ, ◌++◌, List, None, length}
+use Rattle.std.proofs.Common.{◌≡◌, ℕ, ◌++◌, List, None, length, true}
 use Rattle.edi_cutter.specs.Cuts.{pending}
 use Rattle.office_stream.specs.Pieces.{PieceAnswered}
 use Rattle.office_stream.proofs.PieceLemmas.{IsLeft}
@@ -8,6 +8,7 @@ abbrev pub invariant-pieces : goal.invariant-pieces
 invariant-pieces g l = record {
   running : l.cutter.fault ≡ None;
   kept : l.writer.failed ≡ l.fn.writer.failed;
+  flushed : l.fn.writer.flushed ≡ true → l.writer.flushed ≡ true;
   stays : g.D.Deliver.clean l.desk → g.D.Deliver.clean l.fn.desk;
   done : g.D.Deliver.clean l.desk → (opening : g.row.D.Denot) (ds : List (List ℕ)) → g.D.Deliver.stands opening ds l.fn.desk →
       PieceAnswered (g.D.Deliver.stands opening) (g.D.Deliver.answers opening) ds (IsLeft (pending l.cutter) l.rest) (pending l.fn.cutter ++ l.piece) l.desk

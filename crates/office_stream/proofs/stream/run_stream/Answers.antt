@@ -11,6 +11,7 @@ reads-init g c = record {
   running = starts_running c.new-cutter.result c.new-cutter.ensures;
   reader = refl;
   writer = refl;
+  flushed = λ all. all;
   going = λ less. absurd (omega arith);
   most = omega arith;
   least = omega arith;
@@ -66,6 +67,7 @@ reads-preserved g c =
       running = c.in_ok-worst_now.ensures.running c.in_default.is;
       reader = c.in-Ok.ensures.succeeds ∙ c.reads.invariant.reader;
       writer = c.in_ok-worst_now.ensures.kept ∙ c.reads.invariant.writer;
+      flushed = λ all. c.in_ok-worst_now.ensures.flushed (c.reads.invariant.flushed all);
       going = λ less. c.in-Ok.ensures.ended ∙ ne_eqb c.in-Ok.count 0 c.if-count-eq0.false;
       most = omega (arith, c.in-Ok.ensures.counted, c.reads.invariant.most);
       least = omega (arith, c.in-Ok.ensures.counted, c.reads.invariant.least);
@@ -123,3 +125,21 @@ returns-in-Some-clause-err g c =
 pub returns-clause-err : goal.returns-clause-err
 returns-clause-err g c = λ clean opening ds at.
     began_now (g.D.Deliver.stands opening) (g.D.Deliver.answers opening) ds _ _ (pending c.reads.cutter) c.reads.desk c.reads.worst _ _ (c.reads.invariant.sofar clean opening ds at)
+
+-- ---- what was flushed
+
+pub returns-in-Err-clause-told : goal.returns-in-Err-clause-told
+returns-in-Err-clause-told g c = λ other all. c.reads.invariant.flushed all
+
+pub returns-then-count-eq0-clause-told : goal.returns-then-count-eq0-clause-told
+returns-then-count-eq0-clause-told g c = err_weaker c.finish.result _ _ (λ fault is other. absurd (other is.0)) c.finish.ensures.err
+
+pub returns-in_err-worst_now-clause-told : goal.returns-in_err-worst_now-clause-told
+returns-in_err-worst_now-clause-told g c =
+    is_err_and c.from_residual.result _ _ (λ fault is other. absurd (other (is ∙ c.in_err-worst_now.ensures.err.0))) c.from_residual.ensures.1
+
+pub returns-in-Some-clause-told : goal.returns-in-Some-clause-told
+returns-in-Some-clause-told g c = err_weaker c.finish-in-Some.result _ _ (λ fault is other. absurd (other is.0)) c.finish-in-Some.ensures.err
+
+pub returns-clause-told : goal.returns-clause-told
+returns-clause-told g c = λ other all. c.reads.invariant.flushed all

@@ -1,4 +1,4 @@
-use Rattle.std.proofs.Common.{◌≡◌, ℕ, ◌+◌, ◌-◌, ◌^◌, ◌≤◌, ◌<◌, min, List, None, false}
+use Rattle.std.proofs.Common.{◌≡◌, ℕ, ◌+◌, ◌-◌, ◌^◌, ◌≤◌, ◌<◌, min, List, None, false, true}
 use Rattle.edi_cutter.specs.Cuts.{pending}
 use Rattle.office_stream.proofs.StreamLemmas.{Sofar}
 use Rattle.office_stream.proofs.stream.run_stream.Given as goal
@@ -8,6 +8,7 @@ invariant-reads g l = record {
   running : l.cutter.fault ≡ None;
   reader : l.reader.failed ≡ l.fn.reader.failed;
   writer : l.writer.failed ≡ l.fn.writer.failed;
+  flushed : l.fn.writer.flushed ≡ true → l.writer.flushed ≡ true;
   going : 0 < l.counter → l.reader.ended ≡ false;
   most : l.reader.reads ≤ l.fn.reader.reads + l.counter;
   least : min (l.fn.reader.reads + l.counter) (2 ^ 64 - 1) ≤ l.reader.reads;

@@ -1,13 +1,13 @@
-use Rattle.std.proofs.Common.{[], ◌∷◌, ◌++◌, ◌+◌, ◌-◌, arith, refl, sym, subst, ◌∙◌}
+use Rattle.std.proofs.Common.{[], ◌∷◌, ◌++◌, ◌-◌, arith, refl, sym, subst, ◌∙◌}
 use Rattle.std.proofs.lemmas.Option.{slice_get_read}
 use Rattle.edi_syntax.specs.Heads.{head_segments}
 use Rattle.office_replies.specs.declared.response.Response.TheVariants.{NotNow}
 use Rattle.office_admission.specs.Refusals.{RefusedSurely}
 use Rattle.office_setup.specs.Parties.{parties_of}
 use Rattle.office_setup.specs.Setups.{setup_content}
-use Rattle.office_desk.proofs.Admitted.{code_at, admitted_surely, numbered}
+use Rattle.office_desk.proofs.Admitted.{code_at, admitted_surely, never_refused, numbered, refused_so}
 use Rattle.office_desk.proofs.DeliverLemmas.{refusal_delivered, refusal_leaves, admitted_leaves, taken_in, not_taken}
-use Rattle.office_desk.proofs.CrashLemmas.{answered_behind}
+use Rattle.office_desk.proofs.CrashLemmas.{answered_behind, held_leaves}
 use Rattle.office_desk.specs.Crashes.{Leaves, LeavesEither}
 use Rattle.sqlite.specs.Held.{state}
 use Rattle.office_desk.proofs.desk.DeskDeliver.deliver.Goals as goal
@@ -53,12 +53,16 @@ returns-in-Err-taken-clause-delivers g c = λ sound opening ds stands.
     (c.in-Err-taken.ensures.err sound.0 sound.1)
 
 pub returns-in-Err-clause-crash : goal.returns-in-Err-clause-crash
-returns-in-Err-clause-crash g c = λ sound clean opening ds stands leaves.
+returns-in-Err-clause-crash g c = λ sound clean opening ds stands.
+    let leaves : Leaves (setup_content opening.setup) ds (state g.S.Store c.args.self.now.conn) =
+    held_leaves (setup_content opening.setup) ds (state g.S.Store c.args.self.now.conn) c.args.self.now.terminal sound.1 (λ db left. g.met.S.Store.settled c.args.self.now.conn.store db sound.1 left) stands.holds in
     refusal_leaves g.S.Store (setup_content opening.setup) ds c.args.delivered.now c.interchange_text-text.result.now c.answer.result c.args.self.now c.in-Err.refusal
     c.interchange_text-text.ensures.exact (record { setup = stands.setup; holds = stands.holds }) c.in-Err.ensures.err leaves
 
 pub returns-in-Ok-taken-clause-crash : goal.returns-in-Ok-taken-clause-crash
-returns-in-Ok-taken-clause-crash g c = λ sound clean opening ds stands leaves.
+returns-in-Ok-taken-clause-crash g c = λ sound clean opening ds stands.
+    let leaves : Leaves (setup_content opening.setup) ds (state g.S.Store c.args.self.now.conn) =
+    held_leaves (setup_content opening.setup) ds (state g.S.Store c.args.self.now.conn) c.args.self.now.terminal sound.1 (λ db left. g.met.S.Store.settled c.args.self.now.conn.store db sound.1 left) stands.holds in
     let old = c.args.self.now in
     let text = c.interchange_text-text.result.now in
     let admitted = c.in-Ok.admitted in
@@ -73,7 +77,9 @@ returns-in-Ok-taken-clause-crash g c = λ sound clean opening ds stands leaves.
     (c.in-Ok-taken.ensures.leaves clean sound.1 before now holds still comes))))
 
 pub returns-in-Err-taken-clause-crash : goal.returns-in-Err-taken-clause-crash
-returns-in-Err-taken-clause-crash g c = λ sound clean opening ds stands leaves.
+returns-in-Err-taken-clause-crash g c = λ sound clean opening ds stands.
+    let leaves : Leaves (setup_content opening.setup) ds (state g.S.Store c.args.self.now.conn) =
+    held_leaves (setup_content opening.setup) ds (state g.S.Store c.args.self.now.conn) c.args.self.now.terminal sound.1 (λ db left. g.met.S.Store.settled c.args.self.now.conn.store db sound.1 left) stands.holds in
     let old = c.args.self.now in
     let text = c.interchange_text-text.result.now in
     let admitted = c.in-Ok.admitted in
@@ -84,3 +90,17 @@ returns-in-Err-taken-clause-crash g c = λ sound clean opening ds stands leaves.
     leaves
     (λ before now e f holds still comes. subst (λ l. LeavesEither (setup_content old.setup) l c.args.delivered.now end) e (subst (λ t. LeavesEither (setup_content old.setup) before t end) f
     (c.in-Err-taken.ensures.crash clean sound.1 before now holds still comes)))
+
+pub returns-in-Err-clause-refused : goal.returns-in-Err-clause-refused
+returns-in-Err-clause-refused g c fault e =
+    let setup = c.args.self.now.setup in
+    let text = c.interchange_text-text.result.now in
+    (refl, refl, refl, refused_so setup c.args.delivered.now text c.in-Err.refusal fault c.answer.result c.interchange_text-text.ensures.exact c.in-Err.ensures.err e (c.answer.ensures.answer setup text c.in-Err.ensures.err))
+
+pub returns-in-Ok-taken-clause-refused : goal.returns-in-Ok-taken-clause-refused
+returns-in-Ok-taken-clause-refused g c fault e =
+    absurd (never_refused (parties_of c.args.self.now.setup) c.args.delivered.now c.interchange_text-text.result.now _ fault c.interchange_text-text.ensures.exact c.in-Ok.ensures.ok.admits e)
+
+pub returns-in-Err-taken-clause-refused : goal.returns-in-Err-taken-clause-refused
+returns-in-Err-taken-clause-refused g c fault e =
+    absurd (never_refused (parties_of c.args.self.now.setup) c.args.delivered.now c.interchange_text-text.result.now _ fault c.interchange_text-text.ensures.exact c.in-Ok.ensures.ok.admits e)

@@ -1,0 +1,164 @@
+-- The interchanges of an office: no number of a partner has two.
+use Rattle.std.proofs.Common.{◌≡◌, ℕ, zero, suc, ◌+◌, ◌*◌, ◌-◌, ◌<◌, ◌≤◌, List, [], ◌∷◌, ◌++◌, map, Bool, true, false, cond, refl, sym, ap, ap₂, subst, ◌∙◌, arith}
+use Rattle.std.specs.Prelude.{◌==◌, count_by, sum_by}
+use Rattle.std.specs.List.{range_with_len}
+use Rattle.std.specs.List.Sorted.{IsPermutation}
+use Rattle.std.proofs.lemmas.Bool.{and_parts, eqb-true}
+use Rattle.std.proofs.lemmas.List.Sums.{sum_by-cons}
+use Rattle.std.proofs.lemmas.List.Sorted.{IsPermutation-trans, sum_by-IsPermutation}
+use Rattle.sqlite.specs.declared.types.Value.{Value}
+use Rattle.sqlite.specs.declared.types.Value.TheVariants.{Text}
+use Rattle.sqlite.specs.Order.{column}
+use Rattle.sqlite.specs.Effect.{Database}
+use Rattle.edi_messages.specs.declared.partner_kind.PartnerKind.{PartnerKind}
+use Rattle.terminal_core.specs.State.{TerminalState}
+use Rattle.office_setup.specs.Setups.{SetupContent}
+use Rattle.office_rows.specs.Rows.{Partner, Interchange, Rows}
+use Rattle.office_rows.specs.Values.{number, interchange_values}
+use Rattle.office_rows.specs.Stored.{HasRows}
+use Rattle.office_rows.specs.Effects.{is_pair}
+use Rattle.office_rows.specs.Opened.{Numbered, OpenedRows, Shows, numbered, reply_values}
+use Rattle.office_rows.specs.Office.{AreAccounts, AreWaiting, AreKept, IsOffice}
+use Rattle.office_rows.specs.Shown.{columns_at}
+use Rattle.office_rows.proofs.Listed.{unmapped}
+use Rattle.office_history.specs.After.{AreKeptOnce}
+use Rattle.office_history.proofs.Shown.{Rises}
+
+-- ---- rising lists
+
+-- each key is above the one before, and none above that
+abbrev Climbs : {A : Type 0} → (A → ℕ) → ℕ → List A → ℕ → Type 0
+Climbs key low [] high = low ≤ high
+Climbs key low (x ∷ xs) high = (low < key x) × Climbs key (key x) xs high
+
+rises_lower : {A : Type 0} (key : A → ℕ) (low mid : ℕ) (xs : List A) → low ≤ mid → Rises key mid xs → Rises key low xs
+rises_lower key low mid [] below rises = tt
+rises_lower key low mid (x ∷ xs) below rises = (omega (arith, below, rises.0), rises.1)
+
+climbs_then : {A : Type 0} (key : A → ℕ) (low mid : ℕ) (xs ys : List A) → Climbs key low xs mid → Rises key mid ys → Rises key low (xs ++ ys)
+climbs_then key low mid [] ys climbs rises = rises_lower key low mid ys climbs rises
+climbs_then key low mid (x ∷ xs) ys climbs rises = (climbs.0, climbs_then key (key x) mid xs ys climbs.1 rises)
+
+climbs_lower : {A : Type 0} (key : A → ℕ) (low mid high : ℕ) (xs : List A) → low ≤ mid → Climbs key mid xs high → Climbs key low xs high
+climbs_lower key low mid high [] below climbs = omega (arith, below, climbs)
+climbs_lower key low mid high (x ∷ xs) below climbs = (omega (arith, below, climbs.0), climbs.1)
+
+climbs_on : {A : Type 0} (key : A → ℕ) (low mid high : ℕ) (xs ys : List A) → Climbs key low xs mid → Climbs key mid ys high → Climbs key low (xs ++ ys) high
+climbs_on key low mid high [] ys one two = climbs_lower key low mid high ys one two
+climbs_on key low mid high (x ∷ xs) ys one two = (one.0, climbs_on key (key x) mid high xs ys one.1 two)
+
+-- ---- one key
+
+count_more : {A : Type 0} (p : A → Bool) (x : A) (xs : List A) (is : Bool) → p x ≡ is → count_by p (x ∷ xs) ≡ cond is 1 0 + count_by p xs
+count_more p x xs is e = sum_by-cons (λ y. cond (p y) 1 0) x xs ∙ ap (λ b. cond b 1 0 + count_by p xs) e
+
+module _ {A : Type 0} (key : A → ℕ) (p : A → Bool) (at : ℕ) (passes : (x : A) → p x ≡ true → key x ≡ at) where
+  none_above : (low : ℕ) (xs : List A) → at ≤ low → Rises key low xs → count_by p xs ≡ 0
+  none_above low [] below rises = refl
+  none_above low (x ∷ xs) below rises = by (p x) refl (none_above (key x) xs (omega (arith, rises.0, below)) rises.1)
+    where
+      by : (is : Bool) → p x ≡ is → count_by p xs ≡ 0 → count_by p (x ∷ xs) ≡ 0
+      by true e rest = absurd (omega (arith, passes x e, rises.0, below))
+      by false e rest = let more : count_by p (x ∷ xs) ≡ 0 + count_by p xs = count_more p x xs false e in omega (arith, more, rest)
+
+  -- of a rising list one at most has that key
+  one_at : (low : ℕ) (xs : List A) → Rises key low xs → count_by p xs ≤ 1
+  one_at low [] rises = omega arith
+  one_at low (x ∷ xs) rises = by (p x) refl (one_at (key x) xs rises.1)
+    where
+      by : (is : Bool) → p x ≡ is → count_by p xs ≤ 1 → count_by p (x ∷ xs) ≤ 1
+      by true e rest =
+          let more : count_by p (x ∷ xs) ≡ 1 + count_by p xs = count_more p x xs true e in
+          let none = none_above (key x) xs (omega (arith, passes x e)) rises.1 in
+          omega (arith, more, none)
+      by false e rest = let more : count_by p (x ∷ xs) ≡ 0 + count_by p xs = count_more p x xs false e in omega (arith, more, rest)
+
+-- ---- what is kept, in the order of partners and numbers
+
+-- the place of a partner's number among all
+abbrev place_of : ℕ → ℕ → ℕ
+place_of partner number = partner * 1000000000 + number
+
+abbrev place : Numbered → ℕ
+place n = place_of n.partner n.number
+
+abbrev taken_by : ℕ → ℕ → Numbered
+taken_by partner number = record { partner = partner; number = number; is_taken = true }
+
+taken_climb : (partner from many low high : ℕ) → low < place_of partner from → place_of partner from + many ≤ high + 1 → Climbs place low (map (taken_by partner) (range_with_len from many)) high
+taken_climb partner from zero low high above below = omega (arith, above, below)
+taken_climb partner from (suc many) low high above below =
+    (above, taken_climb partner (from + 1) many (place_of partner from) high (omega arith) (omega (arith, below)))
+
+waiting_climb : (partner above : ℕ) (ns : List Numbered) → above ≤ 1000000000 → AreWaiting partner above ns → Climbs place (place_of partner above) ns (place_of partner 1000000000)
+waiting_climb partner above [] within wait = omega (arith, within)
+waiting_climb partner above (n ∷ ns) within wait =
+    let own : n.partner ≡ partner = wait.0 in
+    let beyond : above < n.number = wait.2 in
+    let high : n.number ≤ 999999999 = wait.3 in
+    let rest = waiting_climb partner n.number ns (omega (arith, high)) wait.4 in
+    (omega (arith, own, beyond), subst (λ p. Climbs place (place_of p n.number) ns (place_of partner 1000000000)) (sym own) rest)
+
+kept_rise : (id : ℕ) (partners : List Partner) (accounts : List (List ℕ × PartnerKind)) (ns : List Numbered) → AreAccounts id partners accounts → AreKept partners ns → Rises place (place_of id 0) ns
+kept_rise id [] accounts ns are kept = subst (Rises place (place_of id 0)) (sym kept) tt
+kept_rise id (partner ∷ partners) [] ns are kept = absurd are
+kept_rise id (partner ∷ partners) (account ∷ accounts) ns are kept =
+    let own : partner.id ≡ id = are.0 in
+    let low : 1 ≤ partner.next = are.3 in
+    let high : partner.next ≤ 1000000000 = are.4 in
+    let its = kept.3 in
+    let taken = taken_climb partner.id 1 (partner.next - 1) (place_of id 0) (place_of partner.id partner.next) (omega (arith, own)) (omega (arith, low)) in
+    let both = climbs_on place (place_of id 0) (place_of partner.id partner.next) (place_of partner.id 1000000000) (map (taken_by partner.id) (range_with_len 1 (partner.next - 1))) its.waiting taken
+    (waiting_climb partner.id partner.next its.waiting high its.wait) in
+    let others = kept_rise (id + 1) partners accounts kept.1 are.5 kept.4 in
+    let next : place_of partner.id 1000000000 ≤ place_of (id + 1) 0 = omega (arith, own) in
+    subst (Rises place (place_of id 0)) (sym (kept.2 ∙ ap (λ l. l ++ kept.1) its.are))
+    (climbs_then place (place_of id 0) (place_of partner.id 1000000000) _ kept.1 both (rises_lower place (place_of partner.id 1000000000) (place_of (id + 1) 0) kept.1 next others))
+
+-- ---- the interchanges
+
+one_number : (m n : ℕ) → number m ≡ number n → m ≡ n
+one_number m n e = cc
+
+one_text : (s t : List ℕ) → ◌≡◌ {A = Value} (Text s) (Text t) → s ≡ t
+one_text s t e = cc
+
+numbered_one : (i j : Interchange) → reply_values i ≡ columns_at (0 ∷ 1 ∷ 3 ∷ []) (interchange_values j) → numbered i ≡ numbered j
+numbered_one i j e =
+    let partner : i.partner ≡ j.partner = one_number i.partner j.partner (ap (λ r. column r 0) e) in
+    let own : i.number ≡ j.number = one_number i.number j.number (ap (λ r. column r 1) e) in
+    let reply : i.reply ≡ j.reply = one_text i.reply j.reply (ap (λ r. column r 2) e) in
+    λ k. numbered (record { partner = partner k; number = own k; body = i.body; reply = reply k })
+
+numbers_same : (xs ys : List Interchange) → map reply_values xs ≡ map (columns_at (0 ∷ 1 ∷ 3 ∷ [])) (map interchange_values ys) → map numbered xs ≡ map numbered ys
+numbers_same [] [] e = refl
+numbers_same [] (y ∷ ys) e = cc
+numbers_same (x ∷ xs) [] e = cc
+numbers_same (x ∷ xs) (y ∷ ys) e =
+    let first : reply_values x ≡ columns_at (0 ∷ 1 ∷ 3 ∷ []) (interchange_values y) = cc in
+    let rest : map reply_values xs ≡ map (columns_at (0 ∷ 1 ∷ 3 ∷ [])) (map interchange_values ys) = cc in
+    ap₂ ◌∷◌ (numbered_one x y first) (numbers_same xs ys rest)
+
+abbrev place_in : Interchange → ℕ
+place_in i = place_of i.partner i.number
+
+rises_in : (low : ℕ) (xs : List Interchange) → Rises place low (map numbered xs) → Rises place_in low xs
+rises_in low [] rises = tt
+rises_in low (x ∷ xs) rises = (rises.0, rises_in (place_in x) xs rises.1)
+
+pair_at : (partner number : ℕ) (i : Interchange) → is_pair partner number i ≡ true → place_in i ≡ place_of partner number
+pair_at partner number i passes =
+    let parts = and_parts (i.partner == partner) (i.number == number) passes in
+    ap₂ place_of (eqb-true i.partner partner parts.0) (eqb-true i.number number parts.1)
+
+-- of the rows of an office
+pub kept_once : (db : Database) (rows : Rows) (shown : OpenedRows) (content : SetupContent) (state : TerminalState) → HasRows rows db → Shows db shown → IsOffice shown content state → AreKeptOnce rows.interchanges
+kept_once db rows shown content state has shows office partner number =
+    let its = shows.numbers in
+    let table = its.shown in
+    let placed = unmapped interchange_values rows.interchanges table.by_key (IsPermutation-trans _ _ _ has.rows_are.interchanges.same table.same) in
+    let same : map numbered its.interchanges ≡ map numbered placed.0 = numbers_same its.interchanges placed.0 (table.is ∙ ap (map (columns_at (0 ∷ 1 ∷ 3 ∷ []))) placed.2) in
+    let rise : Rises place (place_of 1 0) (map numbered placed.0) = subst (Rises place (place_of 1 0)) (its.are ∙ same) (kept_rise 1 shown.partners content.partners shown.numbers office.accounts office.kept) in
+    let one : count_by (is_pair partner number) placed.0 ≡ count_by (is_pair partner number) rows.interchanges =
+    sum_by-IsPermutation (λ i. cond (is_pair partner number i) 1 0) rows.interchanges placed.0 placed.1 in
+    subst (λ n. n ≤ 1) one (one_at place_in (is_pair partner number) (place_of partner number) (pair_at partner number) (place_of 1 0) placed.0 (rises_in (place_of 1 0) placed.0 rise))

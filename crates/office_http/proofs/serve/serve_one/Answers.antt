@@ -1,0 +1,20 @@
+use Rattle.std.proofs.Common.{inr}
+use Rattle.std.proofs.lemmas.Option.{IfSome_then}
+use Rattle.office_http.proofs.Serving.{refuses_so}
+use Rattle.office_http.proofs.serve.serve_one.Goals as goal
+
+-- a write that failed, behind what was asked for
+pub returns-in-Err-send_answer-clause-err : goal.returns-in-Err-send_answer-clause-err
+returns-in-Err-send_answer-clause-err g c = (
+  c.in-Err-send_answer.ensures.fails,
+  c.in-Ok.ensures.kept,
+  λ clean opening ds at.
+      let done = c.send_answer.ensures.does clean opening ds at in
+      IfSome_then (g.R.Read.remaining c.args.reader.now.inner) c.in-Ok.ensures.asks (λ stream asks.
+      (done.0, record { request = c.in-Ok.request; asks = asks; does = done.1 })),
+)
+
+pub returns-in-Err-send_answer-clause-refused : goal.returns-in-Err-send_answer-clause-refused
+returns-in-Err-send_answer-clause-refused g c =
+    IfSome_then (g.R.Read.remaining c.args.reader.now.inner) c.in-Ok.ensures.asks (λ stream asks.
+    inr (c.in-Ok.request, asks, refuses_so c.in-Ok.request _ _ _ _ (λ bytes written. tt) c.send_answer.ensures.refused))

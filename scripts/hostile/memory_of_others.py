@@ -1,0 +1,141 @@
+"""Each allocation of `init`, `report` and `serve` refused in turn: scripts/memory.
+
+With one allocation refused, a command does what it does with all of them, or it tells by name that memory was wanting. An
+`init` that told so left no store, or a whole one; a `report` or a request that is answered so changes nothing.
+"""
+import os
+import subprocess
+from copy import deepcopy
+
+from model.http import response, response_text
+from model.office import Office
+from model.reports import printed
+from model.requests import every_key
+from model.rows import rows_in, rows_of
+from model.setup import DEMO
+from model.stores import exchanged
+
+from .books import Different, expect
+from .sampled import free_port
+from .served import get, post
+
+NOT_NOW = response_text(503, 'application/json', '{"answer":"not now"}')
+
+# what a command may tell that had no memory
+WANTS = {('', 'store: Memory\n', 3), ('', 'setup: Memory\n', 1), ('', 'cannot read\n', 3), ('', '', 3)}
+
+
+def allocations_of(refusing, words):
+    """How many a process makes that nothing is refused."""
+    refusing.run(words)
+    return refusing.allocations()
+
+
+def remove(store):
+    """Removes a store and its log."""
+    for end in ('', '-wal'):
+        if os.path.exists(store + end):
+            os.remove(store + end)
+
+
+# ---- init
+
+def refuse_init(refusing, setup, step, counted):
+    """Each allocation of `init` by these files."""
+    words = ['init', refusing.store, *setup]
+    remove(refusing.store)
+    wanted = rows_of(Office(DEMO)), []
+    for refused in range(1, allocations_of(refusing, words) + 1, step):
+        remove(refusing.store)
+        what = 'init, allocation %d' % refused
+        given = refusing.run(words, refused)
+        if given not in WANTS:
+            expect(what, ('ready\n', '', 0), given)
+            counted['init: ready'] += 1
+        else:
+            again = refusing.run(words)
+            if again not in {('ready\n', '', 0), ('', 'store: Store\n', 3)}:
+                raise Different('%s, again: %r' % (what, again))
+            counted['init: told that memory was wanting; ' + ('no store' if again[2] == 0 else 'a store')] += 1
+        expect(what + ', rows', wanted, rows_in(refusing.store))
+
+
+# ---- report
+
+def refuse_reports(refusing, office, step, counted):
+    """Each allocation of a report of each kind."""
+    keys = {kind: key for kind, key in every_key(office)}
+    before = rows_in(refusing.store)
+    for kind, key in [('yard', ''), ('yardcsv', ''), *keys.items()]:
+        words = ['report', refusing.store, kind, *([key] if key else [])]
+        text, status = printed(office, kind, key)
+        for refused in range(1, allocations_of(refusing, words) + 1, step):
+            given = refusing.run(words, refused)
+            if given not in WANTS:
+                expect('report %s, allocation %d' % (kind, refused), (text, '', status), given)
+            counted['report: ' + ('told that memory was wanting' if given in WANTS else 'the report')] += 1
+    expect('rows behind the reports', before, rows_in(refusing.store))
+
+
+# ---- serve
+
+class Server:
+    """`serve` of a few connections with an allocation refused."""
+
+    def __init__(self, refusing, count, refused):
+        self.port = free_port()
+        words = [refusing.program, 'serve', refusing.store, str(self.port), str(count)]
+        added = dict(LD_PRELOAD=refusing.library, REFUSE_AT=str(refused), REFUSE_TOLD=refusing.told)
+        self.process = subprocess.Popen(
+            words, stdout=subprocess.PIPE, stderr=subprocess.PIPE, encoding='utf-8', env=dict(os.environ, **added))
+        self.line = self.process.stdout.readline()
+
+    def end(self):
+        """What it printed behind its first line, what it told, and its status."""
+        printed_behind, told = self.process.communicate(timeout=60)
+        return printed_behind, told, self.process.returncode
+
+
+def refuse_requests(refusing, before, text, steps, counted):
+    """Each allocation of a server that is sent a delivery, a question and the delivery again."""
+    start = os.path.join(refusing.folder, 'start.db')
+    refusing.copy_to(start)
+    requests = [post(text), get('/yard'), post(text)]
+    opened = serve(refusing, before, requests[:1], 0, counted, 'nothing refused')
+    refusing.copy_from(start)
+    every = serve(refusing, before, requests, 0, counted, 'nothing refused')
+    first = opened - (every - opened)
+    for refused in [*range(1, first, steps[0]), *range(max(first, 1), every + 1, steps[1])]:
+        refusing.copy_from(start)
+        serve(refusing, before, requests, refused, counted, 'serve, allocation %d' % refused)
+    refusing.copy_from(start)
+
+
+def serve(refusing, before, requests, refused, counted, what):
+    """A server that is sent these requests: how many allocations it made."""
+    office, server = deepcopy(before), Server(refusing, len(requests), refused)
+    if not server.line:
+        if server.end() not in WANTS:
+            raise Different(what + ', not opened')
+        counted['serve: told that memory was wanting'] += 1
+        return refusing.allocations()
+    for request in requests:
+        given = exchanged(server.port, request)
+        if given == NOT_NOW:
+            counted['serve: not now'] += 1
+        else:
+            expect(what, response(office, request), given)
+            counted['serve: answered'] += 1
+    expect(what + ', end', ('served %d\n' % len(requests), '', 0), server.end())
+    expect(what + ', rows', (rows_of(office), []), rows_in(refusing.store))
+    return refusing.allocations()
+
+
+def try_others(refusing, office, setup, text, steps, counted):
+    """All three, over a store that holds an office, with a text that is next."""
+    kept = os.path.join(refusing.folder, 'kept.db')
+    refusing.copy_to(kept)
+    refuse_init(refusing, setup, steps[1], counted)
+    refusing.copy_from(kept)
+    refuse_reports(refusing, office, max(steps[0] // 10, 1), counted)
+    refuse_requests(refusing, office, text, steps, counted)
