@@ -15,10 +15,10 @@ value_of c =
     if is_ascii_digit c then c - 48
     else (if is_ascii_uppercase c then slice_index letter_values (c - 65) else 0)
 
--- the values by their weights, the powers of two from the place on
+-- the values by their weights, the powers of two from the position on
 abbrev pub weighted_sum : ℕ → List ℕ → ℕ
-weighted_sum place [] = 0
-weighted_sum place (c ∷ cs) = value_of c * 2 ^ place + weighted_sum (place + 1) cs
+weighted_sum position [] = 0
+weighted_sum position (c ∷ cs) = value_of c * 2 ^ position + weighted_sum (position + 1) cs
 
 -- the check digit: the sum modulo 11, with the remainder 10 written as 0
 abbrev pub check_digit_of : List ℕ → ℕ

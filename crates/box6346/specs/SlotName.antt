@@ -8,9 +8,9 @@ use Rattle.box6346.specs.declared.slot.Slot.{Slot}
 abbrev pub are_six_digits : List ℕ → Bool
 are_six_digits text = length text == 6 && list_all is_ascii_digit text
 
--- the digit at a place
+-- the digit at a position
 abbrev pub digit : List ℕ → ℕ → ℕ
-digit digits place = slice_index digits place - 48
+digit digits position = slice_index digits position - 48
 
 -- what six digits behind a letter name
 abbrev pub slot_at : ℕ → List ℕ → Slot

@@ -30,13 +30,13 @@ fn is_code_character(character: u8) -> bool
     character.is_ascii_uppercase() || character.is_ascii_digit()
 }
 
-// The digit at a place of a text of digits.
+// The digit at a position of a text of digits.
 #[tactic(auto, using(crate::proofs::Digits::digit_at))]
-pub(crate) fn digit(digits: &[u8], place: usize) -> u8
+pub(crate) fn digit(digits: &[u8], position: usize) -> u8
     requires digits { IsTrue (list_all is_ascii_digit digits.now) }
-    requires place { place < length digits.now }
-    ensures value { result ≡ slice_index digits.now place - 48 }
+    requires position { position < length digits.now }
+    ensures value { result ≡ slice_index digits.now position - 48 }
     ensures small { result < 10 }
 {
-    digits[place] - b'0'
+    digits[position] - b'0'
 }

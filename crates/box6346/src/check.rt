@@ -87,8 +87,8 @@ fn sum_of(text: &[u8; 10]) -> u32
     ensures { result ≡ weighted_sum 0 text.now }
 {
     let mut sum = 0;
-    for (place, character) in text.iter().enumerate() {
-        sum += value_of(*character) << place;
+    for (position, character) in text.iter().enumerate() {
+        sum += value_of(*character) << position;
     }
     sum
 }

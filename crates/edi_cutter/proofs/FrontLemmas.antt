@@ -38,7 +38,7 @@ breaks_front [] [] (suc n) h = refl
 breaks_front [] (x ∷ xs) (suc n) h = rw (no_breaks (is_break x) (breaks_len xs) h) refl
 breaks_front (a ∷ text) piece n h = rw (no_breaks (is_break a) (breaks_len (text ++ piece)) h) refl
 
--- the byte at the place
+-- the byte at the position
 pub next_bytes : (text piece : List ℕ) (i : ℕ) → i < length piece → (text ++ take i piece) ++ get_or piece i 0 ∷ [] ≡ text ++ take (i + 1) piece
 next_bytes text piece i within =
     append_assoc text (take i piece) (get_or piece i 0 ∷ []) ∙ ap (λ (t : List ℕ). text ++ t) (sym (take_more piece i 0 within))
@@ -74,7 +74,7 @@ holds_next text piece slice i reading next holds open_ within begins same (reads
   none = ap fault_of (sym same) ∙ none;
 }
 
-pub closed_is : (text : List ℕ) (reading : Reading) → Holds text reading → is_closed reading.place ≡ is_whole text
+pub closed_is : (text : List ℕ) (reading : Reading) → Holds text reading → is_closed reading.position ≡ is_whole text
 closed_is text reading h = ap is_closed h.reads.1
 
 pub refused_next : (text piece slice : List ℕ) (i : ℕ) (reading : Reading) (fault : CutFault) → Holds (text ++ take i piece) reading → is_whole (text ++ take i piece) ≡ false → i < length piece

@@ -1,4 +1,4 @@
-pub mod PlaceLemmas
+pub mod PositionLemmas
 pub mod CutLemmas
 pub mod HoldLemmas
 pub mod FeedLemmas

@@ -95,7 +95,7 @@ pending_faultless text none before n fault faulty =
       | inr past ↦ no_fault_among (take n text) fault (ap fault_of (take_all n text (ltb-false n (length text) past)) ∙ none) faulty.0
     ]
 
-whole_is : (text : List ℕ) (reading : Reading) → Holds text reading → is_whole text ≡ is_closed reading.place
+whole_is : (text : List ℕ) (reading : Reading) → Holds text reading → is_whole text ≡ is_closed reading.position
 whole_is text reading h = sym (ap is_closed h.reads.1)
 
 -- what was read is open or an interchange, and so no fault stands in the piece
@@ -116,11 +116,11 @@ some_read q rest zero open_ whole = absurd (false≢true (sym open_ ∙ ap is_wh
 some_read q rest (suc used) open_ whole = omega arith
 
 pub answers_read : (q piece rest : List ℕ) (b used : ℕ) (reading : Reading) (answer : Option ℕ) (new : Cutting) → Begins q piece rest b → IsReadOn q rest used reading → is_whole q ≡ false
-    → answer ≡ cond (is_closed reading.place) (Some (b + used)) None → new ≡ record { text = q ++ take used rest; fault = None } → Answers q piece new answer
+    → answer ≡ cond (is_closed reading.position) (Some (b + used)) None → new ≡ record { text = q ++ take used rest; fault = None } → Answers q piece new answer
 answers_read q piece rest b used reading answer new g r open_ answer_is is =
-    subst (Answers q piece new) (sym answer_is) (either (is_closed reading.place) refl)
+    subst (Answers q piece new) (sym answer_is) (either (is_closed reading.position) refl)
   where
-    either : (closed : Bool) → is_closed reading.place ≡ closed → Answers q piece new (cond closed (Some (b + used)) None)
+    either : (closed : Bool) → is_closed reading.position ≡ closed → Answers q piece new (cond closed (Some (b + used)) None)
     either true h =
         let whole : is_whole (q ++ take used rest) ≡ true = whole_is (q ++ take used rest) reading r.holds ∙ h in
         let some = some_read q rest used open_ whole in

@@ -5,7 +5,7 @@ use Rattle.std.proofs.lemmas.List.{take_all, take_at, take-append-drop, append-n
 use Rattle.edi_segments.specs.Characters.{is_break}
 use Rattle.edi_segments.specs.Reading.{breaks_len}
 use Rattle.edi_segments.specs.Advice.{without_breaks}
-use Rattle.edi_cutter.specs.Places.{place_after}
+use Rattle.edi_cutter.specs.Positions.{position_after}
 use Rattle.edi_cutter.specs.Cuts.{Cutting, is_whole, pending, interchange, IsOpen, IsInterchange, IsPending}
 use Rattle.edi_cutter.specs.Streams.{HasNone, AreCuts, Feeds, FeedsAll, joined, CutsTheStream, CutsAreOne}
 use Rattle.edi_cutter.proofs.FeedLemmas.{nothing_open}
@@ -128,7 +128,7 @@ feeds_all (piece ∷ pieces) interchanges c new pends (here, later, next, feeds,
     (subst (λ (t : List ℕ). AreCuts t (here ++ later) (pending new)) (append_assoc (pending c) piece (joined pieces)) all)
 
 nothing_pends : IsPending []
-unfolding place_after
+unfolding position_after
 nothing_pends = ((refl, refl), λ m h. absurd (omega (arith, h)))
 
 starts_open : (c : Cutting) → pending c ≡ [] → Pends c

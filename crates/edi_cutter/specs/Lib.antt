@@ -1,4 +1,4 @@
-pub mod Places
+pub mod Positions
 pub mod Cuts
 pub mod Steps
 pub mod Held

@@ -1,4 +1,4 @@
-ghost use Rattle.edi_cutter.specs.Places.{RefusedWhereNothingGoesOn, ClosedWhereATrailerEnds};
+ghost use Rattle.edi_cutter.specs.Positions.{RefusedWhereNothingGoesOn, ClosedWhereATrailerEnds};
 ghost use Rattle.edi_cutter.specs.Cuts.{FirstIsOne, CutsGoByTheGrammar};
 ghost use Rattle.edi_cutter.specs.Streams.{CutsTheStream, CutsAreOne};
 

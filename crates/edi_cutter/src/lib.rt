@@ -5,7 +5,7 @@ pub mod cut_fault;
 pub mod cutter;
 pub mod laws;
 mod piece;
-pub mod place;
+pub mod position;
 pub mod reading;
 
 pub use cut_fault::CutFault;

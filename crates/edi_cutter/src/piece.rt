@@ -4,7 +4,7 @@ ghost use Rattle.edi_cutter.specs.Cuts.{is_nil, is_whole};
 ghost use Rattle.edi_cutter.specs.Steps.{Holds, IsReadOn, IsRefusedBehind};
 
 use super::cut_fault::CutFault;
-use super::place::read_bytes;
+use super::position::read_bytes;
 use super::reading::{LIMIT, Reading};
 use edi_segments::characters::is_break;
 
@@ -56,7 +56,7 @@ pub(crate) fn read_piece(
     }
 }
 
-/// The same, where an advice may still begin or go on.
+/// Reads a piece where an advice may still begin or go on.
 fn read_front(text: &[u8], reading: Reading, piece: &[u8]) -> Result<(usize, Reading), CutFault>
     requires short { length text.now < 9 }
     requires holds { Holds text.now reading }
@@ -100,7 +100,7 @@ fn front_of(text: &[u8]) -> [u8; 9]
     front
 }
 
-/// The same behind nine bytes.
+/// Reads a piece behind the first nine bytes.
 fn read_behind(text: &[u8], reading: Reading, piece: &[u8]) -> Result<(usize, Reading), CutFault>
     requires past { 9 ≤ length text.now }
     requires holds { Holds text.now reading }
@@ -110,18 +110,18 @@ fn read_behind(text: &[u8], reading: Reading, piece: &[u8]) -> Result<(usize, Re
 {
     let room = LIMIT - text.len();
     let within = &piece[..piece.len().min(room)];
-    let (used, place) = read_bytes(&reading.service, reading.place, within);
-    if place.is_refused() {
+    let (used, position) = read_bytes(&reading.service, reading.position, within);
+    if position.is_refused() {
         return Err(CutFault::Segment);
     }
-    if !place.stops() && within.len() < piece.len() {
+    if !position.stops() && within.len() < piece.len() {
         return Err(CutFault::TooLong);
     }
     Ok((
         used,
         Reading {
             service: reading.service,
-            place,
+            position,
         },
     ))
 }

@@ -3,7 +3,7 @@ ghost use Rattle.edi_cutter.specs.Cuts.{is_in_advice, fault_of, is_closed};
 ghost use Rattle.edi_cutter.specs.Steps.{IsReadingOf};
 
 use super::cut_fault::CutFault;
-use super::place::Place;
+use super::position::Position;
 use edi_segments::Service;
 use edi_segments::service::begins_with_advice;
 
@@ -11,7 +11,7 @@ use edi_segments::service::begins_with_advice;
 #[derive(Clone, Copy)]
 pub struct Reading {
     pub(crate) service: Service,
-    pub(crate) place: Place,
+    pub(crate) position: Position,
 }
 
 /// How many bytes an interchange may have.
@@ -20,15 +20,15 @@ pub(crate) const LIMIT: usize = 1_048_576;
 impl Reading {
     pub(crate) const START: Reading = Reading {
         service: Service::DEFAULT,
-        place: Place::Between(false),
+        position: Position::Between(false),
     };
 
     /// The bytes end an interchange here.
     pub(crate) fn is_whole(&self) -> bool
-        ensures { result ≡ is_closed self.now.place }
+        ensures { result ≡ is_closed self.now.position }
     {
-        match self.place {
-            Place::Between(closed) => closed,
+        match self.position {
+            Position::Between(closed) => closed,
             _ => false,
         }
     }
@@ -47,11 +47,11 @@ impl Reading {
         if is_in_advice(text) {
             return read_advice(text);
         }
-        match self.place.advance(&self.service, byte) {
-            Place::Refused => Err(CutFault::Segment),
-            place => Ok(Reading {
+        match self.position.advance(&self.service, byte) {
+            Position::Refused => Err(CutFault::Segment),
+            position => Ok(Reading {
                 service: self.service,
-                place,
+                position,
             }),
         }
     }
@@ -70,7 +70,7 @@ fn read_advice(text: &[u8]) -> Result<Reading, CutFault>
     match Service::read(text) {
         Ok((service, _)) => Ok(Reading {
             service,
-            place: Place::Between(false),
+            position: Position::Between(false),
         }),
         Err(_) => Err(CutFault::Service),
     }

@@ -33,7 +33,7 @@ impl<'a> Component<'a> {
         }
     }
 
-    /// The same, where it is known how many bytes the value has.
+    /// A component whose value is known to have that many bytes.
     #[inline(always)]
     pub(crate) fn of_len(service: Service, text: &'a [u8], len: usize) -> Component<'a>
         requires { len ≡ length (value_of service false text.now) }

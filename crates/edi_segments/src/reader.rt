@@ -59,7 +59,7 @@ pub(crate) fn next_segment<'a>(
     Some((segment, &behind[len_of_breaks(behind)..]))
 }
 
-/// The same, where there is nothing but segments: then the first terminator that is not released ends the first of them.
+/// The next segment of a text that is nothing but segments: it ends at the first terminator that is not released.
 pub(crate) fn next_of_segments<'a>(
     service: Service,
     bytes: &'a [u8],
@@ -139,7 +139,7 @@ fn end(table: &TokenTable, bytes: &[u8]) -> Option<usize>
     end_behind(table, bytes, at)
 }
 
-/// The same, where the bytes before that place are known to be passed over.
+/// Where the first segment ends, if it doesn't end before `start`.
 #[inline(never)]
 fn end_behind(table: &TokenTable, bytes: &[u8], start: usize) -> Option<usize>
     requires within { start ≤ length bytes.now }

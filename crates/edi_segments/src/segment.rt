@@ -9,7 +9,7 @@ use super::elements::Elements;
 use super::part::part;
 use super::service::Service;
 
-/// A segment, as its place in the text.
+/// A segment, by where it begins and ends in the text.
 #[derive(Clone, Copy)]
 pub struct Segment<'a> {
     service: Service,

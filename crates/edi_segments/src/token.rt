@@ -1,6 +1,6 @@
 ghost use Rattle.std.specs.Prelude.{◌≡◌, IsTrue};
 
-/// What a byte is, at its place.
+/// What a byte is where it stands: data, or a service character.
 #[derive(Clone, Copy, PartialEq, Eq, Debug)]
 pub enum Token {
     /// It stands for itself.

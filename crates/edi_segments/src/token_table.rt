@@ -109,7 +109,7 @@ impl TokenTable {
         self.released_value_end(bytes, at)
     }
 
-    /// The same, where the bytes before that place are known to be data.
+    /// Where the first value ends, if the bytes before `start` are known to be its data.
     #[inline(never)]
     fn released_value_end(&self, bytes: &[u8], start: usize) -> Option<ValueEnd>
         requires within { start ≤ length bytes.now }

@@ -21,6 +21,6 @@ pub use Rattle.edi_segments.specs.Values
 pub use Rattle.edi_segments.specs.Checks
 pub use Rattle.edi_segments.specs.Spelling
 pub use Rattle.edi_segments.specs.Written
-pub use Rattle.edi_cutter.specs.Places
+pub use Rattle.edi_cutter.specs.Positions
 pub use Rattle.edi_cutter.specs.Cuts
 pub use Rattle.edi_cutter.specs.Streams

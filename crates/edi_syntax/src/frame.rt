@@ -5,7 +5,7 @@ ghost use Rattle.edi_syntax.specs.Messages.{message_from, message_reference, mes
 use super::message_segments::MessageSegments;
 use edi_segments::{Component, Segment, Segments};
 
-/// A message, as its place in the text.
+/// A message, by where it begins and ends in the text.
 #[derive(Clone, Copy)]
 pub struct Frame<'a> {
     header: Segment<'a>,

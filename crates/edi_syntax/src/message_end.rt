@@ -8,7 +8,7 @@ use super::group::is_of_group;
 use super::service_tag::may_be_of_service;
 use edi_segments::{CheckedSegments, Segment};
 
-/// The end of a message, as its place in the text.
+/// The end of a message, by where it is in the text.
 #[derive(Clone, Copy)]
 pub struct MessageEnd<'t, 'a> {
     /// The trailer, UNT.

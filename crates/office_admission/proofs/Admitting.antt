@@ -78,10 +78,10 @@ no_error text fault e = is_none_is (interchange_error fault) (found_in (applies 
     is_none_is None e = refl
     is_none_is (Some x) e = absurd cc
 
--- what a partner is that stands at a place
-pub kind_there : (accounts : List Account) (place : ℕ) (account : Account) → slice_get accounts place ≡ Some account →
-    with_number (partner_kinds accounts) (place + 1) ≡ Some account.kind
-kind_there accounts place account e = rw (with_number-at (partner_kinds accounts) place, slice_get-map (λ other. other.kind) accounts place, e) refl
+-- what kind the partner at an index is
+pub kind_there : (accounts : List Account) (index : ℕ) (account : Account) → slice_get accounts index ≡ Some account →
+    with_number (partner_kinds accounts) (index + 1) ≡ Some account.kind
+kind_there accounts index account e = rw (with_number-at (partner_kinds accounts) index, slice_get-map (λ other. other.kind) accounts index, e) refl
 
 -- the fault of an opened text is that of its body
 pub body_fault_is : (text : List ℕ) (head : Head) (found : Option SyntaxFault) → IsOpened text head → body_fault_of (head_segments head) ≡ found → fault_of text ≡ found

@@ -35,5 +35,5 @@ admission parties text = admitted parties (header_of (segments_in text)) (fault_
 
 -- the text was admitted, and for this partner
 abbrev pub is_for : ℕ → Result (ℕ × ℕ) Fault → Bool
-is_for partner (Ok place) = place.0 == partner
+is_for partner (Ok found) = found.0 == partner
 is_for partner (Err fault) = false

@@ -8,7 +8,7 @@ use Rattle.office_admission.specs.Admission.{admission}
 
 -- a text that is admitted, as a delivery of its partner under its number; the others add nothing
 abbrev pub added : List ℕ → Result (ℕ × ℕ) Fault → List Delivery → List Delivery
-added text (Ok place) later = delivery place.0 place.1 text ∷ later
+added text (Ok found) later = delivery found.0 found.1 text ∷ later
 added text (Err fault) later = later
 
 -- what was delivered, each text without the CR and LF at both ends

@@ -27,8 +27,8 @@ pub fn admit<'a>(setup: &Setup, text: &'a [u8]) -> Result<Admitted<'a>, Refusal<
         Ok(head) => head,
         Err(fault) => return Err(Refusal::Plain(Fault::Syntax(fault))),
     };
-    match setup.place_of(head.sender(1)) {
-        Some(place) => admit_from(setup, place, head),
+    match setup.index_of(head.sender(1)) {
+        Some(index) => admit_from(setup, index, head),
         None => Err(Refusal::Plain(stranger_fault(head))),
     }
 }
@@ -62,15 +62,15 @@ fn stranger_fault(head: Head<'_>) -> Fault
     }
 }
 
-/// The same of an interchange whose sender is the partner at a place, from 0.
-fn admit_from<'a>(setup: &Setup, place: usize, head: Head<'a>) -> Result<Admitted<'a>, Refusal<'a>>
+/// Admits an interchange whose sender is the partner at that index, from 0, or refuses it.
+fn admit_from<'a>(setup: &Setup, index: usize, head: Head<'a>) -> Result<Admitted<'a>, Refusal<'a>>
     requires few { length setup.now.partners.items ≤ 999 }
-    requires place { place < length setup.now.partners.items }
+    requires index { index < length setup.now.partners.items }
     ensures ok { IfOk result (λ admitted. (text : List ℕ) → IsOpened text head.entry →
-        sender_of (parties_of setup.now) (header_of (segments_in text)) ≡ Some (place + 1) →
+        sender_of (parties_of setup.now) (header_of (segments_in text)) ≡ Some (index + 1) →
         IsAdmitted setup.now text admitted) }
     ensures err { IfErr result (λ refusal. (text : List ℕ) → IsOpened text head.entry →
-        sender_of (parties_of setup.now) (header_of (segments_in text)) ≡ Some (place + 1) →
+        sender_of (parties_of setup.now) (header_of (segments_in text)) ≡ Some (index + 1) →
         IsRefused setup.now text refusal) }
 {
     let envelope = match head.body() {
@@ -85,8 +85,8 @@ fn admit_from<'a>(setup: &Setup, place: usize, head: Head<'a>) -> Result<Admitte
         });
     }
     Ok(Admitted {
-        partner: place as u16 + 1,
-        kind: setup.partners[place].kind,
+        partner: index as u16 + 1,
+        kind: setup.partners[index].kind,
         envelope,
     })
 }

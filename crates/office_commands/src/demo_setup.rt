@@ -18,7 +18,7 @@ pub fn demo_setup(alloc: Global) -> Result<Setup, AllocError>
     }
 }
 
-/// The same with those codes of document names.
+/// The set-up of the demonstration, with those codes of document names.
 fn with_codes(alloc: Global, table: CodeTable) -> Result<Setup, AllocError>
     ensures { IfOk result (λ setup. setup_content setup ≡ demo_content table) }
 {

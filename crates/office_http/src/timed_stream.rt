@@ -31,7 +31,7 @@ impl<'a, C: Clock> TimedStream<'a, C> {
         })
     }
 
-    /// The same connection once the response is written: nobody waits long for a peer that doesn't close it.
+    /// The connection once the response is written: nobody waits long for a peer that doesn't close it.
     pub(crate) fn parting(&self) -> TimedStream<'a, C> {
         TimedStream {
             stream: self.stream,

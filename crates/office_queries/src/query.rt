@@ -7,7 +7,7 @@ use terminal_core::Side;
 pub enum Query {
     /// The containers in the yard.
     Yard,
-    /// The same as comma-separated values.
+    /// The yard as comma-separated values.
     YardTable,
     /// The visits of a container.
     Visits(BoxNumber),

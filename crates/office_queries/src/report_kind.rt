@@ -3,7 +3,7 @@
 pub enum ReportKind {
     /// The containers in the yard.
     Yard,
-    /// The same as comma-separated values.
+    /// The yard as comma-separated values.
     YardTable,
     /// The visits of a container.
     Visits,

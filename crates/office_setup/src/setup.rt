@@ -45,17 +45,17 @@ impl Setup {
     }
 
     /// Where the first partner with a code stands among the partners, from 0.
-    pub fn place_of(&self, code: Component<'_>) -> Option<usize>
-        ensures within { IfSome result (λ place. place < length self.now.partners.items) }
-        ensures number { option_map (λ place. place + 1) result
+    pub fn index_of(&self, code: Component<'_>) -> Option<usize>
+        ensures within { IfSome result (λ index. index < length self.now.partners.items) }
+        ensures number { option_map (λ index. index + 1) result
             ≡ partner_from 1 (value code.entry) (partner_codes self.now.partners.items) }
     {
-        let mut place = 0;
+        let mut index = 0;
         for account in &self.partners {
             if code.equals(account.code.as_bytes()) {
-                return Some(place);
+                return Some(index);
             }
-            place += 1;
+            index += 1;
         }
         None
     }

@@ -27,7 +27,7 @@ AreRows file rows = AreRecords default_config state.StartRecord (strip_bom file)
 
 -- a field of a record, empty where there is none
 abbrev pub field : ℕ → Record → Text
-field place row = option_map_or (λ (text : Text). text) (field_at row place) []
+field index row = option_map_or (λ (text : Text). text) (field_at row index) []
 
 -- ---- the form of the files
 

@@ -62,7 +62,7 @@ fn setup_in(
     setup_of(alloc, &partner_rows, &block_rows)
 }
 
-// The same of text, header and lengths of the records being right.
+// The set-up, if text, header and lengths of the records are right.
 fn setup_of(
     alloc: Global,
     partner_rows: &[StringRecord],

@@ -22,7 +22,7 @@ pub(crate) fn read_rows(alloc: Global, file: &[u8]) -> Result<Vec<ByteRecord>, E
     Ok(rows)
 }
 
-/// The same records as text. `None`: a field isn't UTF-8.
+/// The records as text. `None`: a field isn't UTF-8.
 pub(crate) fn text_rows(
     alloc: Global,
     rows: Vec<ByteRecord>,

@@ -6,10 +6,10 @@ ghost use Rattle.office_setup_files.specs.Entries.{field};
 use csv::StringRecord;
 
 /// A field of a record, empty where there is none.
-pub(crate) fn field(row: &StringRecord, place: usize) -> &str
-    ensures { result.now ≡ field place (fields_of row.now) }
+pub(crate) fn field(row: &StringRecord, index: usize) -> &str
+    ensures { result.now ≡ field index (fields_of row.now) }
 {
-    row.get(place).unwrap_or("")
+    row.get(index).unwrap_or("")
 }
 
 /// Whether two texts are the same.

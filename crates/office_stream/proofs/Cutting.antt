@@ -4,7 +4,7 @@ use Rattle.std.proofs.lemmas.Bool.{cases_Bool, false≢true}
 use Rattle.edi_segments.specs.Advice.{without_breaks}
 use Rattle.edi_segments.specs.Characters.{is_break}
 use Rattle.edi_cutter.specs.Cuts.{is_whole, fault_of, IsInterchange, IsPending, Faults}
-use Rattle.edi_cutter.specs.Places.{place_after}
+use Rattle.edi_cutter.specs.Positions.{position_after}
 use Rattle.edi_cutter.specs.declared.cut_fault.CutFault.{CutFault}
 use Rattle.office_stream.specs.Streams.{CutsFrom}
 use Rattle.office_stream.specs.Pieces.{LeavesOver}
@@ -36,7 +36,7 @@ stripped_some (x ∷ xs) b some = elim (cases_Bool (is_break x)) [
 -- ---- no bytes
 
 pub nothing_pending : IsPending []
-unfolding place_after
+unfolding position_after
 nothing_pending = ((refl, refl), λ m below. absurd (omega arith))
 
 pub some_bytes : (text : List ℕ) → IsInterchange text → text ≡ [] → ⊥

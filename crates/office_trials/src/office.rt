@@ -36,7 +36,7 @@ fn assert_answers(rt: &impl Abort, alloc: Global, rows: &[(&[u8], &str)]) -> Res
     assert_answers_of(rt, alloc, setup, rows)
 }
 
-/// The same with a desk of that set-up.
+/// The answers of a desk of that set-up are those.
 fn assert_answers_of(
     rt: &impl Abort,
     alloc: Global,
@@ -48,7 +48,7 @@ fn assert_answers_of(
     assert_answers_from(rt, alloc, &mut desk, rows)
 }
 
-/// The same from a desk on.
+/// The answers of that desk are those.
 fn assert_answers_from<D: Deliver>(
     rt: &impl Abort,
     alloc: Global,

@@ -30,11 +30,11 @@ impl Diary {
         }
     }
 
-    /// The text at a place, counted from 0.
-    pub fn text(&self, place: usize) -> Option<&[u8]>
-        ensures { option_copied result ≡ slice_get self.now place }
+    /// The text at that index, from 0.
+    pub fn text(&self, index: usize) -> Option<&[u8]>
+        ensures { option_copied result ≡ slice_get self.now index }
     {
-        match self.texts.get(place) {
+        match self.texts.get(index) {
             Some(text) => Some(text.as_slice()),
             None => None,
         }

@@ -82,8 +82,8 @@ pub lists_by_key : (plan : List Block) (limit : ℕ) (visits : List Visit) (plac
 lists_by_key plan limit visits places lines state are =
     let same_visits : map visit_content visits ≡ state.visits = sym are.visits_are in
     let same_lines : lines_of lines ≡ state.lines = sym are.lines_are in
-    let same_places = standing_same state places are.whole are.places_are in
-    λ i. record { visits = same_visits i; places = λ container. same_places container i; lines = same_lines i }
+    let same_indexes = standing_same state places are.whole are.places_are in
+    λ i. record { visits = same_visits i; places = λ container. same_indexes container i; lines = same_lines i }
 
 -- ---- rows by key as lists
 

@@ -119,7 +119,7 @@ kept_at container rows entries place are has told =
     let P : ℕ → Type 0 = IsKept container rows in
     subst P (same_Some there.0 place (sym there.1 ∙ told)) there.2
 
--- the row at a place that the index tells is closed
+-- the row that the index tells is closed
 pub shut_rows : (container : BoxNumber) (departure : Departure) (rows : List Visit) (place : ℕ) (read shut : Visit) → HasOneVisit container (map visit_content rows) → IsKept container rows place → read ≡ get_or rows place read
     → visit_content shut ≡ record (visit_content read) { departure = Some departure }
     → (map visit_content (slice_set rows place shut) ≡ map (closed departure container) (map visit_content rows)) × (read.number ≡ number_of_visit (find (is_open_visit container) (map visit_content rows)))

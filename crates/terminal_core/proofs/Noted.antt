@@ -17,7 +17,7 @@ use Rattle.terminal_core.specs.declared.side.Side.{Side}
 use Rattle.terminal_core.specs.declared.side.Side.TheVariants.{Load, Discharge}
 use Rattle.terminal_core.specs.State.{LineContent, LineKey, line_key, side_code}
 use Rattle.terminal_core.specs.Listings.{key_of, line_content, line_entry, lines_of, is_line, NoneBefore, IsFirstAt}
-use Rattle.terminal_core.specs.LinePlaces.{CallPlaces, AllPlaces, is_call, is_key, places_of, place_by, place_in, is_same_line, SamePlaces, NotesPlace, AreNoted}
+use Rattle.terminal_core.specs.LineIndexes.{CallIndexes, AllIndexes, is_call, is_key, indexes_of, index_by, index_in, is_same_line, SameIndexes, NotesIndex, AreNoted}
 use Rattle.terminal_core.proofs.Boxes.{same_bytes, same_self}
 use Rattle.terminal_core.proofs.Lined.{order, keys_total, same_key, line_tied, line_none}
 use Rattle.std.proofs.lemmas.List.{take_more, length-take-le}
@@ -30,7 +30,7 @@ pub always : {A E : Type 0} {P : Type 0} (r : Result A E) → P → OnErr r P
 always (Ok x) fact = tt
 always (Err e) fact = fact
 
--- ---- one call's places
+-- ---- one call's indexes
 
 same_call : (call : CallContent) (other : Call) → is_call call other ≡ true → call_content other ≡ call
 same_call call other e =
@@ -39,33 +39,33 @@ same_call call other e =
     let voyage : string_bytes other.voyage ≡ call.voyage = same_bytes call.voyage (string_bytes other.voyage) parts.1 in
     λ i. record { vessel = vessel i; voyage = voyage i }
 
-written : (u v : Bool) (o : Option CallPlaces) (old new : CallPlaces) (side : Side) (b : BoxNumber) (place : ℕ) → (u ≡ true → o ≡ Some old) → lookup (is_key side b) new.entries ≡ cond v (Some place) (lookup (is_key side b) old.entries)
-    → place_by (cond u (Some new) o) side b ≡ cond (u && v) (Some place) (place_by o side b)
-written true v o old new side b place there e = e ∙ ap (λ x. cond v (Some place) (place_by x side b)) (sym (there refl))
-written false v o old new side b place there e = refl
+written : (u v : Bool) (o : Option CallIndexes) (old new : CallIndexes) (side : Side) (b : BoxNumber) (row_index : ℕ) → (u ≡ true → o ≡ Some old) → lookup (is_key side b) new.entries ≡ cond v (Some row_index) (lookup (is_key side b) old.entries)
+    → index_by (cond u (Some new) o) side b ≡ cond (u && v) (Some row_index) (index_by o side b)
+written true v o old new side b row_index there e = e ∙ ap (λ x. cond v (Some row_index) (index_by x side b)) (sym (there refl))
+written false v o old new side b row_index there e = refl
 
-unwritten : (u : Bool) (o : Option CallPlaces) (old new : CallPlaces) (side : Side) (b : BoxNumber) → (u ≡ true → o ≡ Some old) → new.entries ≡ old.entries → place_by (cond u (Some new) o) side b ≡ place_by o side b
-unwritten true o old new side b there e = ap (lookup (is_key side b)) e ∙ ap (λ x. place_by x side b) (sym (there refl))
+unwritten : (u : Bool) (o : Option CallIndexes) (old new : CallIndexes) (side : Side) (b : BoxNumber) → (u ≡ true → o ≡ Some old) → new.entries ≡ old.entries → index_by (cond u (Some new) o) side b ≡ index_by o side b
+unwritten true o old new side b there e = ap (lookup (is_key side b)) e ∙ ap (λ x. index_by x side b) (sym (there refl))
 unwritten false o old new side b there e = refl
 
-unknown : (u : Bool) (o : Option CallPlaces) (new : CallPlaces) (side : Side) (b : BoxNumber) → (u ≡ true → o ≡ None) → new.entries ≡ [] → place_by (cond u (Some new) o) side b ≡ place_by o side b
-unknown true o new side b none e = ap (lookup (is_key side b)) e ∙ ap (λ x. place_by x side b) (sym (none refl))
+unknown : (u : Bool) (o : Option CallIndexes) (new : CallIndexes) (side : Side) (b : BoxNumber) → (u ≡ true → o ≡ None) → new.entries ≡ [] → index_by (cond u (Some new) o) side b ≡ index_by o side b
+unknown true o new side b none e = ap (lookup (is_key side b)) e ∙ ap (λ x. index_by x side b) (sym (none refl))
 unknown false o new side b none e = refl
 
-module _ (call : CallContent) (old new : AllPlaces) (was now : CallPlaces) (writes : (q : Call) → places_of new (call_content q) ≡ cond (is_call call q) (Some now) (places_of old (call_content q))) where
-  pub notes_place : (side : Side) (container : BoxNumber) (place : ℕ) → places_of old call ≡ Some was
-      → ((s : Side) (b : BoxNumber) → lookup (is_key s b) now.entries ≡ cond (side_code side == side_code s && bytes_eq container b) (Some place) (lookup (is_key s b) was.entries)) → NotesPlace old new call side container place
-  notes_place side container place there puts q s b =
-      ap (λ o. place_by o s b) (writes q)
-      ∙ written (is_call call q) (side_code side == side_code s && bytes_eq container b) (places_of old (call_content q)) was now s b place (λ e. ap (places_of old) (same_call call q e) ∙ there) (puts s b)
+module _ (call : CallContent) (old new : AllIndexes) (was now : CallIndexes) (writes : (q : Call) → indexes_of new (call_content q) ≡ cond (is_call call q) (Some now) (indexes_of old (call_content q))) where
+  pub notes_index : (side : Side) (container : BoxNumber) (row_index : ℕ) → indexes_of old call ≡ Some was
+      → ((s : Side) (b : BoxNumber) → lookup (is_key s b) now.entries ≡ cond (side_code side == side_code s && bytes_eq container b) (Some row_index) (lookup (is_key s b) was.entries)) → NotesIndex old new call side container row_index
+  notes_index side container row_index there puts q s b =
+      ap (λ o. index_by o s b) (writes q)
+      ∙ written (is_call call q) (side_code side == side_code s && bytes_eq container b) (indexes_of old (call_content q)) was now s b row_index (λ e. ap (indexes_of old) (same_call call q e) ∙ there) (puts s b)
 
-  pub stays_noted : places_of old call ≡ Some was → now.entries ≡ was.entries → SamePlaces old new
+  pub stays_noted : indexes_of old call ≡ Some was → now.entries ≡ was.entries → SameIndexes old new
   stays_noted there same q s b =
-      ap (λ o. place_by o s b) (writes q) ∙ unwritten (is_call call q) (places_of old (call_content q)) was now s b (λ e. ap (places_of old) (same_call call q e) ∙ there) same
+      ap (λ o. index_by o s b) (writes q) ∙ unwritten (is_call call q) (indexes_of old (call_content q)) was now s b (λ e. ap (indexes_of old) (same_call call q e) ∙ there) same
 
-  pub known_now : places_of old call ≡ None → now.entries ≡ [] → SamePlaces old new
+  pub known_now : indexes_of old call ≡ None → now.entries ≡ [] → SameIndexes old new
   known_now none empty q s b =
-      ap (λ o. place_by o s b) (writes q) ∙ unknown (is_call call q) (places_of old (call_content q)) now s b (λ e. ap (places_of old) (same_call call q e) ∙ none) empty
+      ap (λ o. index_by o s b) (writes q) ∙ unknown (is_call call q) (indexes_of old (call_content q)) now s b (λ e. ap (indexes_of old) (same_call call q e) ∙ none) empty
 
 -- ---- the rows
 
@@ -103,60 +103,60 @@ pub key_parts : (call c : CallContent) (side s : Side) (container b : BoxNumber)
 unfolding call_in side_in container_in first_of_list
 key_parts call c side s container b key = (ap call_in key, same_side side s (ap (λ k. first_of_list (side_in k)) key), ap container_in key)
 
--- lines of one key are said to stand at one place
-pub place_by_key : (places : AllPlaces) (call : CallContent) (side : Side) (container : BoxNumber) (row : Listing) → line_key call side container ≡ key_of row
-    → place_in places call side container ≡ place_in places (call_content row.call) row.side row.container
+-- lines of one key are said to stand at one index
+pub index_by_key : (indexes : AllIndexes) (call : CallContent) (side : Side) (container : BoxNumber) (row : Listing) → line_key call side container ≡ key_of row
+    → index_in indexes call side container ≡ index_in indexes (call_content row.call) row.side row.container
 unfolding call_in side_in container_in first_of_list
-place_by_key places call side container row key =
+index_by_key indexes call side container row key =
     let calls : call ≡ call_content row.call = ap call_in key in
     let sides : side ≡ row.side = same_side side row.side (ap (λ k. first_of_list (side_in k)) key) in
     let boxes : container ≡ row.container = ap container_in key in
-    ap (λ (c : CallContent). place_in places c side container) calls ∙ ap (λ s. place_in places (call_content row.call) s container) sides ∙ ap (place_in places (call_content row.call) row.side) boxes
+    ap (λ (c : CallContent). index_in indexes c side container) calls ∙ ap (λ s. index_in indexes (call_content row.call) s container) sides ∙ ap (index_in indexes (call_content row.call) row.side) boxes
 
-same_place : (places : AllPlaces) (call : CallContent) (side : Side) (container : BoxNumber) (row : Listing) → is_line call side container row ≡ true
-    → place_in places call side container ≡ place_in places (call_content row.call) row.side row.container
-same_place places call side container row is = place_by_key places call side container row (same_key (line_key call side container) (key_of row) (line_tied call side container row ∙ is))
+same_index : (indexes : AllIndexes) (call : CallContent) (side : Side) (container : BoxNumber) (row : Listing) → is_line call side container row ≡ true
+    → index_in indexes call side container ≡ index_in indexes (call_content row.call) row.side row.container
+same_index indexes call side container row is = index_by_key indexes call side container row (same_key (line_key call side container) (key_of row) (line_tied call side container row ∙ is))
 
-module _ (rows : List Listing) (places : AllPlaces) (noted : AreNoted rows places) (call : CallContent) (side : Side) (container : BoxNumber) where
+module _ (rows : List Listing) (indexes : AllIndexes) (noted : AreNoted rows indexes) (call : CallContent) (side : Side) (container : BoxNumber) where
   -- a line that stands is said to stand there
-  pub said : (k : ℕ) (row : Listing) → slice_get rows k ≡ Some row → is_line call side container row ≡ true → place_in places call side container ≡ Some k
-  said k row at is = same_place places call side container row is ∙ noted k row at
+  pub said : (k : ℕ) (row : Listing) → slice_get rows k ≡ Some row → is_line call side container row ≡ true → index_in indexes call side container ≡ Some k
+  said k row at is = same_index indexes call side container row is ∙ noted k row at
 
-  isnt_line : (k : ℕ) (row : Listing) → slice_get rows k ≡ Some row → (place_in places call side container ≡ Some k → ⊥) → is_line call side container row ≡ false
+  isnt_line : (k : ℕ) (row : Listing) → slice_get rows k ≡ Some row → (index_in indexes call side container ≡ Some k → ⊥) → is_line call side container row ≡ false
   isnt_line k row at not =
       elim (is_line call side container row) as (λ v. is_line call side container row ≡ v → v ≡ false) [ true ↦ λ is. absurd (not (said k row at is)) | false ↦ λ e. refl ] refl
 
-  pub none_said : place_in places call side container ≡ None → NoneBefore call side container rows (length rows)
+  pub none_said : index_in indexes call side container ≡ None → NoneBefore call side container rows (length rows)
   none_said none k row low at = isnt_line k row at (λ is. none-some k (sym none ∙ is))
 
-  pub none_past : (place : ℕ) → place_in places call side container ≡ Some place → slice_get rows place ≡ None → NoneBefore call side container rows (length rows)
-  none_past place is past k row low at = isnt_line k row at (λ also. none-some row (sym past ∙ ap (slice_get rows) (same_Some place k (sym is ∙ also)) ∙ at))
+  pub none_past : (row_index : ℕ) → index_in indexes call side container ≡ Some row_index → slice_get rows row_index ≡ None → NoneBefore call side container rows (length rows)
+  none_past row_index is past k row low at = isnt_line k row at (λ also. none-some row (sym past ∙ ap (slice_get rows) (same_Some row_index k (sym is ∙ also)) ∙ at))
 
-  pub none_there : (place : ℕ) (other : Listing) → place_in places call side container ≡ Some place → slice_get rows place ≡ Some other → is_line call side container other ≡ false → NoneBefore call side container rows (length rows)
-  none_there place other is there isnt k row low at =
+  pub none_there : (row_index : ℕ) (other : Listing) → index_in indexes call side container ≡ Some row_index → slice_get rows row_index ≡ Some other → is_line call side container other ≡ false → NoneBefore call side container rows (length rows)
+  none_there row_index other is there isnt k row low at =
       elim (is_line call side container row) as (λ v. is_line call side container row ≡ v → v ≡ false) [
         | true ↦ λ its.
-            let same : place ≡ k = same_Some place k (sym is ∙ said k row at its) in
+            let same : row_index ≡ k = same_Some row_index k (sym is ∙ said k row at its) in
             let met : other ≡ row = same_Some other row (sym there ∙ ap (slice_get rows) same ∙ at) in
             let bad : true ≡ false = sym its ∙ ap (is_line call side container) (sym met) ∙ isnt in
             bad
         | false ↦ λ e. refl
       ] refl
 
-  pub first_there : (place : ℕ) (row : Listing) → place_in places call side container ≡ Some place → slice_get rows place ≡ Some row → is_line call side container row ≡ true → IsFirstAt call side container rows place
-  first_there place row is at its = record {
+  pub first_there : (row_index : ℕ) (row : Listing) → index_in indexes call side container ≡ Some row_index → slice_get rows row_index ≡ Some row → is_line call side container row ≡ true → IsFirstAt call side container rows row_index
+  first_there row_index row is at its = record {
     row = row;
     at = at;
     is = its;
-    before = λ k other low there. isnt_line k other there (λ also. let same : place ≡ k = same_Some place k (sym is ∙ also) in omega arith);
+    before = λ k other low there. isnt_line k other there (λ also. let same : row_index ≡ k = same_Some row_index k (sym is ∙ also) in omega arith);
   }
 
 -- ---- a row more
 
-pub none_noted : (places : AllPlaces) → AreNoted [] places
-none_noted places k row at = absurd (none-some row at)
+pub none_noted : (indexes : AllIndexes) → AreNoted [] indexes
+none_noted indexes k row at = absurd (none-some row at)
 
-pub still_noted : (rows : List Listing) (old new : AllPlaces) → SamePlaces old new → AreNoted rows old → AreNoted rows new
+pub still_noted : (rows : List Listing) (old new : AllIndexes) → SameIndexes old new → AreNoted rows old → AreNoted rows new
 still_noted rows old new same noted k row at = same row.call row.side row.container ∙ noted k row at
 
 cond_none : {A : Type 0} (v : Bool) (x : A) (o : Option A) → cond v (Some x) o ≡ None → (v ≡ false) × (o ≡ None)
@@ -195,25 +195,25 @@ kept_case line row true n k o e apart at =
     cc
 kept_case line row false n k o e apart at = at
 
-pub one_noted : (rows : List Listing) (line : Listing) (old new : AllPlaces) → finite_map.get (lines_of rows) (key_of line) ≡ None → AreNoted rows old → NotesPlace old new (call_content line.call) line.side line.container (length rows)
+pub one_noted : (rows : List Listing) (line : Listing) (old new : AllIndexes) → finite_map.get (lines_of rows) (key_of line) ≡ None → AreNoted rows old → NotesIndex old new (call_content line.call) line.side line.container (length rows)
     → AreNoted (rows ++ line ∷ []) new
 one_noted rows line old new none noted notes k row at = elim (pushed_at rows line k row at) [
   | inl before ↦ notes row.call row.side row.container
-      ∙ kept_case line row (is_same_line (call_content line.call) line.side line.container row.call row.side row.container) (length rows) k (place_in old (call_content row.call) row.side row.container) refl
+      ∙ kept_case line row (is_same_line (call_content line.call) line.side line.container row.call row.side row.container) (length rows) k (index_in old (call_content row.call) row.side row.container) refl
       (lacks rows (key_of line) (sym (finite_map.get-from_entries keys_total (map line_entry rows) (key_of line)) ∙ none) k row before) (noted k row before)
-  | inr last ↦ (let P : Listing → Type 0 = λ r. place_in new (call_content r.call) r.side r.container ≡ Some k in
+  | inr last ↦ (let P : Listing → Type 0 = λ r. index_in new (call_content r.call) r.side r.container ≡ Some k in
       subst P last.1 (notes line.call line.side line.container
-      ∙ ap (λ v. cond v (Some (length rows)) (place_in old (call_content line.call) line.side line.container)) (one_line line) ∙ ap Some (sym last.0)))
+      ∙ ap (λ v. cond v (Some (length rows)) (index_in old (call_content line.call) line.side line.container)) (one_line line) ∙ ap Some (sym last.0)))
 ]
 
 -- a row more of those that are read
-pub next_noted : (rows : List Listing) (i : ℕ) (row : Listing) (old new : AllPlaces) → i < length rows → row ≡ get_or rows i row → NoneBefore (call_content row.call) row.side row.container (take i rows) (length (take i rows))
-    → AreNoted (take i rows) old → NotesPlace old new (call_content row.call) row.side row.container i → AreNoted (take (i + 1) rows) new
+pub next_noted : (rows : List Listing) (i : ℕ) (row : Listing) (old new : AllIndexes) → i < length rows → row ≡ get_or rows i row → NoneBefore (call_content row.call) row.side row.container (take i rows) (length (take i rows))
+    → AreNoted (take i rows) old → NotesIndex old new (call_content row.call) row.side row.container i → AreNoted (take (i + 1) rows) new
 next_noted rows i row old new low at none noted notes =
     let longer : take (i + 1) rows ≡ take i rows ++ row ∷ [] = take_more rows i row low ∙ ap (λ (r : Listing). take i rows ++ r ∷ []) (sym at) in
     let long : length (take i rows) ≡ i = length-take-le i rows (omega arith) in
     let P : List Listing → Type 0 = λ r. AreNoted r new in
-    let Q : ℕ → Type 0 = NotesPlace old new (call_content row.call) row.side row.container in
+    let Q : ℕ → Type 0 = NotesIndex old new (call_content row.call) row.side row.container in
     subst P (sym longer) (one_noted (take i rows) row old new (line_none (call_content row.call) row.side row.container (take i rows) none) noted (subst Q (sym long) notes))
 
 -- ---- a row that is done
@@ -225,12 +225,12 @@ set_at (x ∷ xs) zero y (suc k) w at = inr at
 set_at (x ∷ xs) (suc i) y zero w at = inr at
 set_at (x ∷ xs) (suc i) y (suc k) w at = elim (set_at xs i y k w at) [ inl here ↦ inl (ap suc here.0, here.1) | inr there ↦ inr there ]
 
-pub done_noted : (rows : List Listing) (places : AllPlaces) (place : ℕ) (read done : Listing) → AreNoted rows places → place < length rows → read ≡ get_or rows place read
-    → call_content done.call ≡ call_content read.call → done.side ≡ read.side → done.container ≡ read.container → AreNoted (slice_set rows place done) places
-done_noted rows places place read done noted low is calls sides boxes k row at = elim (set_at rows place done k row at) [
-  | inl here ↦ (let P : Listing → Type 0 = λ r. place_in places (call_content r.call) r.side r.container ≡ Some k in
-      subst P here.1 (ap (λ (c : CallContent). place_in places c done.side done.container) calls ∙ ap (λ s. place_in places (call_content read.call) s done.container) sides
-      ∙ ap (place_in places (call_content read.call) read.side) boxes ∙ noted place read (slice_get-get_or rows place read low ∙ ap Some (sym is)) ∙ ap Some (sym here.0)))
+pub done_noted : (rows : List Listing) (indexes : AllIndexes) (row_index : ℕ) (read done : Listing) → AreNoted rows indexes → row_index < length rows → read ≡ get_or rows row_index read
+    → call_content done.call ≡ call_content read.call → done.side ≡ read.side → done.container ≡ read.container → AreNoted (slice_set rows row_index done) indexes
+done_noted rows indexes row_index read done noted low is calls sides boxes k row at = elim (set_at rows row_index done k row at) [
+  | inl here ↦ (let P : Listing → Type 0 = λ r. index_in indexes (call_content r.call) r.side r.container ≡ Some k in
+      subst P here.1 (ap (λ (c : CallContent). index_in indexes c done.side done.container) calls ∙ ap (λ s. index_in indexes (call_content read.call) s done.container) sides
+      ∙ ap (index_in indexes (call_content read.call) read.side) boxes ∙ noted row_index read (slice_get-get_or rows row_index read low ∙ ap Some (sym is)) ∙ ap Some (sym here.0)))
   | inr there ↦ noted k row there
 ]
 
@@ -241,12 +241,12 @@ map_at f [] k x at = absurd (none-some x at)
 map_at f (y ∷ xs) zero x at = ap (λ z. Some (f z)) (same_Some y x at)
 map_at f (y ∷ xs) (suc k) x at = map_at f xs k x at
 
-pub copy_noted : (rows copies : List Listing) (places : AllPlaces) → AreNoted rows places → map line_entry copies ≡ map line_entry rows → AreNoted copies places
-copy_noted rows copies places noted e k row at =
+pub copy_noted : (rows copies : List Listing) (indexes : AllIndexes) → AreNoted rows indexes → map line_entry copies ≡ map line_entry rows → AreNoted copies indexes
+copy_noted rows copies indexes noted e k row at =
     let other = mapped_at line_entry rows k (line_entry row) (sym (ap (λ l. slice_get l k) e) ∙ map_at line_entry copies k row at) in
-    place_by_key places (call_content row.call) row.side row.container other.0 (sym (ap (λ (p : LineKey × LineContent). p.0) other.2)) ∙ noted k other.0 other.1
+    index_by_key indexes (call_content row.call) row.side row.container other.0 (sym (ap (λ (p : LineKey × LineContent). p.0) other.2)) ∙ noted k other.0 other.1
 
-pub once_noted : (rows : List Listing) (places : AllPlaces) → AreNoted rows places → AreOnce rows
-once_noted rows places noted call side container =
+pub once_noted : (rows : List Listing) (indexes : AllIndexes) → AreNoted rows indexes → AreOnce rows
+once_noted rows indexes noted call side container =
     at_most_one (is_line call side container) rows
-    (λ j k x y at also is too. same_Some j k (sym (said rows places noted call side container j x at is) ∙ said rows places noted call side container k y also too))
+    (λ j k x y at also is too. same_Some j k (sym (said rows indexes noted call side container j x at is) ∙ said rows indexes noted call side container k y also too))

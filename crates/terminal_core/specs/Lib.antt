@@ -1,7 +1,7 @@
 pub mod Rows
 pub mod State
 pub mod Listings
-pub mod LinePlaces
+pub mod LineIndexes
 pub mod Step
 pub mod Wholeness
 pub mod Codes

@@ -5,7 +5,7 @@ pub mod arrival;
 pub mod change;
 pub mod departure;
 pub mod laws;
-mod line_places;
+mod line_indexes;
 pub mod line_state;
 mod lines;
 pub mod listing;

@@ -12,7 +12,7 @@ use box6346::BoxNumber;
 use edi_messages::Call;
 use std::alloc::{AllocError, Global};
 
-// The same call once more.
+// A copy of the call.
 pub(crate) fn copied_call(alloc: Global, call: &Call) -> Result<Call, AllocError>
     ensures { IfOk result (λ copy. call_content copy ≡ call_content call.now) }
 {
@@ -79,7 +79,7 @@ pub(crate) fn line_done(
     })
 }
 
-/// The same lines once more.
+/// A copy of the lines.
 pub(crate) fn copied_lines(alloc: Global, rows: &[Listing]) -> Result<Vec<Listing>, AllocError>
     ensures { IfOk result (λ copies. map line_entry copies.items ≡ map line_entry rows.now) }
 {

@@ -4,10 +4,10 @@ ghost use Rattle.std.specs.FinMap as finite_map;
 ghost use Rattle.edi_messages.specs.Owned.{call_content};
 ghost use Rattle.terminal_core.specs.State.{LineContent, line_key};
 ghost use Rattle.terminal_core.specs.Listings.{key_of, line_content, lines_of, is_line, is_side, NoneBefore, IsFirstAt};
-ghost use Rattle.terminal_core.specs.LinePlaces.{AreNoted};
+ghost use Rattle.terminal_core.specs.LineIndexes.{AreNoted};
 ghost use Rattle.terminal_core.specs.Restoring.{AreOnce, RefusesLines};
 
-use crate::line_places::{LinePlaces, note, noted};
+use crate::line_indexes::{LineIndexes, note, noted};
 use crate::line_state::LineState;
 use crate::lines::copied_lines;
 use crate::listing::Listing;
@@ -24,7 +24,7 @@ use std::marker::Model;
 #[derive(Drop)]
 pub(crate) struct Lists {
     rows: Vec<Listing>,
-    places: LinePlaces,
+    indexes: LineIndexes,
 }
 
 impl Model for Lists {
@@ -36,11 +36,11 @@ impl Model for Lists {
     ghost coded = { lines_code };
 
     ghost use Rattle.terminal_core.specs.Listings.{lines_of};
-    ghost use Rattle.terminal_core.specs.LinePlaces.{AreNoted};
+    ghost use Rattle.terminal_core.specs.LineIndexes.{AreNoted};
 
     ghost view = { λ l. lines_of l.rows.items };
 
-    ghost invariant = { λ l. AreNoted l.rows.items l.places };
+    ghost invariant = { λ l. AreNoted l.rows.items l.indexes };
 }
 
 impl Lists {
@@ -49,7 +49,7 @@ impl Lists {
     {
         Lists {
             rows: Vec::new(alloc),
-            places: HashMap::new(alloc),
+            indexes: HashMap::new(alloc),
         }
     }
 
@@ -57,8 +57,8 @@ impl Lists {
     pub(crate) fn restore(alloc: Global, rows: Vec<Listing>) -> Result<Lists, RestoreFault>
         ensures { MatchResult result (λ l. AreOnce rows.items × (l ≡ lines_of rows.items)) (RefusesLines rows.items) }
     {
-        let places = noted_lines(alloc, &rows)?;
-        Ok(Lists { rows, places })
+        let indexes = noted_lines(alloc, &rows)?;
+        Ok(Lists { rows, indexes })
     }
 
     pub(crate) fn copy(&self, alloc: Global) -> Result<Lists, AllocError>
@@ -66,7 +66,7 @@ impl Lists {
     {
         let rows = copied_lines(alloc, &self.rows)?;
         match noted_lines(alloc, &rows) {
-            Ok(places) => Ok(Lists { rows, places }),
+            Ok(indexes) => Ok(Lists { rows, indexes }),
             Err(RestoreFault::Memory) => Err(AllocError),
             Err(RestoreFault::Unsound) => unreachable!(),
         }
@@ -85,8 +85,8 @@ impl Lists {
         ensures { result ≡ option_map (λ l. l.state)
             (finite_map.get self.now (line_key (call_content call.now) side container)) }
     {
-        match place_of(&self.rows, &self.places, call, side, container) {
-            Some(place) => Some(self.rows[place].state),
+        match row_index_of(&self.rows, &self.indexes, call, side, container) {
+            Some(row_index) => Some(self.rows[row_index].state),
             None => None,
         }
     }
@@ -98,14 +98,14 @@ impl Lists {
         ensures err { OnErr result (self.new ≡ self.old) }
     {
         self.rows.reserve(1)?;
-        let place = self.rows.len();
+        let row_index = self.rows.len();
         note(
             alloc,
-            &mut self.places,
+            &mut self.indexes,
             &line.call,
             line.side,
             line.container,
-            place,
+            row_index,
         )?;
         append(&mut self.rows, line);
         Ok(())
@@ -118,55 +118,55 @@ impl Lists {
             self.new ≡ finite_map.insert self.old (line_key (call_content call.now) side container)
             (record line { state = LineState.Done }) }
     {
-        if let Some(place) = place_of(&self.rows, &self.places, call, side, container) {
-            let row = &mut self.rows[place];
+        if let Some(row_index) = row_index_of(&self.rows, &self.indexes, call, side, container) {
+            let row = &mut self.rows[row_index];
             row.state = LineState::Done;
         }
     }
 }
 
 // Where each line stands: Unsound where one stands twice, and Memory.
-fn noted_lines(alloc: Global, rows: &[Listing]) -> Result<LinePlaces, RestoreFault>
-    ensures { MatchResult result (λ places. AreOnce rows.now × AreNoted rows.now places) (RefusesLines rows.now) }
+fn noted_lines(alloc: Global, rows: &[Listing]) -> Result<LineIndexes, RestoreFault>
+    ensures { MatchResult result (λ indexes. AreOnce rows.now × AreNoted rows.now indexes) (RefusesLines rows.now) }
 {
-    let mut places = HashMap::new(alloc);
-    for (place, row) in rows.iter().enumerate() {
-        if place_of(&rows[..place], &places, &row.call, row.side, row.container).is_some() {
+    let mut indexes = HashMap::new(alloc);
+    for (row_index, row) in rows.iter().enumerate() {
+        if row_index_of(&rows[..row_index], &indexes, &row.call, row.side, row.container).is_some() {
             return Err(RestoreFault::Unsound);
         }
         note(
             alloc,
-            &mut places,
+            &mut indexes,
             &row.call,
             row.side,
             row.container,
-            place,
+            row_index,
         )?;
     }
-    Ok(places)
+    Ok(indexes)
 }
 
 // Where the line stands: where it is said to, if that row is the line.
-fn place_of(
+fn row_index_of(
     rows: &[Listing],
-    places: &LinePlaces,
+    indexes: &LineIndexes,
     call: &Call,
     side: Side,
     container: BoxNumber,
 ) -> Option<usize>
-    requires { AreNoted rows.now places.now }
+    requires { AreNoted rows.now indexes.now }
     ensures { MatchOption result
         (NoneBefore (call_content call.now) side container rows.now (length rows.now))
         (IsFirstAt (call_content call.now) side container rows.now) }
 {
-    let Some(place) = noted(places, call, side, container) else {
+    let Some(row_index) = noted(indexes, call, side, container) else {
         return None;
     };
-    let Some(row) = rows.get(place) else {
+    let Some(row) = rows.get(row_index) else {
         return None;
     };
     if is_line(row, call, side, container) {
-        Some(place)
+        Some(row_index)
     } else {
         None
     }

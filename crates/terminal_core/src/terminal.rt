@@ -342,7 +342,7 @@ impl Terminal {
         append(changes, done);
     }
 
-    /// The same terminal once more.
+    /// A copy of the terminal.
     pub fn copy(&self, alloc: Global) -> Result<Terminal, AllocError>
         ensures same { IfOk result (λ t. t ≡ self.now) }
         ensures whole { IfOk result IsWhole }

@@ -25,7 +25,7 @@ use std::marker::Model;
 #[derive(Drop)]
 pub(crate) struct Visits {
     rows: Vec<Visit>,
-    open_places: HashMap<[u8; 11], usize>,
+    open_indexes: HashMap<[u8; 11], usize>,
 }
 
 impl Model for Visits {
@@ -42,10 +42,10 @@ impl Model for Visits {
     ghost view = { λ v. record {
       visits = map visit_content v.rows.items;
       spare_visits = vec_capacity v.rows - vec_len v.rows;
-      spare_places = spare v.open_places;
+      spare_indexes = spare v.open_indexes;
     } };
 
-    ghost invariant = { λ v. AreIndexed (map visit_content v.rows.items) v.open_places.entries };
+    ghost invariant = { λ v. AreIndexed (map visit_content v.rows.items) v.open_indexes.entries };
 }
 
 impl Visits {
@@ -54,7 +54,7 @@ impl Visits {
     {
         Visits {
             rows: Vec::new(alloc),
-            open_places: HashMap::new(alloc),
+            open_indexes: HashMap::new(alloc),
         }
     }
 
@@ -64,16 +64,16 @@ impl Visits {
             length (filter (is_open_visit container) (map visit_content rows.items)) ≤ 1 }
         ensures { IfOk result (λ v. v.visits ≡ map visit_content rows.items) }
     {
-        let open_places = indexed(alloc, &rows)?;
-        Ok(Visits { rows, open_places })
+        let open_indexes = indexed(alloc, &rows)?;
+        Ok(Visits { rows, open_indexes })
     }
 
     pub(crate) fn copy(&self, alloc: Global) -> Result<Visits, AllocError>
         ensures { IfOk result (λ v. v.visits ≡ self.now.visits) }
     {
         let rows = copied_visits(alloc, &self.rows)?;
-        let open_places = self.open_places.clone()?;
-        Ok(Visits { rows, open_places })
+        let open_indexes = self.open_indexes.clone()?;
+        Ok(Visits { rows, open_indexes })
     }
 
     pub(crate) fn rows(&self) -> &[Visit]
@@ -95,7 +95,7 @@ impl Visits {
         ensures ok { OnOk result (HasRoom self.new) }
     {
         self.rows.reserve(1)?;
-        self.open_places.reserve(1)?;
+        self.open_indexes.reserve(1)?;
         Ok(())
     }
 
@@ -107,7 +107,7 @@ impl Visits {
         ensures { self.new.visits ≡ self.old.visits ++ visit_content visit ∷ [] }
     {
         let _ = self
-            .open_places
+            .open_indexes
             .insert(visit.container.text(), self.rows.len());
         append(&mut self.rows, visit);
     }
@@ -124,10 +124,10 @@ impl Visits {
         ensures closed { self.new.visits ≡ map (closed (departure_by way source moment) container) self.old.visits }
         ensures number { result ≡ number_of_visit (find (is_open_visit container) self.old.visits) }
     {
-        let Some(place) = self.open_places.remove(&container.text()) else {
+        let Some(row_index) = self.open_indexes.remove(&container.text()) else {
             unreachable!()
         };
-        let visit = &mut self.rows[place];
+        let visit = &mut self.rows[row_index];
         visit.departure = Some(Departure {
             way,
             source,
@@ -141,15 +141,15 @@ impl Visits {
 fn indexed(alloc: Global, rows: &[Visit]) -> Result<HashMap<[u8; 11], usize>, AllocError>
     requires { (container : BoxNumber) →
         length (filter (is_open_visit container) (map visit_content rows.now)) ≤ 1 }
-    ensures { IfOk result (λ open_places. AreIndexed (map visit_content rows.now) open_places.entries) }
+    ensures { IfOk result (λ open_indexes. AreIndexed (map visit_content rows.now) open_indexes.entries) }
 {
-    let mut open_places = HashMap::new(alloc);
-    for (place, visit) in rows.iter().enumerate() {
+    let mut open_indexes = HashMap::new(alloc);
+    for (row_index, visit) in rows.iter().enumerate() {
         if visit.departure.is_none() {
-            open_places.insert(visit.container.text(), place)?;
+            open_indexes.insert(visit.container.text(), row_index)?;
         }
     }
-    Ok(open_places)
+    Ok(open_indexes)
 }
 
 pub(crate) fn opened_visit(
@@ -198,7 +198,7 @@ pub(crate) fn is_open(visit: &Visit, container: BoxNumber) -> bool
     visit.container == container && visit.departure.is_none()
 }
 
-/// The same visits once more.
+/// A copy of the visits.
 pub(crate) fn copied_visits(alloc: Global, visits: &[Visit]) -> Result<Vec<Visit>, AllocError>
     ensures { IfOk result (λ copies. map visit_content copies.items ≡ map visit_content visits.now) }
 {

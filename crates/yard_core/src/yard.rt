@@ -148,7 +148,7 @@ impl Yard {
         Ok(())
     }
 
-    /// The same yard once more.
+    /// A copy of the yard.
     pub fn copy(&self, alloc: Global) -> Result<Yard, AllocError>
         ensures same { IfOk result (λ y. y ≡ self.now) }
         ensures sound { IfOk result (λ y. IsSound y.plan (finite_map.get y.boxes)) }

@@ -51,7 +51,7 @@ fn the_order_across_partners_is_that_in_which_gaps_close(rt: HostRuntime) -> Res
     )
 }
 
-/// The same, as a stream: the early interchange is taken by the delivery that closes its gap, and not as it came.
+/// As a stream: the early interchange is taken by the delivery that closes its gap, and not as it came.
 #[test]
 fn in_a_stream_gaps_close_across_partners_too(rt: HostRuntime) -> Result<(), Fail> {
     let setup = demo_with(rt.alloc(), STACK, 999_999_999)?;

@@ -1,4 +1,4 @@
-use Rattle.edi_cutter.proofs.PlaceLemmas.{closed_where_a_trailer_ends}
+use Rattle.edi_cutter.proofs.PositionLemmas.{closed_where_a_trailer_ends}
 use Rattle.edi_cutter.proofs.laws.closed_where_a_trailer_ends.Goals as goal
 
 pub returns : goal.returns

@@ -1,4 +1,4 @@
-use Rattle.edi_cutter.proofs.PlaceLemmas.{refused_where_nothing_goes_on}
+use Rattle.edi_cutter.proofs.PositionLemmas.{refused_where_nothing_goes_on}
 use Rattle.edi_cutter.proofs.laws.refused_where_nothing_goes_on.Goals as goal
 
 pub returns : goal.returns

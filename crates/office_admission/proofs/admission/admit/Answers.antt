@@ -21,7 +21,7 @@ returns-in-Some-clause-ok c =
     let P = parties_of c.args.setup.now in
     let same = c.in-Ok.ensures.ok.1 in
     let opened : IsOpened text c.in-Ok.head = record { faultless = c.in-Ok.ensures.ok.0; segments = same } in
-    let some = sender_is P text (head_segments c.in-Ok.head) (value c.sender.result) (Some (c.in-Some.place + 1)) same c.sender.ensures c.in-Some.ensures.number in
+    let some = sender_is P text (head_segments c.in-Ok.head) (value c.sender.result) (Some (c.in-Some.index + 1)) same c.sender.ensures c.in-Some.ensures.number in
     ok_weaker c.admit_from.result _ _ (λ admitted holds. holds text opened some) c.admit_from.ensures.ok
 
 pub returns-in-Some-clause-err : goal.returns-in-Some-clause-err
@@ -30,7 +30,7 @@ returns-in-Some-clause-err c =
     let P = parties_of c.args.setup.now in
     let same = c.in-Ok.ensures.ok.1 in
     let opened : IsOpened text c.in-Ok.head = record { faultless = c.in-Ok.ensures.ok.0; segments = same } in
-    let some = sender_is P text (head_segments c.in-Ok.head) (value c.sender.result) (Some (c.in-Some.place + 1)) same c.sender.ensures c.in-Some.ensures.number in
+    let some = sender_is P text (head_segments c.in-Ok.head) (value c.sender.result) (Some (c.in-Some.index + 1)) same c.sender.ensures c.in-Some.ensures.number in
     err_weaker c.admit_from.result _ _ (λ refusal holds. holds text opened some) c.admit_from.ensures.err
 
 pub returns-in-None-clause-err : goal.returns-in-None-clause-err

@@ -8,17 +8,17 @@ use Rattle.office_admission.proofs.admission.admit_from.Goals as goal
 
 pub returns-in-Err-clause-err : goal.returns-in-Err-clause-err
 returns-in-Err-clause-err c = λ text opened some.
-    c.refused.ensures c.args.setup.now text (c.args.place + 1) opened some
+    c.refused.ensures c.args.setup.now text (c.args.index + 1) opened some
     (syntax_refused (parties_of c.args.setup.now) text c.in-Err.fault (body_fault_is text c.args.head (Some c.in-Err.fault) opened c.in-Err.ensures.err))
 
 pub returns-then-not-equals-clause-err : goal.returns-then-not-equals-clause-err
 returns-then-not-equals-clause-err c = λ text opened some.
     let P = parties_of c.args.setup.now in
     let other = recipient_is P text (head_segments c.args.head) (value c.recipient.result) c.as_bytes.result.now false opened.segments c.recipient.ensures c.as_bytes.ensures.value (sym c.if-not-equals.true ∙ c.equals.ensures.test) in (
-      stray_refused P text (c.args.place + 1) (body_fault_is text c.args.head None opened c.in-Ok.ensures.ok.0) some other,
+      stray_refused P text (c.args.index + 1) (body_fault_is text c.args.head None opened c.in-Ok.ensures.ok.0) some other,
       refl,
       opened.segments,
-      (c.args.place + 1, some),
+      (c.args.index + 1, some),
     )
 
 pub returns-clause-ok : goal.returns-clause-ok
@@ -28,9 +28,9 @@ returns-clause-ok c = λ text opened some.
     let account = c.index.result.now in
     let ours = recipient_is P text (head_segments c.args.head) (value c.recipient.result) c.as_bytes.result.now true opened.segments c.recipient.ensures c.as_bytes.ensures.value (sym c.if-not-equals.false ∙ c.equals.ensures.test) in
     record {
-      admits = text_admitted P text (c.args.place + 1) (body_fault_is text c.args.head None opened c.in-Ok.ensures.ok.0) some ours;
-      kind = kind_there accounts c.args.place account (slice_get_read accounts _ c.args.place account refl c.requires.place c.index.ensures);
+      admits = text_admitted P text (c.args.index + 1) (body_fault_is text c.args.head None opened c.in-Ok.ensures.ok.0) some ours;
+      kind = kind_there accounts c.args.index account (slice_get_read accounts _ c.args.index account refl c.requires.index c.index.ensures);
       segments = c.in-Ok.ensures.ok.1 ∙ opened.segments;
       from_one = omega arith;
-      known = omega (arith, c.requires.place);
+      known = omega (arith, c.requires.index);
     }

@@ -4,7 +4,7 @@ use Rattle.std.proofs.lemmas.Option.{MatchOption-at_some, MatchOption-at_none}
 use Rattle.edi_messages.specs.Owned.{call_content}
 use Rattle.terminal_core.specs.declared.listing.Listing.{Listing}
 use Rattle.terminal_core.specs.Listings.{NoneBefore, IsFirstAt}
-use Rattle.terminal_core.specs.LinePlaces.{AreNoted}
+use Rattle.terminal_core.specs.LineIndexes.{AreNoted}
 use Rattle.terminal_core.specs.Restoring.{AreOnce}
 use Rattle.terminal_core.proofs.Counted.{some_of, none_of}
 use Rattle.terminal_core.proofs.Once.{once_more, not_once}
@@ -13,24 +13,24 @@ use Rattle.terminal_core.proofs.lists.noted_lines.Goals as goal
 
 pub returns-then-is_some : goal.returns-then-is_some
 returns-then-is_some c once =
-    let row = c.index-rows-place.result in
-    let before : List Listing = take c.loop-place.place c.args.rows.now in
-    let found = some_of c.place_of.result (sym c.is_some.ensures ∙ c.if-is_some.true) in
-    let first = MatchOption-at_some (NoneBefore (call_content row.call) row.side row.container before (length before)) (IsFirstAt (call_content row.call) row.side row.container before) found.0 found.1 c.place_of.ensures in
-    not_once c.args.rows.now c.loop-place.place found.0 row (omega arith) c.index-rows-place.is first once
+    let row = c.index-rows-row_index.result in
+    let before : List Listing = take c.loop-row_index.row_index c.args.rows.now in
+    let found = some_of c.row_index_of.result (sym c.is_some.ensures ∙ c.if-is_some.true) in
+    let first = MatchOption-at_some (NoneBefore (call_content row.call) row.side row.container before (length before)) (IsFirstAt (call_content row.call) row.side row.container before) found.0 found.1 c.row_index_of.ensures in
+    not_once c.args.rows.now c.loop-row_index.row_index found.0 row (omega arith) c.index-rows-row_index.is first once
 
-pub loop-place-preserved : goal.loop-place-preserved
-loop-place-preserved c =
-    let row = c.index-rows-place.result in
-    let before : List Listing = take c.loop-place.place c.args.rows.now in
-    let none = MatchOption-at_none (NoneBefore (call_content row.call) row.side row.container before (length before)) (IsFirstAt (call_content row.call) row.side row.container before) (none_of c.place_of.result (sym c.is_some.ensures ∙ c.if-is_some.false)) c.place_of.ensures in
+pub loop-row_index-preserved : goal.loop-row_index-preserved
+loop-row_index-preserved c =
+    let row = c.index-rows-row_index.result in
+    let before : List Listing = take c.loop-row_index.row_index c.args.rows.now in
+    let none = MatchOption-at_none (NoneBefore (call_content row.call) row.side row.container before (length before)) (IsFirstAt (call_content row.call) row.side row.container before) (none_of c.row_index_of.result (sym c.is_some.ensures ∙ c.if-is_some.false)) c.row_index_of.ensures in
     record {
-      once = once_more c.args.rows.now c.loop-place.place row (omega arith) c.index-rows-place.is none c.loop-place.invariant.once;
-      noted = next_noted c.args.rows.now c.loop-place.place row c.loop-place.places c.note.new.places (omega arith) c.index-rows-place.is none c.loop-place.invariant.noted c.in_ok-note.ensures.ok;
+      once = once_more c.args.rows.now c.loop-row_index.row_index row (omega arith) c.index-rows-row_index.is none c.loop-row_index.invariant.once;
+      noted = next_noted c.args.rows.now c.loop-row_index.row_index row c.loop-row_index.indexes c.note.new.indexes (omega arith) c.index-rows-row_index.is none c.loop-row_index.invariant.noted c.in_ok-note.ensures.ok;
     }
 
 pub returns : goal.returns
 returns c =
     let P : List Listing → Type 0 = AreOnce in
-    let Q : List Listing → Type 0 = λ rows. AreNoted rows c.loop-place.places in
-    (subst P (take_all c.loop-place.place c.args.rows.now (omega arith)) c.loop-place.invariant.once, subst Q (take_all c.loop-place.place c.args.rows.now (omega arith)) c.loop-place.invariant.noted)
+    let Q : List Listing → Type 0 = λ rows. AreNoted rows c.loop-row_index.indexes in
+    (subst P (take_all c.loop-row_index.row_index c.args.rows.now (omega arith)) c.loop-row_index.invariant.once, subst Q (take_all c.loop-row_index.row_index c.args.rows.now (omega arith)) c.loop-row_index.invariant.noted)

@@ -10,21 +10,21 @@ use Rattle.terminal_core.proofs.Indexed.{none_indexed, open_row_indexed, closed_
 use Rattle.terminal_core.proofs.visits.indexed.Goals.{then-is_none+in_ok-insert, else-is_none}
 use Rattle.terminal_core.proofs.visits.indexed.Goals as goal
 
-pub loop-place-init : goal.loop-place-init
-loop-place-init c = none_indexed c.new-open_places.result.entries
+pub loop-row_index-init : goal.loop-row_index-init
+loop-row_index-init c = none_indexed c.new-open_indexes.result.entries
 
-pub loop-place-preserved : goal.loop-place-preserved
-loop-place-preserved c = elim c.if-is_none.branch [
-  | then-is_none+in_ok-insert w ↦ rw w.open_places-is
-      (open_row_indexed c.args.rows.now c.loop-place.place c.index-rows-place.result c.loop-place.open_places.entries w.insert.new.self.entries c.requires (omega arith) c.index-rows-place.is
-      (stays_tested c.index-rows-place.result c.is_none.result c.is_none.ensures w.if-is_none.true) c.loop-place.invariant
-      (λ q. w.in_ok-insert.ensures.updates.0 q ∙ ap (λ t. cond (bytes_eq t q) (Some c.loop-place.place) (lookup (bytes_eq q) c.loop-place.open_places.entries)) w.text.ensures.same))
-  | else-is_none w ↦ rw w.open_places-is
-      (closed_row_indexed c.args.rows.now c.loop-place.place c.index-rows-place.result c.loop-place.open_places.entries (omega arith) c.index-rows-place.is
-      (went_tested c.index-rows-place.result c.is_none.result c.is_none.ensures w.if-is_none.false) c.loop-place.invariant)
+pub loop-row_index-preserved : goal.loop-row_index-preserved
+loop-row_index-preserved c = elim c.if-is_none.branch [
+  | then-is_none+in_ok-insert w ↦ rw w.open_indexes-is
+      (open_row_indexed c.args.rows.now c.loop-row_index.row_index c.index-rows-row_index.result c.loop-row_index.open_indexes.entries w.insert.new.self.entries c.requires (omega arith) c.index-rows-row_index.is
+      (stays_tested c.index-rows-row_index.result c.is_none.result c.is_none.ensures w.if-is_none.true) c.loop-row_index.invariant
+      (λ q. w.in_ok-insert.ensures.updates.0 q ∙ ap (λ t. cond (bytes_eq t q) (Some c.loop-row_index.row_index) (lookup (bytes_eq q) c.loop-row_index.open_indexes.entries)) w.text.ensures.same))
+  | else-is_none w ↦ rw w.open_indexes-is
+      (closed_row_indexed c.args.rows.now c.loop-row_index.row_index c.index-rows-row_index.result c.loop-row_index.open_indexes.entries (omega arith) c.index-rows-row_index.is
+      (went_tested c.index-rows-row_index.result c.is_none.result c.is_none.ensures w.if-is_none.false) c.loop-row_index.invariant)
 ]
 
 pub returns : goal.returns
 returns c =
-    let P : List Visit → Type 0 = λ rows. AreIndexed (map visit_content rows) c.loop-place.open_places.entries in
-    subst P (take_all c.loop-place.place c.args.rows.now (omega arith)) c.loop-place.invariant
+    let P : List Visit → Type 0 = λ rows. AreIndexed (map visit_content rows) c.loop-row_index.open_indexes.entries in
+    subst P (take_all c.loop-row_index.row_index c.args.rows.now (omega arith)) c.loop-row_index.invariant

@@ -4,5 +4,5 @@ use Rattle.terminal_core.specs.Rows.{visit_content}
 use Rattle.terminal_core.specs.Index.{AreIndexed}
 use Rattle.terminal_core.proofs.visits.indexed.Given as goal
 
-abbrev pub invariant-loop-place : goal.invariant-loop-place
-invariant-loop-place l = AreIndexed (map visit_content (take l.place l.rows)) l.open_places.entries
+abbrev pub invariant-loop-row_index : goal.invariant-loop-row_index
+invariant-loop-row_index l = AreIndexed (map visit_content (take l.row_index l.rows)) l.open_indexes.entries

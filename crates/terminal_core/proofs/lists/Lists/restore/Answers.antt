@@ -4,4 +4,4 @@ use Rattle.terminal_core.specs.Restoring.{AreOnce}
 use Rattle.terminal_core.proofs.lists.Lists.restore.Goals as goal
 
 pub returns : goal.returns
-returns c = let P : List Listing → Type 0 = AreOnce in (subst P c.deref.ensures.value c.in_ok-places.ensures.0, refl)
+returns c = let P : List Listing → Type 0 = AreOnce in (subst P c.deref.ensures.value c.in_ok-indexes.ensures.0, refl)

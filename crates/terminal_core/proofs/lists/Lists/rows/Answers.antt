@@ -7,4 +7,4 @@ use Rattle.terminal_core.proofs.lists.Lists.rows.Goals as goal
 pub returns-clause-once : goal.returns-clause-once
 returns-clause-once c =
     let P : List Listing → Type 0 = AreOnce in
-    subst P (sym c.deref.ensures.value) (once_noted c.self.inside.rows.items c.self.inside.places c.self.invariant)
+    subst P (sym c.deref.ensures.value) (once_noted c.self.inside.rows.items c.self.inside.indexes c.self.invariant)

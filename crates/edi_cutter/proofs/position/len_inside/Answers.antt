@@ -1,7 +1,7 @@
 use Rattle.std.proofs.Common.{subst, take, ℕ, arith}
-use Rattle.edi_cutter.specs.Places.{StayInside}
+use Rattle.edi_cutter.specs.Positions.{StayInside}
 use Rattle.edi_cutter.proofs.ReadLemmas.{stays_nothing}
-use Rattle.edi_cutter.proofs.place.len_inside.Goals as goal
+use Rattle.edi_cutter.proofs.position.len_inside.Goals as goal
 
 pub loop-i-init : goal.loop-i-init
 loop-i-init c = stays_nothing c.args.service.now

@@ -1,13 +1,13 @@
 use Rattle.std.proofs.Common.{subst, sym, ap, ◌∙◌}
-use Rattle.edi_cutter.specs.Places.{Keeps}
-use Rattle.edi_cutter.specs.declared.place.Place.{Place}
-use Rattle.edi_cutter.specs.declared.place.Place.TheVariants.{Inside}
+use Rattle.edi_cutter.specs.Positions.{Keeps}
+use Rattle.edi_cutter.specs.declared.position.Position.{Position}
+use Rattle.edi_cutter.specs.declared.position.Position.TheVariants.{Inside}
 use Rattle.edi_cutter.proofs.ReadLemmas.{keeps_inside}
-use Rattle.edi_cutter.proofs.place.len_kept.Goals as goal
+use Rattle.edi_cutter.proofs.position.len_kept.Goals as goal
 
 pub returns-in-Inside-false-default-clause-keeps : goal.returns-in-Inside-false-default-clause-keeps
 returns-in-Inside-false-default-clause-keeps c =
     let arm = c.in-Inside-false-default in
-    subst (λ (p : Place). Keeps c.args.service.now p c.args.bytes.now c.len_inside.result)
+    subst (λ (p : Position). Keeps c.args.service.now p c.args.bytes.now c.len_inside.result)
     (sym (arm.is ∙ ap (λ released. Inside released arm.field-1) arm.field-0-test))
     (keeps_inside c.args.service.now arm.field-1 c.args.bytes.now c.len_inside.result c.len_inside.ensures.within c.len_inside.ensures.inside)
