@@ -24,7 +24,8 @@ abbrev pub position_by : Service → Position → ℕ → Position
 position_by s (Between closed) b = cond (is_break b) (Between false) (cond (is_tag_byte b) (First (b == 85)) Refused)
 position_by s (First closes) b = cond (is_tag_byte b) (Second (closes && b == 78)) Refused
 position_by s (Second closes) b = cond (is_tag_byte b) (Tagged (closes && b == 90)) Refused
-position_by s (Tagged closes) b = cond (b == s.element) (Inside false closes) (cond (b == s.terminator) (Between closes) Refused)
+position_by s (Tagged closes) b =
+    cond (b == s.element) (Inside false closes) (cond (b == s.terminator) (Between closes) Refused)
 position_by s (Inside released closes) b = inside_by (token_of s released b) closes
 position_by s Refused b = Refused
 
@@ -68,7 +69,8 @@ Keeps s position bytes n = (m : ℕ) → m ≤ n → position_after s position (
 
 -- The bytes and each front of them stay among the elements, the next byte not released.
 abbrev pub StayInside : Service → List ℕ → Type 0
-StayInside s bytes = (closes : Bool) (m : ℕ) → m ≤ length bytes → position_after s (Inside false closes) (take m bytes) ≡ Inside false closes
+StayInside s bytes = (closes : Bool) (m : ℕ) → m ≤ length bytes →
+    position_after s (Inside false closes) (take m bytes) ≡ Inside false closes
 
 -- ---- the same, apart from any reading
 

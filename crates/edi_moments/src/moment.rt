@@ -23,13 +23,15 @@ impl Model for Moment {
 
     ghost view = { λ m. record { year = m.year; month = m.month; day = m.day; hour = m.hour; minute = m.minute } };
 
-    ghost invariant = { λ m. IsTrue (is_moment (record { year = m.year; month = m.month; day = m.day; hour = m.hour; minute = m.minute })) };
+    ghost invariant = { λ m.
+        IsTrue (is_moment (record { year = m.year; month = m.month; day = m.day; hour = m.hour; minute = m.minute })) };
 
     ghost inverse = { λ m. record { year = m.year; month = m.month; day = m.day; hour = m.hour; minute = m.minute } };
 }
 
 impl PartialEq for Moment {
-    ghost eq = { λ a b. a.year == b.year && a.month == b.month && a.day == b.day && a.hour == b.hour && a.minute == b.minute };
+    ghost eq = { λ a b. a.year == b.year && a.month == b.month && a.day == b.day && a.hour == b.hour
+        && a.minute == b.minute };
 
     ghost laws = { Prim.search (comparing, rules) };
 

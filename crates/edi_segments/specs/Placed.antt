@@ -43,12 +43,14 @@ placed v = record { element = v.element; component = v.component; value = value 
 -- the values of elements, the first of which is counted from the component on
 abbrev pub place : ℕ → ℕ → List (List (List ℕ)) → List Placed
 place element component [] = []
-place element component (values ∷ elements) = values_from element component values ++ elements_from (element + 1) elements
+place element component (values ∷ elements) =
+    values_from element component values ++ elements_from (element + 1) elements
 
 -- the values from a place on: those of the segment there, and of those behind it
 abbrev pub text_values : Service → ℕ → ℕ → List ℕ → List Placed
 text_values s element component text =
-    option_map_or (λ n. place element component (elements_of s false (take n text)) ++ values_in (segments_of s (without_breaks (drop (n + 1) text)))) (end_of s false text) []
+    option_map_or (λ n. place element component (elements_of s false (take n text))
+        ++ values_in (segments_of s (without_breaks (drop (n + 1) text)))) (end_of s false text) []
 
 -- behind the segment at the front stands nothing but segments
 abbrev pub goes_on : Service → List ℕ → Bool

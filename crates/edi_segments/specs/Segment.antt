@@ -17,7 +17,8 @@ content segment = content_of segment.service segment.body.now
 
 -- the bytes of an element, counted from one
 abbrev pub element_text : Segment → ℕ → List ℕ
-element_text segment element = get_or (parts_of segment.service segment.service.element false (drop 3 segment.body.now)) element []
+element_text segment element =
+    get_or (parts_of segment.service segment.service.element false (drop 3 segment.body.now)) element []
 
 -- the segments that are left
 abbrev pub segments_left : Segments → List Content
@@ -34,12 +35,17 @@ bytes_left bytes = value_of bytes.service false bytes.text.now
 -- the values that are left of an element
 abbrev pub components_left : Components → List (List ℕ)
 components_left components =
-    option_map_or (λ text. map (value_of components.service false) (parts_of components.service components.service.component false text.now)) components.rest []
+    option_map_or (λ text.
+        map (value_of components.service false)
+        (parts_of components.service components.service.component false text.now)) components.rest []
 
 -- the elements that are left, each by its values
 abbrev pub elements_left : Elements → List (List (List ℕ))
 elements_left elements =
-    option_map_or (λ text. map (λ (part : List ℕ). map (value_of elements.service false) (parts_of elements.service elements.service.component false part)) (parts_of elements.service elements.service.element false text.now)) elements.rest []
+    option_map_or (λ text.
+        map (λ (part : List ℕ).
+        map (value_of elements.service false) (parts_of elements.service elements.service.component false part))
+        (parts_of elements.service elements.service.element false text.now)) elements.rest []
 
 -- the value as an array of that length, where it has that length
 abbrev pub fixed : ℕ → List ℕ → Option (List ℕ)

@@ -8,7 +8,8 @@ use Rattle.edi_segments.specs.Spelling.{Writing, IsSegmentTag, segments_text, wi
 
 -- a segment that may be written
 abbrev pub IsWritableSegment : Content → Type 0
-IsWritableSegment segment = IsSegmentTag segment.tag × IsTrue (list_all (list_all (list_all is_data_byte)) segment.elements)
+IsWritableSegment segment =
+    IsSegmentTag segment.tag × IsTrue (list_all (list_all (list_all is_data_byte)) segment.elements)
 
 -- the same segments, one after the other
 abbrev pub AreSameSegments : List Content → List Content → Type 0

@@ -41,7 +41,8 @@ message_from header behind = record { header = header; segments = before_trailer
 -- the messages that begin in the segments
 abbrev pub messages_in : List Content → List Message
 messages_in [] = []
-messages_in (segment ∷ segments) = cond (begins_message segment) (message_from segment segments ∷ messages_in segments) (messages_in segments)
+messages_in (segment ∷ segments) =
+    cond (begins_message segment) (message_from segment segments ∷ messages_in segments) (messages_in segments)
 
 -- a message of which only header and trailer are looked at
 abbrev pub message_of_ends : Content → Content → Message

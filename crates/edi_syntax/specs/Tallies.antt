@@ -19,8 +19,10 @@ pub record EndsMessage (behind : CheckedSegments) (end : MessageEnd) : Type 0 wh
   pub others : messages_in (checked_left behind) ≡ messages_in (checked_left end.rest)
   pub few : end.between ≤ length (checked_left behind)
   pub fewer : length (checked_left end.rest) ≤ length (checked_left behind)
-  pub last : (before : Content) → last_of before (checked_left behind) ≡ last_of (content end.trailer) (checked_left end.rest)
-  pub group : list_any is_of_group (checked_left behind) ≡ (end.has_group || list_any is_of_group (checked_left end.rest))
+  pub last : (before : Content) →
+      last_of before (checked_left behind) ≡ last_of (content end.trailer) (checked_left end.rest)
+  pub group : list_any is_of_group (checked_left behind)
+      ≡ (end.has_group || list_any is_of_group (checked_left end.rest))
   pub all : are_all behind ≡ are_all end.rest
 
 -- what the messages come to, of which nothing but a UNZ stands behind

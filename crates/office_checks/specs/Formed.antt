@@ -25,7 +25,8 @@ abbrev pub IsSoundSource : ℕ → Source → Type 0
 IsSoundSource count source = IsSource source × (source.partner ≤ count)
 
 abbrev pub IsSoundArrival : ℕ → Arrival → Type 0
-IsSoundArrival count arrival = IsSoundSource count arrival.source × IsTrue (is_moment arrival.moment) × IsNamed arrival.slot
+IsSoundArrival count arrival =
+    IsSoundSource count arrival.source × IsTrue (is_moment arrival.moment) × IsNamed arrival.slot
 
 abbrev pub IsSoundDeparture : ℕ → Departure → Type 0
 IsSoundDeparture count departure = IsSoundSource count departure.source × IsTrue (is_moment departure.moment)
@@ -53,12 +54,14 @@ abbrev pub AreByLetter : List Block → Type 0
 AreByLetter blocks = IsNonDecreasingBy (λ (block : Block). block.letter) blocks
 
 -- the rows of visits, places and lines are those of the state, and visits and lines have their forms
-pub record AreTerminal (count limit : ℕ) (blocks : List Block) (visits : List Visit) (places : List Place) (lines : List Listing) (state : TerminalState) : Type 0 where
+pub record AreTerminal (count limit : ℕ) (blocks : List Block) (visits : List Visit) (places : List Place)
+    (lines : List Listing) (state : TerminalState) : Type 0 where
   pub visits_sound : AreSoundVisits count visits
   pub lines_sound : AreSoundLines lines
   pub rows : AreRowsOf blocks limit visits places lines state
 
 -- why they are not: they are those of no state, or memory was refused
 abbrev pub RefusesTerminal : ℕ → ℕ → List Block → List Visit → List Place → List Listing → RestoreFault → Type 0
-RefusesTerminal count limit blocks visits places lines Unsound = (state : TerminalState) → ¬ AreTerminal count limit blocks visits places lines state
+RefusesTerminal count limit blocks visits places lines Unsound =
+    (state : TerminalState) → ¬ AreTerminal count limit blocks visits places lines state
 RefusesTerminal count limit blocks visits places lines Memory = Unit {0}

@@ -13,7 +13,8 @@ use Rattle.office_checks.specs.declared.settings.Settings.{Settings}
 -- the names of the ten settings, in their order
 abbrev pub setting_names : List (List ℕ)
 setting_names =
-    codes "discharge-list" ∷ codes "discharge-report" ∷ codes "gate-in" ∷ codes "gate-out" ∷ codes "load-list" ∷ codes "load-report"
+    codes "discharge-list" ∷ codes "discharge-report" ∷ codes "gate-in" ∷ codes "gate-out" ∷ codes "load-list"
+        ∷ codes "load-report"
     ∷ codes "terminal" ∷ codes "version" ∷ codes "visits" ∷ codes "yard-move" ∷ []
 
 abbrev pub names_of : List Setting → List (List ℕ)
@@ -24,7 +25,8 @@ values_of rows = map (λ (row : Setting). row.value) rows
 
 -- of ten values by their names those of the codes, in the order of their table
 abbrev pub code_values : List (List ℕ) → List (List ℕ)
-code_values (discharge_list ∷ discharge_report ∷ gate_in ∷ gate_out ∷ load_list ∷ load_report ∷ terminal ∷ version ∷ visits ∷ yard_move ∷ []) =
+code_values (discharge_list ∷ discharge_report ∷ gate_in ∷ gate_out ∷ load_list ∷ load_report ∷ terminal ∷ version
+    ∷ visits ∷ yard_move ∷ []) =
     gate_in ∷ gate_out ∷ yard_move ∷ discharge_list ∷ load_list ∷ discharge_report ∷ load_report ∷ []
 code_values others = []
 

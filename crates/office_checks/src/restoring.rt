@@ -71,7 +71,8 @@ fn restore_terminal(
     lines: Vec<Listing>,
 ) -> Result<Terminal, RestoreFault>
     ensures ok { IfOk result (AreTerminal count visit_limit blocks.now visits.items places.items lines.items) }
-    ensures refused { IfErr result (RefusesTerminal count visit_limit blocks.now visits.items places.items lines.items) }
+    ensures refused { IfErr result
+        (RefusesTerminal count visit_limit blocks.now visits.items places.items lines.items) }
 {
     if !are_sound_visits(count, &visits) {
         return Err(RestoreFault::Unsound);

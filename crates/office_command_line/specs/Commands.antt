@@ -14,7 +14,8 @@ word_if_any id = record (new_rule id) { action = Some Set }
 
 -- init DB PARTNERS BLOCKS
 unfoldable pub init_app : App
-init_app = with_rule (with_rule (with_rule (new_app (codes "init")) (word (codes "DB"))) (word (codes "PARTNERS"))) (word (codes "BLOCKS"))
+init_app = with_rule (with_rule (with_rule (new_app (codes "init")) (word (codes "DB"))) (word (codes "PARTNERS")))
+    (word (codes "BLOCKS"))
 
 -- deliver DB FILE
 unfoldable pub deliver_app : App
@@ -22,11 +23,13 @@ deliver_app = with_rule (with_rule (new_app (codes "deliver")) (word (codes "DB"
 
 -- serve DB PORT COUNT
 unfoldable pub serve_app : App
-serve_app = with_rule (with_rule (with_rule (new_app (codes "serve")) (word (codes "DB"))) (word (codes "PORT"))) (word (codes "COUNT"))
+serve_app = with_rule (with_rule (with_rule (new_app (codes "serve")) (word (codes "DB"))) (word (codes "PORT")))
+    (word (codes "COUNT"))
 
 -- report DB KIND [KEY]
 unfoldable pub report_app : App
-report_app = with_rule (with_rule (with_rule (new_app (codes "report")) (word (codes "DB"))) (word (codes "KIND"))) (word_if_any (codes "KEY"))
+report_app = with_rule (with_rule (with_rule (new_app (codes "report")) (word (codes "DB"))) (word (codes "KIND")))
+    (word_if_any (codes "KEY"))
 
 -- demo
 unfoldable pub demo_app : App
@@ -40,6 +43,7 @@ unfoldable pub office_app : App
 office_app =
     with_subcommand
     (with_subcommand
-    (with_subcommand (with_subcommand (with_subcommand (needs_subcommand (new_app (codes "office"))) init_app.top) deliver_app.top) serve_app.top)
+    (with_subcommand (with_subcommand
+        (with_subcommand (needs_subcommand (new_app (codes "office"))) init_app.top) deliver_app.top) serve_app.top)
     report_app.top)
     demo_app.top

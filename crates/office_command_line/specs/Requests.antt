@@ -43,7 +43,8 @@ number_said text = cond (is_number text) (Some (digits_value 10 text)) None
 
 -- the same from 1 to the greatest
 abbrev pub number_upto : ℕ → List ℕ → Option ℕ
-number_upto greatest text = option_and_then (λ (n : ℕ). cond (nat_le 1 n && nat_le n greatest) (Some n) None) (number_said text)
+number_upto greatest text =
+    option_and_then (λ (n : ℕ). cond (nat_le 1 n && nat_le n greatest) (Some n) None) (number_said text)
 
 -- ---- reports
 
@@ -52,7 +53,9 @@ kind_said word =
     cond (bytes_eq word (codes "yard")) (Some Yard)
     (cond (bytes_eq word (codes "yardcsv")) (Some YardTable)
     (cond (bytes_eq word (codes "visits")) (Some Visits)
-    (cond (bytes_eq word (codes "list")) (Some VesselList) (cond (bytes_eq word (codes "ticket")) (Some Ticket) (cond (bytes_eq word (codes "reply")) (Some Reply) None)))))
+    (cond (bytes_eq word (codes "list")) (Some VesselList)
+        (cond (bytes_eq word (codes "ticket")) (Some Ticket)
+        (cond (bytes_eq word (codes "reply")) (Some Reply) None)))))
 
 -- the yard alone is reported on without a key
 abbrev pub wants_key : ReportKind → Bool
@@ -68,17 +71,23 @@ wants_key Reply = true
 abbrev pub init_asked : List Row → Option Asked
 init_asked rows =
     option_and_then (λ (store : Text).
-    option_and_then (λ (partners : Text). option_map (λ (blocks : Text). init store partners blocks) (first_of (codes "BLOCKS") rows)) (first_of (codes "PARTNERS") rows))
+    option_and_then (λ (partners : Text).
+        option_map (λ (blocks : Text). init store partners blocks) (first_of (codes "BLOCKS") rows))
+        (first_of (codes "PARTNERS") rows))
     (first_of (codes "DB") rows)
 
 abbrev pub deliver_asked : List Row → Option Asked
-deliver_asked rows = option_and_then (λ (store : Text). option_map (λ (file : Text). deliver store file) (first_of (codes "FILE") rows)) (first_of (codes "DB") rows)
+deliver_asked rows = option_and_then
+    (λ (store : Text). option_map (λ (file : Text). deliver store file) (first_of (codes "FILE") rows))
+    (first_of (codes "DB") rows)
 
 -- a port from 1 to 65535, and from 1 to 1,000,000 connections
 abbrev pub serve_asked : List Row → Option Asked
 serve_asked rows =
     option_and_then (λ (store : Text).
-    option_and_then (λ (port : ℕ). option_map (λ (count : ℕ). serve store port count) (option_and_then (number_upto 1000000) (first_of (codes "COUNT") rows)))
+    option_and_then (λ (port : ℕ).
+        option_map (λ (count : ℕ). serve store port count)
+        (option_and_then (number_upto 1000000) (first_of (codes "COUNT") rows)))
     (option_and_then (number_upto 65535) (first_of (codes "PORT") rows)))
     (first_of (codes "DB") rows)
 
@@ -90,7 +99,8 @@ report_with store kind (Some key) = cond (wants_key kind) (Some (report store ki
 abbrev pub report_asked : List Row → Option Asked
 report_asked rows =
     option_and_then (λ (store : Text).
-    option_and_then (λ (kind : ReportKind). report_with store kind (first_of (codes "KEY") rows)) (option_and_then kind_said (first_of (codes "KIND") rows)))
+    option_and_then (λ (kind : ReportKind). report_with store kind (first_of (codes "KEY") rows))
+        (option_and_then kind_said (first_of (codes "KIND") rows)))
     (first_of (codes "DB") rows)
 
 -- what a subcommand and its words ask for
@@ -109,7 +119,8 @@ met_asks met = option_and_then (λ (m : Text × List Row). asked_by m.0 m.1) met
 abbrev pub usage_line : Text → Text
 usage_line name =
     cond (bytes_eq name (codes "serve")) (codes "usage: office serve DB PORT COUNT\n")
-    (cond (bytes_eq name (codes "report")) (codes "usage: office report DB KIND [KEY]\n") (codes "usage: office COMMAND\n"))
+    (cond (bytes_eq name (codes "report")) (codes "usage: office report DB KIND [KEY]\n")
+        (codes "usage: office COMMAND\n"))
 
 -- how the subcommand is called that was met
 abbrev pub usage_of : Option (Text × List Row) → Text

@@ -31,10 +31,12 @@ Tells failed told told' text = failed ≡ false → Appends told told' text
 
 -- The demonstration ends with the status of its stream, neither port having failed, and tells nothing, or with 3 where it was left before the end, and
 -- tells why.
-abbrev pub DemoEnds : (left left' written written' : Option (List ℕ)) (read_failed read_failed' write_failed write_failed' : Bool)
+abbrev pub DemoEnds : (left left' written written' : Option (List ℕ))
+    (read_failed read_failed' write_failed write_failed' : Bool)
     (tells : List ℕ → Type 0) → ℕ → Type 0
 DemoEnds left left' written written' read_failed read_failed' write_failed write_failed' tells status =
-    ((worst : Worst) × (status ≡ status_of worst) × tells [] × (read_failed' ≡ read_failed) × (write_failed' ≡ write_failed)
+    ((worst : Worst) × (status ≡ status_of worst) × tells [] × (read_failed' ≡ read_failed)
+        × (write_failed' ≡ write_failed)
     × DemoRuns left left' written written' worst)
     ⊎ ((fault : DemoFault) × (status ≡ 3) × tells (fault_text fault) × DemoLeft left left' written written' fault
     × IsOfPorts read_failed read_failed' write_failed write_failed' fault)

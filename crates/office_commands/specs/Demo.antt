@@ -21,7 +21,8 @@ demo_codes = codes "34" ∷ codes "36" ∷ codes "YMV" ∷ codes "43" ∷ codes 
 
 -- two hauliers, a line, a quay crew and the yard's own
 abbrev pub demo_partners : List (List ℕ × PartnerKind)
-demo_partners = (codes "HAULA", Gate) ∷ (codes "HAULB", Gate) ∷ (codes "LINEA", Line) ∷ (codes "QUAY1", Quay) ∷ (codes "YARD1", Yard) ∷ []
+demo_partners = (codes "HAULA", Gate) ∷ (codes "HAULB", Gate) ∷ (codes "LINEA", Line) ∷ (codes "QUAY1", Quay)
+    ∷ (codes "YARD1", Yard) ∷ []
 
 -- block A: four odd bays, two rows, three tiers
 abbrev pub demo_blocks : List Block
@@ -29,7 +30,8 @@ demo_blocks = record { letter = 65; bays = 4; rows = 2; tiers = 3 } ∷ []
 
 -- all that the demonstration's set-up says, with a table of codes
 abbrev pub demo_content : CodeTable → SetupContent
-demo_content table = record { terminal = codes "TERM1"; codes = table; partners = demo_partners; blocks = demo_blocks; visit_limit = 999999999 }
+demo_content table = record { terminal = codes "TERM1"; codes = table; partners = demo_partners; blocks = demo_blocks;
+    visit_limit = 999999999 }
 
 -- it says what the demonstration's set-up says
 pub record IsDemo (content : SetupContent) : Type 0 where
@@ -47,21 +49,24 @@ pub record DemoRuns (left left' written written' : Option (List ℕ)) (worst : W
   pub opening : MemoryDesk
   pub desk : MemoryDesk
   pub opens : OpensDemo opening
-  pub streamed : Streamed (DeskStands over_memory opening) (DeskAnswers over_memory opening) [] left left' written written' desk worst
+  pub streamed : Streamed (DeskStands over_memory opening)
+      (DeskAnswers over_memory opening) [] left left' written written' desk worst
 
 -- All interchanges of what was read were delivered to such a desk and answered by their lines.
 pub record DemoBegan (left left' written written' : Option (List ℕ)) : Type 0 where
   pub opening : MemoryDesk
   pub desk : MemoryDesk
   pub opens : OpensDemo opening
-  pub began : Began (DeskStands over_memory opening) (DeskAnswers over_memory opening) [] left left' written written' desk
+  pub began : Began (DeskStands over_memory opening)
+      (DeskAnswers over_memory opening) [] left left' written written' desk
 
 -- They were delivered to such a desk as far as lines could be written, of which the last was cut short.
 pub record DemoDelivered (left left' written written' : Option (List ℕ)) : Type 0 where
   pub opening : MemoryDesk
   pub desk : MemoryDesk
   pub opens : OpensDemo opening
-  pub delivered : Delivered (DeskStands over_memory opening) (DeskAnswers over_memory opening) [] left left' written written' desk
+  pub delivered : Delivered (DeskStands over_memory opening)
+      (DeskAnswers over_memory opening) [] left left' written written' desk
 
 -- how many reads of the input are made
 abbrev pub demo_turns : ℕ
@@ -77,7 +82,11 @@ DemoLeft left left' written written' (Stream Write) = DemoDelivered left left' w
 
 -- a fault of the reader or the writer comes only where it has failed and the other has not, and any other only where neither has
 abbrev pub IsOfPorts : (read_failed read_failed' write_failed write_failed' : Bool) → DemoFault → Type 0
-IsOfPorts read_failed read_failed' write_failed write_failed' (Store fault) = (read_failed' ≡ read_failed) × (write_failed' ≡ write_failed)
-IsOfPorts read_failed read_failed' write_failed write_failed' (Stream Read) = (read_failed' ≡ true) × (write_failed' ≡ write_failed)
-IsOfPorts read_failed read_failed' write_failed write_failed' (Stream Turns) = (read_failed' ≡ read_failed) × (write_failed' ≡ write_failed)
-IsOfPorts read_failed read_failed' write_failed write_failed' (Stream Write) = (write_failed' ≡ true) × (read_failed' ≡ read_failed)
+IsOfPorts read_failed read_failed' write_failed write_failed' (Store fault) =
+    (read_failed' ≡ read_failed) × (write_failed' ≡ write_failed)
+IsOfPorts read_failed read_failed' write_failed write_failed' (Stream Read) =
+    (read_failed' ≡ true) × (write_failed' ≡ write_failed)
+IsOfPorts read_failed read_failed' write_failed write_failed' (Stream Turns) =
+    (read_failed' ≡ read_failed) × (write_failed' ≡ write_failed)
+IsOfPorts read_failed read_failed' write_failed write_failed' (Stream Write) =
+    (write_failed' ≡ true) × (read_failed' ≡ read_failed)

@@ -13,7 +13,8 @@ use std::alloc::Global;
 /// not give is Damaged.
 pub fn open_desk(alloc: Global, setup: &Setup) -> Result<Desk<MemStore>, TableFault>
     requires few { length setup.now.partners.items ≤ 999 }
-    ensures opens { IfOk result (λ desk. IsGiven (setup_content setup.now) → OpensEmpty (setup_content setup.now) desk) }
+    ensures opens { IfOk result
+        (λ desk. IsGiven (setup_content setup.now) → OpensEmpty (setup_content setup.now) desk) }
 {
     let mut conn = Connection::open_in_memory(alloc)?;
     let is_idle = conn.is_autocommit();

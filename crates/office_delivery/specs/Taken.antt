@@ -5,7 +5,8 @@ use Rattle.office_history.specs.Cascade.{TakenContent}
 use Rattle.office_delivery.specs.declared.taken.Taken.{Taken}
 
 abbrev pub taken_content : Taken → TakenContent
-taken_content taken = record { number = taken.number; reply = string_bytes taken.reply; changes = map change_content taken.changes.items }
+taken_content taken =
+    record { number = taken.number; reply = string_bytes taken.reply; changes = map change_content taken.changes.items }
 
 abbrev pub taken_contents : List Taken → List TakenContent
 taken_contents taken = map taken_content taken

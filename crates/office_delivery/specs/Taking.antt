@@ -6,7 +6,8 @@ use Rattle.office_history.specs.Cascade.{TakenContent, text_in}
 use Rattle.office_history.specs.After.{AreKeptOnce}
 
 -- the partner's text is taken under that number, with that reply and those changes, and leaves that machine
-pub record IsTaken (partner number : ℕ) (text : List ℕ) (old : MachineState) (taken : TakenContent) (new : MachineState) : Type 0 where
+pub record IsTaken (partner number : ℕ) (text : List ℕ) (old : MachineState) (taken : TakenContent)
+    (new : MachineState) : Type 0 where
   pub number_is : taken.number ≡ number
   pub takes : interchange_taken old partner text ≡ (new, taken.reply)
   pub changes_are : taken.changes ≡ interchange_changes old partner text

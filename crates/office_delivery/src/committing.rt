@@ -22,10 +22,15 @@ pub fn write_run<S: Alter>(
     requires idle { (state S.Store conn.old).in_transaction ≡ false }
     requires numbers { All (λ t. t.number < 1000000000) taken.now }
     ensures idle { (state S.Store conn.new).in_transaction ≡ false }
-    ensures ok { HasCleanDisk (state S.Store conn.new) → OnOk result (Commits (with_run partner number text.now (taken_contents taken.now)) (state S.Store conn.old) (state S.Store conn.new)) }
-    ensures was_open { HasCleanDisk (state S.Store conn.new) → IsTrue (state S.Store conn.new).is_open → IsTrue (state S.Store conn.old).is_open }
-    ensures err { HasCleanDisk (state S.Store conn.new) → IsTrue (state S.Store conn.new).is_open → OnErr result (IsUndone (state S.Store conn.old) (state S.Store conn.new)) }
-    ensures crash { Survives (state S.Store conn.old) (state S.Store conn.new) (IsWhole (with_run partner number text.now (taken_contents taken.now)) (state S.Store conn.old)) }
+    ensures ok { HasCleanDisk (state S.Store conn.new) →
+        OnOk result (Commits (with_run partner number text.now (taken_contents taken.now)) (state S.Store conn.old)
+        (state S.Store conn.new)) }
+    ensures was_open { HasCleanDisk (state S.Store conn.new) → IsTrue (state S.Store conn.new).is_open →
+        IsTrue (state S.Store conn.old).is_open }
+    ensures err { HasCleanDisk (state S.Store conn.new) → IsTrue (state S.Store conn.new).is_open →
+        OnErr result (IsUndone (state S.Store conn.old) (state S.Store conn.new)) }
+    ensures crash { Survives (state S.Store conn.old) (state S.Store conn.new)
+        (IsWhole (with_run partner number text.now (taken_contents taken.now)) (state S.Store conn.old)) }
 {
     let is_idle = conn.is_autocommit();
     prove!(is_idle);
@@ -43,10 +48,14 @@ pub fn write_early<S: Alter>(
 ) -> Result<(), TableFault>
     requires idle { (state S.Store conn.old).in_transaction ≡ false }
     ensures idle { (state S.Store conn.new).in_transaction ≡ false }
-    ensures ok { HasCleanDisk (state S.Store conn.new) → OnOk result (Commits (with_kept partner number text.now) (state S.Store conn.old) (state S.Store conn.new)) }
-    ensures was_open { HasCleanDisk (state S.Store conn.new) → IsTrue (state S.Store conn.new).is_open → IsTrue (state S.Store conn.old).is_open }
-    ensures err { HasCleanDisk (state S.Store conn.new) → IsTrue (state S.Store conn.new).is_open → OnErr result (IsUndone (state S.Store conn.old) (state S.Store conn.new)) }
-    ensures crash { Survives (state S.Store conn.old) (state S.Store conn.new) (IsWhole (with_kept partner number text.now) (state S.Store conn.old)) }
+    ensures ok { HasCleanDisk (state S.Store conn.new) →
+        OnOk result (Commits (with_kept partner number text.now) (state S.Store conn.old) (state S.Store conn.new)) }
+    ensures was_open { HasCleanDisk (state S.Store conn.new) → IsTrue (state S.Store conn.new).is_open →
+        IsTrue (state S.Store conn.old).is_open }
+    ensures err { HasCleanDisk (state S.Store conn.new) → IsTrue (state S.Store conn.new).is_open →
+        OnErr result (IsUndone (state S.Store conn.old) (state S.Store conn.new)) }
+    ensures crash { Survives (state S.Store conn.old) (state S.Store conn.new)
+        (IsWhole (with_kept partner number text.now) (state S.Store conn.old)) }
 {
     write_run(conn, partner, number, text, &[])
 }
@@ -54,10 +63,16 @@ pub fn write_early<S: Alter>(
 // Commits what a transaction wrote, or nothing of it.
 fn commit<S: Alter>(tx: Transaction<'_, S>) -> Result<(), TableFault>
     ensures ended { (state S.Store tx.exit.0.now).in_transaction ≡ false }
-    ensures ok { HasCleanDisk (state S.Store tx.exit.0.now) → OnOk result (Shows (state S.Store tx.entry.conn.now) (state S.Store tx.exit.0.now) (state S.Store tx.entry.conn.now).now (state S.Store tx.entry.conn.now).now false) }
-    ensures was_open { HasCleanDisk (state S.Store tx.exit.0.now) → IsTrue (state S.Store tx.exit.0.now).is_open → IsTrue (state S.Store tx.entry.conn.now).is_open }
-    ensures err { HasCleanDisk (state S.Store tx.exit.0.now) → IsTrue (state S.Store tx.entry.conn.now).in_transaction → IsTrue (state S.Store tx.exit.0.now).is_open → OnErr result (IsUndone (state S.Store tx.entry.conn.now) (state S.Store tx.exit.0.now)) }
-    ensures survives { Survives (state S.Store tx.entry.conn.now) (state S.Store tx.exit.0.now) (λ db. db ≡ (state S.Store tx.entry.conn.now).now.trees) }
+    ensures ok { HasCleanDisk (state S.Store tx.exit.0.now) →
+        OnOk result (Shows (state S.Store tx.entry.conn.now) (state S.Store tx.exit.0.now)
+        (state S.Store tx.entry.conn.now).now (state S.Store tx.entry.conn.now).now false) }
+    ensures was_open { HasCleanDisk (state S.Store tx.exit.0.now) → IsTrue (state S.Store tx.exit.0.now).is_open →
+        IsTrue (state S.Store tx.entry.conn.now).is_open }
+    ensures err { HasCleanDisk (state S.Store tx.exit.0.now) → IsTrue (state S.Store tx.entry.conn.now).in_transaction →
+        IsTrue (state S.Store tx.exit.0.now).is_open →
+        OnErr result (IsUndone (state S.Store tx.entry.conn.now) (state S.Store tx.exit.0.now)) }
+    ensures survives { Survives (state S.Store tx.entry.conn.now) (state S.Store tx.exit.0.now)
+        (λ db. db ≡ (state S.Store tx.entry.conn.now).now.trees) }
 {
     tx.commit()?;
     Ok(())

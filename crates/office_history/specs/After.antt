@@ -22,7 +22,8 @@ use Rattle.office_history.specs.Cascade.{text_in}
 -- ---- the machine of a set-up
 
 abbrev pub parties_in : SetupContent → Parties
-parties_in content = record { terminal = content.terminal; partners = map (λ (account : List ℕ × PartnerKind). account.0) content.partners }
+parties_in content = record { terminal = content.terminal;
+    partners = map (λ (account : List ℕ × PartnerKind). account.0) content.partners }
 
 abbrev pub machine_with : SetupContent → TerminalState → MachineState
 machine_with content terminal = record {
@@ -62,7 +63,8 @@ machine_after content ds = state interchange_taken (opening_of content) (deliver
 -- the accounts by id, from this one on, each with its partner's next number
 abbrev pub accounts_from : ℕ → (ℕ → ℕ) → List (List ℕ × PartnerKind) → List Partner
 accounts_from id next [] = []
-accounts_from id next (account ∷ accounts) = (record { id = id; code = account.0; kind = account.1; next = next id }) ∷ accounts_from (id + 1) next accounts
+accounts_from id next (account ∷ accounts) =
+    (record { id = id; code = account.0; kind = account.1; next = next id }) ∷ accounts_from (id + 1) next accounts
 
 -- an empty reply is that of an interchange that waits
 abbrev pub reply_if_any : List ℕ → Option (List ℕ)
@@ -71,7 +73,8 @@ reply_if_any (byte ∷ bytes) = Some (byte ∷ bytes)
 
 -- the reply that is kept for a partner's number
 abbrev pub reply_in : Rows → ℕ → ℕ → Option (List ℕ)
-reply_in rows partner number = option_and_then (λ (i : Interchange). reply_if_any i.reply) (find (is_pair partner number) rows.interchanges)
+reply_in rows partner number =
+    option_and_then (λ (i : Interchange). reply_if_any i.reply) (find (is_pair partner number) rows.interchanges)
 
 -- no number of a partner has two interchanges
 abbrev pub AreKeptOnce : List Interchange → Type 0
@@ -82,7 +85,9 @@ AreKeptOnce interchanges = (partner number : ℕ) → count_by (is_pair partner 
 pub record AreAfter (content : SetupContent) (ds : List (List ℕ)) (rows : Rows) : Type 0 where
   pub partners : rows.partners ≡ accounts_from 1 (λ partner. run (delivered_to content ds) partner + 1) content.partners
   pub texts : (partner number : ℕ) → text_in rows partner number ≡ first_text (delivered_to content ds) partner number
-  pub replies : (partner number : ℕ) → reply_in rows partner number ≡ reply_of interchange_taken (opening_of content) (delivered_to content ds) partner number
+  pub replies : (partner number : ℕ) →
+      reply_in rows partner number
+      ≡ reply_of interchange_taken (opening_of content) (delivered_to content ds) partner number
   pub kept_once : AreKeptOnce rows.interchanges
   pub terminal : terminal_rows rows ≡ rows_of (machine_after content ds).terminal
   pub placed_once : ArePlacedOnce rows.places

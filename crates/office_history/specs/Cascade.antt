@@ -25,7 +25,8 @@ with_interchange partner taken rows = with_taken partner taken.number taken.repl
 
 -- each of these interchanges of the partner, one after the other
 abbrev pub with_interchanges : ℕ → List TakenContent → Rows → Rows
-with_interchanges partner taken rows = fold (λ (done : Rows) (t : TakenContent). with_interchange partner t done) rows taken
+with_interchanges partner taken rows =
+    fold (λ (done : Rows) (t : TakenContent). with_interchange partner t done) rows taken
 
 -- a text is kept under its number, and then it and those behind it are taken
 abbrev pub with_run : ℕ → ℕ → List ℕ → List TakenContent → Rows → Rows

@@ -34,7 +34,8 @@ pub record AreRowsByKey (rows : Rows) (terminal : TerminalRows) : Type 0 where
 -- applicable changes make of the tables' rows what they make of the terminal's
 abbrev pub ChangesAgree : Type 0
 ChangesAgree =
-    (rows : Rows) (terminal : TerminalRows) (changes : List ChangeContent) → AreRowsByKey rows terminal → AreApplicable terminal changes
+    (rows : Rows) (terminal : TerminalRows) (changes : List ChangeContent) → AreRowsByKey rows terminal →
+        AreApplicable terminal changes
     → AreRowsByKey (with_changes changes rows) (all_changed terminal changes)
 
 -- ---- before anything was delivered
@@ -45,83 +46,102 @@ OpeningIsAfterNone = (content : SetupContent) → AreAfter content [] (opening_r
 
 -- what deliveries leave of a given set-up is sound
 abbrev pub DeliveriesLeaveSound : Type 0
-DeliveriesLeaveSound = (content : SetupContent) (ds : List (List ℕ)) → IsGiven content → IsSoundMachine (machine_after content ds)
+DeliveriesLeaveSound =
+    (content : SetupContent) (ds : List (List ℕ)) → IsGiven content → IsSoundMachine (machine_after content ds)
 
 -- ---- what the rows tell
 
 -- a text is kept for an account, under a number of an interchange
 abbrev pub NumbersAreWithin : Type 0
 NumbersAreWithin =
-    (content : SetupContent) (ds : List (List ℕ)) (rows : Rows) (partner number : ℕ) (text : List ℕ) → AreAfter content ds rows → text_in rows partner number ≡ Some text
+    (content : SetupContent) (ds : List (List ℕ)) (rows : Rows) (partner number : ℕ) (text : List ℕ) →
+        AreAfter content ds rows → text_in rows partner number ≡ Some text
     → (1 ≤ partner) × (partner ≤ length content.partners) × (1 ≤ number) × (number ≤ 999999999)
 
 -- an account's next number is the one after its partner's run
 abbrev pub NextFollowsRun : Type 0
 NextFollowsRun =
-    (content : SetupContent) (ds : List (List ℕ)) (rows : Rows) (account : Partner) → AreAfter content ds rows → Contains rows.partners account
+    (content : SetupContent) (ds : List (List ℕ)) (rows : Rows) (account : Partner) → AreAfter content ds rows →
+        Contains rows.partners account
     → account.next ≡ run (delivered_to content ds) account.id + 1
 
 -- ---- one delivery more
 
 -- the text is admitted for that partner under that number
 abbrev pub IsFor : SetupContent → List ℕ → ℕ → ℕ → Type 0
-IsFor content delivered partner number = admission (parties_in content) (interchange_of delivered) ≡ Ok (partner, number)
+IsFor content delivered partner number =
+    admission (parties_in content) (interchange_of delivered) ≡ Ok (partner, number)
 
 -- the rows are those after the delivery too, and the terminal is as it was
 pub record AddsNoRow (content : SetupContent) (ds : List (List ℕ)) (delivered : List ℕ) (rows : Rows) : Type 0 where
   pub rows_are : AreAfter content (ds ++ delivered ∷ []) rows
   pub machine : machine_after content (ds ++ delivered ∷ []) ≡ machine_after content ds
-  pub runs : (partner : ℕ) → run (delivered_to content (ds ++ delivered ∷ [])) partner ≡ run (delivered_to content ds) partner
+  pub runs : (partner : ℕ) →
+      run (delivered_to content (ds ++ delivered ∷ [])) partner ≡ run (delivered_to content ds) partner
 
 -- what is refused adds nothing
 abbrev pub RefusedAddsNoRow : Type 0
 RefusedAddsNoRow =
-    (content : SetupContent) (ds : List (List ℕ)) (rows : Rows) (delivered : List ℕ) (fault : Fault) → AreAfter content ds rows → admission (parties_in content) (interchange_of delivered) ≡ Err fault
+    (content : SetupContent) (ds : List (List ℕ)) (rows : Rows) (delivered : List ℕ) (fault : Fault) →
+        AreAfter content ds rows → admission (parties_in content) (interchange_of delivered) ≡ Err fault
     → AddsNoRow content ds delivered rows
 
 -- a text under a number that is used adds nothing
 abbrev pub UsedAddsNoRow : Type 0
 UsedAddsNoRow =
-    (content : SetupContent) (ds : List (List ℕ)) (rows : Rows) (delivered : List ℕ) (partner number : ℕ) (kept : List ℕ) → AreAfter content ds rows → IsFor content delivered partner number
+    (content : SetupContent) (ds : List (List ℕ)) (rows : Rows) (delivered : List ℕ) (partner number : ℕ)
+        (kept : List ℕ) → AreAfter content ds rows → IsFor content delivered partner number
     → text_in rows partner number ≡ Some kept → AddsNoRow content ds delivered rows
 
 -- a text before its time is kept
 pub record AddsWaiting (content : SetupContent) (ds : List (List ℕ)) (delivered : List ℕ) (rows : Rows) : Type 0 where
   pub rows_are : AreAfter content (ds ++ delivered ∷ []) rows
   pub machine : machine_after content (ds ++ delivered ∷ []) ≡ machine_after content ds
-  pub runs : (partner : ℕ) → run (delivered_to content (ds ++ delivered ∷ [])) partner ≡ run (delivered_to content ds) partner
+  pub runs : (partner : ℕ) →
+      run (delivered_to content (ds ++ delivered ∷ [])) partner ≡ run (delivered_to content ds) partner
 
 abbrev pub EarlyAddsWaiting : Type 0
 EarlyAddsWaiting =
-    (content : SetupContent) (ds : List (List ℕ)) (rows : Rows) (delivered : List ℕ) (partner number : ℕ) → AreAfter content ds rows → IsFor content delivered partner number
+    (content : SetupContent) (ds : List (List ℕ)) (rows : Rows) (delivered : List ℕ) (partner number : ℕ) →
+        AreAfter content ds rows → IsFor content delivered partner number
     → text_in rows partner number ≡ None → run (delivered_to content ds) partner + 1 < number
     → AddsWaiting content ds delivered (with_kept partner number (interchange_of delivered) rows)
 
 -- the text that is next is taken, and each that becomes next by it
-pub record AddsRun (content : SetupContent) (ds : List (List ℕ)) (delivered : List ℕ) (partner count : ℕ) (rows : Rows) (machine : MachineState) : Type 0 where
+pub record AddsRun (content : SetupContent) (ds : List (List ℕ)) (delivered : List ℕ) (partner count : ℕ) (rows : Rows)
+    (machine : MachineState) : Type 0 where
   pub rows_are : AreAfter content (ds ++ delivered ∷ []) rows
   pub machine_is : machine ≡ machine_after content (ds ++ delivered ∷ [])
   pub run_is : run (delivered_to content (ds ++ delivered ∷ [])) partner ≡ run (delivered_to content ds) partner + count
-  pub other_runs : (other : ℕ) → (other ≡ partner → ⊥) → run (delivered_to content (ds ++ delivered ∷ [])) other ≡ run (delivered_to content ds) other
+  pub other_runs : (other : ℕ) → (other ≡ partner → ⊥) →
+      run (delivered_to content (ds ++ delivered ∷ [])) other ≡ run (delivered_to content ds) other
 
 abbrev pub NextAddsRun : Type 0
 NextAddsRun =
-    (content : SetupContent) (ds : List (List ℕ)) (rows : Rows) (delivered : List ℕ) (partner number : ℕ) (taken : List TakenContent) (machine : MachineState)
+    (content : SetupContent) (ds : List (List ℕ)) (rows : Rows) (delivered : List ℕ) (partner number : ℕ)
+        (taken : List TakenContent) (machine : MachineState)
     → IsGiven content → AreAfter content ds rows → IsFor content delivered partner number
     → text_in rows partner number ≡ None → number ≡ run (delivered_to content ds) partner + 1
-    → AreTakenFrom partner (texts_with rows partner number (interchange_of delivered)) number (machine_after content ds) taken machine
-    → AddsRun content ds delivered partner (length taken) (with_run partner number (interchange_of delivered) taken rows) machine
+    → AreTakenFrom partner (texts_with rows partner number (interchange_of delivered)) number
+        (machine_after content ds) taken machine
+    → AddsRun content ds delivered partner (length taken)
+        (with_run partner number (interchange_of delivered) taken rows) machine
 
 -- ---- answers
 
 -- what is told of the text under that number, after those deliveries
 abbrev pub told_of : SetupContent → List (List ℕ) → ℕ → ℕ → List ℕ → Told
-told_of content ds partner number delivered = answer_of interchange_taken (opening_of content) (delivered_to content ds) (delivery partner number (interchange_of delivered))
+told_of content ds partner number delivered =
+    answer_of interchange_taken (opening_of content) (delivered_to content ds)
+    (delivery partner number (interchange_of delivered))
 
 -- how the rows tell the answer
-pub record AnswersBy (content : SetupContent) (ds : List (List ℕ)) (rows : Rows) (delivered : List ℕ) (partner number : ℕ) : Type 0 where
-  pub clash : (kept : List ℕ) → text_in rows partner number ≡ Some kept → (kept ≡ interchange_of delivered → ⊥) → told_of content ds partner number delivered ≡ Clash
-  pub repeat : (reply : List ℕ) → text_in rows partner number ≡ Some (interchange_of delivered) → reply_in rows partner number ≡ Some reply
+pub record AnswersBy (content : SetupContent) (ds : List (List ℕ)) (rows : Rows) (delivered : List ℕ)
+    (partner number : ℕ) : Type 0 where
+  pub clash : (kept : List ℕ) → text_in rows partner number ≡ Some kept → (kept ≡ interchange_of delivered → ⊥) →
+      told_of content ds partner number delivered ≡ Clash
+  pub repeat : (reply : List ℕ) → text_in rows partner number ≡ Some (interchange_of delivered) →
+      reply_in rows partner number ≡ Some reply
       → told_of content ds partner number delivered ≡ Repeat (Some reply)
   pub waits : text_in rows partner number ≡ Some (interchange_of delivered) → reply_in rows partner number ≡ None
       → told_of content ds partner number delivered ≡ Waiting (run (delivered_to content ds) partner + 1)
@@ -129,12 +149,14 @@ pub record AnswersBy (content : SetupContent) (ds : List (List ℕ)) (rows : Row
       → told_of content ds partner number delivered ≡ Waiting (run (delivered_to content ds) partner + 1)
   pub next : (first : TakenContent) (later : List TakenContent) (machine : MachineState) → IsGiven content
       → text_in rows partner number ≡ None → number ≡ run (delivered_to content ds) partner + 1
-      → AreTakenFrom partner (texts_with rows partner number (interchange_of delivered)) number (machine_after content ds) (first ∷ later) machine
+      → AreTakenFrom partner (texts_with rows partner number (interchange_of delivered)) number
+          (machine_after content ds) (first ∷ later) machine
       → told_of content ds partner number delivered ≡ Taken (Some first.reply)
 
 abbrev pub RowsAnswer : Type 0
 RowsAnswer =
-    (content : SetupContent) (ds : List (List ℕ)) (rows : Rows) (delivered : List ℕ) (partner number : ℕ) → AreAfter content ds rows → IsFor content delivered partner number
+    (content : SetupContent) (ds : List (List ℕ)) (rows : Rows) (delivered : List ℕ) (partner number : ℕ) →
+        AreAfter content ds rows → IsFor content delivered partner number
     → AnswersBy content ds rows delivered partner number
 
 -- ---- opening again
@@ -142,7 +164,8 @@ RowsAnswer =
 -- what the queries of all rows show gives the terminal back that the deliveries left
 abbrev pub LoadingGivesState : Type 0
 LoadingGivesState =
-    (content : SetupContent) (ds : List (List ℕ)) (rows : Rows) (db : Database) (shown : OpenedRows) (other : SetupContent) (state : TerminalState)
+    (content : SetupContent) (ds : List (List ℕ)) (rows : Rows) (db : Database) (shown : OpenedRows)
+        (other : SetupContent) (state : TerminalState)
     → IsGiven content → AreAfter content ds rows → HasRows rows db → Shows db shown → IsOffice shown other state
     → state ≡ (machine_after content ds).terminal
 
@@ -153,12 +176,14 @@ pub record Reopens (content : SetupContent) (ds : List (List ℕ)) (rows : Rows)
 
 abbrev pub LoadingGivesSetup : Type 0
 LoadingGivesSetup =
-    (content : SetupContent) (ds : List (List ℕ)) (rows : Rows) (db : Database) (shown : OpenedRows) (other : SetupContent) (state : TerminalState)
+    (content : SetupContent) (ds : List (List ℕ)) (rows : Rows) (db : Database) (shown : OpenedRows)
+        (other : SetupContent) (state : TerminalState)
     → AreAfter content ds rows → IsGiven content → HasRows rows db → Shows db shown → IsOffice shown other state
     → Reopens content ds rows other
 
 -- whatever was delivered, the queries of all rows show those of an office: its own rows are never found damaged
 abbrev pub RowsAreAnOffice : Type 0
 RowsAreAnOffice =
-    (content : SetupContent) (ds : List (List ℕ)) (rows : Rows) (db : Database) → IsGiven content → AreAfter content ds rows → HasRows rows db
+    (content : SetupContent) (ds : List (List ℕ)) (rows : Rows) (db : Database) → IsGiven content →
+        AreAfter content ds rows → HasRows rows db
     → (shown : OpenedRows) × (state : TerminalState) × Shows db shown × IsOffice shown content state

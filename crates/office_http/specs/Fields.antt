@@ -24,4 +24,5 @@ said_length [] (digits ∷ more ∷ others) = Err BadRequest
 
 -- the length of the body, or why there is none
 abbrev pub body_length : List (List ℕ × List ℕ) → Result ℕ Refusal
-body_length fields = said_length (values_of (codes "Transfer-Encoding") fields) (values_of (codes "Content-Length") fields)
+body_length fields = said_length (values_of (codes "Transfer-Encoding") fields)
+    (values_of (codes "Content-Length") fields)

@@ -16,7 +16,8 @@ abbrev pub HasNoHead : ℕ → ℕ → List ℕ → Type 0
 HasNoHead bytes fields stream = (head : RequestHead) (rest : List ℕ) → ¬ (IsHead bytes fields stream head rest)
 
 -- the spans are those of the head of the stream, of which the reader has the rest behind the bytes in the buffer
-pub record HasHead (bytes fields : ℕ) (stream left : List ℕ) (buffer : List ℕ) (headers : List HeaderSpan) (found : FoundHead) : Type 0 where
+pub record HasHead (bytes fields : ℕ) (stream left : List ℕ) (buffer : List ℕ) (headers : List HeaderSpan)
+    (found : FoundHead) : Type 0 where
   pub stream_is : stream ≡ take found.filled buffer ++ left
   pub head : RequestHead
   pub is_head : IsHead bytes fields stream head (drop found.spans.len (take found.filled buffer) ++ left)
@@ -25,4 +26,5 @@ pub record HasHead (bytes fields : ℕ) (stream left : List ℕ) (buffer : List 
 abbrev pub FindsHead : ℕ → ℕ → List ℕ → Option (List ℕ) → List ℕ → List HeaderSpan → Option FoundHead → Type 0
 FindsHead bytes fields stream left buffer headers None = HasNoHead bytes fields stream
 FindsHead bytes fields stream None buffer headers (Some found) = ⊥
-FindsHead bytes fields stream (Some left) buffer headers (Some found) = HasHead bytes fields stream left buffer headers found
+FindsHead bytes fields stream (Some left) buffer headers (Some found) =
+    HasHead bytes fields stream left buffer headers found

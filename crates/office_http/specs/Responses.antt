@@ -11,7 +11,8 @@ media_type Json = codes "application/json"
 media_type Text = codes "text/plain"
 
 unfoldable pub status_line : ℕ → List ℕ
-status_line status = codes "HTTP/1.1 " ++ (code_digits status ++ (codes " " ++ (unwrap_or (reason_phrase status) (codes "") ++ codes "\r\n")))
+status_line status = codes "HTTP/1.1 "
+    ++ (code_digits status ++ (codes " " ++ (unwrap_or (reason_phrase status) (codes "") ++ codes "\r\n")))
 
 unfoldable pub field_line : List ℕ → List ℕ → List ℕ
 field_line name value = name ++ (codes ": " ++ (value ++ codes "\r\n"))

@@ -44,7 +44,8 @@ Does stands answers tells ds (Delivery body) old new bytes =
     (response : Response) × Delivers stands answers ds body.items response new × (bytes ≡ answer_bytes response)
 Does stands answers tells ds (Report kind query) old new bytes =
     stands ds new
-    × (((found : Option (List ℕ)) × tells old query found × (bytes ≡ report_bytes kind found)) ⊎ (bytes ≡ refusal_bytes NotNow))
+    × (((found : Option (List ℕ)) × tells old query found × (bytes ≡ report_bytes kind found))
+        ⊎ (bytes ≡ refusal_bytes NotNow))
 Does stands answers tells ds (Refused refusal) old new bytes = (new ≡ old) × (bytes ≡ refusal_bytes refusal)
 
 -- a refusal, whatever office it is: it isn't touched, and these bytes are written
@@ -54,25 +55,30 @@ Refuses (Report kind query) old new IsWritten = Unit {0}
 Refuses (Refused refusal) old new IsWritten = (new ≡ old) × IsWritten (refusal_bytes refusal)
 
 -- what a stream asks for was done
-pub record Serves {D : Type 0} (stands : List (List ℕ) → D → Type 0) (answers : List (List ℕ) → List ℕ → Response → Type 0)
-    (tells : D → Query → Option (List ℕ) → Type 0) (ds : List (List ℕ)) (stream : List ℕ) (old new : D) (bytes : List ℕ) : Type 0 where
+pub record Serves {D : Type 0} (stands : List (List ℕ) → D → Type 0)
+    (answers : List (List ℕ) → List ℕ → Response → Type 0)
+    (tells : D → Query → Option (List ℕ) → Type 0) (ds : List (List ℕ)) (stream : List ℕ) (old new : D)
+        (bytes : List ℕ) : Type 0 where
   pub request : Request
   pub asks : Asks stream request
   pub does : Does stands answers tells ds request old new bytes
 
 -- what a stream asks for was done, and exactly its answer was written
 abbrev pub AnswersTo : {D : Type 0} → (List (List ℕ) → D → Type 0) → (List (List ℕ) → List ℕ → Response → Type 0)
-    → (D → Query → Option (List ℕ) → Type 0) → List (List ℕ) → List ℕ → D → D → Option (List ℕ) → Option (List ℕ) → Type 0
+    → (D → Query → Option (List ℕ) → Type 0) → List (List ℕ) → List ℕ → D → D → Option (List ℕ) → Option (List ℕ) →
+        Type 0
 AnswersTo stands answers tells ds stream old new written written' =
     (bytes : List ℕ) × Serves stands answers tells ds stream old new bytes × Appends written written' bytes
 
 -- at most one text was delivered
-abbrev pub AtMostOne : {D : Type 0} → (List (List ℕ) → D → Type 0) → (List (List ℕ) → List ℕ → Response → Type 0) → List (List ℕ) → D → Type 0
+abbrev pub AtMostOne : {D : Type 0} → (List (List ℕ) → D → Type 0) → (List (List ℕ) → List ℕ → Response → Type 0) →
+    List (List ℕ) → D → Type 0
 AtMostOne stands answers ds new =
     stands ds new ⊎ ((text : List ℕ) × (response : Response) × Delivers stands answers ds text response new)
 
 -- at most so many texts were delivered, each answered at its place
-pub record AtMost {D : Type 0} (stands : List (List ℕ) → D → Type 0) (answers : List (List ℕ) → List ℕ → Response → Type 0)
+pub record AtMost {D : Type 0} (stands : List (List ℕ) → D → Type 0)
+    (answers : List (List ℕ) → List ℕ → Response → Type 0)
     (ds : List (List ℕ)) (count : ℕ) (new : D) : Type 0 where
   pub texts : List (List ℕ)
   pub responses : List Response

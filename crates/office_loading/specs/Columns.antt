@@ -70,7 +70,8 @@ SaysLetter value letter = value ≡ Text (letter ∷ [])
 
 -- the partner in one column, the number in the next
 abbrev pub SaysSource : ℕ → Row → Source → Type 0
-SaysSource at row source = (columns_at (at ∷ (at + 1) ∷ []) row ≡ number source.partner ∷ number source.number ∷ []) × FitsSource source
+SaysSource at row source =
+    (columns_at (at ∷ (at + 1) ∷ []) row ≡ number source.partner ∷ number source.number ∷ []) × FitsSource source
 
 abbrev pub arrival_values : Arrival → Row
 arrival_values arrival =
@@ -81,7 +82,9 @@ abbrev pub SaysArrival : Row → Arrival → Type 0
 SaysArrival row arrival = (columns_at (5 ∷ 6 ∷ 7 ∷ 8 ∷ 9 ∷ []) row ≡ arrival_values arrival) × FitsArrival arrival
 
 abbrev pub exit_values : Option Departure → Row
-exit_values departure = number (out_by departure) ∷ number (out_partner departure) ∷ number (out_number departure) ∷ Text (out_at departure) ∷ []
+exit_values departure =
+    number (out_by departure) ∷ number (out_partner departure) ∷ number (out_number departure)
+    ∷ Text (out_at departure) ∷ []
 
 -- no interchange and no moment
 abbrev pub IsOpen : Row → Type 0
@@ -97,10 +100,13 @@ SaysPartner row partner = (columns_at (0 ∷ 1 ∷ 2 ∷ 3 ∷ []) row ≡ partn
 
 -- whatever the reply says
 abbrev pub SaysNumbered : Row → Numbered → Type 0
-SaysNumbered row n = (i : Interchange) × (columns_at (0 ∷ 1 ∷ 2 ∷ []) row ≡ reply_values i) × (n ≡ numbered i) × FitsNumber n
+SaysNumbered row n = (i : Interchange) × (columns_at (0 ∷ 1 ∷ 2 ∷ []) row ≡ reply_values i) × (n ≡ numbered i)
+    × FitsNumber n
 
 abbrev pub SaysVisit : Row → VisitContent → Type 0
-SaysVisit row visit = (columns_at (0 ∷ 1 ∷ 2 ∷ 3 ∷ 4 ∷ 5 ∷ 6 ∷ 7 ∷ 8 ∷ 9 ∷ 10 ∷ 11 ∷ 12 ∷ 13 ∷ []) row ≡ visit_values visit) × FitsVisit visit
+SaysVisit row visit =
+    (columns_at (0 ∷ 1 ∷ 2 ∷ 3 ∷ 4 ∷ 5 ∷ 6 ∷ 7 ∷ 8 ∷ 9 ∷ 10 ∷ 11 ∷ 12 ∷ 13 ∷ []) row ≡ visit_values visit)
+    × FitsVisit visit
 
 abbrev pub SaysPlace : Row → PlaceContent → Type 0
 SaysPlace row place = (columns_at (0 ∷ 1 ∷ 2 ∷ []) row ≡ place_values place) × FitsPlace place

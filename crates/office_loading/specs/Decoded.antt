@@ -38,6 +38,7 @@ FailsOne is_said given Version = ⊥
 FailsOne is_said given (Store error) = ⊥
 
 -- what is read says them, one after the other
-abbrev pub DecodesAll : {A X Z : Type 0} → (A → X → Type 0) → (A → Type 0) → List A → Result (Vec X Z) TableFault → Type 0
+abbrev pub DecodesAll : {A X Z : Type 0} → (A → X → Type 0) → (A → Type 0) → List A → Result (Vec X Z) TableFault →
+    Type 0
 DecodesAll says is_said given (Ok read) = AllZip says given read.items
 DecodesAll says is_said given (Err fault) = FailsOne is_said given fault

@@ -26,7 +26,8 @@ abbrev pub ShowsPartners : Database → List Partner → Type 0
 ShowsPartners db all = ShowsTable table.partner (0 ∷ 1 ∷ 2 ∷ 3 ∷ []) (0 ∷ []) db (map partner_values all)
 
 abbrev pub ShowsVisits : Database → List VisitContent → Type 0
-ShowsVisits db all = ShowsTable table.visit (0 ∷ 1 ∷ 2 ∷ 3 ∷ 4 ∷ 5 ∷ 6 ∷ 7 ∷ 8 ∷ 9 ∷ 10 ∷ 11 ∷ 12 ∷ 13 ∷ []) (0 ∷ []) db (map visit_values all)
+ShowsVisits db all = ShowsTable table.visit (0 ∷ 1 ∷ 2 ∷ 3 ∷ 4 ∷ 5 ∷ 6 ∷ 7 ∷ 8 ∷ 9 ∷ 10 ∷ 11 ∷ 12 ∷ 13 ∷ [])
+    (0 ∷ []) db (map visit_values all)
 
 abbrev pub ShowsPlaces : Database → List PlaceContent → Type 0
 ShowsPlaces db all = ShowsTable table.place (0 ∷ 1 ∷ 2 ∷ []) (0 ∷ []) db (map place_values all)
@@ -48,7 +49,8 @@ FailsTable Fits Shown (Store error) = Unit {0}
 FailsTable Fits Shown Version = ⊥
 
 -- what is read is what the table shows, and fits
-abbrev pub ReadsTable : {X C Z : Type 0} → (X → C) → (C → Type 0) → (List C → Type 0) → Result (Vec X Z) TableFault → Type 0
+abbrev pub ReadsTable : {X C Z : Type 0} → (X → C) → (C → Type 0) → (List C → Type 0) → Result (Vec X Z) TableFault →
+    Type 0
 ReadsTable content Fits Shown (Ok read) = Shown (map content read.items) × AllByRecursion Fits (map content read.items)
 ReadsTable content Fits Shown (Err fault) = FailsTable Fits Shown fault
 
@@ -56,7 +58,8 @@ ReadsTable content Fits Shown (Err fault) = FailsTable Fits Shown fault
 
 -- the table of settings has the version that this office reads
 abbrev pub HasVersion : Database → Type 0
-HasVersion db = Contains (map (columns_of table.setting) (db.trees table.setting.tree)) (setting_values (setting (codes "version") (codes "1")))
+HasVersion db = Contains (map (columns_of table.setting) (db.trees table.setting.tree))
+    (setting_values (setting (codes "version") (codes "1")))
 
 -- the version is another one, or it is this and the settings can't be read
 abbrev pub FailsSettings : Database → TableFault → Type 0
@@ -98,7 +101,8 @@ Loads db content state = (rows : OpenedRows) × Shows db rows × IsOffice rows c
 
 -- whatever rows the tables show, they are those of no office
 abbrev pub ShowsNoOffice : Database → Type 0
-ShowsNoOffice db = (rows : OpenedRows) (content : SetupContent) (state : TerminalState) → Shows db rows → ¬ IsOffice rows content state
+ShowsNoOffice db = (rows : OpenedRows) (content : SetupContent) (state : TerminalState) → Shows db rows →
+    ¬ IsOffice rows content state
 
 -- the version is another one; or it is this and the tables show no office
 abbrev pub FailsToLoad : Database → TableFault → Type 0

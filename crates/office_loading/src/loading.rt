@@ -22,15 +22,21 @@ pub fn load<S: Alter>(
     alloc: Global,
     conn: &mut Connection<S>,
 ) -> Result<(Setup, Terminal), TableFault>
-    ensures loaded { HasCleanDisk (state S.Store conn.new) → (state S.Store conn.old).now.schema ≡ office_schema → IfOk result (λ p. Loads (state S.Store conn.old).now (setup_content p.0) p.1) }
+    ensures loaded { HasCleanDisk (state S.Store conn.new) → (state S.Store conn.old).now.schema ≡ office_schema →
+        IfOk result (λ p. Loads (state S.Store conn.old).now (setup_content p.0) p.1) }
     ensures given { IfOk result (λ p. IsGiven (setup_content p.0)) }
-    ensures refused { HasCleanDisk (state S.Store conn.new) → (state S.Store conn.old).now.schema ≡ office_schema → IfErr result (FailsToLoad (state S.Store conn.old).now) }
-    ensures same { HasCleanDisk (state S.Store conn.new) → (state S.Store conn.old).now.schema ≡ office_schema → OnOk result (IsUnchanged (state S.Store conn.old) (state S.Store conn.new)) }
-    ensures keeps { HasCleanDisk (state S.Store conn.new) → (state S.Store conn.old).now.schema ≡ office_schema → KeepsCommit (state S.Store conn.old) (state S.Store conn.new) }
+    ensures refused { HasCleanDisk (state S.Store conn.new) → (state S.Store conn.old).now.schema ≡ office_schema →
+        IfErr result (FailsToLoad (state S.Store conn.old).now) }
+    ensures same { HasCleanDisk (state S.Store conn.new) → (state S.Store conn.old).now.schema ≡ office_schema →
+        OnOk result (IsUnchanged (state S.Store conn.old) (state S.Store conn.new)) }
+    ensures keeps { HasCleanDisk (state S.Store conn.new) → (state S.Store conn.old).now.schema ≡ office_schema →
+        KeepsCommit (state S.Store conn.old) (state S.Store conn.new) }
     ensures clean { HasCleanDisk (state S.Store conn.new) → HasCleanDisk (state S.Store conn.old) }
-    ensures was_open { HasCleanDisk (state S.Store conn.new) → IsTrue (state S.Store conn.new).is_open → IsTrue (state S.Store conn.old).is_open }
+    ensures was_open { HasCleanDisk (state S.Store conn.new) → IsTrue (state S.Store conn.new).is_open →
+        IsTrue (state S.Store conn.old).is_open }
     ensures mode { conn.old.in_transaction ≡ false → conn.new.in_transaction ≡ false }
-    ensures survives { (state S.Store conn.old).now.schema ≡ office_schema → Survives (state S.Store conn.old) (state S.Store conn.new) (λ _. ⊥) }
+    ensures survives { (state S.Store conn.old).now.schema ≡ office_schema →
+        Survives (state S.Store conn.old) (state S.Store conn.new) (λ _. ⊥) }
 {
     let tables = read_tables(alloc, conn)?;
     match restore(alloc, tables) {

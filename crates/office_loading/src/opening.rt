@@ -19,8 +19,10 @@ pub(crate) fn read_tables<S: Alter>(
     alloc: Global,
     conn: &mut Connection<S>,
 ) -> Result<OpenedTables, TableFault>
-    ensures read { HasCleanDisk (state S.Store conn.new) → (state S.Store conn.old).now.schema ≡ office_schema → ReadsTables (state S.Store conn.old).now result }
-    ensures same { HasCleanDisk (state S.Store conn.new) → (state S.Store conn.old).now.schema ≡ office_schema → OnOk result (IsUnchanged (state S.Store conn.old) (state S.Store conn.new)) }
+    ensures read { HasCleanDisk (state S.Store conn.new) → (state S.Store conn.old).now.schema ≡ office_schema →
+        ReadsTables (state S.Store conn.old).now result }
+    ensures same { HasCleanDisk (state S.Store conn.new) → (state S.Store conn.old).now.schema ≡ office_schema →
+        OnOk result (IsUnchanged (state S.Store conn.old) (state S.Store conn.new)) }
     ensures reads { OnlyReads (state S.Store conn.old) (state S.Store conn.new) }
 {
     let settings = read_settings(alloc, conn)?;

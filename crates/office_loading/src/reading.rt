@@ -27,8 +27,10 @@ pub(crate) fn read_partners<S: Alter>(
     alloc: Global,
     conn: &mut Connection<S>,
 ) -> Result<Vec<PartnerRow>, TableFault>
-    ensures read { HasCleanDisk (state S.Store conn.new) → (state S.Store conn.old).now.schema ≡ office_schema → ReadsTable partner_content FitsPartner (ShowsPartners (state S.Store conn.old).now) result }
-    ensures same { HasCleanDisk (state S.Store conn.new) → (state S.Store conn.old).now.schema ≡ office_schema → OnOk result (IsUnchanged (state S.Store conn.old) (state S.Store conn.new)) }
+    ensures read { HasCleanDisk (state S.Store conn.new) → (state S.Store conn.old).now.schema ≡ office_schema →
+        ReadsTable partner_content FitsPartner (ShowsPartners (state S.Store conn.old).now) result }
+    ensures same { HasCleanDisk (state S.Store conn.new) → (state S.Store conn.old).now.schema ≡ office_schema →
+        OnOk result (IsUnchanged (state S.Store conn.old) (state S.Store conn.new)) }
     ensures reads { OnlyReads (state S.Store conn.old) (state S.Store conn.new) }
 {
     let rows = select_partners(conn)?;
@@ -40,8 +42,10 @@ pub(crate) fn read_numbers<S: Alter>(
     alloc: Global,
     conn: &mut Connection<S>,
 ) -> Result<Vec<NumberRow>, TableFault>
-    ensures read { HasCleanDisk (state S.Store conn.new) → (state S.Store conn.old).now.schema ≡ office_schema → ReadsTable number_content FitsNumber (ShowsNumbers (state S.Store conn.old).now) result }
-    ensures same { HasCleanDisk (state S.Store conn.new) → (state S.Store conn.old).now.schema ≡ office_schema → OnOk result (IsUnchanged (state S.Store conn.old) (state S.Store conn.new)) }
+    ensures read { HasCleanDisk (state S.Store conn.new) → (state S.Store conn.old).now.schema ≡ office_schema →
+        ReadsTable number_content FitsNumber (ShowsNumbers (state S.Store conn.old).now) result }
+    ensures same { HasCleanDisk (state S.Store conn.new) → (state S.Store conn.old).now.schema ≡ office_schema →
+        OnOk result (IsUnchanged (state S.Store conn.old) (state S.Store conn.new)) }
     ensures reads { OnlyReads (state S.Store conn.old) (state S.Store conn.new) }
 {
     let rows = select_interchanges(conn)?;
@@ -53,8 +57,10 @@ pub(crate) fn read_visits<S: Alter>(
     alloc: Global,
     conn: &mut Connection<S>,
 ) -> Result<Vec<Visit>, TableFault>
-    ensures read { HasCleanDisk (state S.Store conn.new) → (state S.Store conn.old).now.schema ≡ office_schema → ReadsTable visit_content FitsVisit (ShowsVisits (state S.Store conn.old).now) result }
-    ensures same { HasCleanDisk (state S.Store conn.new) → (state S.Store conn.old).now.schema ≡ office_schema → OnOk result (IsUnchanged (state S.Store conn.old) (state S.Store conn.new)) }
+    ensures read { HasCleanDisk (state S.Store conn.new) → (state S.Store conn.old).now.schema ≡ office_schema →
+        ReadsTable visit_content FitsVisit (ShowsVisits (state S.Store conn.old).now) result }
+    ensures same { HasCleanDisk (state S.Store conn.new) → (state S.Store conn.old).now.schema ≡ office_schema →
+        OnOk result (IsUnchanged (state S.Store conn.old) (state S.Store conn.new)) }
     ensures reads { OnlyReads (state S.Store conn.old) (state S.Store conn.new) }
 {
     let rows = select_visits(conn)?;
@@ -66,8 +72,10 @@ pub(crate) fn read_places<S: Alter>(
     alloc: Global,
     conn: &mut Connection<S>,
 ) -> Result<Vec<Place>, TableFault>
-    ensures read { HasCleanDisk (state S.Store conn.new) → (state S.Store conn.old).now.schema ≡ office_schema → ReadsTable place_content FitsPlace (ShowsPlaces (state S.Store conn.old).now) result }
-    ensures same { HasCleanDisk (state S.Store conn.new) → (state S.Store conn.old).now.schema ≡ office_schema → OnOk result (IsUnchanged (state S.Store conn.old) (state S.Store conn.new)) }
+    ensures read { HasCleanDisk (state S.Store conn.new) → (state S.Store conn.old).now.schema ≡ office_schema →
+        ReadsTable place_content FitsPlace (ShowsPlaces (state S.Store conn.old).now) result }
+    ensures same { HasCleanDisk (state S.Store conn.new) → (state S.Store conn.old).now.schema ≡ office_schema →
+        OnOk result (IsUnchanged (state S.Store conn.old) (state S.Store conn.new)) }
     ensures reads { OnlyReads (state S.Store conn.old) (state S.Store conn.new) }
 {
     let rows = select_places(conn)?;
@@ -79,8 +87,10 @@ pub(crate) fn read_lines<S: Alter>(
     alloc: Global,
     conn: &mut Connection<S>,
 ) -> Result<Vec<Listing>, TableFault>
-    ensures read { HasCleanDisk (state S.Store conn.new) → (state S.Store conn.old).now.schema ≡ office_schema → ReadsTable listing_content FitsLine (ShowsLines (state S.Store conn.old).now) result }
-    ensures same { HasCleanDisk (state S.Store conn.new) → (state S.Store conn.old).now.schema ≡ office_schema → OnOk result (IsUnchanged (state S.Store conn.old) (state S.Store conn.new)) }
+    ensures read { HasCleanDisk (state S.Store conn.new) → (state S.Store conn.old).now.schema ≡ office_schema →
+        ReadsTable listing_content FitsLine (ShowsLines (state S.Store conn.old).now) result }
+    ensures same { HasCleanDisk (state S.Store conn.new) → (state S.Store conn.old).now.schema ≡ office_schema →
+        OnOk result (IsUnchanged (state S.Store conn.old) (state S.Store conn.new)) }
     ensures reads { OnlyReads (state S.Store conn.old) (state S.Store conn.new) }
 {
     let rows = select_lines(conn)?;
@@ -92,8 +102,10 @@ pub(crate) fn read_blocks<S: Alter>(
     alloc: Global,
     conn: &mut Connection<S>,
 ) -> Result<Vec<Block>, TableFault>
-    ensures read { HasCleanDisk (state S.Store conn.new) → (state S.Store conn.old).now.schema ≡ office_schema → ReadsTable itself FitsBlock (ShowsBlocks (state S.Store conn.old).now) result }
-    ensures same { HasCleanDisk (state S.Store conn.new) → (state S.Store conn.old).now.schema ≡ office_schema → OnOk result (IsUnchanged (state S.Store conn.old) (state S.Store conn.new)) }
+    ensures read { HasCleanDisk (state S.Store conn.new) → (state S.Store conn.old).now.schema ≡ office_schema →
+        ReadsTable itself FitsBlock (ShowsBlocks (state S.Store conn.old).now) result }
+    ensures same { HasCleanDisk (state S.Store conn.new) → (state S.Store conn.old).now.schema ≡ office_schema →
+        OnOk result (IsUnchanged (state S.Store conn.old) (state S.Store conn.new)) }
     ensures reads { OnlyReads (state S.Store conn.old) (state S.Store conn.new) }
 {
     let rows = select_blocks(conn)?;

@@ -9,11 +9,13 @@ answered ds text NotNow = ds
 answered ds text response = ds ++ text ∷ []
 
 -- behind those deliveries it is answered so, and then this stands
-abbrev pub Delivers : {D : Type 0} → (List (List ℕ) → D → Type 0) → (List (List ℕ) → List ℕ → Response → Type 0) → List (List ℕ) → List ℕ → Response → D → Type 0
+abbrev pub Delivers : {D : Type 0} → (List (List ℕ) → D → Type 0) → (List (List ℕ) → List ℕ → Response → Type 0) →
+    List (List ℕ) → List ℕ → Response → D → Type 0
 Delivers stands answers ds text response new = answers ds text response × stands (answered ds text response) new
 
 -- each response answers its text at its place
-abbrev pub AnswersEach : (List (List ℕ) → List ℕ → Response → Type 0) → List (List ℕ) → List (List ℕ) → List Response → Type 0
+abbrev pub AnswersEach : (List (List ℕ) → List ℕ → Response → Type 0) → List (List ℕ) → List (List ℕ) → List Response →
+    Type 0
 AnswersEach answers ds [] [] = Unit {0}
 AnswersEach answers ds [] (response ∷ responses) = ⊥
 AnswersEach answers ds (text ∷ texts) [] = ⊥

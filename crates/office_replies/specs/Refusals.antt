@@ -13,4 +13,5 @@ refusal_text fault = named_refusal (fault_name fault)
 
 -- the value whose JSON it is
 abbrev pub refusal_data : Fault → Data
-refusal_data fault = object (text_member (codes "answer") (codes "refused") (text_member (codes "fault") (fault_name fault) no_members))
+refusal_data fault = object
+    (text_member (codes "answer") (codes "refused") (text_member (codes "fault") (fault_name fault) no_members))

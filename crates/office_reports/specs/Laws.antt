@@ -12,14 +12,17 @@ use Rattle.office_reports.specs.Lists.{IsListReport}
 
 -- two reports on one yard are one text
 abbrev pub YardReportsAreOne : Type 0
-YardReportsAreOne = (state : TerminalState) (one other : List ℕ) → IsYardReport state one → IsYardReport state other → one ≡ other
+YardReportsAreOne = (state : TerminalState) (one other : List ℕ) → IsYardReport state one → IsYardReport state other →
+    one ≡ other
 
 abbrev pub YardExportsAreOne : Type 0
-YardExportsAreOne = (state : TerminalState) (one other : List ℕ) → IsYardExport state one → IsYardExport state other → one ≡ other
+YardExportsAreOne = (state : TerminalState) (one other : List ℕ) → IsYardExport state one → IsYardExport state other →
+    one ≡ other
 
 -- two reports on one list are one answer
 abbrev pub ListReportsAreOne : Type 0
-ListReportsAreOne = (state : TerminalState) (call : CallContent) (side : Side) (one other : Option (List ℕ)) → IsListReport state call side one → IsListReport state call side other → one ≡ other
+ListReportsAreOne = (state : TerminalState) (call : CallContent) (side : Side) (one other : Option (List ℕ)) →
+    IsListReport state call side one → IsListReport state call side other → one ≡ other
 
 abbrev pub NamesAreWritten : Type 0
 NamesAreWritten = (slot : Slot) → IsNamed slot → slot_name slot ≡ slot_text slot

@@ -49,7 +49,9 @@ list_head call side = line (list_name side ∷ codes "LIST" ∷ call.vessel ∷ 
 
 -- a OPEN b DONE
 abbrev pub list_end : List (List ℕ × LineContent) → List ℕ
-list_end list = line (decimal (count_by (λ entry. not (is_done_line entry)) list) ∷ codes "OPEN" ∷ decimal (count_by is_done_line list) ∷ codes "DONE" ∷ [])
+list_end list = line
+    (decimal (count_by (λ entry. not (is_done_line entry)) list) ∷ codes "OPEN" ∷ decimal (count_by is_done_line list)
+    ∷ codes "DONE" ∷ [])
 
 abbrev pub list_text : CallContent → Side → List (List ℕ × LineContent) → List ℕ
 list_text call side list = list_head call side ++ flat_map list_line list ++ list_end list
@@ -60,7 +62,8 @@ list_found call side [] = None
 list_found call side (entry ∷ list) = Some (list_text call side (entry ∷ list))
 
 -- the lines of a call's list, by their containers
-pub record IsListReport (state : TerminalState) (call : CallContent) (side : Side) (found : Option (List ℕ)) : Type 0 where
+pub record IsListReport (state : TerminalState) (call : CallContent) (side : Side)
+    (found : Option (List ℕ)) : Type 0 where
   pub list : List (List ℕ × LineContent)
   pub listed : AreListed (HasLine state call side) list
   pub is : found ≡ list_found call side list
@@ -69,7 +72,9 @@ pub record IsListReport (state : TerminalState) (call : CallContent) (side : Sid
 
 -- the row is on that call's list
 abbrev pub is_on : CallContent → Side → Listing → Bool
-is_on call side row = is_side row.side side && bytes_eq (string_bytes row.call.voyage) call.voyage && bytes_eq (string_bytes row.call.vessel) call.vessel
+is_on call side row =
+    is_side row.side side && bytes_eq (string_bytes row.call.voyage) call.voyage
+    && bytes_eq (string_bytes row.call.vessel) call.vessel
 
 -- what a line says
 abbrev pub shown_line : ListedLine → LineContent

@@ -21,12 +21,15 @@ left_by source (Some departure) = if is_source departure.source source then Some
 
 -- IN BOX SIZE FULL SLOT MOMENT
 abbrev pub entry_line : VisitContent → List ℕ
-entry_line visit = line (codes "IN" ∷ visit.container ∷ visit.size_type ∷ load_name visit.is_laden ∷ slot_name visit.arrival.slot ∷ moment_text visit.arrival.moment ∷ [])
+entry_line visit = line
+    (codes "IN" ∷ visit.container ∷ visit.size_type ∷ load_name visit.is_laden ∷ slot_name visit.arrival.slot
+    ∷ moment_text visit.arrival.moment ∷ [])
 
 -- OUT BOX SIZE FULL MOMENT
 abbrev pub exit_line : VisitContent → Option CivilMoment → List ℕ
 exit_line visit None = []
-exit_line visit (Some moment) = line (codes "OUT" ∷ visit.container ∷ visit.size_type ∷ load_name visit.is_laden ∷ moment_text moment ∷ [])
+exit_line visit (Some moment) =
+    line (codes "OUT" ∷ visit.container ∷ visit.size_type ∷ load_name visit.is_laden ∷ moment_text moment ∷ [])
 
 -- each visit that the interchange opened, by number
 abbrev pub entry_lines : Source → List VisitContent → List ℕ
@@ -40,7 +43,9 @@ abbrev pub is_told_by : Source → VisitContent → Bool
 is_told_by source visit = is_opened_by source visit || is_some (left_by source visit.departure)
 
 abbrev pub told_lines : Source → List VisitContent → List ℕ
-told_lines source visits = if list_any (is_told_by source) visits then entry_lines source visits ++ exit_lines source visits else line (codes "NOTHING" ∷ [])
+told_lines source visits =
+    if list_any (is_told_by source) visits then entry_lines source visits
+    ++ exit_lines source visits else line (codes "NOTHING" ∷ [])
 
 -- what a partner's interchange did, the partner being called by a code
 abbrev pub ticket_text : List ℕ → Source → List VisitContent → List ℕ

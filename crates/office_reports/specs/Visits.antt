@@ -25,13 +25,15 @@ code_of setup (suc place) = slice_index_or (map (λ partner. partner.0) setup.pa
 
 -- GATE PARTNER NUMBER MOMENT
 abbrev pub passage_words : SetupContent → Way → Source → CivilMoment → List (List ℕ)
-passage_words setup way source moment = way_name way ∷ code_of setup source.partner ∷ decimal source.number ∷ moment_text moment ∷ []
+passage_words setup way source moment =
+    way_name way ∷ code_of setup source.partner ∷ decimal source.number ∷ moment_text moment ∷ []
 
 -- N SIZE FULL IN GATE PARTNER NUMBER MOMENT SLOT
 abbrev pub arrival_words : SetupContent → VisitContent → List (List ℕ)
 arrival_words setup visit =
     decimal visit.number ∷ visit.size_type ∷ load_name visit.is_laden ∷ codes "IN"
-    ∷ phrase (passage_words setup visit.arrival.way visit.arrival.source visit.arrival.moment) ∷ slot_name visit.arrival.slot ∷ []
+    ∷ phrase (passage_words setup visit.arrival.way visit.arrival.source visit.arrival.moment)
+        ∷ slot_name visit.arrival.slot ∷ []
 
 -- BOOKING B, where there is one
 abbrev pub booking_words : List ℕ → List (List ℕ)
@@ -42,11 +44,13 @@ booking_words (b ∷ bs) = codes "BOOKING" ∷ (b ∷ bs) ∷ []
 abbrev pub departure_words : SetupContent → CivilMoment → Option Departure → List (List ℕ)
 departure_words setup entry None = codes "-" ∷ []
 departure_words setup entry (Some departure) =
-    phrase (passage_words setup departure.way departure.source departure.moment) ∷ codes "DAYS" ∷ signed_decimal (day_number departure.moment -ℤ day_number entry) ∷ []
+    phrase (passage_words setup departure.way departure.source departure.moment) ∷ codes "DAYS"
+        ∷ signed_decimal (day_number departure.moment -ℤ day_number entry) ∷ []
 
 abbrev pub visit_line : SetupContent → VisitContent → List ℕ
 visit_line setup visit =
-    line (phrase (arrival_words setup visit) ∷ booking_words visit.booking ++ codes "OUT" ∷ phrase (departure_words setup visit.arrival.moment visit.departure) ∷ [])
+    line (phrase (arrival_words setup visit) ∷ booking_words visit.booking
+        ++ codes "OUT" ∷ phrase (departure_words setup visit.arrival.moment visit.departure) ∷ [])
 
 abbrev pub is_visit_of : BoxNumber → VisitContent → Bool
 is_visit_of container visit = bytes_eq visit.container container
@@ -59,4 +63,5 @@ visits_text setup container visits = line (codes "VISITS" ∷ container ∷ []) 
 
 -- the container's visits by their numbers, if it has any
 abbrev pub visit_report : SetupContent → TerminalState → BoxNumber → Option (List ℕ)
-visit_report setup state container = if list_any (is_visit_of container) state.visits then Some (visits_text setup container state.visits) else None
+visit_report setup state container =
+    if list_any (is_visit_of container) state.visits then Some (visits_text setup container state.visits) else None

@@ -16,7 +16,8 @@ use Rattle.office_reports.specs.Names.{load_name, slot_name, line}
 
 -- what is shown of a container, by its visit and where it stands
 abbrev pub shown : VisitContent → Slot → Standing
-shown visit slot = record { slot = slot; container = visit.container; size_type = visit.size_type; is_laden = visit.is_laden }
+shown visit slot = record { slot = slot; container = visit.container; size_type = visit.size_type;
+    is_laden = visit.is_laden }
 
 -- where a container stands, if it is in the yard
 abbrev pub slot_in : TerminalState → BoxNumber → Option Slot
@@ -32,10 +33,12 @@ pub record StandsAt (state : TerminalState) (text : List ℕ) (standing : Standi
 
 -- SLOT BOX SIZE FULL, or EMPTY
 abbrev pub standing_line : Standing → List ℕ
-standing_line standing = line (slot_name standing.slot ∷ standing.container ∷ standing.size_type ∷ load_name standing.is_laden ∷ [])
+standing_line standing =
+    line (slot_name standing.slot ∷ standing.container ∷ standing.size_type ∷ load_name standing.is_laden ∷ [])
 
 abbrev pub yard_text : List (List ℕ × Standing) → List ℕ
-yard_text yard = line (codes "YARD" ∷ []) ++ flat_map standing_line (values_of yard) ++ line (decimal (length yard) ∷ codes "CONTAINERS" ∷ [])
+yard_text yard = line (codes "YARD" ∷ []) ++ flat_map standing_line (values_of yard)
+    ++ line (decimal (length yard) ∷ codes "CONTAINERS" ∷ [])
 
 -- the text shows the containers in the yard, by the texts of their slots
 pub record IsYardReport (state : TerminalState) (text : List ℕ) : Type 0 where

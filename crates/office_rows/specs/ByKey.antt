@@ -13,7 +13,8 @@ use Rattle.std.specs.Prelude.{map}
 
 -- where a container stands by the places: of two the first counts
 abbrev pub standing_by : List PlaceContent → BoxNumber → Option Standing
-standing_by places container = option_map (λ (place : PlaceContent). standing_in place.visit place.slot) (find (stands_for container) places)
+standing_by places container =
+    option_map (λ (place : PlaceContent). standing_in place.visit place.slot) (find (stands_for container) places)
 
 abbrev pub line_entry : ListingContent → LineKey × LineContent
 line_entry line = (line_key line.call line.side line.container, record { port = line.port; state = line.state })
@@ -31,4 +32,5 @@ ArePlacedOnce places = (container : BoxNumber) → count_by (stands_for containe
 
 -- no line stands twice
 abbrev pub AreListedOnce : List ListingContent → Type 0
-AreListedOnce lines = (call : CallContent) (side : Side) (container : BoxNumber) → count_by (is_line call side container) lines ≤ 1
+AreListedOnce lines =
+    (call : CallContent) (side : Side) (container : BoxNumber) → count_by (is_line call side container) lines ≤ 1

@@ -18,15 +18,20 @@ is_pair partner number i = (i.partner == partner) && (i.number == number)
 
 -- an interchange that waits is added
 abbrev pub with_kept : ℕ → ℕ → List ℕ → Rows → Rows
-with_kept partner number body rows = record rows { interchanges = rows.interchanges ++ (record { partner = partner; number = number; body = body; reply = [] }) ∷ [] }
+with_kept partner number body rows =
+    record rows { interchanges = rows.interchanges
+    ++ (record { partner = partner; number = number; body = body; reply = [] }) ∷ [] }
 
 -- the interchange has this reply
 abbrev pub with_reply : ℕ → ℕ → List ℕ → Rows → Rows
-with_reply partner number reply rows = record rows { interchanges = map (λ (i : Interchange). cond (is_pair partner number i) (record i { reply = reply }) i) rows.interchanges }
+with_reply partner number reply rows =
+    record rows { interchanges = map
+    (λ (i : Interchange). cond (is_pair partner number i) (record i { reply = reply }) i) rows.interchanges }
 
 -- the next number of the partner is this one
 abbrev pub with_next : ℕ → ℕ → Rows → Rows
-with_next partner next rows = record rows { partners = map (λ (p : Partner). cond (p.id == partner) (record p { next = next }) p) rows.partners }
+with_next partner next rows =
+    record rows { partners = map (λ (p : Partner). cond (p.id == partner) (record p { next = next }) p) rows.partners }
 
 -- the interchange is taken: it has its reply, and the partner's next number follows it
 abbrev pub with_taken : ℕ → ℕ → List ℕ → Rows → Rows
@@ -36,7 +41,8 @@ with_taken partner number reply rows = with_next partner (number + 1) (with_repl
 
 -- an account is added, whose partner has sent nothing yet
 abbrev pub with_partner : ℕ → List ℕ → PartnerKind → Rows → Rows
-with_partner id code kind rows = record rows { partners = rows.partners ++ (record { id = id; code = code; kind = kind; next = 1 }) ∷ [] }
+with_partner id code kind rows =
+    record rows { partners = rows.partners ++ (record { id = id; code = code; kind = kind; next = 1 }) ∷ [] }
 
 -- ---- changes
 
@@ -44,14 +50,25 @@ abbrev pub stands_for : BoxNumber → PlaceContent → Bool
 stands_for container place = bytes_eq place.container container
 
 abbrev pub is_line : CallContent → Side → BoxNumber → ListingContent → Bool
-is_line call side container line = bytes_eq line.call.vessel call.vessel && (bytes_eq line.call.voyage call.voyage && ((side_code line.side == side_code side) && bytes_eq line.container container))
+is_line call side container line =
+    bytes_eq line.call.vessel call.vessel
+    && (bytes_eq line.call.voyage call.voyage
+    && ((side_code line.side == side_code side) && bytes_eq line.container container))
 
 -- A change adds, alters or removes one row: of visits, of places or of lines.
 abbrev pub with_change : ChangeContent → Rows → Rows
 with_change (visit_opened visit) rows = record rows { visits = rows.visits ++ visit ∷ [] }
 with_change (visit_closed number departure) rows = record rows { visits = map (closed_as number departure) rows.visits }
-with_change (placed_at container visit slot) rows = record rows { places = rows.places ++ (record { container = container; visit = visit; slot = slot }) ∷ [] }
-with_change (moved_to container slot) rows = record rows { places = map (λ (p : PlaceContent). cond (stands_for container p) (record p { slot = slot }) p) rows.places }
-with_change (removed_from container) rows = record rows { places = filter (λ p. not (stands_for container p)) rows.places }
-with_change (listed_on call side container port) rows = record rows { lines = rows.lines ++ (record { call = call; side = side; container = container; port = port; state = Pending }) ∷ [] }
-with_change (line_done call side container) rows = record rows { lines = map (λ (l : ListingContent). cond (is_line call side container l) (record l { state = Done }) l) rows.lines }
+with_change (placed_at container visit slot) rows =
+    record rows { places = rows.places ++ (record { container = container; visit = visit; slot = slot }) ∷ [] }
+with_change (moved_to container slot) rows =
+    record rows { places = map
+    (λ (p : PlaceContent). cond (stands_for container p) (record p { slot = slot }) p) rows.places }
+with_change (removed_from container) rows =
+    record rows { places = filter (λ p. not (stands_for container p)) rows.places }
+with_change (listed_on call side container port) rows =
+    record rows { lines = rows.lines
+    ++ (record { call = call; side = side; container = container; port = port; state = Pending }) ∷ [] }
+with_change (line_done call side container) rows =
+    record rows { lines = map
+    (λ (l : ListingContent). cond (is_line call side container l) (record l { state = Done }) l) rows.lines }

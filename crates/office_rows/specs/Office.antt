@@ -20,7 +20,8 @@ use Rattle.office_rows.specs.ByKey.{standing_by, lines_by, ArePlacedOnce, AreLis
 
 -- the ten settings by their names, the codes of document names in the order of their table
 abbrev pub settings_with : SetupContent → List (List ℕ) → List Setting
-settings_with content (gate_in ∷ gate_out ∷ yard_move ∷ discharge_list ∷ load_list ∷ discharge_report ∷ load_report ∷ []) =
+settings_with content
+    (gate_in ∷ gate_out ∷ yard_move ∷ discharge_list ∷ load_list ∷ discharge_report ∷ load_report ∷ []) =
     setting (codes "discharge-list") discharge_list ∷ setting (codes "discharge-report") discharge_report
     ∷ setting (codes "gate-in") gate_in ∷ setting (codes "gate-out") gate_out
     ∷ setting (codes "load-list") load_list ∷ setting (codes "load-report") load_report
@@ -47,13 +48,16 @@ AreAccounts id (partner ∷ partners) (account ∷ accounts) =
 
 -- each number below the next was taken
 abbrev pub taken_numbers : Partner → List Numbered
-taken_numbers partner = map (λ number. record { partner = partner.id; number = number; is_taken = true }) (range_with_len 1 (partner.next - 1))
+taken_numbers partner =
+    map (λ number. record { partner = partner.id; number = number; is_taken = true })
+    (range_with_len 1 (partner.next - 1))
 
 -- these numbers of the partner wait: each is above that one and not taken, from the least up
 abbrev pub AreWaiting : ℕ → ℕ → List Numbered → Type 0
 AreWaiting partner above [] = Unit {0}
 AreWaiting partner above (n ∷ numbers) =
-    (n.partner ≡ partner) × (n.is_taken ≡ false) × (above < n.number) × (n.number ≤ 999999999) × AreWaiting partner n.number numbers
+    (n.partner ≡ partner) × (n.is_taken ≡ false) × (above < n.number) × (n.number ≤ 999999999)
+        × AreWaiting partner n.number numbers
 
 -- what is kept for a partner: the numbers below its next, and those that wait for it
 pub record IsKeptFor (partner : Partner) (numbers : List Numbered) : Type 0 where
@@ -65,7 +69,8 @@ pub record IsKeptFor (partner : Partner) (numbers : List Numbered) : Type 0 wher
 abbrev pub AreKept : List Partner → List Numbered → Type 0
 AreKept [] numbers = numbers ≡ []
 AreKept (partner ∷ partners) numbers =
-    (own : List Numbered) × (others : List Numbered) × (numbers ≡ own ++ others) × IsKeptFor partner own × AreKept partners others
+    (own : List Numbered) × (others : List Numbered) × (numbers ≡ own ++ others) × IsKeptFor partner own
+        × AreKept partners others
 
 -- ---- the visits
 

@@ -10,12 +10,14 @@ use Rattle.office_rows.specs.Rows.{Partner, Setting, Rows, no_rows}
 -- the accounts by id, from this one on; each waits for its partner's first interchange
 abbrev pub partners_from : ℕ → List (List ℕ × PartnerKind) → List Partner
 partners_from id [] = []
-partners_from id (account ∷ accounts) = (record { id = id; code = account.0; kind = account.1; next = 1 }) ∷ partners_from (id + 1) accounts
+partners_from id (account ∷ accounts) =
+    (record { id = id; code = account.0; kind = account.1; next = 1 }) ∷ partners_from (id + 1) accounts
 
 -- the names under which the codes of document names are kept, in the order of their table
 abbrev pub code_names : List (List ℕ)
 code_names =
-    codes "gate-in" ∷ codes "gate-out" ∷ codes "yard-move" ∷ codes "discharge-list" ∷ codes "load-list" ∷ codes "discharge-report" ∷ codes "load-report" ∷ []
+    codes "gate-in" ∷ codes "gate-out" ∷ codes "yard-move" ∷ codes "discharge-list" ∷ codes "load-list"
+        ∷ codes "discharge-report" ∷ codes "load-report" ∷ []
 
 abbrev pub setting : List ℕ → List ℕ → Setting
 setting name value = record { name = name; value = value }
@@ -32,7 +34,8 @@ code_settings table = settings_named code_names (table_texts table)
 -- the version of the tables, the terminal's code, the limit of visits, and the codes of document names
 abbrev pub settings_of : SetupContent → List Setting
 settings_of content =
-    setting (codes "version") (codes "1") ∷ setting (codes "terminal") content.terminal ∷ setting (codes "visits") (decimal content.visit_limit) ∷ code_settings content.codes
+    setting (codes "version") (codes "1") ∷ setting (codes "terminal") content.terminal
+        ∷ setting (codes "visits") (decimal content.visit_limit) ∷ code_settings content.codes
 
 -- ---- rows that are added
 
@@ -49,4 +52,6 @@ with_blocks blocks rows = record rows { blocks = rows.blocks ++ blocks }
 
 -- the accounts, the settings and the blocks, and no row else
 abbrev pub opening_rows : SetupContent → Rows
-opening_rows content = record no_rows { partners = partners_from 1 content.partners; settings = settings_of content; blocks = content.blocks }
+opening_rows content =
+    record no_rows { partners = partners_from 1 content.partners; settings = settings_of content;
+    blocks = content.blocks }

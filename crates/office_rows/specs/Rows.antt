@@ -40,7 +40,9 @@ pub record ListingContent : Type 0 where
   pub state : LineState
 
 abbrev pub listing_content : Listing → ListingContent
-listing_content row = record { call = call_content row.call; side = row.side; container = row.container; port = string_bytes row.port; state = row.state }
+listing_content row =
+    record { call = call_content row.call; side = row.side; container = row.container; port = string_bytes row.port;
+    state = row.state }
 
 pub record Setting : Type 0 where
   pub name : List ℕ

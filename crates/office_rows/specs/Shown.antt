@@ -24,4 +24,6 @@ pub record ShowsTable (table : Table) (shown key : List ℕ) (db : Database) (an
 
 -- the partners' next numbers, in the order of the ids
 abbrev pub AreNexts : Rows → List ℕ → Type 0
-AreNexts rows nexts = (by_id : List Partner) × IsPermutation rows.partners by_id × IsSorted nat_cmp (map (λ (p : Partner). p.id) by_id) × (nexts ≡ map (λ (p : Partner). p.next) by_id)
+AreNexts rows nexts =
+    (by_id : List Partner) × IsPermutation rows.partners by_id × IsSorted nat_cmp (map (λ (p : Partner). p.id) by_id)
+    × (nexts ≡ map (λ (p : Partner). p.next) by_id)

@@ -13,7 +13,8 @@ use Rattle.sqlite_catalog.specs.Change.{created}
 
 -- a column of a STRICT table, which has to have a value
 abbrev pub required : List ℕ → Kind → Column
-required name kind = record { name = name; kind = kind; is_strict = true; not_null = true; default = Null; collation = Binary }
+required name kind = record { name = name; kind = kind; is_strict = true; not_null = true; default = Null;
+    collation = Binary }
 
 -- an INTEGER PRIMARY KEY
 abbrev pub numbered : List ℕ → Column
@@ -24,7 +25,8 @@ abbrev pub partner : Table
 partner = record {
   name = codes "partner";
   tree = 0;
-  columns = numbered (codes "id") ∷ required (codes "code") Text ∷ required (codes "kind") Integer ∷ required (codes "next") Integer ∷ [];
+  columns = numbered (codes "id") ∷ required (codes "code") Text ∷ required (codes "kind") Integer
+      ∷ required (codes "next") Integer ∷ [];
   key = Some 0;
   primary = 0 ∷ [];
   uniques = (2 ∷ []) ∷ [];
@@ -41,13 +43,15 @@ abbrev pub interchange : Table
 interchange = record {
   name = codes "interchange";
   tree = 2;
-  columns = required (codes "partner") Integer ∷ required (codes "number") Integer ∷ required (codes "body") Blob ∷ required (codes "reply") Text ∷ [];
+  columns = required (codes "partner") Integer ∷ required (codes "number") Integer ∷ required (codes "body") Blob
+      ∷ required (codes "reply") Text ∷ [];
   key = None;
   primary = 1 ∷ 2 ∷ [];
   uniques = (1 ∷ 2 ∷ []) ∷ [];
   orders = plain ∷ [];
   checks = [];
-  references = (record { columns = 1 ∷ []; parent = codes "partner"; parent_columns = codes "id" ∷ []; on_delete = NoAction; on_update = NoAction; is_deferred = false }) ∷ [];
+  references = (record { columns = 1 ∷ []; parent = codes "partner"; parent_columns = codes "id" ∷ [];
+      on_delete = NoAction; on_update = NoAction; is_deferred = false }) ∷ [];
   computed = [];
   stamps = record { places = []; terms = []; formats = [] };
   is_counted = false;
@@ -58,7 +62,11 @@ abbrev pub visit : Table
 visit = record {
   name = codes "visit";
   tree = 4;
-  columns = numbered (codes "visit") ∷ required (codes "box") Text ∷ required (codes "size") Text ∷ required (codes "laden") Integer ∷ required (codes "booking") Text ∷ required (codes "in_by") Integer ∷ required (codes "in_partner") Integer ∷ required (codes "in_number") Integer ∷ required (codes "in_at") Text ∷ required (codes "in_slot") Text ∷ required (codes "out_by") Integer ∷ required (codes "out_partner") Integer ∷ required (codes "out_number") Integer ∷ required (codes "out_at") Text ∷ [];
+  columns = numbered (codes "visit") ∷ required (codes "box") Text ∷ required (codes "size") Text
+      ∷ required (codes "laden") Integer ∷ required (codes "booking") Text ∷ required (codes "in_by") Integer
+      ∷ required (codes "in_partner") Integer ∷ required (codes "in_number") Integer ∷ required (codes "in_at") Text
+      ∷ required (codes "in_slot") Text ∷ required (codes "out_by") Integer ∷ required (codes "out_partner") Integer
+      ∷ required (codes "out_number") Integer ∷ required (codes "out_at") Text ∷ [];
   key = Some 0;
   primary = 0 ∷ [];
   uniques = [];
@@ -81,7 +89,8 @@ place = record {
   uniques = (1 ∷ []) ∷ (2 ∷ []) ∷ (3 ∷ []) ∷ [];
   orders = plain ∷ plain ∷ plain ∷ [];
   checks = [];
-  references = (record { columns = 2 ∷ []; parent = codes "visit"; parent_columns = codes "visit" ∷ []; on_delete = NoAction; on_update = NoAction; is_deferred = false }) ∷ [];
+  references = (record { columns = 2 ∷ []; parent = codes "visit"; parent_columns = codes "visit" ∷ [];
+      on_delete = NoAction; on_update = NoAction; is_deferred = false }) ∷ [];
   computed = [];
   stamps = record { places = []; terms = []; formats = [] };
   is_counted = false;
@@ -92,7 +101,8 @@ abbrev pub listed : Table
 listed = record {
   name = codes "listed";
   tree = 9;
-  columns = required (codes "vessel") Text ∷ required (codes "voyage") Text ∷ required (codes "side") Integer ∷ required (codes "box") Text ∷ required (codes "port") Text ∷ required (codes "done") Integer ∷ [];
+  columns = required (codes "vessel") Text ∷ required (codes "voyage") Text ∷ required (codes "side") Integer
+      ∷ required (codes "box") Text ∷ required (codes "port") Text ∷ required (codes "done") Integer ∷ [];
   key = None;
   primary = 1 ∷ 2 ∷ 3 ∷ 4 ∷ [];
   uniques = (1 ∷ 2 ∷ 3 ∷ 4 ∷ []) ∷ [];
@@ -126,7 +136,8 @@ abbrev pub block : Table
 block = record {
   name = codes "block";
   tree = 13;
-  columns = required (codes "letter") Text ∷ required (codes "bays") Integer ∷ required (codes "lanes") Integer ∷ required (codes "tiers") Integer ∷ [];
+  columns = required (codes "letter") Text ∷ required (codes "bays") Integer ∷ required (codes "lanes") Integer
+      ∷ required (codes "tiers") Integer ∷ [];
   key = None;
   primary = 1 ∷ [];
   uniques = (1 ∷ []) ∷ [];

@@ -70,14 +70,17 @@ interchange_values i = number i.partner ∷ number i.number ∷ Blob i.body ∷ 
 abbrev pub visit_values : VisitContent → Row
 visit_values v =
     number v.number ∷ Text v.container ∷ Text v.size_type ∷ number (laden_code v.is_laden) ∷ Text v.booking
-    ∷ number (way_code v.arrival.way) ∷ number v.arrival.source.partner ∷ number v.arrival.source.number ∷ Text (moment_digits v.arrival.moment) ∷ Text (slot_text v.arrival.slot)
-    ∷ number (out_by v.departure) ∷ number (out_partner v.departure) ∷ number (out_number v.departure) ∷ Text (out_at v.departure) ∷ []
+    ∷ number (way_code v.arrival.way) ∷ number v.arrival.source.partner ∷ number v.arrival.source.number
+        ∷ Text (moment_digits v.arrival.moment) ∷ Text (slot_text v.arrival.slot)
+    ∷ number (out_by v.departure) ∷ number (out_partner v.departure) ∷ number (out_number v.departure)
+        ∷ Text (out_at v.departure) ∷ []
 
 abbrev pub place_values : PlaceContent → Row
 place_values p = Text p.container ∷ number p.visit ∷ Text (slot_text p.slot) ∷ []
 
 abbrev pub line_values : ListingContent → Row
-line_values l = Text l.call.vessel ∷ Text l.call.voyage ∷ number (side_code l.side) ∷ Text l.container ∷ Text l.port ∷ number (state_code l.state) ∷ []
+line_values l = Text l.call.vessel ∷ Text l.call.voyage ∷ number (side_code l.side) ∷ Text l.container ∷ Text l.port
+    ∷ number (state_code l.state) ∷ []
 
 abbrev pub setting_values : Setting → Row
 setting_values s = Text s.name ∷ Text s.value ∷ []

@@ -20,7 +20,9 @@ is_party_code code = nat_le 1 (length code) && nat_le (length code) 35 && list_a
 
 -- no two partners have one code
 abbrev pub AreDistinct : List (List ℕ × PartnerKind) → Type 0
-AreDistinct partners = (i j : ℕ) (a b : List ℕ × PartnerKind) → slice_get partners i ≡ Some a → slice_get partners j ≡ Some b → a.0 ≡ b.0 → i ≡ j
+AreDistinct partners =
+    (i j : ℕ) (a b : List ℕ × PartnerKind) → slice_get partners i ≡ Some a → slice_get partners j ≡ Some b → a.0 ≡ b.0 →
+    i ≡ j
 
 pub record IsGiven (setup : SetupContent) : Type 0 where
   pub terminal : IsTrue (is_party_code setup.terminal)

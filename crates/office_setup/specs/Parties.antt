@@ -25,4 +25,5 @@ parties_of setup = record { terminal = string_bytes setup.terminal; partners = p
 -- the number of the first partner with a code, where partners are counted from a number on
 abbrev pub partner_from : ℕ → List ℕ → List (List ℕ) → Option ℕ
 partner_from number code [] = None
-partner_from number code (partner ∷ partners) = cond (bytes_eq code partner) (Some number) (partner_from (number + 1) code partners)
+partner_from number code (partner ∷ partners) =
+    cond (bytes_eq code partner) (Some number) (partner_from (number + 1) code partners)

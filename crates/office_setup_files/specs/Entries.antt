@@ -32,10 +32,14 @@ field index row = option_map_or (λ (text : Text). text) (field_at row index) []
 -- ---- the form of the files
 
 abbrev pub is_partner_header : Record → Bool
-is_partner_header row = (length row == 3) && bytes_eq (field 0 row) (codes "what") && bytes_eq (field 1 row) (codes "name") && bytes_eq (field 2 row) (codes "value")
+is_partner_header row =
+    (length row == 3) && bytes_eq (field 0 row) (codes "what") && bytes_eq (field 1 row) (codes "name")
+    && bytes_eq (field 2 row) (codes "value")
 
 abbrev pub is_kind_of_record : Text → Bool
-is_kind_of_record what = bytes_eq what (codes "terminal") || bytes_eq what (codes "partner") || bytes_eq what (codes "code") || bytes_eq what (codes "limit")
+is_kind_of_record what =
+    bytes_eq what (codes "terminal") || bytes_eq what (codes "partner") || bytes_eq what (codes "code")
+    || bytes_eq what (codes "limit")
 
 abbrev pub is_partner_row : Record → Bool
 is_partner_row row = (length row == 3) && is_kind_of_record (field 0 row)
@@ -49,7 +53,9 @@ abbrev pub is_partner_file : List Record → Bool
 is_partner_file rows = is_formed is_partner_header is_partner_row rows
 
 abbrev pub is_block_header : Record → Bool
-is_block_header row = (length row == 4) && bytes_eq (field 0 row) (codes "block") && bytes_eq (field 1 row) (codes "bays") && bytes_eq (field 2 row) (codes "rows") && bytes_eq (field 3 row) (codes "tiers")
+is_block_header row =
+    (length row == 4) && bytes_eq (field 0 row) (codes "block") && bytes_eq (field 1 row) (codes "bays")
+    && bytes_eq (field 2 row) (codes "rows") && bytes_eq (field 3 row) (codes "tiers")
 
 abbrev pub is_block_row : Record → Bool
 is_block_row row = length row == 4

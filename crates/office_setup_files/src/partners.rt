@@ -61,7 +61,8 @@ fn has_name(entries: &[Entry<'_>], name: &str) -> bool
 // The accounts that the entries are. `None`: one of them is none.
 fn accounts_of(alloc: Global, entries: &[Entry<'_>]) -> Result<Option<Vec<Account>>, AllocError>
     ensures { IfOk result (λ answer. MatchOption answer
-        ((partners : List (List ℕ × PartnerKind)) → ¬ (map partner_said (map entry_content entries.now) ≡ map Some partners))
+        ((partners : List (List ℕ × PartnerKind)) →
+            ¬ (map partner_said (map entry_content entries.now) ≡ map Some partners))
         (λ accounts. map partner_said (map entry_content entries.now) ≡ map Some (account_contents accounts.items))) }
 {
     let mut accounts = Vec::with_capacity(alloc, entries.len())?;

@@ -113,7 +113,8 @@ fn terminal_in(alloc: Global, rows: &[StringRecord]) -> Result<Option<String>, A
 fn partners_in(alloc: Global, rows: &[StringRecord]) -> Result<Option<Vec<Account>>, AllocError>
     ensures { IfOk result (λ answer. MatchOption answer
         (AreNoPartners (section (codes "partner") (map fields_of rows.now)))
-        (λ accounts. ArePartners (section (codes "partner") (map fields_of rows.now)) (account_contents accounts.items))) }
+        (λ accounts. ArePartners (section (codes "partner") (map fields_of rows.now))
+            (account_contents accounts.items))) }
 {
     let entries = section(alloc, rows, "partner")?;
     partners_of(alloc, &entries)

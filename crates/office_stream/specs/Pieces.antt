@@ -13,7 +13,8 @@ use Rattle.office_stream.specs.Lines.{line, response_lines, worst_of_all}
 use Rattle.office_stream.specs.Streams.{CutsFrom, EndsAs, Answered}
 
 -- one interchange was delivered, and its line written
-pub record AnsweredOne {D : Type 0} (stands : List (List ℕ) → D → Type 0) (answers : List (List ℕ) → List ℕ → Response → Type 0)
+pub record AnsweredOne {D : Type 0} (stands : List (List ℕ) → D → Type 0)
+    (answers : List (List ℕ) → List ℕ → Response → Type 0)
     (ds : List (List ℕ)) (text : List ℕ) (desk : D) (worst : Worst) (written written' : Option (List ℕ)) : Type 0 where
   pub response : Response
   pub delivers : Delivers stands answers ds text response desk
@@ -21,7 +22,8 @@ pub record AnsweredOne {D : Type 0} (stands : List (List ℕ) → D → Type 0) 
   pub writes : Appends written written' (line (body_of response))
 
 -- one interchange was delivered, and a front of its line written
-pub record DeliveredOne {D : Type 0} (stands : List (List ℕ) → D → Type 0) (answers : List (List ℕ) → List ℕ → Response → Type 0)
+pub record DeliveredOne {D : Type 0} (stands : List (List ℕ) → D → Type 0)
+    (answers : List (List ℕ) → List ℕ → Response → Type 0)
     (ds : List (List ℕ)) (text : List ℕ) (desk : D) (written written' : Option (List ℕ)) : Type 0 where
   pub response : Response
   pub delivers : Delivers stands answers ds text response desk
@@ -37,8 +39,10 @@ EndsPiece None pending rest = LeavesOver pending rest
 EndsPiece (Some fault) pending rest = EndsAs (Cut fault) rest
 
 -- Each of the interchanges with which a stream begins was delivered, and its line written. What is left over ends so.
-pub record PieceAnswered {D : Type 0} (stands : List (List ℕ) → D → Type 0) (answers : List (List ℕ) → List ℕ → Response → Type 0)
-    (ds : List (List ℕ)) (Ends : List ℕ → Type 0) (stream : List ℕ) (desk : D) (before worst : Worst) (written written' : Option (List ℕ)) : Type 0 where
+pub record PieceAnswered {D : Type 0} (stands : List (List ℕ) → D → Type 0)
+    (answers : List (List ℕ) → List ℕ → Response → Type 0)
+    (ds : List (List ℕ)) (Ends : List ℕ → Type 0) (stream : List ℕ) (desk : D) (before worst : Worst)
+        (written written' : Option (List ℕ)) : Type 0 where
   pub texts : List (List ℕ)
   pub responses : List Response
   pub cuts : CutsFrom Ends stream texts

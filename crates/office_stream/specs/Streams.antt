@@ -60,13 +60,15 @@ ReadsTo (Cut fault) left = Unit {0}
 -- ---- what is done with a stream
 
 -- Each interchange was delivered and answered at its place.
-pub record Answered {D : Type 0} (stands : List (List ℕ) → D → Type 0) (answers : List (List ℕ) → List ℕ → Response → Type 0)
+pub record Answered {D : Type 0} (stands : List (List ℕ) → D → Type 0)
+    (answers : List (List ℕ) → List ℕ → Response → Type 0)
     (ds texts : List (List ℕ)) (responses : List Response) (desk : D) : Type 0 where
   pub each : AnswersEach answers ds texts responses
   pub stands_now : stands (deliveries ds texts responses) desk
 
 -- The bytes that were read are cut to their end, each interchange answered by its line, and the end by the cut line.
-pub record Streamed {D : Type 0} (stands : List (List ℕ) → D → Type 0) (answers : List (List ℕ) → List ℕ → Response → Type 0)
+pub record Streamed {D : Type 0} (stands : List (List ℕ) → D → Type 0)
+    (answers : List (List ℕ) → List ℕ → Response → Type 0)
     (ds : List (List ℕ)) (left left' written written' : Option (List ℕ)) (desk : D) (worst : Worst) : Type 0 where
   pub bytes : List ℕ
   pub texts : List (List ℕ)
@@ -80,7 +82,8 @@ pub record Streamed {D : Type 0} (stands : List (List ℕ) → D → Type 0) (an
   pub is_worst : worst ≡ worse_of (worst_of_all responses) (end_worst end)
 
 -- All interchanges of the bytes that were read were answered by their lines, and less than one is left over.
-pub record Began {D : Type 0} (stands : List (List ℕ) → D → Type 0) (answers : List (List ℕ) → List ℕ → Response → Type 0)
+pub record Began {D : Type 0} (stands : List (List ℕ) → D → Type 0)
+    (answers : List (List ℕ) → List ℕ → Response → Type 0)
     (ds : List (List ℕ)) (left left' written written' : Option (List ℕ)) (desk : D) : Type 0 where
   pub bytes : List ℕ
   pub texts : List (List ℕ)
@@ -94,7 +97,8 @@ pub record Began {D : Type 0} (stands : List (List ℕ) → D → Type 0) (answe
 
 -- A stream begins with these interchanges, and each of them was answered. A front of the last one's line was written, behind
 -- the lines of those before.
-pub record LineCutShort {D : Type 0} (stands : List (List ℕ) → D → Type 0) (answers : List (List ℕ) → List ℕ → Response → Type 0)
+pub record LineCutShort {D : Type 0} (stands : List (List ℕ) → D → Type 0)
+    (answers : List (List ℕ) → List ℕ → Response → Type 0)
     (ds : List (List ℕ)) (stream : List ℕ) (written written' : Option (List ℕ)) (desk : D) : Type 0 where
   pub texts : List (List ℕ)
   pub last : List ℕ
@@ -107,7 +111,8 @@ pub record LineCutShort {D : Type 0} (stands : List (List ℕ) → D → Type 0)
   pub writes : Appends written written' (response_lines responses ++ part)
 
 -- A stream is cut to its end, and each interchange answered by its line. A front of the cut line was written behind them.
-pub record EndCutShort {D : Type 0} (stands : List (List ℕ) → D → Type 0) (answers : List (List ℕ) → List ℕ → Response → Type 0)
+pub record EndCutShort {D : Type 0} (stands : List (List ℕ) → D → Type 0)
+    (answers : List (List ℕ) → List ℕ → Response → Type 0)
     (ds : List (List ℕ)) (stream : List ℕ) (left' written written' : Option (List ℕ)) (desk : D) : Type 0 where
   pub texts : List (List ℕ)
   pub responses : List Response
@@ -120,8 +125,10 @@ pub record EndCutShort {D : Type 0} (stands : List (List ℕ) → D → Type 0) 
   pub writes : Appends written written' (response_lines responses ++ part)
 
 -- A write failed. The line of an interchange of what was read was cut short, or the cut line, and nothing was done behind it.
-pub record Delivered {D : Type 0} (stands : List (List ℕ) → D → Type 0) (answers : List (List ℕ) → List ℕ → Response → Type 0)
+pub record Delivered {D : Type 0} (stands : List (List ℕ) → D → Type 0)
+    (answers : List (List ℕ) → List ℕ → Response → Type 0)
     (ds : List (List ℕ)) (left left' written written' : Option (List ℕ)) (desk : D) : Type 0 where
   pub bytes : List ℕ
   pub reads : Consumes left left' bytes
-  pub cut_short : LineCutShort stands answers ds bytes written written' desk ⊎ EndCutShort stands answers ds bytes left' written written' desk
+  pub cut_short : LineCutShort stands answers ds bytes written written' desk
+      ⊎ EndCutShort stands answers ds bytes left' written written' desk

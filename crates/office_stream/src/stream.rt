@@ -37,7 +37,8 @@ pub fn run_stream<R: Read, W: Write, D: Deliver>(
     // What was delivered before a fault stands. After a failed read, or too many reads, all interchanges of what was read are
     // answered by their lines. After a failed write the lines end where it failed, and nothing was delivered behind it.
     ensures err { IfErr result
-        (λ fault. D.clean desk.new → (opening : D) (ds : List (List ℕ)) → D.stands opening ds desk.old → MatchFault fault
+        (λ fault. D.clean desk.new → (opening : D) (ds : List (List ℕ)) → D.stands opening ds desk.old →
+            MatchFault fault
         (Began (D.stands opening) (D.answers opening) ds
         (R.remaining reader.old.inner) (R.remaining reader.new.inner)
         (W.contents writer.old.inner) (W.contents writer.new.inner) desk.new)

@@ -16,7 +16,9 @@ RepliesAs (Some reply) text = (text ≡ string_bytes reply) × (text ≢ [])
 -- the interchange of the pair, or none where there is none
 abbrev pub IsKept : ℕ → ℕ → Rows → Option Kept → Type 0
 IsKept partner number rows None = pair_of partner number rows ≡ []
-IsKept partner number rows (Some kept) = (i : Interchange) × Contains (pair_of partner number rows) i × (kept.text.items ≡ i.body) × RepliesAs kept.reply i.reply
+IsKept partner number rows (Some kept) =
+    (i : Interchange) × Contains (pair_of partner number rows) i × (kept.text.items ≡ i.body)
+    × RepliesAs kept.reply i.reply
 
 abbrev pub has_id : ℕ → Partner → Bool
 has_id id partner = partner.id == id

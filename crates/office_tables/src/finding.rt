@@ -20,13 +20,19 @@ pub fn kept<S: Alter>(
     partner: u16,
     number: u32,
 ) -> Result<Option<Kept>, TableFault>
-    ensures answer { HasCleanDisk (state S.Store conn.new) → IfOk result (λ answer. (rows : _) → HasRows rows (state S.Store conn.old).now → IsKept partner number rows answer) }
-    ensures same { HasCleanDisk (state S.Store conn.new) → (state S.Store conn.old).now.schema ≡ office_schema → OnOk result (IsUnchanged (state S.Store conn.old) (state S.Store conn.new)) }
-    ensures keeps { HasCleanDisk (state S.Store conn.new) → (state S.Store conn.old).now.schema ≡ office_schema → KeepsCommit (state S.Store conn.old) (state S.Store conn.new) }
+    ensures answer { HasCleanDisk (state S.Store conn.new) →
+        IfOk result (λ answer. (rows : _) → HasRows rows (state S.Store conn.old).now →
+        IsKept partner number rows answer) }
+    ensures same { HasCleanDisk (state S.Store conn.new) → (state S.Store conn.old).now.schema ≡ office_schema →
+        OnOk result (IsUnchanged (state S.Store conn.old) (state S.Store conn.new)) }
+    ensures keeps { HasCleanDisk (state S.Store conn.new) → (state S.Store conn.old).now.schema ≡ office_schema →
+        KeepsCommit (state S.Store conn.old) (state S.Store conn.new) }
     ensures mode { conn.old.in_transaction ≡ false → conn.new.in_transaction ≡ false }
     ensures clean { HasCleanDisk (state S.Store conn.new) → HasCleanDisk (state S.Store conn.old) }
-    ensures was_open { HasCleanDisk (state S.Store conn.new) → IsTrue (state S.Store conn.new).is_open → IsTrue (state S.Store conn.old).is_open }
-    ensures survives { (state S.Store conn.old).now.schema ≡ office_schema → Survives (state S.Store conn.old) (state S.Store conn.new) (λ _. ⊥) }
+    ensures was_open { HasCleanDisk (state S.Store conn.new) → IsTrue (state S.Store conn.new).is_open →
+        IsTrue (state S.Store conn.old).is_open }
+    ensures survives { (state S.Store conn.old).now.schema ≡ office_schema →
+        Survives (state S.Store conn.old) (state S.Store conn.new) (λ _. ⊥) }
 {
     let rows = select_kept(conn, partner, number)?;
     match rows.first() {
@@ -40,13 +46,19 @@ fn select_kept<S: Alter>(
     partner: u16,
     number: u32,
 ) -> Result<Vec<Row>, TableFault>
-    ensures shown { HasCleanDisk (state S.Store conn.new) → IfOk result (λ answer. (rows : _) → HasRows rows (state S.Store conn.old).now → IsPermutation (map kept_values (pair_of partner number rows)) answer.items) }
-    ensures same { HasCleanDisk (state S.Store conn.new) → (state S.Store conn.old).now.schema ≡ office_schema → OnOk result (IsUnchanged (state S.Store conn.old) (state S.Store conn.new)) }
-    ensures keeps { HasCleanDisk (state S.Store conn.new) → (state S.Store conn.old).now.schema ≡ office_schema → KeepsCommit (state S.Store conn.old) (state S.Store conn.new) }
+    ensures shown { HasCleanDisk (state S.Store conn.new) →
+        IfOk result (λ answer. (rows : _) → HasRows rows (state S.Store conn.old).now →
+        IsPermutation (map kept_values (pair_of partner number rows)) answer.items) }
+    ensures same { HasCleanDisk (state S.Store conn.new) → (state S.Store conn.old).now.schema ≡ office_schema →
+        OnOk result (IsUnchanged (state S.Store conn.old) (state S.Store conn.new)) }
+    ensures keeps { HasCleanDisk (state S.Store conn.new) → (state S.Store conn.old).now.schema ≡ office_schema →
+        KeepsCommit (state S.Store conn.old) (state S.Store conn.new) }
     ensures mode { conn.old.in_transaction ≡ false → conn.new.in_transaction ≡ false }
     ensures clean { HasCleanDisk (state S.Store conn.new) → HasCleanDisk (state S.Store conn.old) }
-    ensures was_open { HasCleanDisk (state S.Store conn.new) → IsTrue (state S.Store conn.new).is_open → IsTrue (state S.Store conn.old).is_open }
-    ensures survives { (state S.Store conn.old).now.schema ≡ office_schema → Survives (state S.Store conn.old) (state S.Store conn.new) (λ _. ⊥) }
+    ensures was_open { HasCleanDisk (state S.Store conn.new) → IsTrue (state S.Store conn.new).is_open →
+        IsTrue (state S.Store conn.old).is_open }
+    ensures survives { (state S.Store conn.old).now.schema ≡ office_schema →
+        Survives (state S.Store conn.old) (state S.Store conn.new) (λ _. ⊥) }
 {
     Ok(conn.query_all(
         "SELECT body, reply FROM interchange WHERE partner = ?1 AND number = ?2",
@@ -55,7 +67,9 @@ fn select_kept<S: Alter>(
 }
 
 fn read_kept(row: &Row) -> Result<Kept, TableFault>
-    ensures { IfOk result (λ kept. (column row.now 0 ≡ Blob kept.text.items) × ((reply : _) × (column row.now 1 ≡ Text reply) × RepliesAs kept.reply reply)) }
+    ensures { IfOk result
+        (λ kept. (column row.now 0 ≡ Blob kept.text.items)
+        × ((reply : _) × (column row.now 1 ≡ Text reply) × RepliesAs kept.reply reply)) }
 {
     let text = row.get(0)?;
     let reply: String = row.get(1)?;
@@ -65,13 +79,18 @@ fn read_kept(row: &Row) -> Result<Kept, TableFault>
 
 /// The number that the next interchange of a partner has. It changes nothing.
 pub fn next_of<S: Alter>(conn: &mut Connection<S>, partner: u16) -> Result<u32, TableFault>
-    ensures answer { HasCleanDisk (state S.Store conn.new) → IfOk result (λ next. (rows : _) → HasRows rows (state S.Store conn.old).now → IsNextOf partner rows next) }
-    ensures same { HasCleanDisk (state S.Store conn.new) → (state S.Store conn.old).now.schema ≡ office_schema → OnOk result (IsUnchanged (state S.Store conn.old) (state S.Store conn.new)) }
-    ensures keeps { HasCleanDisk (state S.Store conn.new) → (state S.Store conn.old).now.schema ≡ office_schema → KeepsCommit (state S.Store conn.old) (state S.Store conn.new) }
+    ensures answer { HasCleanDisk (state S.Store conn.new) →
+        IfOk result (λ next. (rows : _) → HasRows rows (state S.Store conn.old).now → IsNextOf partner rows next) }
+    ensures same { HasCleanDisk (state S.Store conn.new) → (state S.Store conn.old).now.schema ≡ office_schema →
+        OnOk result (IsUnchanged (state S.Store conn.old) (state S.Store conn.new)) }
+    ensures keeps { HasCleanDisk (state S.Store conn.new) → (state S.Store conn.old).now.schema ≡ office_schema →
+        KeepsCommit (state S.Store conn.old) (state S.Store conn.new) }
     ensures mode { conn.old.in_transaction ≡ false → conn.new.in_transaction ≡ false }
     ensures clean { HasCleanDisk (state S.Store conn.new) → HasCleanDisk (state S.Store conn.old) }
-    ensures was_open { HasCleanDisk (state S.Store conn.new) → IsTrue (state S.Store conn.new).is_open → IsTrue (state S.Store conn.old).is_open }
-    ensures survives { (state S.Store conn.old).now.schema ≡ office_schema → Survives (state S.Store conn.old) (state S.Store conn.new) (λ _. ⊥) }
+    ensures was_open { HasCleanDisk (state S.Store conn.new) → IsTrue (state S.Store conn.new).is_open →
+        IsTrue (state S.Store conn.old).is_open }
+    ensures survives { (state S.Store conn.old).now.schema ≡ office_schema →
+        Survives (state S.Store conn.old) (state S.Store conn.new) (λ _. ⊥) }
 {
     let rows = select_next(conn, partner)?;
     match rows.first() {
@@ -81,13 +100,19 @@ pub fn next_of<S: Alter>(conn: &mut Connection<S>, partner: u16) -> Result<u32, 
 }
 
 fn select_next<S: Alter>(conn: &mut Connection<S>, partner: u16) -> Result<Vec<Row>, TableFault>
-    ensures shown { HasCleanDisk (state S.Store conn.new) → IfOk result (λ answer. (rows : _) → HasRows rows (state S.Store conn.old).now → IsPermutation (map next_values (filter (has_id partner) rows.partners)) answer.items) }
-    ensures same { HasCleanDisk (state S.Store conn.new) → (state S.Store conn.old).now.schema ≡ office_schema → OnOk result (IsUnchanged (state S.Store conn.old) (state S.Store conn.new)) }
-    ensures keeps { HasCleanDisk (state S.Store conn.new) → (state S.Store conn.old).now.schema ≡ office_schema → KeepsCommit (state S.Store conn.old) (state S.Store conn.new) }
+    ensures shown { HasCleanDisk (state S.Store conn.new) →
+        IfOk result (λ answer. (rows : _) → HasRows rows (state S.Store conn.old).now →
+        IsPermutation (map next_values (filter (has_id partner) rows.partners)) answer.items) }
+    ensures same { HasCleanDisk (state S.Store conn.new) → (state S.Store conn.old).now.schema ≡ office_schema →
+        OnOk result (IsUnchanged (state S.Store conn.old) (state S.Store conn.new)) }
+    ensures keeps { HasCleanDisk (state S.Store conn.new) → (state S.Store conn.old).now.schema ≡ office_schema →
+        KeepsCommit (state S.Store conn.old) (state S.Store conn.new) }
     ensures mode { conn.old.in_transaction ≡ false → conn.new.in_transaction ≡ false }
     ensures clean { HasCleanDisk (state S.Store conn.new) → HasCleanDisk (state S.Store conn.old) }
-    ensures was_open { HasCleanDisk (state S.Store conn.new) → IsTrue (state S.Store conn.new).is_open → IsTrue (state S.Store conn.old).is_open }
-    ensures survives { (state S.Store conn.old).now.schema ≡ office_schema → Survives (state S.Store conn.old) (state S.Store conn.new) (λ _. ⊥) }
+    ensures was_open { HasCleanDisk (state S.Store conn.new) → IsTrue (state S.Store conn.new).is_open →
+        IsTrue (state S.Store conn.old).is_open }
+    ensures survives { (state S.Store conn.old).now.schema ≡ office_schema →
+        Survives (state S.Store conn.old) (state S.Store conn.new) (λ _. ⊥) }
 {
     Ok(conn.query_all(
         "SELECT next FROM partner WHERE id = ?1",

@@ -22,10 +22,13 @@ pub fn create<S: Alter>(conn: &mut Connection<S>, setup: &Setup) -> Result<(), T
     requires idle { (state S.Store conn.old).in_transaction ≡ false }
     requires counted { length setup.now.partners.items ≤ 999 }
     ensures idle { (state S.Store conn.new).in_transaction ≡ false }
-    ensures ok { HasCleanDisk (state S.Store conn.new) → OnOk result (Opens (setup_content setup.now) (state S.Store conn.old) (state S.Store conn.new)) }
+    ensures ok { HasCleanDisk (state S.Store conn.new) →
+        OnOk result (Opens (setup_content setup.now) (state S.Store conn.old) (state S.Store conn.new)) }
     ensures err { HasCleanDisk (state S.Store conn.new) → IsTrue (state S.Store conn.new).is_open
-        → OnErr result (((state S.Store conn.new).now ≡ (state S.Store conn.old).committed) × ((state S.Store conn.new).committed ≡ (state S.Store conn.old).committed)) }
-    ensures crash { Survives (state S.Store conn.old) (state S.Store conn.new) (IsOpening (setup_content setup.now) (state S.Store conn.old)) }
+        → OnErr result (((state S.Store conn.new).now ≡ (state S.Store conn.old).committed)
+            × ((state S.Store conn.new).committed ≡ (state S.Store conn.old).committed)) }
+    ensures crash { Survives (state S.Store conn.old) (state S.Store conn.new)
+        (IsOpening (setup_content setup.now) (state S.Store conn.old)) }
 {
     let is_idle = conn.is_autocommit();
     prove!(is_idle);
@@ -40,7 +43,8 @@ fn write_opening<S: Alter>(tx: &mut Transaction<'_, S>, setup: &Setup) -> Result
     requires { length setup.now.partners.items ≤ 999 }
     ensures same_reference { tx.new.conn.ghost_name ≡ tx.old.conn.ghost_name }
     ensures made { HasCleanDisk (state S.Store tx.new.conn.now) → IsTrue (state S.Store tx.old.conn.now).in_transaction
-        → OnOk result (Turns (HasEmpty (take 0 office_tables)) (HasRows (opening_rows (setup_content setup.now))) (state S.Store tx.old.conn.now) (state S.Store tx.new.conn.now)) }
+        → OnOk result (Turns (HasEmpty (take 0 office_tables)) (HasRows (opening_rows (setup_content setup.now)))
+            (state S.Store tx.old.conn.now) (state S.Store tx.new.conn.now)) }
     ensures keeps { HasCleanDisk (state S.Store tx.new.conn.now) → IsTrue (state S.Store tx.old.conn.now).in_transaction
         → KeepsCommit (state S.Store tx.old.conn.now) (state S.Store tx.new.conn.now) }
     ensures survives { Survives (state S.Store tx.old.conn.now) (state S.Store tx.new.conn.now) (λ _. ⊥) }

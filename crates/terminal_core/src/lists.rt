@@ -131,7 +131,15 @@ fn noted_lines(alloc: Global, rows: &[Listing]) -> Result<LineIndexes, RestoreFa
 {
     let mut indexes = HashMap::new(alloc);
     for (row_index, row) in rows.iter().enumerate() {
-        if row_index_of(&rows[..row_index], &indexes, &row.call, row.side, row.container).is_some() {
+        if row_index_of(
+            &rows[..row_index],
+            &indexes,
+            &row.call,
+            row.side,
+            row.container,
+        )
+        .is_some()
+        {
             return Err(RestoreFault::Unsound);
         }
         note(

@@ -45,7 +45,8 @@ pub record Removes (old new : YardMap) (b : Box) (s : Placement) : Type 0 where
 -- why a box does not leave
 abbrev pub RefusesRemove : YardMap → Box → YardFault → Type 0
 RefusesRemove y b Absent = map.get y.boxes b ≡ None
-RefusesRemove y b (Buried blocker) = (s : Placement) × (map.get y.boxes b ≡ Some s) × IsAbove (map.get y.boxes) s blocker
+RefusesRemove y b (Buried blocker) =
+    (s : Placement) × (map.get y.boxes b ≡ Some s) × IsAbove (map.get y.boxes) s blocker
 RefusesRemove y b f = ⊥
 
 -- a free box in another slot, where it fits the yard without it
@@ -59,5 +60,8 @@ pub record Shifts (old new : YardMap) (b : Box) (s : Placement) (slot : Slot) : 
 -- why a box is not shifted there
 abbrev pub RefusesShift : YardMap → Box → Slot → YardFault → Type 0
 RefusesShift y b slot Absent = map.get y.boxes b ≡ None
-RefusesShift y b slot (Buried blocker) = (s : Placement) × (map.get y.boxes b ≡ Some s) × IsAbove (map.get y.boxes) s blocker
-RefusesShift y b slot f = (s : Placement) × (map.get y.boxes b ≡ Some s) × IsFree (map.get y.boxes) s × Misfits y.plan (map.get (map.remove y.boxes b)) (placement s.length slot) f
+RefusesShift y b slot (Buried blocker) =
+    (s : Placement) × (map.get y.boxes b ≡ Some s) × IsAbove (map.get y.boxes) s blocker
+RefusesShift y b slot f =
+    (s : Placement) × (map.get y.boxes b ≡ Some s) × IsFree (map.get y.boxes) s
+    × Misfits y.plan (map.get (map.remove y.boxes b)) (placement s.length slot) f

@@ -14,7 +14,8 @@ use Rattle.yard_core.specs.FitsAndFree.{IsFree, IsOpen}
 
 -- how many blocks of the plan come before that of each letter
 abbrev pub Locates : List Block → List ℕ → Type 0
-Locates blocks positions = (k : ℕ) → k < 26 → slice_index positions k ≡ position_or_len (λ (b : Block). b.letter == (k + 65)) blocks
+Locates blocks positions =
+    (k : ℕ) → k < 26 → slice_index positions k ≡ position_or_len (λ (b : Block). b.letter == (k + 65)) blocks
 
 -- a plan's blocks stand at the front of an array
 pub record IsIndexed (blocks : List Block) (count : ℕ) (positions : List ℕ) : Type 0 where
@@ -38,7 +39,8 @@ pub record IsFilled (height : ℕ) (boxes : List (Option Box)) : Type 0 where
 
 -- the column of a cell: each block has 480 of them, 12 a bay
 abbrev pub column_of : List Block → Slot → ℕ
-column_of plan cell = 480 * position_or_len (λ (b : Block). b.letter == cell.block) plan + 12 * (cell.bay / 2) + (cell.row - 1)
+column_of plan cell =
+    480 * position_or_len (λ (b : Block). b.letter == cell.block) plan + 12 * (cell.bay / 2) + (cell.row - 1)
 
 -- the cell of the lowest bay, and that of the highest
 abbrev pub first_cell : Length → Slot → Slot
@@ -67,7 +69,8 @@ level columns i k = slice_get (column_at columns i) k
 pub record Tells (plan : List Block) (columns : List (List Box)) (at : Box → Option Placement) : Type 0 where
   pub near : (b : Box) (s : Placement) → at b ≡ Some s → level columns (near_of plan s) (s.slot.tier - 1) ≡ Some b
   pub far : (b : Box) (s : Placement) → at b ≡ Some s → level columns (far_of plan s) (s.slot.tier - 1) ≡ Some b
-  pub stood : (i k : ℕ) (b : Box) → level columns i k ≡ Some b → (s : Placement) × (at b ≡ Some s) × (s.slot.tier ≡ k + 1) × ((i ≡ near_of plan s) ⊎ (i ≡ far_of plan s))
+  pub stood : (i k : ℕ) (b : Box) → level columns i k ≡ Some b →
+      (s : Placement) × (at b ≡ Some s) × (s.slot.tier ≡ k + 1) × ((i ≡ near_of plan s) ⊎ (i ≡ far_of plan s))
 
 -- what a yard keeps
 pub record IsKept (plan : List Block) (columns : List (List Box)) (at : Box → Option Placement) : Type 0 where
@@ -102,7 +105,8 @@ bears Twenty slot near far = is_twenty near
 bears Forty slot near far = is_forty_in slot.bay near || (is_twenty near && is_twenty far)
 
 -- the slot is open, and both columns end below it
-pub record IsReady (plan : List Block) (columns : List (List Box)) (at : Box → Option Placement) (s : Placement) : Type 0 where
+pub record IsReady (plan : List Block) (columns : List (List Box)) (at : Box → Option Placement)
+    (s : Placement) : Type 0 where
   pub open_ : IsOpen plan at s
   pub near : length (column_at columns (near_of plan s)) ≡ s.slot.tier - 1
   pub far : length (column_at columns (far_of plan s)) ≡ s.slot.tier - 1
@@ -118,7 +122,8 @@ abbrev pub AgreeOn : List (List Box) → (Box → Option Placement) → (Box →
 AgreeOn columns stored at = (i k : ℕ) (b : Box) → level columns i k ≡ Some b → stored b ≡ at b
 
 -- a free box is off its columns, and still in the map
-pub record IsLifted (plan : List Block) (columns : List (List Box)) (boxes : Boxes) (b : Box) (s : Placement) (near far : ℕ) : Type 0 where
+pub record IsLifted (plan : List Block) (columns : List (List Box)) (boxes : Boxes) (b : Box) (s : Placement)
+    (near far : ℕ) : Type 0 where
   pub stood : map.get boxes b ≡ Some s
   pub free : IsFree (map.get boxes) s
   pub kept : IsKept plan columns (map.get (map.remove boxes b))

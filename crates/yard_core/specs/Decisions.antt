@@ -43,7 +43,8 @@ fault_of no_room = fault.NoRoom
 -- the slot's numbers are among those of the block
 abbrev pub in_block : Slot → Block → Bool
 in_block slot b =
-    nat_le 1 slot.bay && nat_lt slot.bay (2 * b.bays) && nat_le 1 slot.row && nat_le slot.row b.rows && nat_le 1 slot.tier
+    nat_le 1 slot.bay && nat_lt slot.bay (2 * b.bays) && nat_le 1 slot.row && nat_le slot.row b.rows
+        && nat_le 1 slot.tier
     && nat_le slot.tier b.tiers
 
 abbrev pub in_plan : List Block → Slot → Bool
@@ -155,7 +156,8 @@ with_misfit None y = Ok y
 abbrev pub placed : YardMap → Box → Length → Slot → Result YardMap Refusal
 placed y b length slot =
     cond (is_some (finite_map.get y.boxes b)) (Err present)
-    (with_misfit (misfit_of y.plan y.boxes (placement length slot)) (yard_map y.plan (finite_map.insert y.boxes b (placement length slot))))
+    (with_misfit (misfit_of y.plan y.boxes (placement length slot))
+        (yard_map y.plan (finite_map.insert y.boxes b (placement length slot))))
 
 abbrev pub with_slot : Option Slot → YardMap → Box → Length → Result (YardMap × Slot) Refusal
 with_slot None y b length = Err no_room
@@ -163,7 +165,8 @@ with_slot (Some slot) y b length = Ok (yard_map y.plan (finite_map.insert y.boxe
 
 -- one container more, in the first slot that fits
 abbrev pub placed_first : YardMap → Box → Length → Result (YardMap × Slot) Refusal
-placed_first y b length = cond (is_some (finite_map.get y.boxes b)) (Err present) (with_slot (first_fit y.plan y.boxes length) y b length)
+placed_first y b length =
+    cond (is_some (finite_map.get y.boxes b)) (Err present) (with_slot (first_fit y.plan y.boxes length) y b length)
 
 abbrev pub unless_buried : {A : Type 0} → Option Box → Result A Refusal → Result A Refusal
 unless_buried None answer = answer
@@ -181,7 +184,8 @@ abbrev pub shifted_at : Option Placement → YardMap → Box → Slot → Result
 shifted_at None y b slot = Err absent
 shifted_at (Some s) y b slot =
     unless_buried (blocker_of y.boxes s)
-    (with_misfit (misfit_of y.plan (finite_map.remove y.boxes b) (placement s.length slot)) (yard_map y.plan (finite_map.insert y.boxes b (placement s.length slot))))
+    (with_misfit (misfit_of y.plan (finite_map.remove y.boxes b) (placement s.length slot))
+        (yard_map y.plan (finite_map.insert y.boxes b (placement s.length slot))))
 
 -- a container in another slot, which has to fit the yard without it
 abbrev pub shifted : YardMap → Box → Slot → Result YardMap Refusal

@@ -23,7 +23,8 @@ abbrev pub Misfits : List Block → (Box → Option Placement) → Placement →
 Misfits plan at s NoSlot = ¬ InPlan plan s.slot
 Misfits plan at s SlotKind = InPlan plan s.slot × ¬ IsKind s.length s.slot
 Misfits plan at s Taken = InPlan plan s.slot × IsKind s.length s.slot × IsTaken at s
-Misfits plan at s OnAir = InPlan plan s.slot × IsKind s.length s.slot × (¬ IsTaken at s) × (¬ IsCarried at s.length s.slot)
+Misfits plan at s OnAir =
+    InPlan plan s.slot × IsKind s.length s.slot × (¬ IsTaken at s) × (¬ IsCarried at s.length s.slot)
 Misfits plan at s Present = ⊥
 Misfits plan at s Absent = ⊥
 Misfits plan at s (Buried b) = ⊥

@@ -62,7 +62,8 @@ abbrev pub boxes_code : Coded Boxes
 boxes_code = map.code (coded_list coded_ℕ) placements.the_row.coded
 
 abbrev pub yard_code : Coded YardMap
-yard_code = code_by (List Block × Boxes) (coded× (coded_list blocks.the_row.coded) boxes_code) (λ y. (y.plan, y.boxes)) (λ p. record { plan = p.0; boxes = p.1 }) (λ _. refl)
+yard_code = code_by (List Block × Boxes) (coded× (coded_list blocks.the_row.coded) boxes_code) (λ y. (y.plan, y.boxes))
+    (λ p. record { plan = p.0; boxes = p.1 }) (λ _. refl)
 
 abbrev pub boxes_of : List (Box × Placement) → Boxes
 boxes_of entries = map.from_entries entries
