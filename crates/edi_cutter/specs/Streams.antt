@@ -32,13 +32,15 @@ FeedsAll c (piece ∷ pieces) interchanges new =
 abbrev pub joined : List (List ℕ) → List ℕ
 joined pieces = flat_map (λ piece. piece) pieces
 
--- Where no call is refused, the interchanges of pieces are those of the stream that they make, and what is pending is its rest.
+-- Where no call is refused, the interchanges of pieces are those of the stream that they make, and what is pending is
+-- its rest.
 abbrev pub CutsTheStream : Type 0
 CutsTheStream =
     (c new : Cutting) (pieces interchanges : List (List ℕ)) → pending c ≡ [] → FeedsAll c pieces interchanges new
     → AreCuts (joined pieces) interchanges (pending new)
 
--- A stream has one list of interchanges and one rest. So these depend on the stream alone, however it is cut into pieces.
+-- A stream has one list of interchanges and one rest. So these depend on the stream alone, however it is cut into
+-- pieces.
 abbrev pub CutsAreOne : Type 0
 CutsAreOne =
     (stream rest rest' : List ℕ) (interchanges interchanges' : List (List ℕ)) → AreCuts stream interchanges rest

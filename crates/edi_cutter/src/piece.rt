@@ -36,8 +36,8 @@ fn len_of_breaks(bytes: &[u8]) -> usize
     bytes.len()
 }
 
-/// Reads a piece behind bytes of an interchange, as far as its end: how many bytes of the piece were read, and what is kept
-/// of them. No memory is asked for.
+/// Reads a piece behind bytes of an interchange, as far as its end: how many bytes of the piece were read, and what is
+/// kept of them. No memory is asked for.
 pub(crate) fn read_piece(
     text: &[u8],
     reading: Reading,

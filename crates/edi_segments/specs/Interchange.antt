@@ -28,7 +28,8 @@ AdvisedText segments text =
     (s : Service) × (advice breaks rest : List ℕ) × AdviceText s advice × IsTrue (list_all is_break breaks)
     × SegmentsText s segments rest × (text ≡ advice ++ (breaks ++ rest))
 
--- Segments under the service characters of their advice, or under the defaults. A text that begins with `UNA` has an advice.
+-- Segments under the service characters of their advice, or under the defaults. A text that begins with `UNA` has an
+-- advice.
 abbrev pub InterchangeText : List Content → List ℕ → Type 0
 InterchangeText segments text =
     AdvisedText segments text ⊎ ((begins_with_advice text ≡ false) × SegmentsText default_service segments text)

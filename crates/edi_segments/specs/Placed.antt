@@ -26,7 +26,8 @@ abbrev pub elements_from : ℕ → List (List (List ℕ)) → List Placed
 elements_from element [] = []
 elements_from element (values ∷ elements) = values_from element 1 values ++ elements_from (element + 1) elements
 
--- The values of a segment: its tag as that of element 0, then those of its elements, counted from one like their components.
+-- The values of a segment: its tag as that of element 0, then those of its elements, counted from one like their
+-- components.
 abbrev pub segment_values : Content → List Placed
 segment_values segment = record { element = 0; component = 1; value = segment.tag } ∷ elements_from 1 segment.elements
 

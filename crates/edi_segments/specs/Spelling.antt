@@ -1,5 +1,5 @@
--- Segments written under the default service characters: releases before service characters alone, no empty components or
--- elements at an end, no line breaks.
+-- Segments written under the default service characters: releases before service characters alone, no empty components
+-- or elements at an end, no line breaks.
 use Rattle.std.specs.Prelude.{◌≡◌, ℕ, Bool, true, false, cond, ◌==◌, List, [], ◌∷◌, ◌++◌, length, take, codes, IsTrue}
 use Rattle.std.specs.List.{list_all, flat_map}
 use Rattle.edi_segments.specs.Characters.{is_data_byte}

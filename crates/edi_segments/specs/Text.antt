@@ -24,12 +24,13 @@ has_tag tag segment = bytes_eq segment.tag tag
 abbrev pub component_of : Content → ℕ → ℕ → List ℕ
 component_of segment element component = get_or (get_or segment.elements (element - 1) []) (component - 1) []
 
--- The values of an element, counted from one. An element that is missing equals an empty one, which has one empty value.
+-- The values of an element, counted from one. An element that is missing equals an empty one, which has one empty
+-- value.
 abbrev pub element_of : Content → ℕ → List (List ℕ)
 element_of segment element = get_or segment.elements (element - 1) ([] ∷ [])
 
--- Two segments are the same where tag and all components are equal: an element or a component that is missing equals one
--- that is empty.
+-- Two segments are the same where tag and all components are equal: an element or a component that is missing equals
+-- one that is empty.
 pub record IsSameSegment (a b : Content) : Type 0 where
   pub tag : a.tag ≡ b.tag
   pub components : (element component : ℕ) → component_of a element component ≡ component_of b element component

@@ -122,8 +122,8 @@ impl<'a> Component<'a> {
         if len == N { Some(text) } else { None }
     }
 
-    /// Writes the value anew at the end, under the default service characters. Where memory is refused the vector is as it
-    /// was.
+    /// Writes the value anew at the end, under the default service characters. Where memory is refused the vector is as
+    /// it was.
     pub fn spell_into(&self, out: &mut Vec<u8>) -> Result<(), AllocError>
         ensures ok { OnOk result (out.new.items ≡ out.old.items ++ spelling (value self.now)) }
         ensures err { OnErr result (out.new.items ≡ out.old.items) }

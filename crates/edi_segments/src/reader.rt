@@ -13,8 +13,8 @@ use super::service::Service;
 use super::token::Token;
 use super::token_table::TokenTable;
 
-/// What stands behind a service string advice of that length and the line breaks after it: the whole text, where there is
-/// none.
+/// What stands behind a service string advice of that length and the line breaks after it: the whole text, where there
+/// is none.
 pub(crate) fn behind_advice<'a>(text: &'a [u8], start: usize) -> &'a [u8]
     requires within { start ≤ length text.now }
     requires advised { start ≡ advice_len text.now }

@@ -18,8 +18,8 @@ pub struct SegmentCheck<'a> {
 }
 
 impl<'a> SegmentCheck<'a> {
-    /// Reads an interchange's text as far as its service string advice, where it has one. Answers `SyntaxFault::Service` where
-    /// the advice is bad, and nothing else.
+    /// Reads an interchange's text as far as its service string advice, where it has one. Answers
+    /// `SyntaxFault::Service` where the advice is bad, and nothing else.
     pub fn of(text: &'a [u8]) -> Result<SegmentCheck<'a>, SyntaxFault>
         ensures ok { IfOk result (λ check. (has_bad_advice text.now ≡ false)
             × (segments_to_check check ≡ segments_in text.now)

@@ -7,8 +7,8 @@ use super::spelling::{are_empty, write_composite};
 use std::alloc::{AllocError, Global};
 use std::marker::Model;
 
-/// Writes segments under the default service characters: releases before service characters alone, no empty components or
-/// elements at an end, no line breaks. Where memory is refused, what is written is as it was.
+/// Writes segments under the default service characters: releases before service characters alone, no empty components
+/// or elements at an end, no line breaks. Where memory is refused, what is written is as it was.
 #[derive(Drop)]
 pub struct SegmentWriter {
     text: Vec<u8>,

@@ -1,5 +1,5 @@
-/// Why a text is no interchange that this office reads (ISO 9735 version 3, in its profile). Of those that apply the first
-/// is answered.
+/// Why a text is no interchange that this office reads (ISO 9735 version 3, in its profile). Of those that apply the
+/// first is answered.
 #[derive(Clone, Copy, PartialEq, Eq, Debug)]
 pub enum SyntaxFault {
     /// More than 1,048,576 bytes.
@@ -8,8 +8,8 @@ pub enum SyntaxFault {
     Service,
     /// What follows it is not a list of segments, each with its terminator.
     Segment,
-    /// The first segment isn't UNB, the last isn't UNZ, sender (0004) or recipient (0010) is empty, or a component of S002 or
-    /// S003 has a byte that can't be printed.
+    /// The first segment isn't UNB, the last isn't UNZ, sender (0004) or recipient (0010) is empty, or a component of
+    /// S002 or S003 has a byte that can't be printed.
     NoEnvelope,
     /// A segment UNG or UNE.
     Group,
@@ -25,8 +25,8 @@ pub enum SyntaxFault {
     MessageFrame,
     /// A UNT doesn't give the number of its message's segments (0074), in 1 to 6 digits.
     SegmentCount,
-    /// The reference of a message (0062) isn't 1 to 14 bytes that can be printed, or differs in its UNT, or a component of its
-    /// identity (S009) can't be printed.
+    /// The reference of a message (0062) isn't 1 to 14 bytes that can be printed, or differs in its UNT, or a component
+    /// of its identity (S009) can't be printed.
     MessageReference,
     /// No message.
     Empty,

@@ -51,8 +51,8 @@ impl TokenTable {
         self.service.token(true, byte)
     }
 
-    /// How many bytes at the front may be passed over where the end of the segment is sought: none of them ends it, releases
-    /// another or is invalid.
+    /// How many bytes at the front may be passed over where the end of the segment is sought: none of them ends it,
+    /// releases another or is invalid.
     #[inline(always)]
     pub(crate) fn len_of_inside(&self, bytes: &[u8]) -> usize
         ensures within { result ≤ length bytes.now }

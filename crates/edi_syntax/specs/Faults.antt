@@ -1,4 +1,5 @@
--- Which faults apply to a text, each by its own definition over the segments of the whole text, and the first that does.
+-- Which faults apply to a text, each by its own definition over the segments of the whole text, and the first that
+-- does.
 use Rattle.std.specs.Prelude.{ℕ, Bool, false, cond, not, ◌==◌, nat_lt, List, [], ◌∷◌, ◌++◌, length, codes, Option, Some}
 use Rattle.std.specs.Option.{is_none}
 use Rattle.std.specs.List.{list_all, list_any, find}
@@ -14,8 +15,8 @@ use Rattle.edi_syntax.specs.Envelope.{header_of, behind_header, messages_of, has
 
 -- ---- each fault
 
--- Whether the fault applies to the segments of a text. Those of the messages say something of any list of segments, also of
--- one with which `MessageFrame` is at fault and comes first. The first three are faults of the bytes alone.
+-- Whether the fault applies to the segments of a text. Those of the messages say something of any list of segments,
+-- also of one with which `MessageFrame` is at fault and comes first. The first three are faults of the bytes alone.
 abbrev pub applies_to : List Content → SyntaxFault → Bool
 applies_to segments TooLong = false
 applies_to segments Service = false

@@ -22,7 +22,8 @@ pub record AreMessages (segments : List Content) (messages : List Message) : Typ
   pub all : AllByRecursion IsMessage messages
   pub are : segments ≡ flat_map message_segments messages ++ trailer ∷ []
 
--- The test of fault 10 tells just whether what stands behind the header is messages and a UNZ, and these are its messages.
+-- The test of fault 10 tells just whether what stands behind the header is messages and a UNZ, and these are its
+-- messages.
 abbrev pub MessagesStand : Type 0
 MessagesStand =
     (segments : List Content)
@@ -30,8 +31,8 @@ MessagesStand =
     × ((messages : List Message) → AreMessages segments messages →
         (are_messages false segments ≡ true) × (messages_in segments ≡ messages))
 
--- Neither `Service` nor `Segment` applies to a text just where it is a text of the grammar, and the segments are those that it
--- is a text of.
+-- Neither `Service` nor `Segment` applies to a text just where it is a text of the grammar, and the segments are those
+-- that it is a text of.
 abbrev pub ReadsTheGrammar : Type 0
 ReadsTheGrammar =
     (text : List ℕ)

@@ -21,8 +21,8 @@ pub struct MessageEnd<'t, 'a> {
     pub(crate) rest: CheckedSegments<'t, 'a>,
 }
 
-/// The end of the message that the segments are behind the header of. `None` where something stands before it that may not
-/// stand in a message.
+/// The end of the message that the segments are behind the header of. `None` where something stands before it that may
+/// not stand in a message.
 pub(crate) fn message_end<'t, 'a>(behind: CheckedSegments<'t, 'a>) -> Option<MessageEnd<'t, 'a>>
     requires { length (checked_left behind) ≤ 1048576 }
     ensures { MatchOption result (are_messages true (checked_left behind.entry)

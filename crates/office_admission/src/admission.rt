@@ -15,9 +15,9 @@ use edi_syntax::Head;
 use office_replies::Fault;
 use office_setup::Setup;
 
-/// Whose interchange a text is, or the first refusal: the lowest of its faults 1 to 15, a sender without an account (16),
-/// another recipient than the terminal (17). The text is what was delivered, without the CR and LF at both ends. Takes no
-/// memory.
+/// Whose interchange a text is, or the first refusal: the lowest of its faults 1 to 15, a sender without an account
+/// (16), another recipient than the terminal (17). The text is what was delivered, without the CR and LF at both ends.
+/// Takes no memory.
 pub fn admit<'a>(setup: &Setup, text: &'a [u8]) -> Result<Admitted<'a>, Refusal<'a>>
     requires { length setup.now.partners.items ≤ 999 }
     ensures ok { IfOk result (IsAdmitted setup.now text.now) }

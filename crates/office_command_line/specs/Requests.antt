@@ -141,8 +141,8 @@ words_ask words = met_asks (subcommand_of office_app words)
 abbrev pub WordsAsk : List Text → Asked → Type 0
 WordsAsk words what = (fault_of office_app words ≡ []) × (words_ask words ≡ Some what)
 
--- why words ask for nothing: a fault that `clap` finds in them, a call for help or for the version being one; or it takes
--- them, and they are no request; or memory was refused
+-- why words ask for nothing: a fault that `clap` finds in them, a call for help or for the version being one; or it
+-- takes them, and they are no request; or memory was refused
 abbrev pub RefusesWords : List Text → CommandFault → Type 0
 RefusesWords words (Words error) = IsAmong (kind_of error) (fault_of office_app words)
 RefusesWords words (Values line) =

@@ -29,8 +29,8 @@ fault_text (Stream Write) = []
 abbrev pub Tells : (failed : Bool) (told told' : Option (List ℕ)) → List ℕ → Type 0
 Tells failed told told' text = failed ≡ false → Appends told told' text
 
--- The demonstration ends with the status of its stream, neither port having failed, and tells nothing, or with 3 where it was left before the end, and
--- tells why.
+-- The demonstration ends with the status of its stream, neither port having failed, and tells nothing, or with 3 where
+-- it was left before the end, and tells why.
 abbrev pub DemoEnds : (left left' written written' : Option (List ℕ))
     (read_failed read_failed' write_failed write_failed' : Bool)
     (tells : List ℕ → Type 0) → ℕ → Type 0

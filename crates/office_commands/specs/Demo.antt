@@ -72,15 +72,16 @@ pub record DemoDelivered (left left' written written' : Option (List ℕ)) : Typ
 abbrev pub demo_turns : ℕ
 demo_turns = 100000000
 
--- What was done before a fault. If the desk did not open, nothing was read or written. A read that failed leaves what was
--- answered before, and so do too many reads. So does a write that failed, but for the line that it cut short.
+-- What was done before a fault. If the desk did not open, nothing was read or written. A read that failed leaves what
+-- was answered before, and so do too many reads. So does a write that failed, but for the line that it cut short.
 abbrev pub DemoLeft : (left left' written written' : Option (List ℕ)) → DemoFault → Type 0
 DemoLeft left left' written written' (Store fault) = (left' ≡ left) × (written' ≡ written)
 DemoLeft left left' written written' (Stream Read) = DemoBegan left left' written written'
 DemoLeft left left' written written' (Stream Turns) = DemoBegan left left' written written'
 DemoLeft left left' written written' (Stream Write) = DemoDelivered left left' written written'
 
--- a fault of the reader or the writer comes only where it has failed and the other has not, and any other only where neither has
+-- a fault of the reader or the writer comes only where it has failed and the other has not, and any other only where
+-- neither has
 abbrev pub IsOfPorts : (read_failed read_failed' write_failed write_failed' : Bool) → DemoFault → Type 0
 IsOfPorts read_failed read_failed' write_failed write_failed' (Store fault) =
     (read_failed' ≡ read_failed) × (write_failed' ≡ write_failed)

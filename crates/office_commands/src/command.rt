@@ -7,9 +7,9 @@ use office_stream::Port;
 use std::alloc::Global;
 use std::io::{Read, Write};
 
-/// `demo`: delivers the interchanges of a reader over tables in memory, and answers the exit status: 0 where each was taken,
-/// repeated or waits, 1 where one was refused, and 3 where the desk did not open, reading or writing failed, or one could not
-/// be answered now. `errors` takes what is told of a fault.
+/// `demo`: delivers the interchanges of a reader over tables in memory, and answers the exit status: 0 where each was
+/// taken, repeated or waits, 1 where one was refused, and 3 where the desk did not open, reading or writing failed, or
+/// one could not be answered now. `errors` takes what is told of a fault.
 pub fn demonstrate<R: Read, W: Write, E: Write>(
     alloc: Global,
     reader: &mut Port<R>,

@@ -13,8 +13,8 @@ use std::io::{Read, Write};
 /// How many reads of the input are made.
 const TURNS: u64 = 100_000_000;
 
-/// Delivers the interchanges of a reader to a desk of the demonstration's set-up over tables in memory, and writes the answer to each as a line.
-/// Answers the worst of them. A fault is that the desk did not open, or that of the stream.
+/// Delivers the interchanges of a reader to a desk of the demonstration's set-up over tables in memory, and writes the
+/// answer to each as a line. Answers the worst of them. A fault is that the desk did not open, or that of the stream.
 pub fn run_demo<R: Read, W: Write>(
     alloc: Global,
     reader: &mut Port<R>,
@@ -31,8 +31,8 @@ pub fn run_demo<R: Read, W: Write>(
     ensures failed { IfErr result (IsOfPorts reader.old.failed reader.new.failed
         writer.old.failed writer.new.failed) }
 
-    // No more reads are made than turns, and where the stream is left for their number, as many, of which the last had not
-    // found the end.
+    // No more reads are made than turns, and where the stream is left for their number, as many, of which the last had
+    // not found the end.
     ensures reads { reader.new.reads ≤ reader.old.reads + demo_turns }
     ensures turns { IfErr result (λ fault. fault ≡ DemoFault.Stream StreamFault.Turns →
         (min (reader.old.reads + demo_turns) (2 ^ 64 - 1) ≤ reader.new.reads)

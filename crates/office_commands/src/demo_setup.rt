@@ -8,7 +8,8 @@ use office_setup::{Account, MOST_VISITS, Setup};
 use std::alloc::{AllocError, Global};
 use yard_core::Block;
 
-/// The set-up of the demonstration: two hauliers, a line, a quay crew and the yard's own, and one block of four odd bays.
+/// The set-up of the demonstration: two hauliers, a line, a quay crew and the yard's own, and one block of four odd
+/// bays.
 pub fn demo_setup(alloc: Global) -> Result<Setup, AllocError>
     ensures { IfOk result (λ setup. IsDemo (setup_content setup)) }
 {

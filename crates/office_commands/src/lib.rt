@@ -1,5 +1,5 @@
-//! The demonstration, over whatever is read and written: it takes interchanges to a terminal whose tables are in memory, and
-//! prints the answer to each.
+//! The demonstration, over whatever is read and written: it takes interchanges to a terminal whose tables are in
+//! memory, and prints the answer to each.
 #![tactic(auto)]
 
 mod command;

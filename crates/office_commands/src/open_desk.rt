@@ -9,8 +9,8 @@ use office_tables::{TableFault, create};
 use sqlite::{Connection, MemStore};
 use std::alloc::Global;
 
-/// A desk over tables in memory, made for a set-up, to which nothing has been delivered. A set-up that set-up files could
-/// not give is Damaged.
+/// A desk over tables in memory, made for a set-up, to which nothing has been delivered. A set-up that set-up files
+/// could not give is Damaged.
 pub fn open_desk(alloc: Global, setup: &Setup) -> Result<Desk<MemStore>, TableFault>
     requires few { length setup.now.partners.items ≤ 999 }
     ensures opens { IfOk result

@@ -80,8 +80,8 @@ reply_in rows partner number =
 abbrev pub AreKeptOnce : List Interchange → Type 0
 AreKeptOnce interchanges = (partner number : ℕ) → count_by (is_pair partner number) interchanges ≤ 1
 
--- Rows(ds): each account with the number after its run, every First with its reply within the run, visits, places and lines
--- of State, the settings and the blocks of the set-up
+-- Rows(ds): each account with the number after its run, every First with its reply within the run, visits, places and
+-- lines of State, the settings and the blocks of the set-up
 pub record AreAfter (content : SetupContent) (ds : List (List ℕ)) (rows : Rows) : Type 0 where
   pub partners : rows.partners ≡ accounts_from 1 (λ partner. run (delivered_to content ds) partner + 1) content.partners
   pub texts : (partner number : ℕ) → text_in rows partner number ≡ first_text (delivered_to content ds) partner number

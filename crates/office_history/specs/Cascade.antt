@@ -1,4 +1,5 @@
--- What a delivery that is next makes of the rows: its text is kept, and then it and each text that became next by it is taken.
+-- What a delivery that is next makes of the rows: its text is kept, and then it and each text that became next by it is
+-- taken.
 use Rattle.std.specs.Prelude.{◌≡◌, ℕ, ◌+◌, ◌==◌, if◌then◌else◌, List, [], ◌∷◌, find, fold, Option, None, Some}
 use Rattle.std.specs.Option.{option_map}
 use Rattle.terminal_core.specs.Rows.{ChangeContent}

@@ -1,5 +1,5 @@
-//! What follows from the definitions of rows and deliveries alone. Each function has an empty body, and its contract is the
-//! law: a call brings it into the caller's proof.
+//! What follows from the definitions of rows and deliveries alone. Each function has an empty body, and its contract is
+//! the law: a call brings it into the caller's proof.
 
 ghost use Rattle.office_history.specs.Laws.{ChangesAgree, OpeningIsAfterNone, DeliveriesLeaveSound, NumbersAreWithin, NextFollowsRun};
 ghost use Rattle.office_history.specs.Laws.{RefusedAddsNoRow, UsedAddsNoRow, EarlyAddsWaiting, NextAddsRun, RowsAnswer, LoadingGivesState, LoadingGivesSetup};

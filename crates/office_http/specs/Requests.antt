@@ -51,8 +51,8 @@ abbrev pub AsksWith : RequestHead → List ℕ → Request → Type 0
 AsksWith head rest request =
     (request ≡ Refused NotNow) ⊎ AsksAt (directed head.method (path_of head.target)) head rest request
 
--- The shortest front of the stream that is a head, of at most 8,192 bytes and 64 fields, decides together with what stands
--- behind it.
+-- The shortest front of the stream that is a head, of at most 8,192 bytes and 64 fields, decides together with what
+-- stands behind it.
 abbrev pub Asks : List ℕ → Request → Type 0
 Asks stream request =
     (HasNoHead 8192 64 stream × (request ≡ Refused BadRequest))

@@ -48,8 +48,8 @@ fn serve_stream<C: Clock, D: Report>(alloc: Global, clock: &C, stream: &TcpStrea
     drain(&timed.parting());
 }
 
-/// Reads what the peer still sends, up to 4 MiB and until a second brings nothing, since closing a connection with unread
-/// input could take the response away from the peer.
+/// Reads what the peer still sends, up to 4 MiB and until a second brings nothing, since closing a connection with
+/// unread input could take the response away from the peer.
 fn drain<C: Clock>(mut stream: &TimedStream<'_, C>) {
     let mut buffer = [0; 4096];
     for _ in 0..1024 {

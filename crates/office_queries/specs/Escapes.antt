@@ -13,8 +13,8 @@ byte_of high low =
 abbrev pub onto : Option (List ℕ) → ℕ → Option (List ℕ)
 onto behind byte = option_map (λ bytes. byte ∷ bytes) behind
 
--- The bytes that a text stands for: `%` (37) and two hexadecimal digits stand for a byte, and another `%` can't be read.
--- Every other byte stands for itself.
+-- The bytes that a text stands for: `%` (37) and two hexadecimal digits stand for a byte, and another `%` can't be
+-- read. Every other byte stands for itself.
 abbrev pub decoded : List ℕ → Option (List ℕ)
 decoded [] = Some []
 decoded (a ∷ []) = cond (a == 37) None (Some (a ∷ []))

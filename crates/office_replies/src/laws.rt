@@ -1,7 +1,8 @@
 //! Laws of the definitions. Each function has an empty body, and its contract is the law: a call
 //! brings it into the caller's proof.
 //!
-//! They speak of the bodies that stand ready as texts: each is the JSON of a value too; and of the replies that are kept.
+//! They speak of the bodies that stand ready as texts: each is the JSON of a value too; and of the replies that are
+//! kept.
 
 ghost use Rattle.std.specs.Prelude.{◌≡◌, ◌≢◌, ℕ, List, []};
 ghost use Rattle.serde_json.specs.Written.{compact_text};

@@ -9,10 +9,9 @@ use edi_moments::Moment;
 use std::alloc::{AllocError, Global};
 use terminal_core::{Source, Terminal, Visit};
 
-/// What an interchange that was taken did: `TICKET PARTNER NUMBER`, by visit number a line
-/// `IN BOX SIZE FULL SLOT MOMENT` for each visit that it opened, then a line `OUT BOX SIZE FULL MOMENT` for each that it
-/// closed, and `NOTHING` where it did neither. Each line ends with LF. `code` is the code of the partner, who is counted
-/// from 1.
+/// What an interchange that was taken did: `TICKET PARTNER NUMBER`, by visit number a line `IN BOX SIZE FULL SLOT
+/// MOMENT` for each visit that it opened, then a line `OUT BOX SIZE FULL MOMENT` for each that it closed, and `NOTHING`
+/// where it did neither. Each line ends with LF. `code` is the code of the partner, who is counted from 1.
 pub fn ticket(
     alloc: Global,
     terminal: &Terminal,

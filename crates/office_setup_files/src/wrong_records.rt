@@ -10,8 +10,8 @@ use crate::wrong_record::WrongRecord;
 use csv::{ByteRecord, StringRecord};
 use std::alloc::{AllocError, Global};
 
-/// Which record of the two files shows a fault of theirs, for a person to look at: from it on each front of its file has that
-/// fault. `None`: no record does, since one is missing.
+/// Which record of the two files shows a fault of theirs, for a person to look at: from it on each front of its file
+/// has that fault. `None`: no record does, since one is missing.
 pub fn first_wrong(
     alloc: Global,
     partners: &[u8],

@@ -16,8 +16,8 @@ use Rattle.office_stream.specs.declared.stream_end.StreamEnd.TheVariants.{Whole,
 
 -- ---- cutting
 
--- A stream begins with these interchanges, each behind any number of CR and LF. What is left over behind them, without the CR
--- and LF at its front, ends so.
+-- A stream begins with these interchanges, each behind any number of CR and LF. What is left over behind them, without
+-- the CR and LF at its front, ends so.
 abbrev pub CutsFrom : (List ℕ → Type 0) → List ℕ → List (List ℕ) → Type 0
 CutsFrom Ends stream [] = Ends (without_breaks stream)
 CutsFrom Ends stream (first ∷ others) =
@@ -44,8 +44,8 @@ EndsAs (Cut Memory) rest = HasNoFault rest
 abbrev pub Cuts : List ℕ → List (List ℕ) → StreamEnd → Type 0
 Cuts stream texts end = CutsFrom (EndsAs end) stream texts
 
--- A stream has one list of interchanges and one end, unless memory is wanting. So both depend on the stream alone, however it
--- comes in pieces.
+-- A stream has one list of interchanges and one end, unless memory is wanting. So both depend on the stream alone,
+-- however it comes in pieces.
 abbrev pub CutsAreOne : Type 0
 CutsAreOne =
     (stream : List ℕ) (texts texts' : List (List ℕ)) (end end' : StreamEnd) → end ≢ Cut Memory → end' ≢ Cut Memory
@@ -95,8 +95,8 @@ pub record Began {D : Type 0} (stands : List (List ℕ) → D → Type 0)
 
 -- ---- a write that failed
 
--- A stream begins with these interchanges, and each of them was answered. A front of the last one's line was written, behind
--- the lines of those before.
+-- A stream begins with these interchanges, and each of them was answered. A front of the last one's line was written,
+-- behind the lines of those before.
 pub record LineCutShort {D : Type 0} (stands : List (List ℕ) → D → Type 0)
     (answers : List (List ℕ) → List ℕ → Response → Type 0)
     (ds : List (List ℕ)) (stream : List ℕ) (written written' : Option (List ℕ)) (desk : D) : Type 0 where
@@ -110,7 +110,8 @@ pub record LineCutShort {D : Type 0} (stands : List (List ℕ) → D → Type 0)
   pub front : IsFront part (line (body_of response))
   pub writes : Appends written written' (response_lines responses ++ part)
 
--- A stream is cut to its end, and each interchange answered by its line. A front of the cut line was written behind them.
+-- A stream is cut to its end, and each interchange answered by its line. A front of the cut line was written behind
+-- them.
 pub record EndCutShort {D : Type 0} (stands : List (List ℕ) → D → Type 0)
     (answers : List (List ℕ) → List ℕ → Response → Type 0)
     (ds : List (List ℕ)) (stream : List ℕ) (left' written written' : Option (List ℕ)) (desk : D) : Type 0 where
@@ -124,7 +125,8 @@ pub record EndCutShort {D : Type 0} (stands : List (List ℕ) → D → Type 0)
   pub front : IsFront part (end_text end)
   pub writes : Appends written written' (response_lines responses ++ part)
 
--- A write failed. The line of an interchange of what was read was cut short, or the cut line, and nothing was done behind it.
+-- A write failed. The line of an interchange of what was read was cut short, or the cut line, and nothing was done
+-- behind it.
 pub record Delivered {D : Type 0} (stands : List (List ℕ) → D → Type 0)
     (answers : List (List ℕ) → List ℕ → Response → Type 0)
     (ds : List (List ℕ)) (left left' written written' : Option (List ℕ)) (desk : D) : Type 0 where

@@ -1,5 +1,5 @@
-//! Streams of interchanges: they are cut out of what a reader gives, in whatever pieces it comes, delivered one after the
-//! other, and answered by a line each.
+//! Streams of interchanges: they are cut out of what a reader gives, in whatever pieces it comes, delivered one after
+//! the other, and answered by a line each.
 #![tactic(auto)]
 
 mod answer;

@@ -98,7 +98,8 @@ pub record IsPendingLine (key : LineKey) (lines : Lines) : Type 0 where
   pub there : finite_map.get lines key ≡ Some line
   pub pending : line.state ≡ Pending
 
--- the row that a change adds is absent, the one that it alters or removes is there, and what no two rows may share no other has
+-- the row that a change adds is absent, the one that it alters or removes is there, and what no two rows may share no
+-- other has
 abbrev pub IsApplicable : TerminalRows → ChangeContent → Type 0
 IsApplicable rows (visit_opened visit) = IsNextVisit visit rows.visits
 IsApplicable rows (visit_closed number departure) = IsOneOpenVisit number rows.visits

@@ -8,7 +8,8 @@ use Rattle.terminal_core.specs.State.{TerminalState, IsWhole}
 abbrev pub is_closed : VisitContent → Bool
 is_closed visit = is_some visit.departure
 
--- Each visit is an entry, and each that is closed an exit too: the containers in the yard are the entries less the exits.
+-- Each visit is an entry, and each that is closed an exit too: the containers in the yard are the entries less the
+-- exits.
 abbrev pub EntriesLessExitsStand : Type 0
 EntriesLessExitsStand =
     (state : TerminalState) → IsWhole state → finite_map.len state.yard.boxes + length (filter is_closed state.visits) ≡ length state.visits

@@ -74,8 +74,8 @@ AreNumbered next (visit ∷ visits) = (visit.number ≡ next) × AreNumbered (ne
 abbrev pub IsAsLong : TerminalState → BoxNumber → Type 0
 IsAsLong state container = (s : Placement) (visit : VisitContent) → finite_map.get state.yard.boxes container ≡ Some s → open_visit state container ≡ Some visit → s.length ≡ length_of visit.size_type
 
--- The yard is sound, the visits are numbered within the limit, and the containers of the yard are exactly those with an open
--- visit, each having one and standing in its length.
+-- The yard is sound, the visits are numbered within the limit, and the containers of the yard are exactly those with an
+-- open visit, each having one and standing in its length.
 pub record IsWhole (state : TerminalState) : Type 0 where
   pub plan : IsPlan state.yard.plan
   pub sound : IsSound state.yard.plan (finite_map.get state.yard.boxes)

@@ -1,4 +1,5 @@
--- What an order does at a terminal: the refusals in their order, and otherwise the new state, the outcome and the changes.
+-- What an order does at a terminal: the refusals in their order, and otherwise the new state, the outcome and the
+-- changes.
 use Rattle.std.specs.Prelude.{ℕ, ◌+◌, Bool, cond, List, [], ◌∷◌, ◌++◌, length, map, nat_le, Option, None, Some, Result, Ok, Err}
 use Rattle.std.specs.FinMap as finite_map
 use Rattle.box6346.specs.SizeCode.{length_of}

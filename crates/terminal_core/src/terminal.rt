@@ -135,8 +135,8 @@ impl Terminal {
         self.lists.state(call, side, container)
     }
 
-    /// Carries an order out, or refuses it: the first reason that applies. What it added, altered or removed is appended
-    /// to the changes. Where memory is refused, the terminal and the changes stay as they were.
+    /// Carries an order out, or refuses it: the first reason that applies. What it added, altered or removed is
+    /// appended to the changes. Where memory is refused, the terminal and the changes stay as they were.
     pub fn step(
         &mut self,
         alloc: Global,

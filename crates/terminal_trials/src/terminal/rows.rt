@@ -148,8 +148,8 @@ fn visits_are_limited_whether_open_or_closed(rt: HostRuntime) -> Result<(), Fail
     Ok(())
 }
 
-/// The first container comes by gate, goes and comes again, is loaded, and comes back off the vessel: each visit is closed
-/// by its own order.
+/// The first container comes by gate, goes and comes again, is loaded, and comes back off the vessel: each visit is
+/// closed by its own order.
 const AGAIN: [Row; 9] = [
     (HAULIER, FIRST, Ask::Comes, Answer::Done("A001011"), 2),
     (HAULIER, FIRST, Ask::Goes, Answer::Gone, 2),
