@@ -63,14 +63,14 @@ two_digits n = (48 + n / 10) ∷ (48 + n % 10) ∷ []
 abbrev pub moment_text : CivilMoment → List ℕ
 moment_text m =
     two_digits (m.year / 100) ++ two_digits (m.year % 100) ++ codes "-" ++ two_digits m.month ++ codes "-"
-        ++ two_digits m.day
+    ++ two_digits m.day
     ++ codes " " ++ two_digits m.hour ++ codes ":" ++ two_digits m.minute
 
 -- CCYYMMDDHHMM
 abbrev pub moment_digits : CivilMoment → List ℕ
 moment_digits m =
     two_digits (m.year / 100) ++ two_digits (m.year % 100) ++ two_digits m.month ++ two_digits m.day
-        ++ two_digits m.hour
+    ++ two_digits m.hour
     ++ two_digits m.minute
 
 -- ---- laws

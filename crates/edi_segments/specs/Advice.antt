@@ -33,8 +33,13 @@ default_service = record { component = 58; element = 43; release = Some 63; term
 
 abbrev pub service_with : (c : ServiceCharacters) (usable : Bool) → may_be_used c ≡ usable → Service
 service_with c true h =
-    record { component = c.component; element = c.element; release = c.release; terminator = c.terminator;
-    distinct = h }
+    record {
+      component = c.component;
+      element = c.element;
+      release = c.release;
+      terminator = c.terminator;
+      distinct = h;
+    }
 service_with c false h = default_service
 
 -- the text has a whole advice

@@ -51,7 +51,7 @@ place element component (values ∷ elements) =
 abbrev pub text_values : Service → ℕ → ℕ → List ℕ → List Placed
 text_values s element component text =
     option_map_or (λ n. place element component (elements_of s false (take n text))
-        ++ values_in (segments_of s (without_breaks (drop (n + 1) text)))) (end_of s false text) []
+    ++ values_in (segments_of s (without_breaks (drop (n + 1) text)))) (end_of s false text) []
 
 -- behind the segment at the front stands nothing but segments
 abbrev pub goes_on : Service → List ℕ → Bool

@@ -109,7 +109,7 @@ breaks_len (b ∷ bytes) = cond (is_break b) (suc (breaks_len bytes)) 0
 abbrev pub next_at : Service → List ℕ → Option (Content × List ℕ)
 next_at s bytes =
     option_map (λ n. (content_of s (take n bytes), drop (breaks_len (drop (n + 1) bytes)) (drop (n + 1) bytes)))
-        (body_len s bytes)
+    (body_len s bytes)
 
 -- The segments from the front on, as far as there are any. The first `skip` bytes belong to the one before.
 unfoldable pub segments_from : Service → ℕ → List ℕ → List Content
@@ -117,7 +117,7 @@ segments_from s skip [] = []
 segments_from s (suc skip) (b ∷ bytes) = segments_from s skip bytes
 segments_from s zero (b ∷ bytes) =
     option_map_or (λ n. content_of s (take n (b ∷ bytes)) ∷ segments_from s (n + breaks_len (drop n bytes)) bytes)
-        (body_len s (b ∷ bytes)) []
+    (body_len s (b ∷ bytes)) []
 
 -- there is nothing but segments
 unfoldable pub are_segments_from : Service → ℕ → List ℕ → Bool

@@ -36,16 +36,16 @@ bytes_left bytes = value_of bytes.service false bytes.text.now
 abbrev pub components_left : Components → List (List ℕ)
 components_left components =
     option_map_or (λ text.
-        map (value_of components.service false)
-        (parts_of components.service components.service.component false text.now)) components.rest []
+    map (value_of components.service false)
+    (parts_of components.service components.service.component false text.now)) components.rest []
 
 -- the elements that are left, each by its values
 abbrev pub elements_left : Elements → List (List (List ℕ))
 elements_left elements =
     option_map_or (λ text.
-        map (λ (part : List ℕ).
-        map (value_of elements.service false) (parts_of elements.service elements.service.component false part))
-        (parts_of elements.service elements.service.element false text.now)) elements.rest []
+    map (λ (part : List ℕ).
+    map (value_of elements.service false) (parts_of elements.service elements.service.component false part))
+    (parts_of elements.service elements.service.element false text.now)) elements.rest []
 
 -- the value as an array of that length, where it has that length
 abbrev pub fixed : ℕ → List ℕ → Option (List ℕ)

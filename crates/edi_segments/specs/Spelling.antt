@@ -78,8 +78,11 @@ with_element w values = record {
 
 -- the end of the segment
 abbrev pub ended : Writing → Writing
-ended w = record { text = take w.kept w.text ++ 39 ∷ []; kept = length (take w.kept w.text ++ 39 ∷ []);
-    is_open = false }
+ended w = record {
+  text = take w.kept w.text ++ 39 ∷ [];
+  kept = length (take w.kept w.text ++ 39 ∷ []);
+  is_open = false;
+}
 
 -- the segment begun, with its elements
 abbrev pub with_elements : Writing → List (List (List ℕ)) → Writing

@@ -53,14 +53,14 @@ ElementText s [] text = ⊥
 ElementText s (value ∷ []) text = Spells s value text
 ElementText s (value ∷ next ∷ values) text =
     (first rest : List ℕ) × Spells s value first × ElementText s (next ∷ values) rest
-        × (text ≡ first ++ s.component ∷ rest)
+    × (text ≡ first ++ s.component ∷ rest)
 
 -- elements, each behind the element separator
 abbrev pub ElementsText : Service → List (List (List ℕ)) → List ℕ → Type 0
 ElementsText s [] text = text ≡ []
 ElementsText s (element ∷ elements) text =
     (first rest : List ℕ) × ElementText s element first × ElementsText s elements rest
-        × (text ≡ s.element ∷ first ++ rest)
+    × (text ≡ s.element ∷ first ++ rest)
 
 abbrev pub IsTag : List ℕ → Type 0
 IsTag tag = (length tag ≡ 3) × IsTrue (list_all is_tag_byte tag)

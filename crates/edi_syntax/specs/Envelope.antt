@@ -33,7 +33,7 @@ messages_of segments = messages_in (behind_header segments)
 abbrev pub has_envelope : List Content → Bool
 has_envelope segments =
     has_tag (codes "UNB") (header_of segments) && has_tag (codes "UNZ") (trailer_of segments)
-        && names_partners (header_of segments)
+    && names_partners (header_of segments)
 
 -- a segment of a functional group
 abbrev pub is_of_group : Content → Bool

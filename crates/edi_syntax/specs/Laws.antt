@@ -29,7 +29,7 @@ MessagesStand =
     (segments : List Content)
     → (are_messages false segments ≡ true → AreMessages segments (messages_in segments))
     × ((messages : List Message) → AreMessages segments messages →
-        (are_messages false segments ≡ true) × (messages_in segments ≡ messages))
+    (are_messages false segments ≡ true) × (messages_in segments ≡ messages))
 
 -- Neither `Service` nor `Segment` applies to a text just where it is a text of the grammar, and the segments are those
 -- that it is a text of.

@@ -9,7 +9,7 @@ use Rattle.edi_segments.specs.Characters.{is_digit}
 abbrev pub number_of : ℕ → List ℕ → Option ℕ
 number_of limit value =
     cond (nat_le 1 (length value) && nat_le (length value) limit && list_all is_digit value)
-        (Some (digits_value 10 value)) None
+    (Some (digits_value 10 value)) None
 
 -- the value is one to six digits with this number
 abbrev pub is_count : List ℕ → ℕ → Bool

@@ -37,8 +37,8 @@ fault_in (WithContrl fault error head) = fault
 abbrev pub IsRefused : Setup → List ℕ → Refusal → Type 0
 IsRefused setup text (Plain fault) =
     (admission (parties_of setup) text ≡ Err fault)
-        × HasNoContrl (parties_of setup) (header_of (segments_in text)) fault
+    × HasNoContrl (parties_of setup) (header_of (segments_in text)) fault
 IsRefused setup text (WithContrl fault error head) =
     (admission (parties_of setup) text ≡ Err fault) × (error_of fault ≡ Some error)
-        × (head_segments head ≡ segments_in text)
+    × (head_segments head ≡ segments_in text)
     × ((partner : ℕ) × (sender_of (parties_of setup) (header_of (segments_in text)) ≡ Some partner))

@@ -32,7 +32,7 @@ plain_refusal fault = answer_with (kinds.Refused fault) (fault_status fault) (re
 abbrev pub rejection : Content → Fault → ℕ → AnswerContent
 rejection header fault error =
     answer_with (kinds.Refused fault) (fault_status fault)
-        (refused_text (encode_utf8_all (rejection_text header error)) (fault_name fault)) worst.Refused
+    (refused_text (encode_utf8_all (rejection_text header error)) (fault_name fault)) worst.Refused
 
 -- a CONTRL goes to a sender with an account alone
 abbrev pub refusal_to : Content → Fault → Option ℕ → Option ℕ → AnswerContent

@@ -14,7 +14,7 @@ use Rattle.office_checks.specs.declared.settings.Settings.{Settings}
 abbrev pub setting_names : List (List ℕ)
 setting_names =
     codes "discharge-list" ∷ codes "discharge-report" ∷ codes "gate-in" ∷ codes "gate-out" ∷ codes "load-list"
-        ∷ codes "load-report"
+    ∷ codes "load-report"
     ∷ codes "terminal" ∷ codes "version" ∷ codes "visits" ∷ codes "yard-move" ∷ []
 
 abbrev pub names_of : List Setting → List (List ℕ)

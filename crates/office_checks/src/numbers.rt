@@ -56,8 +56,8 @@ fn is_kept_for(partner: &PartnerRow, numbers: &[NumberRow]) -> bool
 fn are_taken(partner: u32, numbers: &[NumberRow]) -> bool
     ensures { IsTrue result ↔
         (map number_content numbers.now
-            ≡ map (λ number. record { partner = partner; number = number; is_taken = true })
-            (range_with_len 1 (length numbers.now))) }
+        ≡ map (λ number. record { partner = partner; number = number; is_taken = true })
+        (range_with_len 1 (length numbers.now))) }
 {
     for (index, row) in numbers.iter().enumerate() {
         if !is_taken(partner, index + 1, row) {
@@ -92,7 +92,7 @@ fn are_waiting(partner: u32, next: u32, numbers: &[NumberRow]) -> bool
 fn is_waiting(partner: u32, above: u32, row: &NumberRow) -> bool
     ensures { IsTrue result ↔
         ((row.now.partner ≡ partner) × (row.now.is_taken ≡ false) × (above < row.now.number)
-            × (row.now.number ≤ 999999999)) }
+        × (row.now.number ≤ 999999999)) }
 {
     row.partner == partner && !row.is_taken && above < row.number && row.number <= 999_999_999
 }

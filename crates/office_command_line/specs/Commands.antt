@@ -44,6 +44,6 @@ office_app =
     with_subcommand
     (with_subcommand
     (with_subcommand (with_subcommand
-        (with_subcommand (needs_subcommand (new_app (codes "office"))) init_app.top) deliver_app.top) serve_app.top)
+    (with_subcommand (needs_subcommand (new_app (codes "office"))) init_app.top) deliver_app.top) serve_app.top)
     report_app.top)
     demo_app.top

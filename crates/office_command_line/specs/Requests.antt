@@ -54,8 +54,8 @@ kind_said word =
     (cond (bytes_eq word (codes "yardcsv")) (Some YardTable)
     (cond (bytes_eq word (codes "visits")) (Some Visits)
     (cond (bytes_eq word (codes "list")) (Some VesselList)
-        (cond (bytes_eq word (codes "ticket")) (Some Ticket)
-        (cond (bytes_eq word (codes "reply")) (Some Reply) None)))))
+    (cond (bytes_eq word (codes "ticket")) (Some Ticket)
+    (cond (bytes_eq word (codes "reply")) (Some Reply) None)))))
 
 -- the yard alone is reported on without a key
 abbrev pub wants_key : ReportKind → Bool
@@ -72,8 +72,8 @@ abbrev pub init_asked : List Row → Option Asked
 init_asked rows =
     option_and_then (λ (store : Text).
     option_and_then (λ (partners : Text).
-        option_map (λ (blocks : Text). init store partners blocks) (first_of (codes "BLOCKS") rows))
-        (first_of (codes "PARTNERS") rows))
+    option_map (λ (blocks : Text). init store partners blocks) (first_of (codes "BLOCKS") rows))
+    (first_of (codes "PARTNERS") rows))
     (first_of (codes "DB") rows)
 
 abbrev pub deliver_asked : List Row → Option Asked
@@ -86,8 +86,8 @@ abbrev pub serve_asked : List Row → Option Asked
 serve_asked rows =
     option_and_then (λ (store : Text).
     option_and_then (λ (port : ℕ).
-        option_map (λ (count : ℕ). serve store port count)
-        (option_and_then (number_upto 1000000) (first_of (codes "COUNT") rows)))
+    option_map (λ (count : ℕ). serve store port count)
+    (option_and_then (number_upto 1000000) (first_of (codes "COUNT") rows)))
     (option_and_then (number_upto 65535) (first_of (codes "PORT") rows)))
     (first_of (codes "DB") rows)
 
@@ -100,7 +100,7 @@ abbrev pub report_asked : List Row → Option Asked
 report_asked rows =
     option_and_then (λ (store : Text).
     option_and_then (λ (kind : ReportKind). report_with store kind (first_of (codes "KEY") rows))
-        (option_and_then kind_said (first_of (codes "KIND") rows)))
+    (option_and_then kind_said (first_of (codes "KIND") rows)))
     (first_of (codes "DB") rows)
 
 -- what a subcommand and its words ask for
@@ -120,7 +120,7 @@ abbrev pub usage_line : Text → Text
 usage_line name =
     cond (bytes_eq name (codes "serve")) (codes "usage: office serve DB PORT COUNT\n")
     (cond (bytes_eq name (codes "report")) (codes "usage: office report DB KIND [KEY]\n")
-        (codes "usage: office COMMAND\n"))
+    (codes "usage: office COMMAND\n"))
 
 -- how the subcommand is called that was met
 abbrev pub usage_of : Option (Text × List Row) → Text

@@ -36,7 +36,7 @@ abbrev pub DemoEnds : (left left' written written' : Option (List ℕ))
     (tells : List ℕ → Type 0) → ℕ → Type 0
 DemoEnds left left' written written' read_failed read_failed' write_failed write_failed' tells status =
     ((worst : Worst) × (status ≡ status_of worst) × tells [] × (read_failed' ≡ read_failed)
-        × (write_failed' ≡ write_failed)
+    × (write_failed' ≡ write_failed)
     × DemoRuns left left' written written' worst)
     ⊎ ((fault : DemoFault) × (status ≡ 3) × tells (fault_text fault) × DemoLeft left left' written written' fault
     × IsOfPorts read_failed read_failed' write_failed write_failed' fault)

@@ -30,8 +30,13 @@ demo_blocks = record { letter = 65; bays = 4; rows = 2; tiers = 3 } ∷ []
 
 -- all that the demonstration's set-up says, with a table of codes
 abbrev pub demo_content : CodeTable → SetupContent
-demo_content table = record { terminal = codes "TERM1"; codes = table; partners = demo_partners; blocks = demo_blocks;
-    visit_limit = 999999999 }
+demo_content table = record {
+  terminal = codes "TERM1";
+  codes = table;
+  partners = demo_partners;
+  blocks = demo_blocks;
+  visit_limit = 999999999;
+}
 
 -- it says what the demonstration's set-up says
 pub record IsDemo (content : SetupContent) : Type 0 where

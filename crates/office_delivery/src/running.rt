@@ -36,9 +36,9 @@ pub fn take_run<S: Alter>(
     requires number { number ≤ LAST_NUMBER }
     ensures taken { HasCleanDisk (state S.Store conn.new) → IfOk result (λ taken. (rows : Rows) (text : List ℕ) →
         HasRows rows (state S.Store conn.old).now → IsNumbered admitted.now.partner rows →
-            IsAdmitted setup.now text admitted.now →
+        IsAdmitted setup.now text admitted.now →
         AreTakenFrom admitted.now.partner (texts_with rows admitted.now.partner number text) number
-            (machine_of setup.now terminal.old)
+        (machine_of setup.now terminal.old)
         (taken_contents taken.items) (machine_of setup.now terminal.new)) }
     ensures first { IfOk result (λ taken. 1 ≤ length taken.items) }
     ensures numbers { IfOk result (λ taken. All (λ t. t.number < 1000000000) taken.items) }

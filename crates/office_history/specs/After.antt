@@ -22,8 +22,10 @@ use Rattle.office_history.specs.Cascade.{text_in}
 -- ---- the machine of a set-up
 
 abbrev pub parties_in : SetupContent → Parties
-parties_in content = record { terminal = content.terminal;
-    partners = map (λ (account : List ℕ × PartnerKind). account.0) content.partners }
+parties_in content = record {
+  terminal = content.terminal;
+  partners = map (λ (account : List ℕ × PartnerKind). account.0) content.partners;
+}
 
 abbrev pub machine_with : SetupContent → TerminalState → MachineState
 machine_with content terminal = record {

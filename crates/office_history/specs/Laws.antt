@@ -35,7 +35,7 @@ pub record AreRowsByKey (rows : Rows) (terminal : TerminalRows) : Type 0 where
 abbrev pub ChangesAgree : Type 0
 ChangesAgree =
     (rows : Rows) (terminal : TerminalRows) (changes : List ChangeContent) → AreRowsByKey rows terminal →
-        AreApplicable terminal changes
+    AreApplicable terminal changes
     → AreRowsByKey (with_changes changes rows) (all_changed terminal changes)
 
 -- ---- before anything was delivered
@@ -55,14 +55,14 @@ DeliveriesLeaveSound =
 abbrev pub NumbersAreWithin : Type 0
 NumbersAreWithin =
     (content : SetupContent) (ds : List (List ℕ)) (rows : Rows) (partner number : ℕ) (text : List ℕ) →
-        AreAfter content ds rows → text_in rows partner number ≡ Some text
+    AreAfter content ds rows → text_in rows partner number ≡ Some text
     → (1 ≤ partner) × (partner ≤ length content.partners) × (1 ≤ number) × (number ≤ 999999999)
 
 -- an account's next number is the one after its partner's run
 abbrev pub NextFollowsRun : Type 0
 NextFollowsRun =
     (content : SetupContent) (ds : List (List ℕ)) (rows : Rows) (account : Partner) → AreAfter content ds rows →
-        Contains rows.partners account
+    Contains rows.partners account
     → account.next ≡ run (delivered_to content ds) account.id + 1
 
 -- ---- one delivery more
@@ -83,14 +83,14 @@ pub record AddsNoRow (content : SetupContent) (ds : List (List ℕ)) (delivered 
 abbrev pub RefusedAddsNoRow : Type 0
 RefusedAddsNoRow =
     (content : SetupContent) (ds : List (List ℕ)) (rows : Rows) (delivered : List ℕ) (fault : Fault) →
-        AreAfter content ds rows → admission (parties_in content) (interchange_of delivered) ≡ Err fault
+    AreAfter content ds rows → admission (parties_in content) (interchange_of delivered) ≡ Err fault
     → AddsNoRow content ds delivered rows
 
 -- a text under a number that is used adds nothing
 abbrev pub UsedAddsNoRow : Type 0
 UsedAddsNoRow =
     (content : SetupContent) (ds : List (List ℕ)) (rows : Rows) (delivered : List ℕ) (partner number : ℕ)
-        (kept : List ℕ) → AreAfter content ds rows → IsFor content delivered partner number
+    (kept : List ℕ) → AreAfter content ds rows → IsFor content delivered partner number
     → text_in rows partner number ≡ Some kept → AddsNoRow content ds delivered rows
 
 -- a text before its time is kept
@@ -103,7 +103,7 @@ pub record AddsWaiting (content : SetupContent) (ds : List (List ℕ)) (delivere
 abbrev pub EarlyAddsWaiting : Type 0
 EarlyAddsWaiting =
     (content : SetupContent) (ds : List (List ℕ)) (rows : Rows) (delivered : List ℕ) (partner number : ℕ) →
-        AreAfter content ds rows → IsFor content delivered partner number
+    AreAfter content ds rows → IsFor content delivered partner number
     → text_in rows partner number ≡ None → run (delivered_to content ds) partner + 1 < number
     → AddsWaiting content ds delivered (with_kept partner number (interchange_of delivered) rows)
 
@@ -119,13 +119,13 @@ pub record AddsRun (content : SetupContent) (ds : List (List ℕ)) (delivered : 
 abbrev pub NextAddsRun : Type 0
 NextAddsRun =
     (content : SetupContent) (ds : List (List ℕ)) (rows : Rows) (delivered : List ℕ) (partner number : ℕ)
-        (taken : List TakenContent) (machine : MachineState)
+    (taken : List TakenContent) (machine : MachineState)
     → IsGiven content → AreAfter content ds rows → IsFor content delivered partner number
     → text_in rows partner number ≡ None → number ≡ run (delivered_to content ds) partner + 1
     → AreTakenFrom partner (texts_with rows partner number (interchange_of delivered)) number
-        (machine_after content ds) taken machine
+    (machine_after content ds) taken machine
     → AddsRun content ds delivered partner (length taken)
-        (with_run partner number (interchange_of delivered) taken rows) machine
+    (with_run partner number (interchange_of delivered) taken rows) machine
 
 -- ---- answers
 
@@ -150,13 +150,13 @@ pub record AnswersBy (content : SetupContent) (ds : List (List ℕ)) (rows : Row
   pub next : (first : TakenContent) (later : List TakenContent) (machine : MachineState) → IsGiven content
       → text_in rows partner number ≡ None → number ≡ run (delivered_to content ds) partner + 1
       → AreTakenFrom partner (texts_with rows partner number (interchange_of delivered)) number
-          (machine_after content ds) (first ∷ later) machine
+      (machine_after content ds) (first ∷ later) machine
       → told_of content ds partner number delivered ≡ Taken (Some first.reply)
 
 abbrev pub RowsAnswer : Type 0
 RowsAnswer =
     (content : SetupContent) (ds : List (List ℕ)) (rows : Rows) (delivered : List ℕ) (partner number : ℕ) →
-        AreAfter content ds rows → IsFor content delivered partner number
+    AreAfter content ds rows → IsFor content delivered partner number
     → AnswersBy content ds rows delivered partner number
 
 -- ---- opening again
@@ -165,7 +165,7 @@ RowsAnswer =
 abbrev pub LoadingGivesState : Type 0
 LoadingGivesState =
     (content : SetupContent) (ds : List (List ℕ)) (rows : Rows) (db : Database) (shown : OpenedRows)
-        (other : SetupContent) (state : TerminalState)
+    (other : SetupContent) (state : TerminalState)
     → IsGiven content → AreAfter content ds rows → HasRows rows db → Shows db shown → IsOffice shown other state
     → state ≡ (machine_after content ds).terminal
 
@@ -177,7 +177,7 @@ pub record Reopens (content : SetupContent) (ds : List (List ℕ)) (rows : Rows)
 abbrev pub LoadingGivesSetup : Type 0
 LoadingGivesSetup =
     (content : SetupContent) (ds : List (List ℕ)) (rows : Rows) (db : Database) (shown : OpenedRows)
-        (other : SetupContent) (state : TerminalState)
+    (other : SetupContent) (state : TerminalState)
     → AreAfter content ds rows → IsGiven content → HasRows rows db → Shows db shown → IsOffice shown other state
     → Reopens content ds rows other
 
@@ -185,5 +185,5 @@ LoadingGivesSetup =
 abbrev pub RowsAreAnOffice : Type 0
 RowsAreAnOffice =
     (content : SetupContent) (ds : List (List ℕ)) (rows : Rows) (db : Database) → IsGiven content →
-        AreAfter content ds rows → HasRows rows db
+    AreAfter content ds rows → HasRows rows db
     → (shown : OpenedRows) × (state : TerminalState) × Shows db shown × IsOffice shown content state

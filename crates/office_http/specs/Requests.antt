@@ -37,7 +37,7 @@ abbrev pub Posts : Result ℕ Refusal → List ℕ → Request → Type 0
 Posts (Err refusal) rest request = request ≡ Refused refusal
 Posts (Ok size) rest request =
     ((length rest < size) × (request ≡ Refused BadRequest))
-        ⊎ ((size ≤ length rest) × IsDelivery (take size rest) request)
+    ⊎ ((size ≤ length rest) × IsDelivery (take size rest) request)
 
 -- by where it goes to
 abbrev pub AsksAt : Result Endpoint Refusal → RequestHead → List ℕ → Request → Type 0
@@ -76,7 +76,7 @@ IsSameRequest (Refused refusal) (Refused other) = refusal ≡ other
 abbrev pub HeadsAreOne : Type 0
 HeadsAreOne =
     (stream : List ℕ) (head head' : RequestHead) (rest rest' : List ℕ) → IsHead 8192 64 stream head rest →
-        IsHead 8192 64 stream head' rest'
+    IsHead 8192 64 stream head' rest'
     → (head ≡ head') × (rest ≡ rest')
 
 -- But for want of memory, what a stream asks for depends on the stream alone.

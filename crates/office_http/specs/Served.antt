@@ -45,7 +45,7 @@ Does stands answers tells ds (Delivery body) old new bytes =
 Does stands answers tells ds (Report kind query) old new bytes =
     stands ds new
     × (((found : Option (List ℕ)) × tells old query found × (bytes ≡ report_bytes kind found))
-        ⊎ (bytes ≡ refusal_bytes NotNow))
+    ⊎ (bytes ≡ refusal_bytes NotNow))
 Does stands answers tells ds (Refused refusal) old new bytes = (new ≡ old) × (bytes ≡ refusal_bytes refusal)
 
 -- a refusal, whatever office it is: it isn't touched, and these bytes are written
@@ -58,7 +58,7 @@ Refuses (Refused refusal) old new IsWritten = (new ≡ old) × IsWritten (refusa
 pub record Serves {D : Type 0} (stands : List (List ℕ) → D → Type 0)
     (answers : List (List ℕ) → List ℕ → Response → Type 0)
     (tells : D → Query → Option (List ℕ) → Type 0) (ds : List (List ℕ)) (stream : List ℕ) (old new : D)
-        (bytes : List ℕ) : Type 0 where
+    (bytes : List ℕ) : Type 0 where
   pub request : Request
   pub asks : Asks stream request
   pub does : Does stands answers tells ds request old new bytes
@@ -66,7 +66,7 @@ pub record Serves {D : Type 0} (stands : List (List ℕ) → D → Type 0)
 -- what a stream asks for was done, and exactly its answer was written
 abbrev pub AnswersTo : {D : Type 0} → (List (List ℕ) → D → Type 0) → (List (List ℕ) → List ℕ → Response → Type 0)
     → (D → Query → Option (List ℕ) → Type 0) → List (List ℕ) → List ℕ → D → D → Option (List ℕ) → Option (List ℕ) →
-        Type 0
+    Type 0
 AnswersTo stands answers tells ds stream old new written written' =
     (bytes : List ℕ) × Serves stands answers tells ds stream old new bytes × Appends written written' bytes
 

@@ -40,7 +40,7 @@ fn select<S: Alter>(conn: &mut Connection<S>, query: &str) -> Result<Vec<Row>, T
 pub(crate) fn select_partners<S: Alter>(conn: &mut Connection<S>) -> Result<Vec<Row>, TableFault>
     ensures shown { HasCleanDisk (state S.Store conn.new) → (state S.Store conn.old).now.schema ≡ office_schema
         → IfOk result (λ answer.
-            ShowsTable partner (0 ∷ 1 ∷ 2 ∷ 3 ∷ []) (0 ∷ []) (state S.Store conn.old).now answer.items) }
+        ShowsTable partner (0 ∷ 1 ∷ 2 ∷ 3 ∷ []) (0 ∷ []) (state S.Store conn.old).now answer.items) }
     ensures same { HasCleanDisk (state S.Store conn.new) → (state S.Store conn.old).now.schema ≡ office_schema →
         OnOk result (IsUnchanged (state S.Store conn.old) (state S.Store conn.new)) }
     ensures reads { OnlyReads (state S.Store conn.old) (state S.Store conn.new) }
@@ -55,7 +55,7 @@ pub(crate) fn select_interchanges<S: Alter>(
 ) -> Result<Vec<Row>, TableFault>
     ensures shown { HasCleanDisk (state S.Store conn.new) → (state S.Store conn.old).now.schema ≡ office_schema
         → IfOk result (λ answer.
-            ShowsTable interchange (0 ∷ 1 ∷ 3 ∷ []) (0 ∷ 1 ∷ []) (state S.Store conn.old).now answer.items) }
+        ShowsTable interchange (0 ∷ 1 ∷ 3 ∷ []) (0 ∷ 1 ∷ []) (state S.Store conn.old).now answer.items) }
     ensures same { HasCleanDisk (state S.Store conn.new) → (state S.Store conn.old).now.schema ≡ office_schema →
         OnOk result (IsUnchanged (state S.Store conn.old) (state S.Store conn.new)) }
     ensures reads { OnlyReads (state S.Store conn.old) (state S.Store conn.new) }
@@ -71,8 +71,8 @@ pub(crate) fn select_interchanges<S: Alter>(
 pub(crate) fn select_visits<S: Alter>(conn: &mut Connection<S>) -> Result<Vec<Row>, TableFault>
     ensures shown { HasCleanDisk (state S.Store conn.new) → (state S.Store conn.old).now.schema ≡ office_schema
         → IfOk result (λ answer.
-            ShowsTable visit (0 ∷ 1 ∷ 2 ∷ 3 ∷ 4 ∷ 5 ∷ 6 ∷ 7 ∷ 8 ∷ 9 ∷ 10 ∷ 11 ∷ 12 ∷ 13 ∷ []) (0 ∷ [])
-            (state S.Store conn.old).now answer.items) }
+        ShowsTable visit (0 ∷ 1 ∷ 2 ∷ 3 ∷ 4 ∷ 5 ∷ 6 ∷ 7 ∷ 8 ∷ 9 ∷ 10 ∷ 11 ∷ 12 ∷ 13 ∷ []) (0 ∷ [])
+        (state S.Store conn.old).now answer.items) }
     ensures same { HasCleanDisk (state S.Store conn.new) → (state S.Store conn.old).now.schema ≡ office_schema →
         OnOk result (IsUnchanged (state S.Store conn.old) (state S.Store conn.new)) }
     ensures reads { OnlyReads (state S.Store conn.old) (state S.Store conn.new) }
@@ -100,8 +100,8 @@ pub(crate) fn select_places<S: Alter>(conn: &mut Connection<S>) -> Result<Vec<Ro
 pub(crate) fn select_lines<S: Alter>(conn: &mut Connection<S>) -> Result<Vec<Row>, TableFault>
     ensures shown { HasCleanDisk (state S.Store conn.new) → (state S.Store conn.old).now.schema ≡ office_schema
         → IfOk result (λ answer.
-            ShowsTable listed (0 ∷ 1 ∷ 2 ∷ 3 ∷ 4 ∷ 5 ∷ []) (0 ∷ 1 ∷ 2 ∷ 3 ∷ [])
-            (state S.Store conn.old).now answer.items) }
+        ShowsTable listed (0 ∷ 1 ∷ 2 ∷ 3 ∷ 4 ∷ 5 ∷ []) (0 ∷ 1 ∷ 2 ∷ 3 ∷ [])
+        (state S.Store conn.old).now answer.items) }
     ensures same { HasCleanDisk (state S.Store conn.new) → (state S.Store conn.old).now.schema ≡ office_schema →
         OnOk result (IsUnchanged (state S.Store conn.old) (state S.Store conn.new)) }
     ensures reads { OnlyReads (state S.Store conn.old) (state S.Store conn.new) }
@@ -129,7 +129,7 @@ pub(crate) fn select_settings<S: Alter>(conn: &mut Connection<S>) -> Result<Vec<
 pub(crate) fn select_blocks<S: Alter>(conn: &mut Connection<S>) -> Result<Vec<Row>, TableFault>
     ensures shown { HasCleanDisk (state S.Store conn.new) → (state S.Store conn.old).now.schema ≡ office_schema
         → IfOk result (λ answer.
-            ShowsTable block (0 ∷ 1 ∷ 2 ∷ 3 ∷ []) (0 ∷ []) (state S.Store conn.old).now answer.items) }
+        ShowsTable block (0 ∷ 1 ∷ 2 ∷ 3 ∷ []) (0 ∷ []) (state S.Store conn.old).now answer.items) }
     ensures same { HasCleanDisk (state S.Store conn.new) → (state S.Store conn.old).now.schema ≡ office_schema →
         OnOk result (IsUnchanged (state S.Store conn.old) (state S.Store conn.new)) }
     ensures reads { OnlyReads (state S.Store conn.old) (state S.Store conn.new) }

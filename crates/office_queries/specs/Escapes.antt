@@ -7,7 +7,7 @@ use Rattle.std.specs.Char.{digit_value}
 abbrev pub byte_of : ℕ → ℕ → Option ℕ
 byte_of high low =
     cond (nat_lt (digit_value high) 16 && nat_lt (digit_value low) 16)
-        (Some (digit_value high * 16 + digit_value low)) None
+    (Some (digit_value high * 16 + digit_value low)) None
 
 -- a byte, and the bytes behind it
 abbrev pub onto : Option (List ℕ) → ℕ → Option (List ℕ)

@@ -95,8 +95,8 @@ if_empty key what = cond (length key == 0) (Some what) None
 abbrev pub list_in : List ℕ × List ℕ × List ℕ → Option Asked
 list_in p =
     option_and_then (λ vessel.
-        option_and_then (λ voyage. option_map (λ side. list vessel voyage side) (side_in p.2)) (name_in p.1))
-        (name_in p.0)
+    option_and_then (λ voyage. option_map (λ side. list vessel voyage side) (side_in p.2)) (name_in p.1))
+    (name_in p.0)
 
 -- PARTNER/NUMBER
 abbrev pub interchange_in : List ℕ × List ℕ → Option (List ℕ × ℕ)

@@ -8,14 +8,14 @@ use Rattle.office_replies.specs.Members.{text_member}
 abbrev pub answer_data : List ℕ → ℕ → List ℕ → Data → Data
 answer_data answer n partner reply =
     object (text_member (codes "answer") answer
-        (member (codes "number") (number (unsigned n))
-        (text_member (codes "partner") partner (member (codes "reply") reply no_members))))
+    (member (codes "number") (number (unsigned n))
+    (text_member (codes "partner") partner (member (codes "reply") reply no_members))))
 
 -- an answer's members before its reply, each as its text
 unfoldable pub joined_head : List ℕ → ℕ → List ℕ → List ℕ
 joined_head answer n partner =
     codes "{\"answer\":" ++ answer ++ codes ",\"number\":" ++ decimal n ++ codes ",\"partner\":" ++ partner
-        ++ codes ",\"reply\":"
+    ++ codes ",\"reply\":"
 
 -- what an answer has before its reply
 abbrev pub head_text : List ℕ → ℕ → List ℕ → List ℕ
@@ -28,8 +28,8 @@ answer_text answer n partner reply = head_text answer n partner ++ reply ++ code
 abbrev pub waiting_data : ℕ → ℕ → List ℕ → Data
 waiting_data next n partner =
     object (text_member (codes "answer") (codes "waiting")
-        (member (codes "next") (number (unsigned next))
-        (member (codes "number") (number (unsigned n)) (text_member (codes "partner") partner no_members))))
+    (member (codes "next") (number (unsigned next))
+    (member (codes "number") (number (unsigned n)) (text_member (codes "partner") partner no_members))))
 
 unfoldable pub waiting_text : ℕ → ℕ → List ℕ → List ℕ
 waiting_text next n partner = compact_text (waiting_data next n partner)
@@ -37,7 +37,7 @@ waiting_text next n partner = compact_text (waiting_data next n partner)
 abbrev pub clash_data : ℕ → List ℕ → Data
 clash_data n partner =
     object (text_member (codes "answer") (codes "clash")
-        (member (codes "number") (number (unsigned n)) (text_member (codes "partner") partner no_members)))
+    (member (codes "number") (number (unsigned n)) (text_member (codes "partner") partner no_members)))
 
 unfoldable pub clash_text : ℕ → List ℕ → List ℕ
 clash_text n partner = compact_text (clash_data n partner)
@@ -45,7 +45,7 @@ clash_text n partner = compact_text (clash_data n partner)
 abbrev pub refused_data : List ℕ → List ℕ → Data
 refused_data contrl fault =
     object (text_member (codes "answer") (codes "refused")
-        (text_member (codes "contrl") contrl (text_member (codes "fault") fault no_members)))
+    (text_member (codes "contrl") contrl (text_member (codes "fault") fault no_members)))
 
 unfoldable pub refused_text : List ℕ → List ℕ → List ℕ
 refused_text contrl fault = compact_text (refused_data contrl fault)

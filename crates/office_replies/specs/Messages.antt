@@ -32,10 +32,10 @@ report_content report = record { reference = string_bytes report.reference; verd
 abbrev pub verdict_data : List ℕ → VerdictContent → Data
 verdict_data reference (accepted lines) =
     object (member (codes "lines") (array (items_of (lines_from 1 lines)))
-        (text_member (codes "reference") reference (text_member (codes "result") (codes "accepted") no_members)))
+    (text_member (codes "reference") reference (text_member (codes "result") (codes "accepted") no_members)))
 verdict_data reference (rejected fault) =
     object (text_member (codes "fault") (message_fault_name fault)
-        (text_member (codes "reference") reference (text_member (codes "result") (codes "rejected") no_members)))
+    (text_member (codes "reference") reference (text_member (codes "result") (codes "rejected") no_members)))
 
 abbrev pub report_data : ReportContent → Data
 report_data report = verdict_data report.reference report.verdict
@@ -49,7 +49,7 @@ messages_data reports = array (items_of (map report_data (map report_content rep
 abbrev pub reply_data : List ℕ → List ReportContent → Data
 reply_data contrl reports =
     object (text_member (codes "contrl") contrl
-        (member (codes "messages") (array (items_of (map report_data reports))) no_members))
+    (member (codes "messages") (array (items_of (map report_data reports))) no_members))
 
 -- the text of a reply, as it is kept
 unfoldable pub reply_content_text : List ℕ → List ReportContent → List ℕ

@@ -33,7 +33,7 @@ abbrev pub arrival_words : SetupContent → VisitContent → List (List ℕ)
 arrival_words setup visit =
     decimal visit.number ∷ visit.size_type ∷ load_name visit.is_laden ∷ codes "IN"
     ∷ phrase (passage_words setup visit.arrival.way visit.arrival.source visit.arrival.moment)
-        ∷ slot_name visit.arrival.slot ∷ []
+    ∷ slot_name visit.arrival.slot ∷ []
 
 -- BOOKING B, where there is one
 abbrev pub booking_words : List ℕ → List (List ℕ)
@@ -45,12 +45,12 @@ abbrev pub departure_words : SetupContent → CivilMoment → Option Departure �
 departure_words setup entry None = codes "-" ∷ []
 departure_words setup entry (Some departure) =
     phrase (passage_words setup departure.way departure.source departure.moment) ∷ codes "DAYS"
-        ∷ signed_decimal (day_number departure.moment -ℤ day_number entry) ∷ []
+    ∷ signed_decimal (day_number departure.moment -ℤ day_number entry) ∷ []
 
 abbrev pub visit_line : SetupContent → VisitContent → List ℕ
 visit_line setup visit =
     line (phrase (arrival_words setup visit) ∷ booking_words visit.booking
-        ++ codes "OUT" ∷ phrase (departure_words setup visit.arrival.moment visit.departure) ∷ [])
+    ++ codes "OUT" ∷ phrase (departure_words setup visit.arrival.moment visit.departure) ∷ [])
 
 abbrev pub is_visit_of : BoxNumber → VisitContent → Bool
 is_visit_of container visit = bytes_eq visit.container container

@@ -16,8 +16,12 @@ use Rattle.office_reports.specs.Names.{load_name, slot_name, line}
 
 -- what is shown of a container, by its visit and where it stands
 abbrev pub shown : VisitContent → Slot → Standing
-shown visit slot = record { slot = slot; container = visit.container; size_type = visit.size_type;
-    is_laden = visit.is_laden }
+shown visit slot = record {
+  slot = slot;
+  container = visit.container;
+  size_type = visit.size_type;
+  is_laden = visit.is_laden;
+}
 
 -- where a container stands, if it is in the yard
 abbrev pub slot_in : TerminalState → BoxNumber → Option Slot

@@ -19,14 +19,18 @@ is_pair partner number i = (i.partner == partner) && (i.number == number)
 -- an interchange that waits is added
 abbrev pub with_kept : ℕ → ℕ → List ℕ → Rows → Rows
 with_kept partner number body rows =
-    record rows { interchanges = rows.interchanges
-    ++ (record { partner = partner; number = number; body = body; reply = [] }) ∷ [] }
+    record rows {
+      interchanges = rows.interchanges
+          ++ (record { partner = partner; number = number; body = body; reply = [] }) ∷ [];
+    }
 
 -- the interchange has this reply
 abbrev pub with_reply : ℕ → ℕ → List ℕ → Rows → Rows
 with_reply partner number reply rows =
-    record rows { interchanges = map
-    (λ (i : Interchange). cond (is_pair partner number i) (record i { reply = reply }) i) rows.interchanges }
+    record rows {
+      interchanges = map
+          (λ (i : Interchange). cond (is_pair partner number i) (record i { reply = reply }) i) rows.interchanges;
+    }
 
 -- the next number of the partner is this one
 abbrev pub with_next : ℕ → ℕ → Rows → Rows
@@ -62,13 +66,19 @@ with_change (visit_closed number departure) rows = record rows { visits = map (c
 with_change (placed_at container visit slot) rows =
     record rows { places = rows.places ++ (record { container = container; visit = visit; slot = slot }) ∷ [] }
 with_change (moved_to container slot) rows =
-    record rows { places = map
-    (λ (p : PlaceContent). cond (stands_for container p) (record p { slot = slot }) p) rows.places }
+    record rows {
+      places = map
+          (λ (p : PlaceContent). cond (stands_for container p) (record p { slot = slot }) p) rows.places;
+    }
 with_change (removed_from container) rows =
     record rows { places = filter (λ p. not (stands_for container p)) rows.places }
 with_change (listed_on call side container port) rows =
-    record rows { lines = rows.lines
-    ++ (record { call = call; side = side; container = container; port = port; state = Pending }) ∷ [] }
+    record rows {
+      lines = rows.lines
+          ++ (record { call = call; side = side; container = container; port = port; state = Pending }) ∷ [];
+    }
 with_change (line_done call side container) rows =
-    record rows { lines = map
-    (λ (l : ListingContent). cond (is_line call side container l) (record l { state = Done }) l) rows.lines }
+    record rows {
+      lines = map
+          (λ (l : ListingContent). cond (is_line call side container l) (record l { state = Done }) l) rows.lines;
+    }

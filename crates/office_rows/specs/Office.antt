@@ -57,7 +57,7 @@ abbrev pub AreWaiting : ℕ → ℕ → List Numbered → Type 0
 AreWaiting partner above [] = Unit {0}
 AreWaiting partner above (n ∷ numbers) =
     (n.partner ≡ partner) × (n.is_taken ≡ false) × (above < n.number) × (n.number ≤ 999999999)
-        × AreWaiting partner n.number numbers
+    × AreWaiting partner n.number numbers
 
 -- what is kept for a partner: the numbers below its next, and those that wait for it
 pub record IsKeptFor (partner : Partner) (numbers : List Numbered) : Type 0 where
@@ -70,7 +70,7 @@ abbrev pub AreKept : List Partner → List Numbered → Type 0
 AreKept [] numbers = numbers ≡ []
 AreKept (partner ∷ partners) numbers =
     (own : List Numbered) × (others : List Numbered) × (numbers ≡ own ++ others) × IsKeptFor partner own
-        × AreKept partners others
+    × AreKept partners others
 
 -- ---- the visits
 

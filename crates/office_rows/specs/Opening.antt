@@ -17,7 +17,7 @@ partners_from id (account ∷ accounts) =
 abbrev pub code_names : List (List ℕ)
 code_names =
     codes "gate-in" ∷ codes "gate-out" ∷ codes "yard-move" ∷ codes "discharge-list" ∷ codes "load-list"
-        ∷ codes "discharge-report" ∷ codes "load-report" ∷ []
+    ∷ codes "discharge-report" ∷ codes "load-report" ∷ []
 
 abbrev pub setting : List ℕ → List ℕ → Setting
 setting name value = record { name = name; value = value }
@@ -35,7 +35,7 @@ code_settings table = settings_named code_names (table_texts table)
 abbrev pub settings_of : SetupContent → List Setting
 settings_of content =
     setting (codes "version") (codes "1") ∷ setting (codes "terminal") content.terminal
-        ∷ setting (codes "visits") (decimal content.visit_limit) ∷ code_settings content.codes
+    ∷ setting (codes "visits") (decimal content.visit_limit) ∷ code_settings content.codes
 
 -- ---- rows that are added
 
@@ -53,5 +53,8 @@ with_blocks blocks rows = record rows { blocks = rows.blocks ++ blocks }
 -- the accounts, the settings and the blocks, and no row else
 abbrev pub opening_rows : SetupContent → Rows
 opening_rows content =
-    record no_rows { partners = partners_from 1 content.partners; settings = settings_of content;
-    blocks = content.blocks }
+    record no_rows {
+      partners = partners_from 1 content.partners;
+      settings = settings_of content;
+      blocks = content.blocks;
+    }

@@ -41,8 +41,13 @@ pub record ListingContent : Type 0 where
 
 abbrev pub listing_content : Listing → ListingContent
 listing_content row =
-    record { call = call_content row.call; side = row.side; container = row.container; port = string_bytes row.port;
-    state = row.state }
+    record {
+      call = call_content row.call;
+      side = row.side;
+      container = row.container;
+      port = string_bytes row.port;
+      state = row.state;
+    }
 
 pub record Setting : Type 0 where
   pub name : List ℕ

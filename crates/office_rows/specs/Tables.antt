@@ -13,8 +13,14 @@ use Rattle.sqlite_catalog.specs.Change.{created}
 
 -- a column of a STRICT table, which has to have a value
 abbrev pub required : List ℕ → Kind → Column
-required name kind = record { name = name; kind = kind; is_strict = true; not_null = true; default = Null;
-    collation = Binary }
+required name kind = record {
+  name = name;
+  kind = kind;
+  is_strict = true;
+  not_null = true;
+  default = Null;
+  collation = Binary;
+}
 
 -- an INTEGER PRIMARY KEY
 abbrev pub numbered : List ℕ → Column
@@ -50,8 +56,14 @@ interchange = record {
   uniques = (1 ∷ 2 ∷ []) ∷ [];
   orders = plain ∷ [];
   checks = [];
-  references = (record { columns = 1 ∷ []; parent = codes "partner"; parent_columns = codes "id" ∷ [];
-      on_delete = NoAction; on_update = NoAction; is_deferred = false }) ∷ [];
+  references = (record {
+    columns = 1 ∷ [];
+    parent = codes "partner";
+    parent_columns = codes "id" ∷ [];
+    on_delete = NoAction;
+    on_update = NoAction;
+    is_deferred = false;
+  }) ∷ [];
   computed = [];
   stamps = record { places = []; terms = []; formats = [] };
   is_counted = false;
@@ -89,8 +101,14 @@ place = record {
   uniques = (1 ∷ []) ∷ (2 ∷ []) ∷ (3 ∷ []) ∷ [];
   orders = plain ∷ plain ∷ plain ∷ [];
   checks = [];
-  references = (record { columns = 2 ∷ []; parent = codes "visit"; parent_columns = codes "visit" ∷ [];
-      on_delete = NoAction; on_update = NoAction; is_deferred = false }) ∷ [];
+  references = (record {
+    columns = 2 ∷ [];
+    parent = codes "visit";
+    parent_columns = codes "visit" ∷ [];
+    on_delete = NoAction;
+    on_update = NoAction;
+    is_deferred = false;
+  }) ∷ [];
   computed = [];
   stamps = record { places = []; terms = []; formats = [] };
   is_counted = false;

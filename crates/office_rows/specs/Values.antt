@@ -71,9 +71,9 @@ abbrev pub visit_values : VisitContent → Row
 visit_values v =
     number v.number ∷ Text v.container ∷ Text v.size_type ∷ number (laden_code v.is_laden) ∷ Text v.booking
     ∷ number (way_code v.arrival.way) ∷ number v.arrival.source.partner ∷ number v.arrival.source.number
-        ∷ Text (moment_digits v.arrival.moment) ∷ Text (slot_text v.arrival.slot)
+    ∷ Text (moment_digits v.arrival.moment) ∷ Text (slot_text v.arrival.slot)
     ∷ number (out_by v.departure) ∷ number (out_partner v.departure) ∷ number (out_number v.departure)
-        ∷ Text (out_at v.departure) ∷ []
+    ∷ Text (out_at v.departure) ∷ []
 
 abbrev pub place_values : PlaceContent → Row
 place_values p = Text p.container ∷ number p.visit ∷ Text (slot_text p.slot) ∷ []

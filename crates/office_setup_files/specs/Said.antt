@@ -37,7 +37,7 @@ abbrev pub kind_said : Text → Option PartnerKind
 kind_said word =
     cond (bytes_eq word (codes "gate")) (Some Gate)
     (cond (bytes_eq word (codes "line")) (Some Line)
-        (cond (bytes_eq word (codes "quay")) (Some Quay) (cond (bytes_eq word (codes "yard")) (Some Yard) None)))
+    (cond (bytes_eq word (codes "quay")) (Some Quay) (cond (bytes_eq word (codes "yard")) (Some Yard) None)))
 
 abbrev pub partner_said : Named → Option (Text × PartnerKind)
 partner_said entry = cond (is_party_code entry.0)
@@ -57,9 +57,9 @@ AreNoPartners entries = (partners : List (Text × PartnerKind)) → ¬ ArePartne
 abbrev pub is_code_name : Text → Bool
 is_code_name name =
     bytes_eq name (codes "gate-in") || bytes_eq name (codes "gate-out") || bytes_eq name (codes "yard-move")
-        || bytes_eq name (codes "discharge-list")
+    || bytes_eq name (codes "discharge-list")
     || bytes_eq name (codes "load-list") || bytes_eq name (codes "discharge-report")
-        || bytes_eq name (codes "load-report")
+    || bytes_eq name (codes "load-report")
 
 -- the value of the first entry with a name
 abbrev pub value_of : List Named → Text → Text → Text
@@ -70,10 +70,10 @@ value_of entries name usual =
 abbrev pub code_texts : List Named → List Text
 code_texts entries =
     value_of entries (codes "gate-in") (codes "34") ∷ value_of entries (codes "gate-out") (codes "36")
-        ∷ value_of entries (codes "yard-move") (codes "YMV")
+    ∷ value_of entries (codes "yard-move") (codes "YMV")
     ∷ value_of entries (codes "discharge-list") (codes "43") ∷ value_of entries (codes "load-list") (codes "45")
     ∷ value_of entries (codes "discharge-report") (codes "44") ∷ value_of entries (codes "load-report") (codes "46")
-        ∷ []
+    ∷ []
 
 -- each entry has a name of a code, no two the same, and the codes make a table
 pub record AreCodes (entries : List Named) : Type 0 where
@@ -104,7 +104,7 @@ block_said row =
     option_and_then (λ (bays : ℕ).
     option_and_then (λ (rows : ℕ).
     option_map (λ (tiers : ℕ). record { letter = letter; bays = bays; rows = rows; tiers = tiers })
-        (count_said 6 (field 3 row)))
+    (count_said 6 (field 3 row)))
     (count_said 12 (field 2 row)))
     (count_said 40 (field 1 row)))
     (letter_said (field 0 row))

@@ -62,7 +62,7 @@ fn has_name(entries: &[Entry<'_>], name: &str) -> bool
 fn accounts_of(alloc: Global, entries: &[Entry<'_>]) -> Result<Option<Vec<Account>>, AllocError>
     ensures { IfOk result (λ answer. MatchOption answer
         ((partners : List (List ℕ × PartnerKind)) →
-            ¬ (map partner_said (map entry_content entries.now) ≡ map Some partners))
+        ¬ (map partner_said (map entry_content entries.now) ≡ map Some partners))
         (λ accounts. map partner_said (map entry_content entries.now) ≡ map Some (account_contents accounts.items))) }
 {
     let mut accounts = Vec::with_capacity(alloc, entries.len())?;

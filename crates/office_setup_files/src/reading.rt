@@ -114,7 +114,7 @@ fn partners_in(alloc: Global, rows: &[StringRecord]) -> Result<Option<Vec<Accoun
     ensures { IfOk result (λ answer. MatchOption answer
         (AreNoPartners (section (codes "partner") (map fields_of rows.now)))
         (λ accounts. ArePartners (section (codes "partner") (map fields_of rows.now))
-            (account_contents accounts.items))) }
+        (account_contents accounts.items))) }
 {
     let entries = section(alloc, rows, "partner")?;
     partners_of(alloc, &entries)

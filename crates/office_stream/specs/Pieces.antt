@@ -42,7 +42,7 @@ EndsPiece (Some fault) pending rest = EndsAs (Cut fault) rest
 pub record PieceAnswered {D : Type 0} (stands : List (List ℕ) → D → Type 0)
     (answers : List (List ℕ) → List ℕ → Response → Type 0)
     (ds : List (List ℕ)) (Ends : List ℕ → Type 0) (stream : List ℕ) (desk : D) (before worst : Worst)
-        (written written' : Option (List ℕ)) : Type 0 where
+    (written written' : Option (List ℕ)) : Type 0 where
   pub texts : List (List ℕ)
   pub responses : List Response
   pub cuts : CutsFrom Ends stream texts

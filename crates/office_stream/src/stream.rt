@@ -39,7 +39,7 @@ pub fn run_stream<R: Read, W: Write, D: Deliver>(
     // behind it.
     ensures err { IfErr result
         (λ fault. D.clean desk.new → (opening : D) (ds : List (List ℕ)) → D.stands opening ds desk.old →
-            MatchFault fault
+        MatchFault fault
         (Began (D.stands opening) (D.answers opening) ds
         (R.remaining reader.old.inner) (R.remaining reader.new.inner)
         (W.contents writer.old.inner) (W.contents writer.new.inner) desk.new)

@@ -14,7 +14,7 @@ pub(crate) fn create_tables<S: Alter>(tx: &mut Transaction<'_, S>) -> Result<(),
     ensures same_reference { tx.new.conn.ghost_name ≡ tx.old.conn.ghost_name }
     ensures made { HasCleanDisk (state S.Store tx.new.conn.now) → IsTrue (state S.Store tx.old.conn.now).in_transaction
         → OnOk result (Turns (HasEmpty (take 0 office_tables)) (HasRows no_rows) (state S.Store tx.old.conn.now)
-            (state S.Store tx.new.conn.now)) }
+        (state S.Store tx.new.conn.now)) }
     ensures keeps { HasCleanDisk (state S.Store tx.new.conn.now) → IsTrue (state S.Store tx.old.conn.now).in_transaction
         → KeepsCommit (state S.Store tx.old.conn.now) (state S.Store tx.new.conn.now) }
     ensures survives { Survives (state S.Store tx.old.conn.now) (state S.Store tx.new.conn.now) (λ _. ⊥) }
@@ -30,7 +30,7 @@ fn create_first_tables<S: Alter>(tx: &mut Transaction<'_, S>) -> Result<(), Tabl
     ensures same_reference { tx.new.conn.ghost_name ≡ tx.old.conn.ghost_name }
     ensures made { HasCleanDisk (state S.Store tx.new.conn.now) → IsTrue (state S.Store tx.old.conn.now).in_transaction
         → OnOk result (Turns (HasEmpty (take 0 office_tables)) (HasEmpty (take 4 office_tables))
-            (state S.Store tx.old.conn.now) (state S.Store tx.new.conn.now)) }
+        (state S.Store tx.old.conn.now) (state S.Store tx.new.conn.now)) }
     ensures keeps { HasCleanDisk (state S.Store tx.new.conn.now) → IsTrue (state S.Store tx.old.conn.now).in_transaction
         → KeepsCommit (state S.Store tx.old.conn.now) (state S.Store tx.new.conn.now) }
     ensures survives { Survives (state S.Store tx.old.conn.now) (state S.Store tx.new.conn.now) (λ _. ⊥) }
@@ -45,7 +45,7 @@ fn create_partner<S: Alter>(tx: &mut Transaction<'_, S>) -> Result<(), TableFaul
     ensures same_reference { tx.new.conn.ghost_name ≡ tx.old.conn.ghost_name }
     ensures made { HasCleanDisk (state S.Store tx.new.conn.now) → IsTrue (state S.Store tx.old.conn.now).in_transaction
         → OnOk result (Turns (HasEmpty (take 0 office_tables)) (HasEmpty (take 1 office_tables))
-            (state S.Store tx.old.conn.now) (state S.Store tx.new.conn.now)) }
+        (state S.Store tx.old.conn.now) (state S.Store tx.new.conn.now)) }
     ensures keeps { HasCleanDisk (state S.Store tx.new.conn.now) → IsTrue (state S.Store tx.old.conn.now).in_transaction
         → KeepsCommit (state S.Store tx.old.conn.now) (state S.Store tx.new.conn.now) }
     ensures survives { Survives (state S.Store tx.old.conn.now) (state S.Store tx.new.conn.now) (λ _. ⊥) }
@@ -61,7 +61,7 @@ fn create_interchange<S: Alter>(tx: &mut Transaction<'_, S>) -> Result<(), Table
     ensures same_reference { tx.new.conn.ghost_name ≡ tx.old.conn.ghost_name }
     ensures made { HasCleanDisk (state S.Store tx.new.conn.now) → IsTrue (state S.Store tx.old.conn.now).in_transaction
         → OnOk result (Turns (HasEmpty (take 1 office_tables)) (HasEmpty (take 2 office_tables))
-            (state S.Store tx.old.conn.now) (state S.Store tx.new.conn.now)) }
+        (state S.Store tx.old.conn.now) (state S.Store tx.new.conn.now)) }
     ensures keeps { HasCleanDisk (state S.Store tx.new.conn.now) → IsTrue (state S.Store tx.old.conn.now).in_transaction
         → KeepsCommit (state S.Store tx.old.conn.now) (state S.Store tx.new.conn.now) }
     ensures survives { Survives (state S.Store tx.old.conn.now) (state S.Store tx.new.conn.now) (λ _. ⊥) }
@@ -77,7 +77,7 @@ fn create_visit<S: Alter>(tx: &mut Transaction<'_, S>) -> Result<(), TableFault>
     ensures same_reference { tx.new.conn.ghost_name ≡ tx.old.conn.ghost_name }
     ensures made { HasCleanDisk (state S.Store tx.new.conn.now) → IsTrue (state S.Store tx.old.conn.now).in_transaction
         → OnOk result (Turns (HasEmpty (take 2 office_tables)) (HasEmpty (take 3 office_tables))
-            (state S.Store tx.old.conn.now) (state S.Store tx.new.conn.now)) }
+        (state S.Store tx.old.conn.now) (state S.Store tx.new.conn.now)) }
     ensures keeps { HasCleanDisk (state S.Store tx.new.conn.now) → IsTrue (state S.Store tx.old.conn.now).in_transaction
         → KeepsCommit (state S.Store tx.old.conn.now) (state S.Store tx.new.conn.now) }
     ensures survives { Survives (state S.Store tx.old.conn.now) (state S.Store tx.new.conn.now) (λ _. ⊥) }
@@ -93,7 +93,7 @@ fn create_place<S: Alter>(tx: &mut Transaction<'_, S>) -> Result<(), TableFault>
     ensures same_reference { tx.new.conn.ghost_name ≡ tx.old.conn.ghost_name }
     ensures made { HasCleanDisk (state S.Store tx.new.conn.now) → IsTrue (state S.Store tx.old.conn.now).in_transaction
         → OnOk result (Turns (HasEmpty (take 3 office_tables)) (HasEmpty (take 4 office_tables))
-            (state S.Store tx.old.conn.now) (state S.Store tx.new.conn.now)) }
+        (state S.Store tx.old.conn.now) (state S.Store tx.new.conn.now)) }
     ensures keeps { HasCleanDisk (state S.Store tx.new.conn.now) → IsTrue (state S.Store tx.old.conn.now).in_transaction
         → KeepsCommit (state S.Store tx.old.conn.now) (state S.Store tx.new.conn.now) }
     ensures survives { Survives (state S.Store tx.old.conn.now) (state S.Store tx.new.conn.now) (λ _. ⊥) }
@@ -109,7 +109,7 @@ fn create_listed<S: Alter>(tx: &mut Transaction<'_, S>) -> Result<(), TableFault
     ensures same_reference { tx.new.conn.ghost_name ≡ tx.old.conn.ghost_name }
     ensures made { HasCleanDisk (state S.Store tx.new.conn.now) → IsTrue (state S.Store tx.old.conn.now).in_transaction
         → OnOk result (Turns (HasEmpty (take 4 office_tables)) (HasEmpty (take 5 office_tables))
-            (state S.Store tx.old.conn.now) (state S.Store tx.new.conn.now)) }
+        (state S.Store tx.old.conn.now) (state S.Store tx.new.conn.now)) }
     ensures keeps { HasCleanDisk (state S.Store tx.new.conn.now) → IsTrue (state S.Store tx.old.conn.now).in_transaction
         → KeepsCommit (state S.Store tx.old.conn.now) (state S.Store tx.new.conn.now) }
     ensures survives { Survives (state S.Store tx.old.conn.now) (state S.Store tx.new.conn.now) (λ _. ⊥) }
@@ -125,7 +125,7 @@ fn create_setting<S: Alter>(tx: &mut Transaction<'_, S>) -> Result<(), TableFaul
     ensures same_reference { tx.new.conn.ghost_name ≡ tx.old.conn.ghost_name }
     ensures made { HasCleanDisk (state S.Store tx.new.conn.now) → IsTrue (state S.Store tx.old.conn.now).in_transaction
         → OnOk result (Turns (HasEmpty (take 5 office_tables)) (HasEmpty (take 6 office_tables))
-            (state S.Store tx.old.conn.now) (state S.Store tx.new.conn.now)) }
+        (state S.Store tx.old.conn.now) (state S.Store tx.new.conn.now)) }
     ensures keeps { HasCleanDisk (state S.Store tx.new.conn.now) → IsTrue (state S.Store tx.old.conn.now).in_transaction
         → KeepsCommit (state S.Store tx.old.conn.now) (state S.Store tx.new.conn.now) }
     ensures survives { Survives (state S.Store tx.old.conn.now) (state S.Store tx.new.conn.now) (λ _. ⊥) }
@@ -141,7 +141,7 @@ fn create_block<S: Alter>(tx: &mut Transaction<'_, S>) -> Result<(), TableFault>
     ensures same_reference { tx.new.conn.ghost_name ≡ tx.old.conn.ghost_name }
     ensures made { HasCleanDisk (state S.Store tx.new.conn.now) → IsTrue (state S.Store tx.old.conn.now).in_transaction
         → OnOk result (Turns (HasEmpty (take 6 office_tables)) (HasEmpty (take 7 office_tables))
-            (state S.Store tx.old.conn.now) (state S.Store tx.new.conn.now)) }
+        (state S.Store tx.old.conn.now) (state S.Store tx.new.conn.now)) }
     ensures keeps { HasCleanDisk (state S.Store tx.new.conn.now) → IsTrue (state S.Store tx.old.conn.now).in_transaction
         → KeepsCommit (state S.Store tx.old.conn.now) (state S.Store tx.new.conn.now) }
     ensures survives { Survives (state S.Store tx.old.conn.now) (state S.Store tx.new.conn.now) (λ _. ⊥) }

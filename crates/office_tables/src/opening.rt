@@ -26,7 +26,7 @@ pub fn create<S: Alter>(conn: &mut Connection<S>, setup: &Setup) -> Result<(), T
         OnOk result (Opens (setup_content setup.now) (state S.Store conn.old) (state S.Store conn.new)) }
     ensures err { HasCleanDisk (state S.Store conn.new) → IsTrue (state S.Store conn.new).is_open
         → OnErr result (((state S.Store conn.new).now ≡ (state S.Store conn.old).committed)
-            × ((state S.Store conn.new).committed ≡ (state S.Store conn.old).committed)) }
+        × ((state S.Store conn.new).committed ≡ (state S.Store conn.old).committed)) }
     ensures crash { Survives (state S.Store conn.old) (state S.Store conn.new)
         (IsOpening (setup_content setup.now) (state S.Store conn.old)) }
 {
@@ -44,7 +44,7 @@ fn write_opening<S: Alter>(tx: &mut Transaction<'_, S>, setup: &Setup) -> Result
     ensures same_reference { tx.new.conn.ghost_name ≡ tx.old.conn.ghost_name }
     ensures made { HasCleanDisk (state S.Store tx.new.conn.now) → IsTrue (state S.Store tx.old.conn.now).in_transaction
         → OnOk result (Turns (HasEmpty (take 0 office_tables)) (HasRows (opening_rows (setup_content setup.now)))
-            (state S.Store tx.old.conn.now) (state S.Store tx.new.conn.now)) }
+        (state S.Store tx.old.conn.now) (state S.Store tx.new.conn.now)) }
     ensures keeps { HasCleanDisk (state S.Store tx.new.conn.now) → IsTrue (state S.Store tx.old.conn.now).in_transaction
         → KeepsCommit (state S.Store tx.old.conn.now) (state S.Store tx.new.conn.now) }
     ensures survives { Survives (state S.Store tx.old.conn.now) (state S.Store tx.new.conn.now) (λ _. ⊥) }

@@ -20,7 +20,7 @@ pub(crate) fn insert_settings<S: Alter>(
     ensures same_reference { tx.new.conn.ghost_name ≡ tx.old.conn.ghost_name }
     ensures steps { HasCleanDisk (state S.Store tx.new.conn.now) → IsTrue (state S.Store tx.old.conn.now).in_transaction
         → OnOk result (Steps (with_settings (settings_of (setup_content setup.now))) (state S.Store tx.old.conn.now)
-            (state S.Store tx.new.conn.now)) }
+        (state S.Store tx.new.conn.now)) }
     ensures keeps { HasCleanDisk (state S.Store tx.new.conn.now) → IsTrue (state S.Store tx.old.conn.now).in_transaction
         → KeepsCommit (state S.Store tx.old.conn.now) (state S.Store tx.new.conn.now) }
     ensures survives { Survives (state S.Store tx.old.conn.now) (state S.Store tx.new.conn.now) (λ _. ⊥) }
@@ -38,7 +38,7 @@ fn insert_codes<S: Alter>(tx: &mut Transaction<'_, S>, codes: &CodeTable) -> Res
     ensures steps { HasCleanDisk (state S.Store tx.new.conn.now) →
         IsTrue (state S.Store tx.old.conn.now).in_transaction → IsTrue (state S.Store tx.old.conn.now).is_open
         → OnOk result (Steps (with_settings (code_settings codes.now)) (state S.Store tx.old.conn.now)
-            (state S.Store tx.new.conn.now)) }
+        (state S.Store tx.new.conn.now)) }
     ensures keeps { HasCleanDisk (state S.Store tx.new.conn.now) →
         IsTrue (state S.Store tx.old.conn.now).in_transaction → IsTrue (state S.Store tx.old.conn.now).is_open
         → KeepsCommit (state S.Store tx.old.conn.now) (state S.Store tx.new.conn.now) }
@@ -74,7 +74,7 @@ fn insert_setting<'a, S: Alter>(
     ensures same_reference { tx.new.conn.ghost_name ≡ tx.old.conn.ghost_name }
     ensures steps { HasCleanDisk (state S.Store tx.new.conn.now) → IsTrue (state S.Store tx.old.conn.now).in_transaction
         → OnOk result (Steps (with_settings (setting name.now value.now ∷ [])) (state S.Store tx.old.conn.now)
-            (state S.Store tx.new.conn.now)) }
+        (state S.Store tx.new.conn.now)) }
     ensures keeps { HasCleanDisk (state S.Store tx.new.conn.now) → IsTrue (state S.Store tx.old.conn.now).in_transaction
         → KeepsCommit (state S.Store tx.old.conn.now) (state S.Store tx.new.conn.now) }
     ensures survives { Survives (state S.Store tx.old.conn.now) (state S.Store tx.new.conn.now) (λ _. ⊥) }

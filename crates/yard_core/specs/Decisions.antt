@@ -44,7 +44,7 @@ fault_of no_room = fault.NoRoom
 abbrev pub in_block : Slot → Block → Bool
 in_block slot b =
     nat_le 1 slot.bay && nat_lt slot.bay (2 * b.bays) && nat_le 1 slot.row && nat_le slot.row b.rows
-        && nat_le 1 slot.tier
+    && nat_le 1 slot.tier
     && nat_le slot.tier b.tiers
 
 abbrev pub in_plan : List Block → Slot → Bool
@@ -157,7 +157,7 @@ abbrev pub placed : YardMap → Box → Length → Slot → Result YardMap Refus
 placed y b length slot =
     cond (is_some (finite_map.get y.boxes b)) (Err present)
     (with_misfit (misfit_of y.plan y.boxes (placement length slot))
-        (yard_map y.plan (finite_map.insert y.boxes b (placement length slot))))
+    (yard_map y.plan (finite_map.insert y.boxes b (placement length slot))))
 
 abbrev pub with_slot : Option Slot → YardMap → Box → Length → Result (YardMap × Slot) Refusal
 with_slot None y b length = Err no_room
@@ -185,7 +185,7 @@ shifted_at None y b slot = Err absent
 shifted_at (Some s) y b slot =
     unless_buried (blocker_of y.boxes s)
     (with_misfit (misfit_of y.plan (finite_map.remove y.boxes b) (placement s.length slot))
-        (yard_map y.plan (finite_map.insert y.boxes b (placement s.length slot))))
+    (yard_map y.plan (finite_map.insert y.boxes b (placement s.length slot))))
 
 -- a container in another slot, which has to fit the yard without it
 abbrev pub shifted : YardMap → Box → Slot → Result YardMap Refusal

@@ -10,7 +10,7 @@ use Rattle.yard_core.specs.FitsAndFree.{Fits}
 abbrev pub IsBefore : Slot → Slot → Type 0
 IsBefore a b =
     (a.tier < b.tier) ⊎ ((a.tier ≡ b.tier)
-        × ((a.block < b.block) ⊎ ((a.block ≡ b.block) × ((a.bay < b.bay) ⊎ ((a.bay ≡ b.bay) × (a.row < b.row))))))
+    × ((a.block < b.block) ⊎ ((a.block ≡ b.block) × ((a.bay < b.bay) ⊎ ((a.bay ≡ b.bay) × (a.row < b.row))))))
 
 -- the box fits there, and nowhere before
 pub record IsFirstFit (plan : List Block) (boxes : Boxes) (b : Box) (length : Length) (slot : Slot) : Type 0 where

@@ -38,20 +38,20 @@ OneFirstFit = (plan : List Block) (boxes : Boxes) (b : Box) (length : Length) (s
 abbrev pub PlaceHasOneAnswer : Type 0
 PlaceHasOneAnswer = (y : YardMap) (b : Box) (s : Placement) → IsPlan y.plan
     → ((f g : YardFault) → RefusesPlace y b s f → RefusesPlace y b s g → f ≡ g)
-        × ((new : YardMap) (f : YardFault) → Places y new b s → RefusesPlace y b s f → f ≡ Memory)
+    × ((new : YardMap) (f : YardFault) → Places y new b s → RefusesPlace y b s f → f ≡ Memory)
 
 abbrev pub PlaceFirstHasOneAnswer : Type 0
 PlaceFirstHasOneAnswer = (y : YardMap) (b : Box) (length : Length) → IsPlan y.plan
     → ((f g : YardFault) → RefusesFirst y b length f → RefusesFirst y b length g → f ≡ g)
-        × ((new : YardMap) (slot : Slot) (f : YardFault) → PlacesFirst y new b length slot → RefusesFirst y b length f →
-        f ≡ Memory)
+    × ((new : YardMap) (slot : Slot) (f : YardFault) → PlacesFirst y new b length slot → RefusesFirst y b length f →
+    f ≡ Memory)
 
 abbrev pub RemoveHasOneAnswer : Type 0
 RemoveHasOneAnswer = (y : YardMap) (b : Box) → IsPlan y.plan → IsSound y.plan (map.get y.boxes)
     → ((f g : YardFault) → RefusesRemove y b f → RefusesRemove y b g → f ≡ g)
-        × ((new : YardMap) (s : Placement) (f : YardFault) → Removes y new b s → ¬ RefusesRemove y b f)
+    × ((new : YardMap) (s : Placement) (f : YardFault) → Removes y new b s → ¬ RefusesRemove y b f)
 
 abbrev pub ShiftHasOneAnswer : Type 0
 ShiftHasOneAnswer = (y : YardMap) (b : Box) (slot : Slot) → IsPlan y.plan → IsSound y.plan (map.get y.boxes)
     → ((f g : YardFault) → RefusesShift y b slot f → RefusesShift y b slot g → f ≡ g)
-        × ((new : YardMap) (s : Placement) (f : YardFault) → Shifts y new b s slot → ¬ RefusesShift y b slot f)
+    × ((new : YardMap) (s : Placement) (f : YardFault) → Shifts y new b s slot → ¬ RefusesShift y b slot f)
