@@ -7,7 +7,7 @@ use Rattle.sqlite.specs.Steps.{over_memory}
 use Rattle.sqlite.specs.declared.connection.Connection.{Connection}
 use Rattle.sqlite_trees.specs.declared.memory.MemStore.{MemStore}
 use Rattle.office_desk.specs.Desks.{IsSound, DeskStands, DeskAnswers}
-use Rattle.office_stream.specs.Streams.{Began, Delivered}
+use Rattle.office_stream.specs.Streams.{Began, Delivered, port_bytes}
 use Rattle.office_stream.specs.Faults.{MatchFault}
 use Rattle.office_stream.specs.declared.stream_fault.StreamFault.{StreamFault}
 use Rattle.office_stream.specs.declared.stream_fault.StreamFault.TheVariants.{Read, Write, Turns}
@@ -18,10 +18,10 @@ use Rattle.office_commands.specs.Demo.{OpensDemo, DemoLeft}
 -- what a stream from such a desk on leaves behind
 pub left_by : (left left' written written' : Option (List ℕ)) (opening desk : MemoryDesk) (fault : StreamFault) → OpensDemo opening
     → MatchFault fault
-    (Began (DeskStands over_memory opening) (DeskAnswers over_memory opening) [] left left' written written' desk)
-    (Delivered (DeskStands over_memory opening) (DeskAnswers over_memory opening) [] left left' written written' desk)
-    (Began (DeskStands over_memory opening) (DeskAnswers over_memory opening) [] left left' written written' desk)
-    → DemoLeft left left' written written' (Stream fault)
+    (Began (DeskStands over_memory opening) (DeskAnswers over_memory opening) [] (port_bytes left left' written written') desk)
+    (Delivered (DeskStands over_memory opening) (DeskAnswers over_memory opening) [] (port_bytes left left' written written') desk)
+    (Began (DeskStands over_memory opening) (DeskAnswers over_memory opening) [] (port_bytes left left' written written') desk)
+    → DemoLeft (port_bytes left left' written written') (Stream fault)
 left_by left left' written written' opening desk Read opens began = record { opening = opening; desk = desk; opens = opens; began = began }
 left_by left left' written written' opening desk Turns opens began = record { opening = opening; desk = desk; opens = opens; began = began }
 left_by left left' written written' opening desk Write opens delivered = record { opening = opening; desk = desk; opens = opens; delivered = delivered }

@@ -7,7 +7,8 @@ use Rattle.office_stream.specs.declared.stream_fault.StreamFault.TheVariants.{Re
 use Rattle.office_commands.specs.declared.demo_fault.DemoFault.{DemoFault}
 use Rattle.office_commands.specs.declared.demo_fault.DemoFault.TheVariants.{Store, Stream}
 use Rattle.office_tables.specs.declared.table_fault.TableFault.TheVariants.{Store as TableStore, Damaged, Version, Memory}
-use Rattle.office_commands.specs.Demo.{DemoRuns, DemoLeft, IsOfPorts}
+use Rattle.office_stream.specs.Streams.{PortBytes}
+use Rattle.office_commands.specs.Demo.{DemoRuns, DemoLeft, PortFailures, IsOfPorts}
 
 -- the status of a stream that was run to its end
 abbrev pub status_of : Worst → ℕ
@@ -31,12 +32,10 @@ Tells failed told told' text = failed ≡ false → Appends told told' text
 
 -- The demonstration ends with the status of its stream, neither port having failed, and tells nothing, or with 3 where
 -- it was left before the end, and tells why.
-abbrev pub DemoEnds : (left left' written written' : Option (List ℕ))
-    (read_failed read_failed' write_failed write_failed' : Bool)
-    (tells : List ℕ → Type 0) → ℕ → Type 0
-DemoEnds left left' written written' read_failed read_failed' write_failed write_failed' tells status =
-    ((worst : Worst) × (status ≡ status_of worst) × tells [] × (read_failed' ≡ read_failed)
-    × (write_failed' ≡ write_failed)
-    × DemoRuns left left' written written' worst)
-    ⊎ ((fault : DemoFault) × (status ≡ 3) × tells (fault_text fault) × DemoLeft left left' written written' fault
-    × IsOfPorts read_failed read_failed' write_failed write_failed' fault)
+abbrev pub DemoEnds : PortBytes → PortFailures → (tells : List ℕ → Type 0) → ℕ → Type 0
+DemoEnds ports failures tells status =
+    ((worst : Worst) × (status ≡ status_of worst) × tells [] × (failures.read_after ≡ failures.read_before)
+    × (failures.write_after ≡ failures.write_before)
+    × DemoRuns ports worst)
+    ⊎ ((fault : DemoFault) × (status ≡ 3) × tells (fault_text fault) × DemoLeft ports fault
+    × IsOfPorts failures fault)

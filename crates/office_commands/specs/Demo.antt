@@ -10,7 +10,7 @@ use Rattle.sqlite.specs.Steps.{over_memory}
 use Rattle.office_desk.specs.Desks.{DeskStands, DeskAnswers}
 use Rattle.office_commands.specs.Opening.{MemoryDesk, OpensEmpty}
 use Rattle.office_replies.specs.declared.worst.Worst.{Worst}
-use Rattle.office_stream.specs.Streams.{Streamed, Began, Delivered}
+use Rattle.office_stream.specs.Streams.{PortBytes, Streamed, Began, Delivered}
 use Rattle.office_stream.specs.declared.stream_fault.StreamFault.TheVariants.{Read, Write, Turns}
 use Rattle.office_commands.specs.declared.demo_fault.DemoFault.{DemoFault}
 use Rattle.office_commands.specs.declared.demo_fault.DemoFault.TheVariants.{Store, Stream}
@@ -50,28 +50,25 @@ pub record OpensDemo (desk : MemoryDesk) : Type 0 where
   pub opens : OpensEmpty content desk
 
 -- What was read is cut into interchanges, each answered by a line at its place, from such a desk on.
-pub record DemoRuns (left left' written written' : Option (List ℕ)) (worst : Worst) : Type 0 where
+pub record DemoRuns (ports : PortBytes) (worst : Worst) : Type 0 where
   pub opening : MemoryDesk
   pub desk : MemoryDesk
   pub opens : OpensDemo opening
-  pub streamed : Streamed (DeskStands over_memory opening)
-      (DeskAnswers over_memory opening) [] left left' written written' desk worst
+  pub streamed : Streamed (DeskStands over_memory opening) (DeskAnswers over_memory opening) [] ports desk worst
 
 -- All interchanges of what was read were delivered to such a desk and answered by their lines.
-pub record DemoBegan (left left' written written' : Option (List ℕ)) : Type 0 where
+pub record DemoBegan (ports : PortBytes) : Type 0 where
   pub opening : MemoryDesk
   pub desk : MemoryDesk
   pub opens : OpensDemo opening
-  pub began : Began (DeskStands over_memory opening)
-      (DeskAnswers over_memory opening) [] left left' written written' desk
+  pub began : Began (DeskStands over_memory opening) (DeskAnswers over_memory opening) [] ports desk
 
 -- They were delivered to such a desk as far as lines could be written, of which the last was cut short.
-pub record DemoDelivered (left left' written written' : Option (List ℕ)) : Type 0 where
+pub record DemoDelivered (ports : PortBytes) : Type 0 where
   pub opening : MemoryDesk
   pub desk : MemoryDesk
   pub opens : OpensDemo opening
-  pub delivered : Delivered (DeskStands over_memory opening)
-      (DeskAnswers over_memory opening) [] left left' written written' desk
+  pub delivered : Delivered (DeskStands over_memory opening) (DeskAnswers over_memory opening) [] ports desk
 
 -- how many reads of the input are made
 abbrev pub demo_turns : ℕ
@@ -79,20 +76,35 @@ demo_turns = 100000000
 
 -- What was done before a fault. If the desk did not open, nothing was read or written. A read that failed leaves what
 -- was answered before, and so do too many reads. So does a write that failed, but for the line that it cut short.
-abbrev pub DemoLeft : (left left' written written' : Option (List ℕ)) → DemoFault → Type 0
-DemoLeft left left' written written' (Store fault) = (left' ≡ left) × (written' ≡ written)
-DemoLeft left left' written written' (Stream Read) = DemoBegan left left' written written'
-DemoLeft left left' written written' (Stream Turns) = DemoBegan left left' written written'
-DemoLeft left left' written written' (Stream Write) = DemoDelivered left left' written written'
+abbrev pub DemoLeft : PortBytes → DemoFault → Type 0
+DemoLeft ports (Store fault) =
+    (ports.left_after ≡ ports.left_before) × (ports.written_after ≡ ports.written_before)
+DemoLeft ports (Stream Read) = DemoBegan ports
+DemoLeft ports (Stream Turns) = DemoBegan ports
+DemoLeft ports (Stream Write) = DemoDelivered ports
+
+-- whether a reader and a writer have failed, before and after
+pub record PortFailures : Type 0 where
+  pub read_before : Bool
+  pub read_after : Bool
+  pub write_before : Bool
+  pub write_after : Bool
+
+abbrev pub port_failures : (read_failed read_failed' write_failed write_failed' : Bool) → PortFailures
+port_failures read_failed read_failed' write_failed write_failed' =
+    record {
+      read_before = read_failed;
+      read_after = read_failed';
+      write_before = write_failed;
+      write_after = write_failed';
+    }
 
 -- a fault of the reader or the writer comes only where it has failed and the other has not, and any other only where
 -- neither has
-abbrev pub IsOfPorts : (read_failed read_failed' write_failed write_failed' : Bool) → DemoFault → Type 0
-IsOfPorts read_failed read_failed' write_failed write_failed' (Store fault) =
-    (read_failed' ≡ read_failed) × (write_failed' ≡ write_failed)
-IsOfPorts read_failed read_failed' write_failed write_failed' (Stream Read) =
-    (read_failed' ≡ true) × (write_failed' ≡ write_failed)
-IsOfPorts read_failed read_failed' write_failed write_failed' (Stream Turns) =
-    (read_failed' ≡ read_failed) × (write_failed' ≡ write_failed)
-IsOfPorts read_failed read_failed' write_failed write_failed' (Stream Write) =
-    (write_failed' ≡ true) × (read_failed' ≡ read_failed)
+abbrev pub IsOfPorts : PortFailures → DemoFault → Type 0
+IsOfPorts ports (Store fault) =
+    (ports.read_after ≡ ports.read_before) × (ports.write_after ≡ ports.write_before)
+IsOfPorts ports (Stream Read) = (ports.read_after ≡ true) × (ports.write_after ≡ ports.write_before)
+IsOfPorts ports (Stream Turns) =
+    (ports.read_after ≡ ports.read_before) × (ports.write_after ≡ ports.write_before)
+IsOfPorts ports (Stream Write) = (ports.write_after ≡ true) × (ports.read_after ≡ ports.read_before)

@@ -1,4 +1,6 @@
 ghost use Rattle.std.specs.Prelude.{◌≡◌};
+ghost use Rattle.office_stream.specs.Streams.{port_bytes};
+ghost use Rattle.office_commands.specs.Demo.{port_failures};
 ghost use Rattle.office_commands.specs.Command.{status_of, Tells, DemoEnds};
 
 use crate::demo::run_demo;
@@ -16,9 +18,10 @@ pub fn demonstrate<R: Read, W: Write, E: Write>(
     writer: &mut Port<W>,
     errors: &mut Port<E>,
 ) -> u8
-    ensures { DemoEnds (R.remaining reader.old.inner) (R.remaining reader.new.inner)
-        (W.contents writer.old.inner) (W.contents writer.new.inner)
-        reader.old.failed reader.new.failed writer.old.failed writer.new.failed
+    ensures { DemoEnds
+        (port_bytes (R.remaining reader.old.inner) (R.remaining reader.new.inner)
+        (W.contents writer.old.inner) (W.contents writer.new.inner))
+        (port_failures reader.old.failed reader.new.failed writer.old.failed writer.new.failed)
         (Tells errors.new.failed (E.contents errors.old.inner) (E.contents errors.new.inner)) result }
 {
     match run_demo(alloc, reader, writer) {

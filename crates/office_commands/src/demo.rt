@@ -1,5 +1,6 @@
 ghost use Rattle.std.specs.Prelude.{◌≡◌, ◌≤◌, ◌+◌, ◌-◌, ◌^◌, min, IfOk, IfErr, OnOk, false};
-ghost use Rattle.office_commands.specs.Demo.{DemoRuns, DemoLeft, IsOfPorts, demo_turns};
+ghost use Rattle.office_commands.specs.Demo.{DemoRuns, DemoLeft, port_failures, IsOfPorts, demo_turns};
+ghost use Rattle.office_stream.specs.Streams.{port_bytes};
 ghost use Rattle.office_commands.specs.declared.demo_fault.DemoFault.{DemoFault};
 ghost use Rattle.office_stream.specs.declared.stream_fault.StreamFault.{StreamFault};
 
@@ -20,16 +21,16 @@ pub fn run_demo<R: Read, W: Write>(
     reader: &mut Port<R>,
     writer: &mut Port<W>,
 ) -> Result<Worst, DemoFault>
-    ensures ok { IfOk result (DemoRuns (R.remaining reader.old.inner) (R.remaining reader.new.inner)
-        (W.contents writer.old.inner) (W.contents writer.new.inner)) }
+    ensures ok { IfOk result (DemoRuns (port_bytes (R.remaining reader.old.inner) (R.remaining reader.new.inner)
+        (W.contents writer.old.inner) (W.contents writer.new.inner))) }
 
     // What was done before a fault stands.
-    ensures err { IfErr result (DemoLeft (R.remaining reader.old.inner) (R.remaining reader.new.inner)
-        (W.contents writer.old.inner) (W.contents writer.new.inner)) }
+    ensures err { IfErr result (DemoLeft (port_bytes (R.remaining reader.old.inner) (R.remaining reader.new.inner)
+        (W.contents writer.old.inner) (W.contents writer.new.inner))) }
     ensures sound { OnOk result ((reader.new.failed ≡ reader.old.failed)
         × (writer.new.failed ≡ writer.old.failed)) }
-    ensures failed { IfErr result (IsOfPorts reader.old.failed reader.new.failed
-        writer.old.failed writer.new.failed) }
+    ensures failed { IfErr result (IsOfPorts (port_failures reader.old.failed reader.new.failed
+        writer.old.failed writer.new.failed)) }
 
     // No more reads are made than turns, and where the stream is left for their number, as many, of which the last had
     // not found the end.

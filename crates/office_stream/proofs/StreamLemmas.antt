@@ -14,7 +14,7 @@ use Rattle.office_replies.specs.Responses.{worse_of}
 use Rattle.office_replies.specs.Delivering.{deliveries}
 use Rattle.office_stream.specs.Fronts.{AppendsFront}
 use Rattle.office_stream.specs.Lines.{response_lines, worst_of_all, end_text, end_worst}
-use Rattle.office_stream.specs.Streams.{CutsFrom, EndsAs, ReadsTo, GoesOnAnyhow, Answered, Streamed, Began, LineCutShort, Delivered}
+use Rattle.office_stream.specs.Streams.{CutsFrom, EndsAs, ReadsTo, GoesOnAnyhow, Answered, Streamed, Began, LineCutShort, Delivered, port_bytes}
 use Rattle.office_stream.specs.Pieces.{EndsPiece, LeavesOver, PieceAnswered}
 use Rattle.office_stream.specs.Faults.{MatchFault}
 use Rattle.office_stream.specs.declared.stream_fault.StreamFault.{StreamFault}
@@ -100,7 +100,7 @@ module _ {D : Type 0} (stands : List (List ℕ) → D → Type 0) (answers : Lis
 
   -- a read that failed
   pub began : (ds : List (List ℕ)) (left mid left' : Option (List ℕ)) (q : List ℕ) (desk : D) (worst : Worst) (a b : Option (List ℕ)) →
-      Sofar stands answers ds left mid q desk worst a b → Keeps mid left' → Began stands answers ds left left' a b desk
+      Sofar stands answers ds left mid q desk worst a b → Keeps mid left' → Began stands answers ds (port_bytes left left' a b) desk
   began ds left mid left' q desk worst a b before same = record {
     bytes = before.bytes;
     texts = before.piece.texts;
@@ -113,14 +113,14 @@ module _ {D : Type 0} (stands : List (List ℕ) → D → Type 0) (answers : Lis
 
   -- too many reads
   pub began_now : (ds : List (List ℕ)) (left left' : Option (List ℕ)) (q : List ℕ) (desk : D) (worst : Worst) (a b : Option (List ℕ)) →
-      Sofar stands answers ds left left' q desk worst a b → Began stands answers ds left left' a b desk
+      Sofar stands answers ds left left' q desk worst a b → Began stands answers ds (port_bytes left left' a b) desk
   began_now ds left left' q desk worst a b before = began ds left left' left' q desk worst a b before (Keeps-refl left')
 
   -- a write that failed, in the middle of a piece
   pub cut_short : (ds : List (List ℕ)) (left mid left' : Option (List ℕ)) (q piece : List ℕ) (old new : D) (worst : Worst) (a b c : Option (List ℕ)) →
       Sofar stands answers ds left mid q old worst a b → Consumes mid left' piece →
       ((others : List (List ℕ)) → stands others old → LineCutShort stands answers others (q ++ piece) b c new) →
-      Delivered stands answers ds left left' a c new
+      Delivered stands answers ds (port_bytes left left' a c) new
   cut_short ds left mid left' q piece old new worst a b c before reads next =
       let then = next (deliveries ds before.piece.texts before.piece.responses) before.piece.answered.stands_now in
       let texts = before.piece.texts ++ (then.texts ++ then.last ∷ []) in
@@ -185,7 +185,7 @@ module _ {D : Type 0} (stands : List (List ℕ) → D → Type 0) (answers : Lis
   -- the last line
   pub streamed : (ds : List (List ℕ)) (left left' : Option (List ℕ)) (end : StreamEnd) (desk : D) (worst all : Worst) (a b c : Option (List ℕ)) →
       AtEnd stands answers ds left left' end desk worst a b → Appends b c (end_text end) → all ≡ worse_of worst (end_worst end) →
-      Streamed stands answers ds left left' a c desk all
+      Streamed stands answers ds (port_bytes left left' a c) desk all
   streamed ds left left' end desk worst all a b c at writes is = record {
     bytes = at.bytes;
     texts = at.piece.texts;
@@ -201,7 +201,7 @@ module _ {D : Type 0} (stands : List (List ℕ) → D → Type 0) (answers : Lis
 
   -- a write of it that failed
   pub end_cut_short : (ds : List (List ℕ)) (left left' : Option (List ℕ)) (end : StreamEnd) (desk : D) (worst : Worst) (a b c : Option (List ℕ)) →
-      AtEnd stands answers ds left left' end desk worst a b → AppendsFront b c (end_text end) → Delivered stands answers ds left left' a c desk
+      AtEnd stands answers ds left left' end desk worst a b → AppendsFront b c (end_text end) → Delivered stands answers ds (port_bytes left left' a c) desk
   end_cut_short ds left left' end desk worst a b c at (part, front, writes) = record {
     bytes = at.bytes;
     reads = at.reads;

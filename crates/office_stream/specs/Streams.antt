@@ -59,6 +59,17 @@ ReadsTo (Cut fault) left = Unit {0}
 
 -- ---- what is done with a stream
 
+-- what a reader has left and a writer has been given, before and after
+pub record PortBytes : Type 0 where
+  pub left_before : Option (List ℕ)
+  pub left_after : Option (List ℕ)
+  pub written_before : Option (List ℕ)
+  pub written_after : Option (List ℕ)
+
+abbrev pub port_bytes : (left left' written written' : Option (List ℕ)) → PortBytes
+port_bytes left left' written written' =
+    record { left_before = left; left_after = left'; written_before = written; written_after = written' }
+
 -- Each interchange was delivered and answered at its place.
 pub record Answered {D : Type 0} (stands : List (List ℕ) → D → Type 0)
     (answers : List (List ℕ) → List ℕ → Response → Type 0)
@@ -69,29 +80,29 @@ pub record Answered {D : Type 0} (stands : List (List ℕ) → D → Type 0)
 -- The bytes that were read are cut to their end, each interchange answered by its line, and the end by the cut line.
 pub record Streamed {D : Type 0} (stands : List (List ℕ) → D → Type 0)
     (answers : List (List ℕ) → List ℕ → Response → Type 0)
-    (ds : List (List ℕ)) (left left' written written' : Option (List ℕ)) (desk : D) (worst : Worst) : Type 0 where
+    (ds : List (List ℕ)) (ports : PortBytes) (desk : D) (worst : Worst) : Type 0 where
   pub bytes : List ℕ
   pub texts : List (List ℕ)
   pub responses : List Response
   pub end : StreamEnd
-  pub reads : Consumes left left' bytes
-  pub ended : ReadsTo end left'
+  pub reads : Consumes ports.left_before ports.left_after bytes
+  pub ended : ReadsTo end ports.left_after
   pub cuts : Cuts bytes texts end
   pub answered : Answered stands answers ds texts responses desk
-  pub writes : Appends written written' (response_lines responses ++ end_text end)
+  pub writes : Appends ports.written_before ports.written_after (response_lines responses ++ end_text end)
   pub is_worst : worst ≡ worse_of (worst_of_all responses) (end_worst end)
 
 -- All interchanges of the bytes that were read were answered by their lines, and less than one is left over.
 pub record Began {D : Type 0} (stands : List (List ℕ) → D → Type 0)
     (answers : List (List ℕ) → List ℕ → Response → Type 0)
-    (ds : List (List ℕ)) (left left' written written' : Option (List ℕ)) (desk : D) : Type 0 where
+    (ds : List (List ℕ)) (ports : PortBytes) (desk : D) : Type 0 where
   pub bytes : List ℕ
   pub texts : List (List ℕ)
   pub responses : List Response
-  pub reads : Consumes left left' bytes
+  pub reads : Consumes ports.left_before ports.left_after bytes
   pub cuts : CutsFrom IsPending bytes texts
   pub answered : Answered stands answers ds texts responses desk
-  pub writes : Appends written written' (response_lines responses)
+  pub writes : Appends ports.written_before ports.written_after (response_lines responses)
 
 -- ---- a write that failed
 
@@ -114,23 +125,23 @@ pub record LineCutShort {D : Type 0} (stands : List (List ℕ) → D → Type 0)
 -- them.
 pub record EndCutShort {D : Type 0} (stands : List (List ℕ) → D → Type 0)
     (answers : List (List ℕ) → List ℕ → Response → Type 0)
-    (ds : List (List ℕ)) (stream : List ℕ) (left' written written' : Option (List ℕ)) (desk : D) : Type 0 where
+    (ds : List (List ℕ)) (stream : List ℕ) (ports : PortBytes) (desk : D) : Type 0 where
   pub texts : List (List ℕ)
   pub responses : List Response
   pub end : StreamEnd
   pub part : List ℕ
-  pub ended : ReadsTo end left'
+  pub ended : ReadsTo end ports.left_after
   pub cuts : Cuts stream texts end
   pub answered : Answered stands answers ds texts responses desk
   pub front : IsFront part (end_text end)
-  pub writes : Appends written written' (response_lines responses ++ part)
+  pub writes : Appends ports.written_before ports.written_after (response_lines responses ++ part)
 
 -- A write failed. The line of an interchange of what was read was cut short, or the cut line, and nothing was done
 -- behind it.
 pub record Delivered {D : Type 0} (stands : List (List ℕ) → D → Type 0)
     (answers : List (List ℕ) → List ℕ → Response → Type 0)
-    (ds : List (List ℕ)) (left left' written written' : Option (List ℕ)) (desk : D) : Type 0 where
+    (ds : List (List ℕ)) (ports : PortBytes) (desk : D) : Type 0 where
   pub bytes : List ℕ
-  pub reads : Consumes left left' bytes
-  pub cut_short : LineCutShort stands answers ds bytes written written' desk
-      ⊎ EndCutShort stands answers ds bytes left' written written' desk
+  pub reads : Consumes ports.left_before ports.left_after bytes
+  pub cut_short : LineCutShort stands answers ds bytes ports.written_before ports.written_after desk
+      ⊎ EndCutShort stands answers ds bytes ports desk

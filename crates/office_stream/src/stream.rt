@@ -4,7 +4,7 @@ ghost use Rattle.std.specs.Io.KnownBytes.{Appends};
 ghost use Rattle.office_replies.specs.Responses.{worse_of};
 ghost use Rattle.office_stream.specs.Fronts.{AppendsFront};
 ghost use Rattle.office_stream.specs.Lines.{end_text, end_worst};
-ghost use Rattle.office_stream.specs.Streams.{Streamed, Began, Delivered};
+ghost use Rattle.office_stream.specs.Streams.{Streamed, Began, Delivered, port_bytes};
 ghost use Rattle.office_stream.specs.Faults.{MatchFault};
 
 use crate::answer::answer_piece;
@@ -31,8 +31,8 @@ pub fn run_stream<R: Read, W: Write, D: Deliver>(
     ensures ok { IfOk result
         (λ worst. D.clean desk.new → (opening : D) (ds : List (List ℕ)) → D.stands opening ds desk.old
         → Streamed (D.stands opening) (D.answers opening) ds
-        (R.remaining reader.old.inner) (R.remaining reader.new.inner)
-        (W.contents writer.old.inner) (W.contents writer.new.inner) desk.new worst) }
+        (port_bytes (R.remaining reader.old.inner) (R.remaining reader.new.inner)
+        (W.contents writer.old.inner) (W.contents writer.new.inner)) desk.new worst) }
 
     // What was delivered before a fault stands. After a failed read, or too many reads, all interchanges of what was
     // read are answered by their lines. After a failed write the lines end where it failed, and nothing was delivered
@@ -41,14 +41,14 @@ pub fn run_stream<R: Read, W: Write, D: Deliver>(
         (λ fault. D.clean desk.new → (opening : D) (ds : List (List ℕ)) → D.stands opening ds desk.old →
         MatchFault fault
         (Began (D.stands opening) (D.answers opening) ds
-        (R.remaining reader.old.inner) (R.remaining reader.new.inner)
-        (W.contents writer.old.inner) (W.contents writer.new.inner) desk.new)
+        (port_bytes (R.remaining reader.old.inner) (R.remaining reader.new.inner)
+        (W.contents writer.old.inner) (W.contents writer.new.inner)) desk.new)
         (Delivered (D.stands opening) (D.answers opening) ds
-        (R.remaining reader.old.inner) (R.remaining reader.new.inner)
-        (W.contents writer.old.inner) (W.contents writer.new.inner) desk.new)
+        (port_bytes (R.remaining reader.old.inner) (R.remaining reader.new.inner)
+        (W.contents writer.old.inner) (W.contents writer.new.inner)) desk.new)
         (Began (D.stands opening) (D.answers opening) ds
-        (R.remaining reader.old.inner) (R.remaining reader.new.inner)
-        (W.contents writer.old.inner) (W.contents writer.new.inner) desk.new)) }
+        (port_bytes (R.remaining reader.old.inner) (R.remaining reader.new.inner)
+        (W.contents writer.old.inner) (W.contents writer.new.inner)) desk.new)) }
 
     // Nothing is said of a desk whose records have not told the truth.
     ensures stays { D.clean desk.new → D.clean desk.old }

@@ -85,7 +85,7 @@ impl Lists {
         ensures { result ≡ option_map (λ l. l.state)
             (finite_map.get self.now (line_key (call_content call.now) side container)) }
     {
-        match row_index_of(&self.rows, &self.indexes, call, side, container) {
+        match index_of(&self.rows, &self.indexes, call, side, container) {
             Some(row_index) => Some(self.rows[row_index].state),
             None => None,
         }
@@ -118,7 +118,7 @@ impl Lists {
             self.new ≡ finite_map.insert self.old (line_key (call_content call.now) side container)
             (record line { state = LineState.Done }) }
     {
-        if let Some(row_index) = row_index_of(&self.rows, &self.indexes, call, side, container) {
+        if let Some(row_index) = index_of(&self.rows, &self.indexes, call, side, container) {
             let row = &mut self.rows[row_index];
             row.state = LineState::Done;
         }
@@ -130,32 +130,17 @@ fn noted_lines(alloc: Global, rows: &[Listing]) -> Result<LineIndexes, RestoreFa
     ensures { MatchResult result (λ indexes. AreOnce rows.now × AreNoted rows.now indexes) (RefusesLines rows.now) }
 {
     let mut indexes = HashMap::new(alloc);
-    for (row_index, row) in rows.iter().enumerate() {
-        if row_index_of(
-            &rows[..row_index],
-            &indexes,
-            &row.call,
-            row.side,
-            row.container,
-        )
-        .is_some()
-        {
+    for (i, row) in rows.iter().enumerate() {
+        if index_of(&rows[..i], &indexes, &row.call, row.side, row.container).is_some() {
             return Err(RestoreFault::Unsound);
         }
-        note(
-            alloc,
-            &mut indexes,
-            &row.call,
-            row.side,
-            row.container,
-            row_index,
-        )?;
+        note(alloc, &mut indexes, &row.call, row.side, row.container, i)?;
     }
     Ok(indexes)
 }
 
 // Where the line stands: where it is said to, if that row is the line.
-fn row_index_of(
+fn index_of(
     rows: &[Listing],
     indexes: &LineIndexes,
     call: &Call,

@@ -4,7 +4,7 @@ use Rattle.std.proofs.lemmas.Bool.{ltb-true}
 use Rattle.std.proofs.lemmas.Option.{slice_get-get_or}
 use Rattle.edi_messages.specs.Owned.{call_content}
 use Rattle.terminal_core.proofs.Noted.{first_there, none_there}
-use Rattle.terminal_core.proofs.lists.row_index_of.Goals as goal
+use Rattle.terminal_core.proofs.lists.index_of.Goals as goal
 
 pub returns-then-is_line : goal.returns-then-is_line
 returns-then-is_line c =
