@@ -1,5 +1,6 @@
 -- The service string advice of a text, and the service characters that it names (ISO 9735, service string advice UNA).
 use Rattle.std.specs.Prelude.{◌≡◌, ℕ, Bool, true, false, cond, not, ◌&&◌, ◌==◌, nat_le, List, length, get_or, drop, Option, None, Some, refl}
+use Rattle.edi_segments.specs.Bytes.{space, colon, plus_sign, question_mark, apostrophe}
 use Rattle.edi_segments.specs.Characters.{are_service_characters, begins_with_advice}
 use Rattle.edi_segments.specs.Reading.{breaks_len}
 use Rattle.edi_segments.specs.declared.service.Service.{Service}
@@ -23,13 +24,13 @@ abbrev pub advised : List ℕ → ServiceCharacters
 advised text = record {
   component = get_or text 3 0;
   element = get_or text 4 0;
-  release = cond (get_or text 6 0 == 32) None (Some (get_or text 6 0));
+  release = cond (get_or text 6 0 == space) None (Some (get_or text 6 0));
   terminator = get_or text 8 0;
 }
 
 -- `:`, `+`, `?` and `'`
 abbrev pub default_service : Service
-default_service = record { component = 58; element = 43; release = Some 63; terminator = 39; distinct = refl }
+default_service = record { component = colon; element = plus_sign; release = Some question_mark; terminator = apostrophe; distinct = refl }
 
 abbrev pub service_with : (c : ServiceCharacters) (usable : Bool) → may_be_used c ≡ usable → Service
 service_with c true h =

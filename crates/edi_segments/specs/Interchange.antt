@@ -1,5 +1,6 @@
 -- The text of an interchange (ISO 9735): an advice where there is one, and segments.
 use Rattle.std.specs.Prelude.{◌≡◌, ◌⊎◌, ℕ, Bool, false, cond, List, [], ◌∷◌, ◌++◌, codes, IsTrue, Option, None, Some}
+use Rattle.edi_segments.specs.Bytes.{space}
 use Rattle.std.specs.List.{list_all}
 use Rattle.edi_segments.specs.Characters.{is_break, begins_with_advice}
 use Rattle.edi_segments.specs.Advice.{without_breaks, default_service, service_at, has_bad_advice, behind_advice}
@@ -13,7 +14,7 @@ use Rattle.edi_segments.specs.declared.syntax_fault.SyntaxFault.TheVariants.{Ser
 
 -- the byte in the place of the release character: a space where none is used
 abbrev pub release_byte : Option ℕ → ℕ
-release_byte None = 32
+release_byte None = space
 release_byte (Some r) = r
 
 -- `UNA` and six bytes that name the service characters

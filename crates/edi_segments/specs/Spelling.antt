@@ -1,6 +1,7 @@
 -- Segments written under the default service characters: releases before service characters alone, no empty components
 -- or elements at an end, no line breaks.
 use Rattle.std.specs.Prelude.{◌≡◌, ℕ, Bool, true, false, cond, ◌==◌, List, [], ◌∷◌, ◌++◌, length, take, codes, IsTrue}
+use Rattle.edi_segments.specs.Bytes.{colon, plus_sign, question_mark, apostrophe}
 use Rattle.std.specs.List.{list_all, flat_map}
 use Rattle.edi_segments.specs.Characters.{is_data_byte}
 use Rattle.edi_segments.specs.Tokens.{is_service}
@@ -9,7 +10,7 @@ use Rattle.edi_segments.specs.Text.{Content, IsTag}
 
 -- the byte, behind the release character where it would serve otherwise
 abbrev pub spelled_byte : ℕ → List ℕ
-spelled_byte b = cond (is_service default_service b) (63 ∷ b ∷ []) (b ∷ [])
+spelled_byte b = cond (is_service default_service b) (question_mark ∷ b ∷ []) (b ∷ [])
 
 -- the spelling of a value
 abbrev pub spelling : List ℕ → List ℕ
@@ -26,16 +27,16 @@ is_empty_element values = list_all is_empty_value values
 -- the text of an element, without the empty components at its end
 abbrev pub composite : List (List ℕ) → List ℕ
 composite [] = []
-composite (value ∷ values) = spelling value ++ cond (list_all is_empty_value values) [] (58 ∷ composite values)
+composite (value ∷ values) = spelling value ++ cond (list_all is_empty_value values) [] (colon ∷ composite values)
 
 -- the texts of elements, each behind a separator, without the empty ones at their end
 abbrev pub elements_text : List (List (List ℕ)) → List ℕ
 elements_text [] = []
 elements_text (element ∷ elements) =
-    cond (list_all is_empty_element (element ∷ elements)) [] (43 ∷ composite element ++ elements_text elements)
+    cond (list_all is_empty_element (element ∷ elements)) [] (plus_sign ∷ composite element ++ elements_text elements)
 
 abbrev pub segment_text : Content → List ℕ
-segment_text segment = segment.tag ++ elements_text segment.elements ++ 39 ∷ []
+segment_text segment = segment.tag ++ elements_text segment.elements ++ apostrophe ∷ []
 
 abbrev pub segments_text : List Content → List ℕ
 segments_text segments = flat_map segment_text segments
@@ -71,16 +72,16 @@ begun w tag = record { text = w.text ++ tag; kept = length (w.text ++ tag); is_o
 -- an element more
 abbrev pub with_element : Writing → List (List ℕ) → Writing
 with_element w values = record {
-  text = w.text ++ 43 ∷ composite values;
-  kept = cond (is_empty_element values) w.kept (length (w.text ++ 43 ∷ composite values));
+  text = w.text ++ plus_sign ∷ composite values;
+  kept = cond (is_empty_element values) w.kept (length (w.text ++ plus_sign ∷ composite values));
   is_open = w.is_open;
 }
 
 -- the end of the segment
 abbrev pub ended : Writing → Writing
 ended w = record {
-  text = take w.kept w.text ++ 39 ∷ [];
-  kept = length (take w.kept w.text ++ 39 ∷ []);
+  text = take w.kept w.text ++ apostrophe ∷ [];
+  kept = length (take w.kept w.text ++ apostrophe ∷ []);
   is_open = false;
 }
 
