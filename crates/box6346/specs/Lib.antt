@@ -1,3 +1,4 @@
+pub mod Characters
 pub mod NumberText
 pub mod ContainerNumber
 pub mod SizeText

@@ -1,5 +1,6 @@
 -- Container numbers (ISO 6346, container identification; annex A, the check digit).
 use Rattle.std.specs.Prelude.{ℕ, ◌+◌, ◌-◌, ◌*◌, ◌^◌, ◌%◌, Bool, ◌&&◌, ◌||◌, ◌==◌, if◌then◌else◌, List, [], ◌∷◌, length, take, drop, slice_index}
+use Rattle.box6346.specs.Characters.{digit_zero, capital_a, capital_j, capital_u, capital_z}
 use Rattle.std.specs.Char.{is_ascii_uppercase, is_ascii_digit}
 use Rattle.std.specs.List.{list_all}
 
@@ -12,8 +13,8 @@ letter_values =
 -- what a character counts: a digit itself, a letter by the table
 abbrev pub value_of : ℕ → ℕ
 value_of c =
-    if is_ascii_digit c then c - 48
-    else (if is_ascii_uppercase c then slice_index letter_values (c - 65) else 0)
+    if is_ascii_digit c then c - digit_zero
+    else (if is_ascii_uppercase c then slice_index letter_values (c - capital_a) else 0)
 
 -- the values by their weights, the powers of two from the position on
 abbrev pub weighted_sum : ℕ → List ℕ → ℕ
@@ -26,7 +27,7 @@ check_digit_of text = weighted_sum 0 text % 11 % 10
 
 -- the equipment category: U for freight containers, J for detachable equipment, Z for trailers
 abbrev pub is_category : ℕ → Bool
-is_category c = c == 85 || c == 74 || c == 90
+is_category c = c == capital_u || c == capital_j || c == capital_z
 
 -- owner code, equipment category and serial number: three capitals, U, J or Z, six digits
 abbrev pub names_container : List ℕ → Bool
@@ -40,7 +41,7 @@ has_form text = length text == 11 && names_container (take 10 text) && is_ascii_
 
 -- the last digit is the check digit of the characters before
 abbrev pub is_checked : List ℕ → Bool
-is_checked text = slice_index text 10 == 48 + check_digit_of (take 10 text)
+is_checked text = slice_index text 10 == digit_zero + check_digit_of (take 10 text)
 
 -- a container number
 unfoldable pub is_number : List ℕ → Bool

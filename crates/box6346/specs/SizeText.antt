@@ -1,5 +1,6 @@
 -- Size-type codes (ISO 6346, size and type codes).
 use Rattle.std.specs.Prelude.{ℕ, Bool, ◌&&◌, ◌||◌, ◌==◌, List, length, slice_index}
+use Rattle.box6346.specs.Characters.{digit_two, digit_four, capital_l}
 use Rattle.std.specs.Char.{is_ascii_uppercase, is_ascii_digit}
 use Rattle.std.specs.List.{list_all}
 
@@ -13,7 +14,7 @@ has_form text = length text == 4 && list_all is_code_character text
 
 -- the first character is a length that the yard can place: 2 for 20 foot, 4 for 40, L for 45
 abbrev pub has_length : List ℕ → Bool
-has_length text = slice_index text 0 == 50 || slice_index text 0 == 52 || slice_index text 0 == 76
+has_length text = slice_index text 0 == digit_two || slice_index text 0 == digit_four || slice_index text 0 == capital_l
 
 -- a code that the yard can place
 unfoldable pub is_size : List ℕ → Bool

@@ -1,5 +1,6 @@
 -- The names of the yard's slots: block letter, bay of three digits, row of two, tier of one.
 use Rattle.std.specs.Prelude.{◌≡◌, ◌==◌, ◌<◌, IsTrue, ℕ, ◌+◌, ◌-◌, ◌*◌, ◌/◌, ◌%◌, Bool, ◌&&◌, if◌then◌else◌, List, [], ◌∷◌, length, slice_index, Option, Some, None}
+use Rattle.box6346.specs.Characters.{digit_zero}
 use Rattle.std.specs.Char.{is_ascii_uppercase, is_ascii_digit}
 use Rattle.std.specs.List.{list_all}
 use Rattle.box6346.specs.declared.slot.Slot.{Slot}
@@ -10,7 +11,7 @@ are_six_digits text = length text == 6 && list_all is_ascii_digit text
 
 -- the digit at a position
 abbrev pub digit : List ℕ → ℕ → ℕ
-digit digits position = slice_index digits position - 48
+digit digits position = slice_index digits position - digit_zero
 
 -- what six digits behind a letter name
 abbrev pub slot_at : ℕ → List ℕ → Slot
@@ -31,9 +32,9 @@ slot_of (letter ∷ digits) =
 abbrev pub slot_text : Slot → List ℕ
 slot_text slot =
     slot.block
-    ∷ (48 + slot.bay / 100 % 10) ∷ (48 + slot.bay / 10 % 10) ∷ (48 + slot.bay % 10)
-    ∷ (48 + slot.row / 10 % 10) ∷ (48 + slot.row % 10)
-    ∷ (48 + slot.tier % 10) ∷ []
+    ∷ (digit_zero + slot.bay / 100 % 10) ∷ (digit_zero + slot.bay / 10 % 10) ∷ (digit_zero + slot.bay % 10)
+    ∷ (digit_zero + slot.row / 10 % 10) ∷ (digit_zero + slot.row % 10)
+    ∷ (digit_zero + slot.tier % 10) ∷ []
 
 -- A slot with a capital for its block and numbers that fit their digits is read again from its name.
 pub record IsNamed (slot : Slot) : Type 0 where

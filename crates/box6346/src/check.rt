@@ -25,7 +25,7 @@ pub fn check_digit(text: &[u8; 10]) -> Option<u8>
     }
 }
 
-// Whether a text has the form of a whole number, which has a digit more.
+/// Whether a text has the form of a whole number, which has a digit more.
 pub(crate) fn has_form(text: &[u8]) -> bool
     ensures { result ≡ has_form text.now }
 {
@@ -35,7 +35,7 @@ pub(crate) fn has_form(text: &[u8]) -> bool
     }
 }
 
-// Whether the last digit of a text of that form is the check digit of the characters before.
+/// Whether the last digit of a text of that form is the check digit of the characters before.
 pub(crate) fn is_checked(text: &[u8]) -> bool
     requires { IsTrue (has_form text.now) }
     ensures { result ≡ is_checked text.now }
@@ -46,7 +46,7 @@ pub(crate) fn is_checked(text: &[u8]) -> bool
     }
 }
 
-// The check digit of ten such characters.
+/// The check digit of ten such characters.
 fn check_digit_of(text: &[u8; 10]) -> u8
     ensures exact { result ≡ check_digit_of text.now }
     ensures digit { result < 10 }
@@ -54,21 +54,21 @@ fn check_digit_of(text: &[u8; 10]) -> u8
     (sum_of(text) % 11 % 10) as u8
 }
 
-// Whether the ten characters have a number's form.
+/// Whether the ten characters have a number's form.
 fn names_container(text: &[u8; 10]) -> bool
     ensures { result ≡ names_container text.now }
 {
     are_capitals(&text[..3]) && is_category(text[3]) && are_digits(&text[4..10])
 }
 
-// Whether the fourth letter is an equipment category: U, J or Z.
+/// Whether the fourth letter is an equipment category: U, J or Z.
 fn is_category(letter: u8) -> bool
     ensures { result ≡ is_category letter }
 {
     letter == b'U' || letter == b'J' || letter == b'Z'
 }
 
-// What a capital or digit counts.
+/// What a capital or digit counts.
 fn value_of(character: u8) -> u32
     ensures value { result ≡ value_of character }
     ensures small { result < 2 ^ 8 }
@@ -82,7 +82,7 @@ fn value_of(character: u8) -> u32
     }
 }
 
-// The values by their weights.
+/// The values by their weights.
 fn sum_of(text: &[u8; 10]) -> u32
     ensures { result ≡ weighted_sum 0 text.now }
 {

@@ -81,14 +81,14 @@ impl SizeType {
     }
 }
 
-// Whether a text is four capitals or digits.
+/// Whether a text is four capitals or digits.
 fn has_form(text: &[u8]) -> bool
     ensures { result ≡ has_form text.now }
 {
     text.len() == 4 && are_code_characters(text)
 }
 
-// Whether a code begins with a length that the yard can place.
+/// Whether a code begins with a length that the yard can place.
 fn has_length(text: &[u8]) -> bool
     requires { 0 < length text.now }
     ensures { result ≡ has_length text.now }

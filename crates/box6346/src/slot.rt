@@ -72,7 +72,7 @@ impl Slot {
     }
 }
 
-// Whether a text is six digits: a bay's, a row's and a tier's.
+/// Whether a text is six digits: a bay's, a row's and a tier's.
 fn are_six_digits(text: &[u8]) -> bool
     ensures { result ≡ are_six_digits text.now }
 {

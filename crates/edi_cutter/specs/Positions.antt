@@ -1,5 +1,6 @@
 -- Where bytes of segments leave off: a grammar of the prefixes of segments.
 use Rattle.std.specs.Prelude.{◌≡◌, ℕ, ◌<◌, ◌≤◌, Bool, true, false, cond, ◌&&◌, ◌==◌, List, [], ◌∷◌, ◌++◌, length, take, codes, IsTrue}
+use Rattle.edi_segments.specs.Bytes.{capital_z}
 use Rattle.std.specs.List.{list_all}
 use Rattle.edi_segments.specs.Characters.{is_tag_byte, is_break}
 use Rattle.edi_segments.specs.Tokens.{token_of}
@@ -23,7 +24,7 @@ inside_by Invalid closes = Refused
 abbrev pub position_by : Service → Position → ℕ → Position
 position_by s (Between closed) b = cond (is_break b) (Between false) (cond (is_tag_byte b) (First (b == 85)) Refused)
 position_by s (First closes) b = cond (is_tag_byte b) (Second (closes && b == 78)) Refused
-position_by s (Second closes) b = cond (is_tag_byte b) (Tagged (closes && b == 90)) Refused
+position_by s (Second closes) b = cond (is_tag_byte b) (Tagged (closes && b == capital_z)) Refused
 position_by s (Tagged closes) b =
     cond (b == s.element) (Inside false closes) (cond (b == s.terminator) (Between closes) Refused)
 position_by s (Inside released closes) b = inside_by (token_of s released b) closes

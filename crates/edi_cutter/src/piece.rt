@@ -5,7 +5,8 @@ ghost use Rattle.edi_cutter.specs.Steps.{Holds, IsReadOn, IsRefusedBehind};
 
 use super::cut_fault::CutFault;
 use super::position::read_bytes;
-use super::reading::{LIMIT, Reading};
+use super::reading::Reading;
+use edi_segments::MOST_BYTES;
 use edi_segments::characters::is_break;
 
 /// How many bytes an advice has.
@@ -108,7 +109,7 @@ fn read_behind(text: &[u8], reading: Reading, piece: &[u8]) -> Result<(usize, Re
     ensures ok { IfOk result (λ read. IsReadOn text.now piece.now read.0 read.1) }
     ensures err { IfErr result (λ fault. IsRefusedBehind text.now piece.now fault) }
 {
-    let room = LIMIT - text.len();
+    let room = MOST_BYTES - text.len();
     let within = &piece[..piece.len().min(room)];
     let (used, position) = read_bytes(&reading.service, reading.position, within);
     if position.is_refused() {

@@ -4,8 +4,8 @@ ghost use Rattle.edi_cutter.specs.Steps.{IsReadingOf};
 
 use super::cut_fault::CutFault;
 use super::position::Position;
-use edi_segments::Service;
 use edi_segments::service::begins_with_advice;
+use edi_segments::{MOST_BYTES, Service};
 
 /// What is kept of the bytes of an interchange.
 #[derive(Clone, Copy)]
@@ -13,9 +13,6 @@ pub struct Reading {
     pub(crate) service: Service,
     pub(crate) position: Position,
 }
-
-/// How many bytes an interchange may have.
-pub(crate) const LIMIT: usize = 1_048_576;
 
 impl Reading {
     pub(crate) const START: Reading = Reading {
@@ -41,7 +38,7 @@ impl Reading {
             × (fault_of text.now ≡ None)) }
         ensures err { IfErr result (λ fault. fault_of text.now ≡ Some fault) }
     {
-        if text.len() > LIMIT {
+        if text.len() > MOST_BYTES {
             return Err(CutFault::TooLong);
         }
         if is_in_advice(text) {

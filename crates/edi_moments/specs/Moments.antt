@@ -4,6 +4,13 @@ use Rattle.std.specs.List.{list_all}
 use Rattle.jiff.specs.Words.{IsDate, days_in_month}
 use Rattle.jiff_core.specs.Calendar.{days_from_civil}
 
+-- the characters `0` and `9` (ISO 646)
+abbrev pub digit_zero : ℕ
+digit_zero = 48
+
+abbrev pub digit_nine : ℕ
+digit_nine = 57
+
 -- A day of the calendar, and an hour and a minute of that day.
 pub record CivilMoment : Type 0 where
   pub year : ℕ
@@ -29,11 +36,11 @@ day_number m = days_from_civil (pos m.year) m.month m.day
 -- ---- which texts are moments
 
 abbrev pub is_digit : ℕ → Bool
-is_digit b = nat_le 48 b && nat_le b 57
+is_digit b = nat_le digit_zero b && nat_le b digit_nine
 
 -- the number of the two digits at a place, 0 where there are none
 abbrev pub number_at : List ℕ → ℕ → ℕ
-number_at text i = cond (nat_le (i + 2) (length text)) ((get_or text i 0 - 48) * 10 + (get_or text (i + 1) 0 - 48)) 0
+number_at text i = cond (nat_le (i + 2) (length text)) ((get_or text i 0 - digit_zero) * 10 + (get_or text (i + 1) 0 - digit_zero)) 0
 
 -- what CCYYMMDDHHMM writes, and CCYYMMDD at 00:00
 abbrev pub moment_written : List ℕ → CivilMoment
@@ -57,7 +64,7 @@ moment_of text = cond (are_moment_digits text && is_moment (moment_written text)
 
 -- two digits
 abbrev pub two_digits : ℕ → List ℕ
-two_digits n = (48 + n / 10) ∷ (48 + n % 10) ∷ []
+two_digits n = (digit_zero + n / 10) ∷ (digit_zero + n % 10) ∷ []
 
 -- CCYY-MM-DD HH:MM
 abbrev pub moment_text : CivilMoment → List ℕ

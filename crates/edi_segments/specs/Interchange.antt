@@ -10,6 +10,10 @@ use Rattle.edi_segments.specs.declared.service.Service.{Service}
 use Rattle.edi_segments.specs.declared.syntax_fault.SyntaxFault.{SyntaxFault}
 use Rattle.edi_segments.specs.declared.syntax_fault.SyntaxFault.TheVariants.{Service as ServiceFault, Segment as SegmentFault}
 
+-- the most bytes that an interchange's text may have
+abbrev pub most_bytes : ℕ
+most_bytes = 1048576
+
 -- ---- the grammar
 
 -- the byte in the place of the release character: a space where none is used

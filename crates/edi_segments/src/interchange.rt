@@ -6,6 +6,9 @@ ghost use Rattle.edi_segments.specs.Interchange.{interchange_of};
 use super::characters::is_break;
 use super::reader::len_of_breaks;
 
+/// The most bytes that an interchange's text may have.
+pub const MOST_BYTES: usize = 1_048_576;
+
 /// What was delivered, without the CR and LF at both ends.
 pub fn interchange_text(delivered: &[u8]) -> &[u8]
     ensures exact { result.now ≡ interchange_of delivered.now }

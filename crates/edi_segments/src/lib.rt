@@ -30,7 +30,7 @@ pub use checked_segments::CheckedSegments;
 pub use component::Component;
 pub use components::Components;
 pub use elements::Elements;
-pub use interchange::interchange_text;
+pub use interchange::{MOST_BYTES, interchange_text};
 pub use placed_value::PlacedValue;
 pub use segment::Segment;
 pub use segment_check::SegmentCheck;

@@ -1,6 +1,7 @@
 -- Which faults apply to a text, each by its own definition over the segments of the whole text, and the first that
 -- does.
 use Rattle.std.specs.Prelude.{ℕ, Bool, false, cond, not, ◌==◌, nat_lt, List, [], ◌∷◌, ◌++◌, length, codes, Option, Some}
+use Rattle.edi_segments.specs.Interchange.{most_bytes}
 use Rattle.std.specs.Option.{is_none}
 use Rattle.std.specs.List.{list_all, list_any, find}
 use Rattle.std.specs.Str.{bytes_eq}
@@ -36,7 +37,7 @@ applies_to segments ControlReference = not (repeats_reference segments)
 
 -- whether the fault applies to a text
 abbrev pub applies : List ℕ → SyntaxFault → Bool
-applies text TooLong = nat_lt 1048576 (length text)
+applies text TooLong = nat_lt most_bytes (length text)
 applies text Service = has_bad_advice text
 applies text Segment = not (is_segment_text text)
 applies text fault = applies_to (segments_in text) fault

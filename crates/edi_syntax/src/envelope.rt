@@ -1,4 +1,5 @@
 ghost use Rattle.std.specs.Prelude.{◌≡◌, ◌≤◌, length, None};
+ghost use Rattle.edi_segments.specs.Interchange.{most_bytes};
 ghost use Rattle.edi_segments.specs.Values.{reader_segments};
 ghost use Rattle.edi_syntax.specs.Envelope.{messages_of, behind_header};
 ghost use Rattle.edi_syntax.specs.Heads.{head_segments};
@@ -36,7 +37,7 @@ impl<'a> Envelope<'a> {
     /// Its messages.
     pub fn frames(&self) -> Frames<'a>
         ensures messages { messages_left result ≡ messages_of (envelope_segments self.now) }
-        ensures few { length (messages_of (envelope_segments self.now)) ≤ 1048576 }
+        ensures few { length (messages_of (envelope_segments self.now)) ≤ most_bytes }
     {
         Frames::new(self.head.behind())
     }

@@ -1,4 +1,5 @@
 ghost use Rattle.std.specs.Prelude.{◌≡◌, ℕ, ◌<◌, ◌≤◌, length};
+ghost use Rattle.edi_segments.specs.Interchange.{most_bytes};
 ghost use Rattle.edi_segments.specs.Segment.{content, segments_left, value};
 ghost use Rattle.edi_syntax.specs.Messages.{message_from, message_reference, message_identity};
 
@@ -10,14 +11,14 @@ use edi_segments::{Component, Segment, Segments};
 pub struct Frame<'a> {
     header: Segment<'a>,
     behind: Segments<'a>,
-    ghost bounded: { length (segments_left behind) ≤ 1048576 },
+    ghost bounded: { length (segments_left behind) ≤ most_bytes },
 }
 
 impl<'a> Frame<'a> {
     ghost use Rattle.edi_syntax.specs.Frames.{message, message_segments_left};
 
     pub(crate) fn new(header: Segment<'a>, behind: Segments<'a>) -> Frame<'a>
-        requires { length (segments_left behind) ≤ 1048576 }
+        requires { length (segments_left behind) ≤ most_bytes }
         ensures { message result
             ≡ message_from (content header.entry) (segments_left behind.entry) }
     {

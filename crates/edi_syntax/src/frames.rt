@@ -1,4 +1,5 @@
 ghost use Rattle.std.specs.Prelude.{◌≡◌, ◌≤◌, length};
+ghost use Rattle.edi_segments.specs.Interchange.{most_bytes};
 ghost use Rattle.std.specs.Iterator.{YieldsFirstBy, item_count};
 ghost use Rattle.edi_segments.specs.Segment.{segments_left};
 ghost use Rattle.edi_syntax.specs.Messages.{messages_in};
@@ -10,7 +11,7 @@ use edi_segments::Segments;
 #[derive(Clone, Copy)]
 pub struct Frames<'a> {
     rest: Segments<'a>,
-    ghost bounded: { length (segments_left rest) ≤ 1048576 },
+    ghost bounded: { length (segments_left rest) ≤ most_bytes },
 }
 
 impl<'a> Frames<'a> {
@@ -18,7 +19,7 @@ impl<'a> Frames<'a> {
 
     /// The messages that begin in the segments.
     pub(crate) fn new(segments: Segments<'a>) -> Frames<'a>
-        requires { length (segments_left segments) ≤ 1048576 }
+        requires { length (segments_left segments) ≤ most_bytes }
         ensures { messages_left result ≡ messages_in (segments_left segments.entry) }
     {
         Frames { rest: segments }

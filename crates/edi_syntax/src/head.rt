@@ -1,4 +1,5 @@
 ghost use Rattle.std.specs.Prelude.{◌≡◌, ◌∷◌, ℕ, ◌<◌, ◌≤◌, length, IfOk, IfErr, Some, None, true};
+ghost use Rattle.edi_segments.specs.Interchange.{most_bytes};
 ghost use Rattle.std.proofs.Props.{props};
 ghost use Rattle.edi_segments.specs.Checks.{checked_left, are_all};
 ghost use Rattle.edi_syntax.specs.TallyValues.{tally_in};
@@ -15,10 +16,9 @@ use super::header::{control_number, preparation};
 use super::survey::look_through;
 use super::tally::Tally;
 use edi_moments::Moment;
-use edi_segments::{CheckedSegments, Component, Segment, SegmentCheck, Segments, SyntaxFault};
-
-/// How many bytes a text may have.
-const LIMIT: usize = 1_048_576;
+use edi_segments::{
+    CheckedSegments, Component, MOST_BYTES, Segment, SegmentCheck, Segments, SyntaxFault,
+};
 
 /// An interchange whose header, UNB, has been read.
 #[derive(Clone, Copy)]
@@ -29,7 +29,7 @@ pub struct Head<'a> {
     tally: Option<Tally>,
     pub ghost faultless: { header_fault_of (content header ∷ segments_left rest) ≡ None },
     pub ghost closed: { content trailer ≡ last_of (content header) (segments_left rest) },
-    pub ghost bounded: { length (segments_left rest) ≤ 1048576 },
+    pub ghost bounded: { length (segments_left rest) ≤ most_bytes },
     ghost tallied: { tally ≡ tally_in (segments_left rest) } by { Prim.hlevel props },
 }
 
@@ -45,7 +45,7 @@ impl<'a> Head<'a> {
         ensures err { IfErr result (λ fault. head_fault_of text.now ≡ Some fault) }
         ensures spelled { IfOk result (λ head. InterchangeText (head_segments head) text.now) }
     {
-        if text.len() > LIMIT {
+        if text.len() > MOST_BYTES {
             return Err(SyntaxFault::TooLong);
         }
         let check = SegmentCheck::of(text)?;
@@ -53,7 +53,7 @@ impl<'a> Head<'a> {
     }
 
     fn of(segments: CheckedSegments<'_, 'a>) -> Result<Head<'a>, SyntaxFault>
-        requires { length (checked_left segments) ≤ 1048576 }
+        requires { length (checked_left segments) ≤ most_bytes }
         ensures ok { IfOk result (λ head. (are_all segments.entry ≡ true)
             × (header_fault_of (checked_left segments.entry) ≡ None)
             × (head_segments head ≡ checked_left segments.entry)) }
@@ -149,7 +149,7 @@ impl<'a> Head<'a> {
     /// The segments behind the header.
     pub(crate) fn behind(&self) -> Segments<'a>
         ensures behind { segments_left result ≡ behind_header (head_segments self.now) }
-        ensures few { length (segments_left result) ≤ 1048576 }
+        ensures few { length (segments_left result) ≤ most_bytes }
     {
         self.rest
     }

@@ -1,4 +1,5 @@
 ghost use Rattle.std.specs.Prelude.{◌≡◌, ◌≤◌, length, MatchOption, true, false};
+ghost use Rattle.edi_segments.specs.Interchange.{most_bytes};
 ghost use Rattle.edi_segments.specs.Segment.{content};
 ghost use Rattle.edi_segments.specs.Checks.{checked_left};
 ghost use Rattle.edi_syntax.specs.Messages.{are_messages, is_inner};
@@ -24,7 +25,7 @@ pub struct MessageEnd<'t, 'a> {
 /// The end of the message that the segments are behind the header of. `None` where something stands before it that may
 /// not stand in a message.
 pub(crate) fn message_end<'t, 'a>(behind: CheckedSegments<'t, 'a>) -> Option<MessageEnd<'t, 'a>>
-    requires { length (checked_left behind) ≤ 1048576 }
+    requires { length (checked_left behind) ≤ most_bytes }
     ensures { MatchOption result (are_messages true (checked_left behind.entry)
         ≡ false) (EndsMessage behind.entry) }
 {

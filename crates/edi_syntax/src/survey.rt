@@ -1,4 +1,5 @@
 ghost use Rattle.std.specs.Prelude.{◌≡◌, ◌∷◌, ◌≤◌, ◌||◌, length, MatchOption, true, false};
+ghost use Rattle.edi_segments.specs.Interchange.{most_bytes};
 ghost use Rattle.std.specs.List.{list_any};
 ghost use Rattle.edi_segments.specs.Segment.{content, segments_left};
 ghost use Rattle.edi_segments.specs.Checks.{checked_left, are_all};
@@ -25,7 +26,7 @@ pub(crate) fn look_through<'a>(
     header: Segment<'a>,
     rest: CheckedSegments<'_, 'a>,
 ) -> Option<Survey<'a>>
-    requires { length (checked_left rest) ≤ 1048576 }
+    requires { length (checked_left rest) ≤ most_bytes }
     ensures { MatchOption result (are_all rest.entry ≡ false) (IsSurvey (content header.entry) rest.entry) }
 {
     match tally_of(header, rest) {

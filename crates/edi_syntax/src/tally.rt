@@ -1,4 +1,5 @@
 ghost use Rattle.std.specs.Prelude.{◌≡◌, ◌≤◌, ◌==◌, length, MatchOption, true, false};
+ghost use Rattle.edi_segments.specs.Interchange.{most_bytes};
 ghost use Rattle.edi_segments.specs.Segment.{content, value};
 ghost use Rattle.edi_segments.specs.Checks.{checked_left};
 ghost use Rattle.edi_syntax.specs.Messages.{are_messages, is_reference, is_printable_identity, is_referenced, message_of_ends};
@@ -26,7 +27,7 @@ pub(crate) fn tally_of<'t, 'a>(
     header: Segment<'a>,
     segments: CheckedSegments<'t, 'a>,
 ) -> Option<Tallied<'t, 'a>>
-    requires { length (checked_left segments) ≤ 1048576 }
+    requires { length (checked_left segments) ≤ most_bytes }
     ensures { MatchOption result (are_messages false (checked_left segments.entry)
         ≡ false) (IsTallied (content header.entry) segments.entry) }
 {

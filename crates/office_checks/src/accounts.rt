@@ -32,7 +32,7 @@ fn is_counted(partners: &[PartnerRow]) -> bool
     1 <= partners.len() && partners.len() <= MOST_PARTNERS
 }
 
-// Whether accounts are numbered 1, 2, .. as they stand, each with a next number from 1 to 1,000,000,000.
+/// Whether accounts are numbered 1, 2, .. as they stand, each with a next number from 1 to 1,000,000,000.
 fn are_numbered(partners: &[PartnerRow]) -> bool
     ensures { IsTrue result ↔ AreAccounts 1 (map partner_content partners.now) (accounts_in partners.now) }
 {
@@ -44,14 +44,14 @@ fn are_numbered(partners: &[PartnerRow]) -> bool
     true
 }
 
-// Whether the account has the id, and a next number.
+/// Whether the account has the id, and a next number.
 fn is_account(id: usize, partner: &PartnerRow) -> bool
     ensures { IsTrue result ↔ ((partner.now.id ≡ id) × (1 ≤ partner.now.next) × (partner.now.next ≤ 1000000000)) }
 {
     partner.id as usize == id && 1 <= partner.next && partner.next <= 1_000_000_000
 }
 
-// Whether each account has the code of a partner.
+/// Whether each account has the code of a partner.
 fn are_coded(partners: &[PartnerRow]) -> bool
     ensures { result ≡ list_all (λ (row : PartnerRow). is_party_code (string_bytes row.code)) partners.now }
 {
@@ -60,7 +60,7 @@ fn are_coded(partners: &[PartnerRow]) -> bool
         .all(|partner| is_party_code(partner.code.as_str()))
 }
 
-// Whether no two accounts have one code.
+/// Whether no two accounts have one code.
 fn are_distinct(partners: &[PartnerRow]) -> bool
     ensures { IsTrue result ↔ AreDistinct (accounts_in partners.now) }
 {
@@ -73,7 +73,7 @@ fn are_distinct(partners: &[PartnerRow]) -> bool
     true
 }
 
-// Whether one of the accounts has the code.
+/// Whether one of the accounts has the code.
 fn has_code(partners: &[PartnerRow], code: &str) -> bool
     ensures { IsTrue result ↔
         ((k : ℕ) × (row : PartnerRow) × (slice_get partners.now k ≡ Some row) × (string_bytes row.code ≡ code.now)) }

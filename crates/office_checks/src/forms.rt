@@ -70,28 +70,28 @@ fn is_sound_source(count: usize, source: Source) -> bool
         && source.number <= 999_999_999
 }
 
-// Whether the slot has a name that is read again.
+/// Whether the slot has a name that is read again.
 fn is_named(slot: Slot) -> bool
     ensures { IsTrue result ↔ IsNamed slot }
 {
     slot.block.is_ascii_uppercase() && slot.bay < 1000 && slot.row < 100 && slot.tier < 10
 }
 
-// What the type of a moment says: it is one of the calendar.
+/// What the type of a moment says: it is one of the calendar.
 fn is_moment(moment: Moment)
     ensures { IsTrue (is_moment moment) }
 {
     let _ = moment.digits();
 }
 
-// What the type of a container number says.
+/// What the type of a container number says.
 fn is_number(container: BoxNumber)
     ensures { IsTrue (is_number container) }
 {
     let _ = container.text();
 }
 
-// What the type of a size-type says.
+/// What the type of a size-type says.
 fn is_size(size_type: SizeType)
     ensures { IsTrue (is_size size_type) }
 {
@@ -123,7 +123,7 @@ fn is_formed_call(call: &Call) -> bool
     is_name(call.vessel.as_str()) && is_name(call.voyage.as_str())
 }
 
-// Whether a line of such a list may have the port: one to be discharged has none.
+/// Whether a line of such a list may have the port: one to be discharged has none.
 fn is_formed_port(side: Side, port: &str) -> bool
     ensures { IsTrue result ↔ IsFormedPort side port.now }
 {

@@ -25,7 +25,7 @@ pub(crate) fn are_kept(partners: &[PartnerRow], numbers: &[NumberRow]) -> bool
     rest.is_empty()
 }
 
-// How many interchanges are the partner's, up to the first that is another's.
+/// How many interchanges are the partner's, up to the first that is another's.
 fn own_count(partner: u32, numbers: &[NumberRow]) -> usize
     ensures within { result ≤ length numbers.now }
     ensures own { AreOwn partner (map number_content (take result numbers.now)) }
@@ -39,7 +39,7 @@ fn own_count(partner: u32, numbers: &[NumberRow]) -> usize
     numbers.len()
 }
 
-// Whether these are the interchanges that are kept for the partner.
+/// Whether these are the interchanges that are kept for the partner.
 fn is_kept_for(partner: &PartnerRow, numbers: &[NumberRow]) -> bool
     requires { 1 ≤ partner.now.next }
     ensures { IsTrue result ↔ IsKeptFor (partner_content partner.now) (map number_content numbers.now) }
@@ -52,7 +52,7 @@ fn is_kept_for(partner: &PartnerRow, numbers: &[NumberRow]) -> bool
     are_taken(partner.id, taken) && are_waiting(partner.id, partner.next, waiting)
 }
 
-// Whether these are the interchanges of the partner from 1 on, and taken.
+/// Whether these are the interchanges of the partner from 1 on, and taken.
 fn are_taken(partner: u32, numbers: &[NumberRow]) -> bool
     ensures { IsTrue result ↔
         (map number_content numbers.now
@@ -67,14 +67,14 @@ fn are_taken(partner: u32, numbers: &[NumberRow]) -> bool
     true
 }
 
-// Whether it is the partner's interchange of that number, and was taken.
+/// Whether it is the partner's interchange of that number, and was taken.
 fn is_taken(partner: u32, number: usize, row: &NumberRow) -> bool
     ensures { IsTrue result ↔ ((row.now.partner ≡ partner) × (row.now.number ≡ number) × (row.now.is_taken ≡ true)) }
 {
     row.partner == partner && row.number as usize == number && row.is_taken
 }
 
-// Whether these interchanges of the partner wait, each above the one before.
+/// Whether these interchanges of the partner wait, each above the one before.
 fn are_waiting(partner: u32, next: u32, numbers: &[NumberRow]) -> bool
     ensures { IsTrue result ↔ AreWaiting partner next (map number_content numbers.now) }
 {
@@ -88,7 +88,7 @@ fn are_waiting(partner: u32, next: u32, numbers: &[NumberRow]) -> bool
     true
 }
 
-// Whether an interchange of the partner waits, and its number is above that one.
+/// Whether an interchange of the partner waits, and its number is above that one.
 fn is_waiting(partner: u32, above: u32, row: &NumberRow) -> bool
     ensures { IsTrue result ↔
         ((row.now.partner ≡ partner) × (row.now.is_taken ≡ false) × (above < row.now.number)

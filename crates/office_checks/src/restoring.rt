@@ -60,7 +60,7 @@ pub fn restore(alloc: Global, tables: OpenedTables) -> Result<(Setup, Terminal),
     Ok((setup, terminal))
 }
 
-// The terminal of rows that have their forms.
+/// The terminal of rows that have their forms.
 fn restore_terminal(
     alloc: Global,
     count: usize,

@@ -49,7 +49,7 @@ pub(crate) fn read_settings(alloc: Global, settings: &[Setting]) -> Result<Setti
     })
 }
 
-// Whether the settings have the ten names, in their order.
+/// Whether the settings have the ten names, in their order.
 fn are_named(settings: &[Setting]) -> bool
     ensures { IsTrue result ↔ (names_of (map setting_content settings.now) ≡ setting_names) }
 {
@@ -64,7 +64,7 @@ fn are_named(settings: &[Setting]) -> bool
     true
 }
 
-// The name of a setting by its place.
+/// The name of a setting by its place.
 fn name_at(place: usize) -> &'static str
     requires { place < 10 }
     ensures { slice_get setting_names place ≡ Some result.now }
@@ -90,7 +90,7 @@ fn value(settings: &[Setting], place: usize) -> &str
     settings[place].value.as_str()
 }
 
-// The seven codes of document names, in the order of their table.
+/// The seven codes of document names, in the order of their table.
 fn codes_of(settings: &[Setting]) -> Option<CodeTable>
     requires { length settings.now ≡ 10 }
     ensures { MatchOption result
@@ -120,7 +120,7 @@ fn codes_of(settings: &[Setting]) -> Option<CodeTable>
     }
 }
 
-// The limit of visits: a decimal number without leading zeros, from 1 to 999,999,999.
+/// The limit of visits: a decimal number without leading zeros, from 1 to 999,999,999.
 fn limit_of(text: &str) -> Option<u32>
     ensures { MatchOption result
         ((n : ℕ) → 1 ≤ n → n ≤ 999999999 → ¬ (text.now ≡ decimal n))
@@ -138,7 +138,7 @@ fn limit_of(text: &str) -> Option<u32>
     }
 }
 
-// Whether the number may be a limit of visits, and the text is how it is written.
+/// Whether the number may be a limit of visits, and the text is how it is written.
 fn is_limit(number: u32, text: &str) -> bool
     ensures { IsTrue result ↔ ((1 ≤ number) × (number ≤ 999999999) × (text.now ≡ decimal number)) }
 {

@@ -90,7 +90,7 @@ pub(crate) fn demo_command<'a>(alloc: Global) -> Command<'a>
         .after_help("Example: office demo < gate-in.edi")
 }
 
-// A word that has to be there.
+/// A word that has to be there.
 fn word<'a>(alloc: Global, id: &'a str, help: &'a str) -> Arg<'a>
     ensures rule { rule_of result ≡ word id.entry.now }
     ensures local { result.global ≡ false }
@@ -101,7 +101,7 @@ fn word<'a>(alloc: Global, id: &'a str, help: &'a str) -> Arg<'a>
         .help(help)
 }
 
-// A word that may be left out.
+/// A word that may be left out.
 fn word_if_any<'a>(alloc: Global, id: &'a str, help: &'a str) -> Arg<'a>
     ensures rule { rule_of result ≡ word_if_any id.entry.now }
     ensures local { result.global ≡ false }

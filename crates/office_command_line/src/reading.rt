@@ -29,7 +29,7 @@ pub fn read_command<'a>(alloc: Global, words: &'a [&'a str]) -> Result<Request<'
     }
 }
 
-// What the matches ask for.
+/// What the matches ask for.
 fn request_in<'a>(matches: &ArgMatches<'a>) -> Result<Request<'a>, CommandFault>
     ensures ok { IfOk result (λ request. met_asks (subcommand_rows_of matches.now) ≡ Some (asked request)) }
     ensures err { IfErr result (RefusesMet (subcommand_rows_of matches.now)) }
@@ -43,7 +43,7 @@ fn request_in<'a>(matches: &ArgMatches<'a>) -> Result<Request<'a>, CommandFault>
     }
 }
 
-// How a command is called.
+/// How a command is called.
 fn usage_of(name: &str) -> &'static str
     ensures { result.now ≡ usage_line name.now }
 {
@@ -109,7 +109,7 @@ fn report_in<'a>(matches: &ArgMatches<'a>) -> Option<Request<'a>>
     report_with(store, kind, text_of(matches, "KEY"))
 }
 
-// The report, if a key is given where one is wanted and nowhere else.
+/// The report, if a key is given where one is wanted and nowhere else.
 fn report_with<'a>(store: &'a str, kind: ReportKind, key: Option<&'a str>) -> Option<Request<'a>>
     ensures { option_map asked result ≡ report_with store.entry.now kind (option_map (λ text. text.now) key.entry) }
 {
@@ -143,7 +143,7 @@ fn kind_of(word: &str) -> Option<ReportKind>
     }
 }
 
-// The word that was given for an argument.
+/// The word that was given for an argument.
 fn text_of<'a>(matches: &ArgMatches<'a>, id: &str) -> Option<&'a str>
     ensures { option_map (λ text. text.now) result ≡ first_of id.now (rows_of (found_of matches.now)) }
 {

@@ -1,5 +1,6 @@
 -- The set-up of the demonstration.
 use Rattle.std.specs.Prelude.{◌≡◌, ℕ, Bool, true, List, [], ◌∷◌, Option, codes}
+use Rattle.edi_segments.specs.Bytes.{capital_a}
 use Rattle.edi_messages.specs.Codes.{table_texts}
 use Rattle.edi_messages.specs.declared.code_table.CodeTable.{CodeTable}
 use Rattle.edi_messages.specs.declared.partner_kind.PartnerKind.{PartnerKind}
@@ -26,7 +27,7 @@ demo_partners = (codes "HAULA", Gate) ∷ (codes "HAULB", Gate) ∷ (codes "LINE
 
 -- block A: four odd bays, two rows, three tiers
 abbrev pub demo_blocks : List Block
-demo_blocks = record { letter = 65; bays = 4; rows = 2; tiers = 3 } ∷ []
+demo_blocks = record { letter = capital_a; bays = 4; rows = 2; tiers = 3 } ∷ []
 
 -- all that the demonstration's set-up says, with a table of codes
 abbrev pub demo_content : CodeTable → SetupContent

@@ -60,7 +60,7 @@ pub fn write_early<S: Alter>(
     write_run(conn, partner, number, text, &[])
 }
 
-// Commits what a transaction wrote, or nothing of it.
+/// Commits what a transaction wrote, or nothing of it.
 fn commit<S: Alter>(tx: Transaction<'_, S>) -> Result<(), TableFault>
     ensures ended { (state S.Store tx.exit.0.now).in_transaction ≡ false }
     ensures ok { HasCleanDisk (state S.Store tx.exit.0.now) →

@@ -32,7 +32,7 @@ pub(crate) fn write_all<S: Alter>(
     write_interchanges(tx, partner, taken)
 }
 
-// Each of the partner's interchanges that were taken, one after the other.
+/// Each of the partner's interchanges that were taken, one after the other.
 fn write_interchanges<S: Alter>(
     tx: &mut Transaction<'_, S>,
     partner: u16,
@@ -55,7 +55,7 @@ fn write_interchanges<S: Alter>(
     Ok(())
 }
 
-// What an interchange that was taken changed, and then that it was taken.
+/// What an interchange that was taken changed, and then that it was taken.
 fn write_interchange<S: Alter>(
     tx: &mut Transaction<'_, S>,
     partner: u16,
@@ -76,7 +76,7 @@ fn write_interchange<S: Alter>(
     mark_taken(tx, partner, taken.number, taken.reply.as_str())
 }
 
-// The row of each change, one after the other.
+/// The row of each change, one after the other.
 fn apply_all<S: Alter>(tx: &mut Transaction<'_, S>, changes: &[Change]) -> Result<(), TableFault>
     ensures same_reference { tx.new.conn.ghost_name ≡ tx.old.conn.ghost_name }
     ensures steps { HasCleanDisk (state S.Store tx.new.conn.now) →

@@ -1,5 +1,6 @@
 -- Where the paths lead (our own).
 use Rattle.std.specs.Prelude.{ℕ, cond, ◌==◌, List, [], codes, Option, None, Some, option_map, Result, Ok, Err, nat_eq, length, drop}
+use Rattle.edi_segments.specs.Bytes.{question_mark}
 use Rattle.std.specs.Str.{bytes_eq}
 use Rattle.std.specs.List.{before_first, starts_with}
 use Rattle.matchit.specs.Rows.{RowsOf}
@@ -36,7 +37,7 @@ endpoints =
 
 -- the target up to `?` (63)
 abbrev pub path_of : List ℕ → List ℕ
-path_of target = before_first (λ b. b == 63) target
+path_of target = before_first (λ b. b == question_mark) target
 
 -- what a path leads to
 abbrev pub endpoint_at : List ℕ → Option Endpoint

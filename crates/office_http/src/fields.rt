@@ -1,4 +1,5 @@
 ghost use Rattle.std.specs.Prelude.{◌≡◌, ◌∷◌, ◌≤◌, ℕ, List, length, map, codes, All, IfOk, IfErr};
+ghost use Rattle.edi_segments.specs.Interchange.{most_bytes};
 ghost use Rattle.std.specs.Prelude.{option_map, option_to_list};
 ghost use Rattle.std.specs.Str.{str_eq_ignore_ascii_case};
 ghost use Rattle.edi_syntax.specs.Numbers.{number_of};
@@ -7,16 +8,14 @@ ghost use Rattle.office_http.specs.Fields.{body_length, in_limit, values_of};
 ghost use Rattle.office_http.specs.declared.refusal.Refusal.TheVariants.{BadRequest};
 
 use crate::refusal::Refusal;
+use edi_segments::MOST_BYTES;
 use httparse::spans::HeaderSpan;
-
-/// A body has at most so many bytes.
-const BODY_LIMIT: u64 = 1_048_576;
 
 /// The length of the body, by the fields of a head, or why there is none.
 pub(crate) fn content_length(read: &[u8], headers: &[HeaderSpan]) -> Result<usize, Refusal>
     requires { All (IsHeaderWithin (length read.now)) headers.now }
     ensures length { result ≡ body_length (map (header_bytes read.now) headers.now) }
-    ensures limit { IfOk result (λ size. size ≤ 1048576) }
+    ensures limit { IfOk result (λ size. size ≤ most_bytes) }
 {
     match only_value(read, headers, b"Transfer-Encoding") {
         Ok(None) => {}
@@ -62,10 +61,10 @@ fn is_named(field: &[u8], name: &[u8]) -> bool
 
 fn limited(digits: &[u8]) -> Result<usize, Refusal>
     ensures length { result ≡ in_limit (number_of 19 digits.now) }
-    ensures limit { IfOk result (λ size. size ≤ 1048576) }
+    ensures limit { IfOk result (λ size. size ≤ most_bytes) }
 {
     match number_of(digits) {
-        Some(size) if size <= BODY_LIMIT => Ok(size as usize),
+        Some(size) if size <= MOST_BYTES as u64 => Ok(size as usize),
         Some(_) => Err(Refusal::TooLong),
         None => Err(Refusal::BadRequest),
     }

@@ -1,4 +1,5 @@
 ghost use Rattle.std.specs.Prelude.{◌≡◌, ◌⊎◌, ◌≤◌, ◌+◌, ◌++◌, true, length, take, drop, map, IfOk, IfSome, OnOk, OnErr};
+ghost use Rattle.edi_segments.specs.Interchange.{most_bytes};
 ghost use Rattle.std.specs.Option.{option_and_then};
 ghost use Rattle.httparse.specs.Grammar.{RequestHead};
 ghost use Rattle.httparse.specs.Spans.{header_bytes, IsRequestAt, IsRequestWithin, IsSectionWithin};
@@ -52,7 +53,7 @@ fn read_asked<R: Read>(
     ensures asks { IfOk result (λ request. IfSome (R.remaining reader.old.inner) (λ left. (head : RequestHead)
         → IsRequestAt (take found.filled buffer.now) headers.now found.spans head
         → AsksWith head (drop found.spans.len (take found.filled buffer.now) ++ left) request)) }
-    ensures reads { reader.new.reads ≤ reader.old.reads + 1048576 }
+    ensures reads { reader.new.reads ≤ reader.old.reads + most_bytes }
     ensures kept { OnOk result (reader.new.failed ≡ reader.old.failed) }
     ensures fails { OnErr result (reader.new.failed ≡ true) }
 {
@@ -80,7 +81,7 @@ fn read_post<R: Read>(
     ensures posts { IfOk result (λ request. IfSome (R.remaining reader.old.inner) (λ left. (request ≡ Refused NotNow)
         ⊎ Posts (body_length (map (header_bytes read.now) (take found.spans.headers headers.now)))
         (drop found.spans.len read.now ++ left) request)) }
-    ensures reads { reader.new.reads ≤ reader.old.reads + 1048576 }
+    ensures reads { reader.new.reads ≤ reader.old.reads + most_bytes }
     ensures kept { OnOk result (reader.new.failed ≡ reader.old.failed) }
     ensures fails { OnErr result (reader.new.failed ≡ true) }
 {

@@ -153,7 +153,7 @@ fn lines_on(
     Ok(list)
 }
 
-// Whether the line is on that call's list.
+/// Whether the line is on that call's list.
 fn is_on(line: &Listing, call: &Call, side: Side) -> bool
     ensures { result ≡ is_on (call_content call.now) side line.now }
 {

@@ -116,7 +116,7 @@ fn push_exits(
     Ok(())
 }
 
-// Nothing where the container did not leave by this interchange.
+/// Nothing where the container did not leave by this interchange.
 fn push_exit(
     alloc: Global,
     text: &mut String,
@@ -145,7 +145,7 @@ fn push_exit(
     )
 }
 
-// When the container left by this interchange's word, if it did.
+/// When the container left by this interchange's word, if it did.
 fn left_by(visit: &Visit, source: Source) -> Option<Moment>
     ensures { result ≡ left_by source visit.now.departure }
 {

@@ -136,7 +136,7 @@ fn departure_text(
     phrase(alloc, &[passage.as_str(), "DAYS", days.as_str()])
 }
 
-// By which way, by whose word, and when.
+/// By which way, by whose word, and when.
 fn passage_text(
     alloc: Global,
     setup: &Setup,
@@ -170,7 +170,7 @@ fn way_name(way: Way) -> &'static str
     }
 }
 
-// The code of a partner, and nothing where there is none with this number.
+/// The code of a partner, and nothing where there is none with this number.
 fn code_of(setup: &Setup, partner: u16) -> &str
     ensures { result.now ≡ code_of (setup_content setup.now) partner }
 {

@@ -74,7 +74,7 @@ pub(crate) fn standings(
     Ok(yard)
 }
 
-// Where the container of a visit stands, unless it left.
+/// Where the container of a visit stands, unless it left.
 fn standing_of(terminal: &Terminal, visit: &Visit) -> Option<Standing>
     ensures { result ≡ standing_of terminal.now (visit_content visit.now) }
 {

@@ -27,7 +27,7 @@ pub(crate) fn blocks_of(
     }
 }
 
-// The blocks that the records after the header are. `None`: one of them is none.
+/// The blocks that the records after the header are. `None`: one of them is none.
 fn blocks_in(alloc: Global, rows: &[StringRecord]) -> Result<Option<Vec<Block>>, AllocError>
     ensures { IfOk result (λ answer. MatchOption answer
         ((blocks : List Block) → ¬ (map block_said (drop 1 (map fields_of rows.now)) ≡ map Some blocks))
@@ -70,7 +70,7 @@ fn block_of(row: &StringRecord) -> Option<Block>
     })
 }
 
-// The only byte of a text.
+/// The only byte of a text.
 fn letter_of(text: &str) -> Option<u8>
     ensures { result ≡ letter_said text.now }
 {

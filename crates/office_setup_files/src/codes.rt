@@ -37,7 +37,7 @@ pub(crate) fn codes_of(entries: &[Entry<'_>]) -> Option<CodeTable>
     }
 }
 
-// The value of the first entry with a name, else the usual one.
+/// The value of the first entry with a name, else the usual one.
 fn value_of<'a>(entries: &[Entry<'a>], name: &str, usual: &'a str) -> &'a str
     ensures { result.now ≡ value_of (map entry_content entries.now) name.now usual.entry.now }
 {

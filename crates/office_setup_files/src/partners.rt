@@ -58,7 +58,7 @@ fn has_name(entries: &[Entry<'_>], name: &str) -> bool
     false
 }
 
-// The accounts that the entries are. `None`: one of them is none.
+/// The accounts that the entries are. `None`: one of them is none.
 fn accounts_of(alloc: Global, entries: &[Entry<'_>]) -> Result<Option<Vec<Account>>, AllocError>
     ensures { IfOk result (λ answer. MatchOption answer
         ((partners : List (List ℕ × PartnerKind)) →
@@ -76,7 +76,7 @@ fn accounts_of(alloc: Global, entries: &[Entry<'_>]) -> Result<Option<Vec<Accoun
     Ok(Some(accounts))
 }
 
-// What the partner of an entry is, if it is one.
+/// What the partner of an entry is, if it is one.
 fn kind_in(entry: Entry<'_>) -> Option<PartnerKind>
     ensures { option_map (λ kind. (entry.entry.name.now, kind)) result ≡ partner_said (entry_content entry.entry) }
 {

@@ -39,7 +39,7 @@ pub fn read_setup(alloc: Global, partners: &[u8], blocks: &[u8]) -> Result<Setup
     setup_in(alloc, partner_rows, block_rows)
 }
 
-// The set-up that the records of two files say.
+/// The set-up that the records of two files say.
 fn setup_in(
     alloc: Global,
     partner_rows: Vec<ByteRecord>,
@@ -62,7 +62,7 @@ fn setup_in(
     setup_of(alloc, &partner_rows, &block_rows)
 }
 
-// The set-up, if text, header and lengths of the records are right.
+/// The set-up, if text, header and lengths of the records are right.
 fn setup_of(
     alloc: Global,
     partner_rows: &[StringRecord],

@@ -28,7 +28,7 @@ pub fn first_wrong(
     Ok(number.map(WrongRecord::OfBlocks))
 }
 
-// The records up to the first that is no text.
+/// The records up to the first that is no text.
 fn texts_of(alloc: Global, rows: Vec<ByteRecord>) -> Result<Vec<StringRecord>, AllocError> {
     let mut texts = Vec::with_capacity(alloc, rows.len())?;
     for row in rows {
@@ -76,7 +76,7 @@ fn wrong_block(
     }
 }
 
-// The record behind those that are texts, if there is one.
+/// The record behind those that are texts, if there is one.
 fn behind(texts: &[StringRecord], count: usize) -> Option<usize> {
     if texts.len() < count {
         Some(texts.len() + 1)
@@ -85,7 +85,7 @@ fn behind(texts: &[StringRecord], count: usize) -> Option<usize> {
     }
 }
 
-// The first record from which on each front of the file is at fault, one front more being looked at.
+/// The first record from which on each front of the file is at fault, one front more being looked at.
 fn from_here(wrong: Option<usize>, number: usize, is_fault: bool) -> Option<usize> {
     if is_fault {
         wrong.or(Some(number))
@@ -94,7 +94,7 @@ fn from_here(wrong: Option<usize>, number: usize, is_fault: bool) -> Option<usiz
     }
 }
 
-// Whether the front of a file of partners has that fault, and not for want of a record.
+/// Whether the front of a file of partners has that fault, and not for want of a record.
 fn is_partner_fault(
     alloc: Global,
     front: &[StringRecord],
@@ -120,7 +120,7 @@ fn is_partner_fault(
     })
 }
 
-// Whether the front of a file of blocks has that fault, and not for want of a record.
+/// Whether the front of a file of blocks has that fault, and not for want of a record.
 fn is_block_fault(
     alloc: Global,
     front: &[StringRecord],

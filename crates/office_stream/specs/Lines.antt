@@ -1,5 +1,6 @@
 -- The lines that a stream is answered by.
 use Rattle.std.specs.Prelude.{ℕ, List, [], ◌∷◌, ◌++◌, codes, flat_map}
+use Rattle.edi_segments.specs.Bytes.{line_feed}
 use Rattle.edi_cutter.specs.declared.cut_fault.CutFault.{CutFault}
 use Rattle.edi_cutter.specs.declared.cut_fault.CutFault.TheVariants.{TooLong, Service, Segment, Memory}
 use Rattle.office_replies.specs.declared.response.Response.{Response}
@@ -11,7 +12,7 @@ use Rattle.office_stream.specs.declared.stream_end.StreamEnd.TheVariants.{Whole,
 
 -- a text and LF
 abbrev pub line : List ℕ → List ℕ
-line text = text ++ 10 ∷ []
+line text = text ++ line_feed ∷ []
 
 abbrev pub fault_name : CutFault → List ℕ
 fault_name TooLong = codes "TooLong"

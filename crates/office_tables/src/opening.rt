@@ -38,7 +38,7 @@ pub fn create<S: Alter>(conn: &mut Connection<S>, setup: &Setup) -> Result<(), T
     Ok(())
 }
 
-// The tables and their first rows, in the transaction.
+/// The tables and their first rows, in the transaction.
 fn write_opening<S: Alter>(tx: &mut Transaction<'_, S>, setup: &Setup) -> Result<(), TableFault>
     requires { length setup.now.partners.items ≤ 999 }
     ensures same_reference { tx.new.conn.ghost_name ≡ tx.old.conn.ghost_name }

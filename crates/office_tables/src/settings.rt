@@ -32,7 +32,7 @@ pub(crate) fn insert_settings<S: Alter>(
     insert_codes(tx, &setup.codes)
 }
 
-// Each code of a document name under its own name.
+/// Each code of a document name under its own name.
 fn insert_codes<S: Alter>(tx: &mut Transaction<'_, S>, codes: &CodeTable) -> Result<(), TableFault>
     ensures same_reference { tx.new.conn.ghost_name ≡ tx.old.conn.ghost_name }
     ensures steps { HasCleanDisk (state S.Store tx.new.conn.now) →
@@ -50,7 +50,7 @@ fn insert_codes<S: Alter>(tx: &mut Transaction<'_, S>, codes: &CodeTable) -> Res
     Ok(())
 }
 
-// The name under which the code at a place of the table is kept.
+/// The name under which the code at a place of the table is kept.
 fn code_name(place: usize) -> &'static str
     requires { place < 7 }
     ensures { slice_get code_names place ≡ Some result.now }

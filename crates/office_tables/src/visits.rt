@@ -38,7 +38,7 @@ pub(crate) fn insert_visit<S: Alter>(
     }
 }
 
-// The columns of a visit, with those of its exit.
+/// The columns of a visit, with those of its exit.
 fn insert_columns<'a, S: Alter>(
     tx: &mut Transaction<'_, S>,
     visit: &'a Visit,

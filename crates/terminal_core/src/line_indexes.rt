@@ -44,7 +44,7 @@ pub(crate) fn note(
     put(indexes, call, side, container, row_index)
 }
 
-// Gives the call a map of its own, if it has none yet.
+/// Gives the call a map of its own, if it has none yet.
 fn know(alloc: Global, indexes: &mut LineIndexes, call: &Call) -> Result<(), AllocError>
     ensures same { SameIndexes indexes.old indexes.new }
     ensures known { OnOk result (IsSome (indexes_of indexes.new (call_content call.now))) }
@@ -56,7 +56,7 @@ fn know(alloc: Global, indexes: &mut LineIndexes, call: &Call) -> Result<(), All
     Ok(())
 }
 
-// Notes it in the map that the call has.
+/// Notes it in the map that the call has.
 fn put(
     indexes: &mut LineIndexes,
     call: &Call,
@@ -74,7 +74,7 @@ fn put(
     Ok(())
 }
 
-// The side as a number.
+/// The side as a number.
 fn side_code(side: Side) -> u8
     ensures { result ≡ side_code side }
 {

@@ -12,7 +12,7 @@ use box6346::BoxNumber;
 use edi_messages::Call;
 use std::alloc::{AllocError, Global};
 
-// A copy of the call.
+/// A copy of the call.
 pub(crate) fn copied_call(alloc: Global, call: &Call) -> Result<Call, AllocError>
     ensures { IfOk result (λ copy. call_content copy ≡ call_content call.now) }
 {

@@ -125,7 +125,7 @@ impl Lists {
     }
 }
 
-// Where each line stands: Unsound where one stands twice, and Memory.
+/// Where each line stands: Unsound where one stands twice, and Memory.
 fn noted_lines(alloc: Global, rows: &[Listing]) -> Result<LineIndexes, RestoreFault>
     ensures { MatchResult result (λ indexes. AreOnce rows.now × AreNoted rows.now indexes) (RefusesLines rows.now) }
 {
@@ -139,7 +139,7 @@ fn noted_lines(alloc: Global, rows: &[Listing]) -> Result<LineIndexes, RestoreFa
     Ok(indexes)
 }
 
-// Where the line stands: where it is said to, if that row is the line.
+/// Where the line stands: where it is said to, if that row is the line.
 fn index_of(
     rows: &[Listing],
     indexes: &LineIndexes,

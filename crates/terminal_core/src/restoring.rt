@@ -41,7 +41,7 @@ pub(crate) fn restored_yard(
     Ok(yard)
 }
 
-// Whether visits are numbered 1, 2, .. as they stand.
+/// Whether visits are numbered 1, 2, .. as they stand.
 fn are_numbered(visits: &[Visit]) -> bool
     ensures { IsTrue result ↔ AreNumbered 1 (map visit_content visits.now) }
 {
@@ -53,7 +53,7 @@ fn are_numbered(visits: &[Visit]) -> bool
     true
 }
 
-// So each container comes after those that carry it.
+/// So each container comes after those that carry it.
 fn sort_by_tier(places: &mut Vec<Place>) -> Result<(), AllocError>
     ensures moved { IsPermutation places.old.items places.new.items }
     ensures sorted { OnOk result (IsNonDecreasingBy (λ place. place.slot.tier) places.new.items) }
@@ -61,7 +61,7 @@ fn sort_by_tier(places: &mut Vec<Place>) -> Result<(), AllocError>
     places.sort_by_key(|place| place.slot.tier)
 }
 
-// The yard with the containers of the places.
+/// The yard with the containers of the places.
 fn settled_yard(
     alloc: Global,
     plan: Plan,
@@ -82,7 +82,7 @@ fn settled_yard(
     Ok(yard)
 }
 
-// One container more, with the length of the visit that its place names.
+/// One container more, with the length of the visit that its place names.
 fn put(yard: &mut Yard, visits: &[Visit], place: &Place) -> Result<(), RestoreFault>
     requires numbered { AreNumbered 1 (map visit_content visits.now) }
     requires sound { IsSound yard.old.plan (finite_map.get yard.old.boxes) }
@@ -100,7 +100,7 @@ fn put(yard: &mut Yard, visits: &[Visit], place: &Place) -> Result<(), RestoreFa
     }
 }
 
-// Refused memory says nothing of the rows. Any other fault says that no sound yard has the places.
+/// Refused memory says nothing of the rows. Any other fault says that no sound yard has the places.
 fn cause(fault: YardFault) -> RestoreFault
     ensures { result ≡ cause_of fault }
 {
@@ -110,7 +110,7 @@ fn cause(fault: YardFault) -> RestoreFault
     }
 }
 
-// The length of the container, by the open visit that its place names.
+/// The length of the container, by the open visit that its place names.
 fn named_length(visits: &[Visit], place: &Place) -> Option<Length>
     requires { AreNumbered 1 (map visit_content visits.now) }
     ensures { MatchOption result
@@ -131,7 +131,7 @@ fn named_length(visits: &[Visit], place: &Place) -> Option<Length>
     }
 }
 
-// Whether each open visit is named by a place.
+/// Whether each open visit is named by a place.
 fn are_all_named(alloc: Global, visits: &[Visit], places: &[Place]) -> Result<bool, AllocError>
     requires numbered { AreNumbered 1 (map visit_content visits.now) }
     requires named { (place : Place) → Contains places.now place → (1 ≤ place.visit) ×
@@ -142,7 +142,7 @@ fn are_all_named(alloc: Global, visits: &[Visit], places: &[Place]) -> Result<bo
     Ok(are_marked(visits, &marks))
 }
 
-// Which visits are named by a place, in their order.
+/// Which visits are named by a place, in their order.
 fn named(alloc: Global, count: usize, places: &[Place]) -> Result<Vec<bool>, AllocError>
     requires { (place : Place) → Contains places.now place → (1 ≤ place.visit) × (place.visit ≤ count) }
     ensures len { IfOk result (λ marks. length marks.items ≡ count) }
@@ -157,7 +157,7 @@ fn named(alloc: Global, count: usize, places: &[Place]) -> Result<Vec<bool>, All
     Ok(marks)
 }
 
-// Whether each open visit is marked.
+/// Whether each open visit is marked.
 fn are_marked(visits: &[Visit], marks: &[bool]) -> bool
     requires { length marks.now ≡ length visits.now }
     ensures { IsTrue result ↔

@@ -11,7 +11,7 @@ use edi_messages::Entry;
 use std::alloc::AllocError;
 use yard_core::{Yard, YardFault};
 
-// The container of an entry into the slot that it names, or into the first that fits.
+/// The container of an entry into the slot that it names, or into the first that fits.
 pub(crate) fn settle(yard: &mut Yard, entry: &Entry) -> Result<Result<Slot, Reason>, AllocError>
     requires plan { IsPlan yard.old.plan }
     requires sound { IsSound yard.old.plan (finite_map.get yard.old.boxes) }
@@ -35,7 +35,7 @@ pub(crate) fn settle(yard: &mut Yard, entry: &Entry) -> Result<Result<Slot, Reas
     }
 }
 
-// A fault that is not want of memory, as a reason.
+/// A fault that is not want of memory, as a reason.
 fn refusal(fault: YardFault) -> Result<Reason, AllocError>
     ensures ok { IfOk result (IsReasonFor fault) }
     ensures err { OnErr result (fault ≡ YardFault.Memory) }
@@ -46,7 +46,7 @@ fn refusal(fault: YardFault) -> Result<Reason, AllocError>
     }
 }
 
-// Such a fault as a reason, where the call that it answers takes no memory.
+/// Such a fault as a reason, where the call that it answers takes no memory.
 pub(crate) fn reason_of(fault: YardFault) -> Reason
     requires { fault ≢ YardFault.Memory }
     ensures { IsReasonFor fault result }

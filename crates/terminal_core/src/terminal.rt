@@ -197,7 +197,7 @@ impl Terminal {
         }
     }
 
-    // By the gate: AlreadyIn, VisitLimit, or why the container is not placed.
+    /// By the gate: AlreadyIn, VisitLimit, or why the container is not placed.
     fn gate_in(
         &mut self,
         alloc: Global,
@@ -219,7 +219,7 @@ impl Terminal {
         self.enter(alloc, Way::Gate, source, entry, changes)
     }
 
-    // Off a vessel: AlreadyIn, NotListed, ListLineDone, VisitLimit, or why the container is not placed.
+    /// Off a vessel: AlreadyIn, NotListed, ListLineDone, VisitLimit, or why the container is not placed.
     fn discharge(
         &mut self,
         alloc: Global,
@@ -255,7 +255,7 @@ impl Terminal {
         }
     }
 
-    // Onto a vessel: NotIn, NotListed, ListLineDone or Buried.
+    /// Onto a vessel: NotIn, NotListed, ListLineDone or Buried.
     fn load(
         &mut self,
         alloc: Global,
@@ -291,7 +291,7 @@ impl Terminal {
         }
     }
 
-    // A line more: AlreadyListed.
+    /// A line more: AlreadyListed.
     fn list(
         &mut self,
         alloc: Global,
@@ -319,7 +319,7 @@ impl Terminal {
         Ok(Outcome::Listed)
     }
 
-    // The line is done.
+    /// The line is done.
     fn finish(
         &mut self,
         call: &Call,
@@ -364,7 +364,7 @@ impl Terminal {
         self.yard.slot_of(container).is_some()
     }
 
-    // The container of an entry comes in: VisitLimit, or why it is not placed.
+    /// The container of an entry comes in: VisitLimit, or why it is not placed.
     fn enter(
         &mut self,
         alloc: Global,
@@ -420,7 +420,7 @@ impl Terminal {
         }
     }
 
-    // The container goes: NotIn or Buried.
+    /// The container goes: NotIn or Buried.
     fn depart(
         &mut self,
         way: Way,
@@ -448,7 +448,7 @@ impl Terminal {
         }
     }
 
-    // The container goes to another slot: NotIn, Buried, or why it does not fit there.
+    /// The container goes to another slot: NotIn, Buried, or why it does not fit there.
     fn shift(&mut self, container: BoxNumber, slot: Slot, changes: &mut Vec<Change>) -> Outcome
         requires { vec_len changes.old + 1 ≤ vec_capacity changes.old }
         ensures step { Follows (moved self.old container slot) self.new result

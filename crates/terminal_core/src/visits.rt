@@ -137,7 +137,7 @@ impl Visits {
     }
 }
 
-// Where each open visit stands, by its container.
+/// Where each open visit stands, by its container.
 fn indexed(alloc: Global, rows: &[Visit]) -> Result<HashMap<[u8; 11], usize>, AllocError>
     requires { (container : BoxNumber) →
         length (filter (is_open_visit container) (map visit_content rows.now)) ≤ 1 }

@@ -1,5 +1,6 @@
 -- How the columns keep a yard: what the code relies on, and no caller has to read.
 use Rattle.std.specs.Prelude.{◌≡◌, ℕ, ◌+◌, ◌-◌, ◌*◌, ◌/◌, ◌<◌, ◌≤◌, ◌==◌, List, [], ◌∷◌, Option, Bool, true, false, ◌&&◌, ◌||◌, option_and_then, Some, None, ◌⊎◌, length, take, slice_get, slice_index, slice_index_or}
+use Rattle.box6346.specs.Characters.{capital_a}
 use Rattle.std.specs.List.{position_or_len}
 use Rattle.std.specs.FinMap as map
 use Rattle.box6346.specs.declared.length.Length.{Length}
@@ -15,7 +16,7 @@ use Rattle.yard_core.specs.FitsAndFree.{IsFree, IsOpen}
 -- how many blocks of the plan come before that of each letter
 abbrev pub Locates : List Block → List ℕ → Type 0
 Locates blocks positions =
-    (k : ℕ) → k < 26 → slice_index positions k ≡ position_or_len (λ (b : Block). b.letter == (k + 65)) blocks
+    (k : ℕ) → k < 26 → slice_index positions k ≡ position_or_len (λ (b : Block). b.letter == (k + capital_a)) blocks
 
 -- a plan's blocks stand at the front of an array
 pub record IsIndexed (blocks : List Block) (count : ℕ) (positions : List ℕ) : Type 0 where

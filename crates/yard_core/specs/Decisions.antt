@@ -1,6 +1,7 @@
 -- What the calls on a yard answer, as functions of the map: a plain search over all its boxes. The calls themselves are
 -- told by relations; laws tie both together.
 use Rattle.std.specs.Prelude.{ℕ, ◌+◌, ◌-◌, ◌*◌, ◌%◌, Bool, true, false, cond, not, ◌&&◌, ◌||◌, ◌==◌, nat_le, nat_lt, List, [], ◌∷◌, map, flat_map, Option, None, Some, is_some, is_none, Result, Ok, Err, find}
+use Rattle.box6346.specs.Characters.{capital_a}
 use Rattle.std.specs.List.{list_any, range_with_len}
 use Rattle.std.specs.Option.{option_map, option_map_or}
 use Rattle.std.specs.FinMap as finite_map
@@ -136,7 +137,7 @@ abbrev pub slots_in_block : ℕ → ℕ → List Slot
 slots_in_block tier letter = flat_map (slots_in_bay tier letter) (range_with_len 1 79)
 
 abbrev pub slots_in_tier : ℕ → List Slot
-slots_in_tier tier = flat_map (slots_in_block tier) (range_with_len 65 26)
+slots_in_tier tier = flat_map (slots_in_block tier) (range_with_len capital_a 26)
 
 -- every slot that a plan may have, by tier, block letter, bay and row
 unfoldable pub every_slot : List Slot

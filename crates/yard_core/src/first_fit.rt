@@ -27,7 +27,7 @@ pub(crate) fn first_fit(yard: &Yard, size: Length) -> Option<Slot>
     None
 }
 
-// The first in the corner's tier.
+/// The first in the corner's tier.
 fn first_in_tier(yard: &Yard, size: Length, corner: Slot) -> Option<Slot>
     requires { IsPlan yard.now.plan }
     ensures { MatchOption result (NoneOpen yard.now size (IsInTier corner))
@@ -47,7 +47,7 @@ fn first_in_tier(yard: &Yard, size: Length, corner: Slot) -> Option<Slot>
     None
 }
 
-// The first in the corner's tier of its block.
+/// The first in the corner's tier of its block.
 fn first_in_block(yard: &Yard, size: Length, block: Block, corner: Slot) -> Option<Slot>
     requires block { block_of yard.now.plan corner.block ≡ Some block }
     requires sized { IsSized block }
@@ -65,7 +65,7 @@ fn first_in_block(yard: &Yard, size: Length, block: Block, corner: Slot) -> Opti
     None
 }
 
-// The first in the corner's tier of its bay.
+/// The first in the corner's tier of its bay.
 fn first_in_bay(yard: &Yard, size: Length, block: Block, corner: Slot) -> Option<Slot>
     requires block { block_of yard.now.plan corner.block ≡ Some block }
     requires sized { IsSized block }

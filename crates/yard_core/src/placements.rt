@@ -77,7 +77,7 @@ impl Placements {
     }
 }
 
-// Writes a placement at a text that is there.
+/// Writes a placement at a text that is there.
 fn write(by_text: &mut HashMap<[u8; 11], Placement>, text: [u8; 11], placement: Placement)
     requires { IsSome (get bytes_eq by_text.old text) }
     ensures { Updates bytes_eq by_text.old by_text.new text (Some placement) }

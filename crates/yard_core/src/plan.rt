@@ -101,7 +101,7 @@ impl Plan {
         block_at(&self.blocks[..self.count], self.position(letter))
     }
 
-    // How many blocks come before that of the letter, or all of them where it has none.
+    /// How many blocks come before that of the letter, or all of them where it has none.
     fn position(&self, letter: u8) -> usize
         ensures exact { result ≡ position_or_len (λ (b : Block). b.letter == letter) self.now }
         ensures few { result ≤ 20 }
@@ -130,7 +130,7 @@ fn block_at(blocks: &[Block], position: usize) -> Option<Block>
     blocks.get(position).copied()
 }
 
-// Whether the slot's numbers are among those of the block.
+/// Whether the slot's numbers are among those of the block.
 fn has_slot(block: &Block, slot: Slot) -> bool
     ensures { IsTrue result ↔ InBlock slot block.now }
 {
@@ -142,7 +142,7 @@ fn has_slot(block: &Block, slot: Slot) -> bool
         && slot.tier <= block.tiers
 }
 
-// Whether the block has 1 to 40 odd bays, 12 rows and 6 tiers.
+/// Whether the block has 1 to 40 odd bays, 12 rows and 6 tiers.
 fn is_sized(block: &Block) -> bool
     ensures { IsTrue result ↔ IsSized block.now }
 {
@@ -154,7 +154,7 @@ fn is_sized(block: &Block) -> bool
         && block.tiers <= 6
 }
 
-// Whether no two blocks have one letter.
+/// Whether no two blocks have one letter.
 fn are_apart(blocks: &[Block]) -> bool
     ensures { IsTrue result ↔ AreApart blocks.now }
 {
@@ -166,7 +166,7 @@ fn are_apart(blocks: &[Block]) -> bool
     true
 }
 
-// The blocks at the front of an array.
+/// The blocks at the front of an array.
 fn array_of(blocks: &[Block]) -> [Block; BLOCKS]
     requires { length blocks.now ≤ 20 }
     ensures { take (length blocks.now) result ≡ blocks.now }
@@ -183,7 +183,7 @@ fn array_of(blocks: &[Block]) -> [Block; BLOCKS]
     all
 }
 
-// How many blocks come before that of each letter.
+/// How many blocks come before that of each letter.
 fn positions_of(blocks: &[Block]) -> [u8; LETTERS]
     requires { length blocks.now ≤ 20 }
     ensures { Locates blocks.now result }
@@ -195,7 +195,7 @@ fn positions_of(blocks: &[Block]) -> [u8; LETTERS]
     positions
 }
 
-// How many blocks come before the first of the letter, or all of them where it has none.
+/// How many blocks come before the first of the letter, or all of them where it has none.
 fn position_in(blocks: &[Block], letter: u8) -> usize
     ensures exact { result ≡ position_or_len (λ (b : Block). b.letter == letter) blocks.now }
     ensures within { result ≤ length blocks.now }

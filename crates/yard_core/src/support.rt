@@ -15,8 +15,8 @@ use crate::site::{Site, is_kind, site_of};
 use crate::yard_fault::YardFault;
 use box6346::{BoxNumber, Length};
 
-// Why a container does not fit there, if it does not, by the heights of its columns and what is on top of
-// them. The map may have boxes that the columns don't.
+/// Why a container does not fit there, if it does not, by the heights of its columns and what is on top of
+/// them. The map may have boxes that the columns don't.
 pub(crate) fn misfit(
     plan: &Plan,
     columns: &Columns,
@@ -57,7 +57,7 @@ pub(crate) fn misfit(
     }
 }
 
-// How the box at a level of a column is placed.
+/// How the box at a level of a column is placed.
 fn placement_in(
     columns: &Columns,
     placements: &Placements,
@@ -73,7 +73,7 @@ fn placement_in(
     }
 }
 
-// Whether the containers below the two ends carry this one.
+/// Whether the containers below the two ends carry this one.
 fn bears(placement: Placement, near: Option<Placement>, far: Option<Placement>) -> bool
     ensures { result ≡ bears placement.length placement.slot near far }
 {
@@ -109,7 +109,7 @@ fn is_forty_in(bay: u16, placement: Option<Placement>) -> bool
     }
 }
 
-// Takes a free container off its columns, and leaves it in the map.
+/// Takes a free container off its columns, and leaves it in the map.
 pub(crate) fn lift(
     plan: &Plan,
     columns: &mut Columns,
@@ -132,7 +132,7 @@ pub(crate) fn lift(
     Ok((placement, site))
 }
 
-// The box that stands on one of the ends.
+/// The box that stands on one of the ends.
 fn blocker(columns: &Columns, site: Site) -> Option<BoxNumber>
     requires near { site.near < length columns.now }
     requires far { site.far < length columns.now }

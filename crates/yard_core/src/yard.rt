@@ -177,7 +177,7 @@ impl Yard {
         self.misfit(Placement { length, slot }).is_none()
     }
 
-    // Why a container does not fit there, if it does not.
+    /// Why a container does not fit there, if it does not.
     fn misfit(&self, placement: Placement) -> Option<YardFault>
         ensures { MatchOption result (IsOpen self.now.plan (finite_map.get self.now.boxes) placement)
             (λ f. Misfits self.now.plan (finite_map.get self.now.boxes) placement f) }
@@ -185,7 +185,7 @@ impl Yard {
         misfit(&self.plan, &self.columns, &self.placements, placement)
     }
 
-    // Adds a container where it fits.
+    /// Adds a container where it fits.
     fn put(&mut self, number: BoxNumber, placement: Placement) -> Result<(), YardFault>
         requires absent { finite_map.get self.old.boxes number ≡ None }
         requires fits { IsOpen self.old.plan (finite_map.get self.old.boxes) placement }
