@@ -1,15 +1,21 @@
 ghost use Rattle.std.specs.Prelude.{◌≡◌};
 
+use thiserror::Error;
+
 /// Why a stream can't be cut further, lowest first.
-#[derive(Clone, Copy, PartialEq, Eq, Debug)]
+#[derive(Clone, Copy, PartialEq, Eq, Debug, Error)]
 pub enum CutFault {
     /// An interchange has more than 1,048,576 bytes.
+    #[error("an interchange has more than 1,048,576 bytes")]
     TooLong,
     /// A service string advice (UNA) names characters that may not be used.
+    #[error("a service string advice (UNA) names characters that may not be used")]
     Service,
     /// No continuation of these bytes is a text of segments.
+    #[error("no continuation of these bytes is a text of segments")]
     Segment,
     /// Memory was refused.
+    #[error("memory was refused")]
     Memory,
 }
 

@@ -2,13 +2,16 @@ ghost use Rattle.std.specs.Prelude.{◌≡◌};
 
 use office_stream::StreamFault;
 use office_tables::TableFault;
+use thiserror::Error;
 
 /// Why the demonstration ended before its input.
-#[derive(Drop)]
+#[derive(Drop, Debug, Error)]
 pub enum DemoFault {
     /// Its tables were not made, or did not open.
+    #[error("the tables were not made, or did not open")]
     Store(TableFault),
     /// Its stream was left.
+    #[error("the stream was left before its end")]
     Stream(StreamFault),
 }
 

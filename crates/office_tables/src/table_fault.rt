@@ -4,17 +4,22 @@ ghost use Rattle.office_tables.specs.declared.table_fault.TableFault.TheVariants
 
 use sqlite::{Error, ErrorCode};
 use std::alloc::AllocError;
+use thiserror::Error;
 
 /// Why the tables did not do what was asked.
-#[derive(Debug, Drop)]
+#[derive(Debug, Drop, Error)]
 pub enum TableFault {
     /// The store failed or refused, as SQL tells it.
+    #[error("the store failed")]
     Store(Error),
     /// The rows are those of no office.
+    #[error("the rows are those of no office")]
     Damaged,
     /// The tables are of another version, or of none.
+    #[error("the tables are of another version, or of none")]
     Version,
     /// Memory was refused.
+    #[error("memory was refused")]
     Memory,
 }
 
