@@ -13,7 +13,7 @@ use Rattle.edi_syntax.specs.Messages.{Message, begins_message, ends_message, is_
 use Rattle.edi_syntax.specs.Envelope.{last_of}
 use Rattle.edi_syntax.specs.Faults.{body_fault_of}
 use Rattle.edi_syntax.proofs.NumberLemmas.{digits_one}
-use Rattle.edi_messages.specs.ContrlSegments.{unh, uci, ucm, unt, unz, answer_segments, ContrlsAreCounted}
+use Rattle.edi_messages.specs.Contrl.{unh, uci, ucm, unt, unz, answer_segments, ContrlsAreCounted}
 use Rattle.edi_messages.proofs.ContrlLemmas.{length_ucms}
 use Rattle.edi_messages.specs.declared.verdict.Verdict.{Verdict}
 use Rattle.edi_messages.specs.declared.verdict.Verdict.TheVariants.{Accepted, Rejected}

@@ -6,8 +6,7 @@ use Rattle.std.specs.Int.{from_bool}
 use Rattle.std.proofs.lemmas.List.Folds.{sum_by-zero}
 use Rattle.edi_segments.specs.Text.{Content, has_tag}
 use Rattle.edi_syntax.specs.Messages.{before_trailer, ends_message}
-use Rattle.edi_messages.specs.Parts.{is_equipment, heading, before_end, ends_part, groups_of}
-use Rattle.edi_messages.specs.declared.part.PartEnd.TheVariants.{Group}
+use Rattle.edi_messages.specs.Parts.{is_equipment, heading, before_end, ends_group, groups_of}
 
 -- ---- the first of what is sought
 
@@ -121,12 +120,12 @@ not_or true b h = h
 
 -- a segment that does not end it speaks of its equipment
 pub group_goes_on : (segment : Content) (segments rest : List Content) →
-    ends_part Group segment ≡ false → segments ≡ segment ∷ rest →
-    before_end Group segments ≡ segment ∷ before_end Group rest
+    ends_group segment ≡ false → segments ≡ segment ∷ rest →
+    before_end segments ≡ segment ∷ before_end rest
 group_goes_on segment segments rest inside s = rw (s, inside) refl
 
 pub same_groups : (segment : Content) (segments rest : List Content) →
-    ends_part Group segment ≡ false → segments ≡ segment ∷ rest →
+    ends_group segment ≡ false → segments ≡ segment ∷ rest →
     groups_of segments ≡ groups_of rest
 same_groups segment segments rest inside s =
     let other : is_equipment segment ≡ false = not_or (is_equipment segment) (has_tag (codes "CNT") segment) inside in

@@ -1,90 +1,101 @@
--- CONTRL, the answer to an interchange (syntax version 3), as a function of the parts of the interchange that it answers.
--- Values are written anew under the default service characters, empty components at the end of a composite are dropped.
-use Rattle.std.specs.Prelude.{ℕ, ◌+◌, List, [], ◌∷◌, ◌++◌, length, flat_map, zip, codes, decimal}
-use Rattle.edi_segments.specs.Text.{Content, component_of}
-use Rattle.edi_segments.specs.Spelling.{spelling, composite}
-use Rattle.edi_syntax.specs.Header.{control_reference}
-use Rattle.edi_syntax.specs.Header.{sender as part_of_sender, recipient as part_of_recipient}
+-- CONTRL, the answer to an interchange (syntax version 3), as a function of the parts of the interchange that it answers: an
+-- interchange of its own, UNB, one message from UNH to UNT, UNZ (ISO 9735). Values are written anew under the default service
+-- characters, without empty components and elements at an end.
+use Rattle.std.specs.Prelude.{◌≡◌, ℕ, ◌+◌, ◌<◌, None, List, [], ◌∷◌, ◌++◌, length, map, zip, codes, decimal}
+use Rattle.edi_segments.specs.Text.{Content}
+use Rattle.edi_segments.specs.Spelling.{segments_text}
+use Rattle.edi_syntax.specs.Header.{sender, recipient, preparation_date, preparation_time, control_reference}
 use Rattle.edi_syntax.specs.Messages.{Message, message_reference, message_identity}
+use Rattle.edi_syntax.specs.Faults.{body_fault_of}
 use Rattle.edi_messages.specs.declared.verdict.Verdict.{Verdict}
 use Rattle.edi_messages.specs.declared.verdict.Verdict.TheVariants.{Accepted, Rejected}
 
--- ---- the parts that are answered, of UNB and UNH
+-- ---- its segments, by their elements
 
--- S002: 0004 sender, 0007 qualifier, 0008 address for reverse routing
-unfoldable pub sender : Content → List ℕ
-sender header = composite (part_of_sender header 1 ∷ part_of_sender header 2 ∷ part_of_sender header 3 ∷ [])
+-- S002 of the interchange that is answered
+abbrev pub sender_of : Content → List (List ℕ)
+sender_of header = sender header 1 ∷ sender header 2 ∷ sender header 3 ∷ []
 
--- S003: 0010 recipient, 0007 qualifier, 0014 routing address
-unfoldable pub recipient : Content → List ℕ
-recipient header = composite (part_of_recipient header 1 ∷ part_of_recipient header 2 ∷ part_of_recipient header 3 ∷ [])
+-- S003
+abbrev pub recipient_of : Content → List (List ℕ)
+recipient_of header = recipient header 1 ∷ recipient header 2 ∷ recipient header 3 ∷ []
 
--- S004: 0017 date, 0019 time
-unfoldable pub prepared : Content → List ℕ
-prepared header = composite (component_of header 4 1 ∷ component_of header 4 2 ∷ [])
+-- UNB: the answer goes the other way, with the moment and the control reference of the interchange that is answered.
+abbrev pub unb : Content → Content
+unb header = record {
+  tag = codes "UNB";
+  elements = (codes "UNOA" ∷ codes "3" ∷ []) ∷ recipient_of header ∷ sender_of header
+      ∷ (preparation_date header ∷ preparation_time header ∷ []) ∷ (control_reference header ∷ []) ∷ [];
+}
 
--- 0020 control reference
-unfoldable pub reference : Content → List ℕ
-reference header = spelling (control_reference header)
+-- UNH: the message 1, a CONTRL of version D, release 3, agency UN
+abbrev pub unh : Content
+unh = record {
+  tag = codes "UNH";
+  elements = (codes "1" ∷ []) ∷ (codes "CONTRL" ∷ codes "D" ∷ codes "3" ∷ codes "UN" ∷ []) ∷ [];
+}
 
--- 0062 message reference number
-unfoldable pub referenced : Message → List ℕ
-referenced message = spelling (message_reference message)
+-- 0083 action, and 0085 error where it is rejected
+abbrev pub verdict_elements : Verdict → List (List (List ℕ))
+verdict_elements Accepted = (codes "7" ∷ []) ∷ []
+verdict_elements (Rejected code) = (codes "4" ∷ []) ∷ (decimal code ∷ []) ∷ []
 
--- S009: 0065 type, 0052 version, 0054 release, 0051 agency, 0057 association
-unfoldable pub identity : Message → List ℕ
-identity message =
-    composite (message_identity message 1 ∷ message_identity message 2 ∷ message_identity message 3 ∷ message_identity message 4 ∷ message_identity message 5 ∷ [])
+-- UCI: 0020, and S002 and S003 as the interchange named them, and the verdict on it
+abbrev pub uci : Content → Verdict → Content
+uci header verdict = record {
+  tag = codes "UCI";
+  elements = (control_reference header ∷ []) ∷ sender_of header ∷ recipient_of header ∷ verdict_elements verdict;
+}
 
--- ---- the segments
+-- S009 of a message
+abbrev pub identity_of : Message → List (List ℕ)
+identity_of message =
+    message_identity message 1 ∷ message_identity message 2 ∷ message_identity message 3 ∷ message_identity message 4 ∷ message_identity message 5 ∷ []
 
--- UCI names the parties as the interchange did: who sent it, then who was to get it.
-unfoldable pub parties : Content → List ℕ
-parties header = sender header ++ codes "+" ++ recipient header
+-- UCM: 0062 and S009 of a message, and the verdict on it
+abbrev pub ucm : Verdict × Message → Content
+ucm (verdict, message) = record {
+  tag = codes "UCM";
+  elements = (message_reference message ∷ []) ∷ identity_of message ∷ verdict_elements verdict;
+}
 
--- The answer goes the other way.
-unfoldable pub parties_answered : Content → List ℕ
-parties_answered header = recipient header ++ codes "+" ++ sender header
+-- UNT: 0074 the number of the message's segments, 0062
+abbrev pub unt : ℕ → Content
+unt count = record { tag = codes "UNT"; elements = (decimal count ∷ []) ∷ (codes "1" ∷ []) ∷ [] }
 
-unfoldable pub preparation : Content → List ℕ
-preparation header = prepared header ++ codes "+" ++ reference header
+-- UNZ: 0036 one message, 0020
+abbrev pub unz : Content → Content
+unz header = record { tag = codes "UNZ"; elements = (codes "1" ∷ []) ∷ (control_reference header ∷ []) ∷ [] }
 
-unfoldable pub opening_start : List ℕ
-opening_start = codes "UNB+UNOA:3+"
+-- An interchange of one message with these segments between its UNH and its UNT, which counts these two as well.
+abbrev pub answer_segments : Content → List Content → List Content
+answer_segments header between = unb header ∷ unh ∷ between ++ unt (length between + 2) ∷ unz header ∷ []
 
--- UNB: the moment and the control reference are those of the interchange that is answered.
-abbrev pub opening : Content → List ℕ
-opening header = opening_start ++ parties_answered header ++ codes "+" ++ preparation header ++ codes "'"
+-- UCI acknowledges, and a UCM for each message
+abbrev pub contrl_segments : Content → List Message → List Verdict → List Content
+contrl_segments header messages verdicts = answer_segments header (uci header Accepted ∷ map ucm (zip verdicts messages))
 
-unfoldable pub response_start : List ℕ
-response_start = codes "UNH+1+CONTRL:D:3:UN'UCI+"
+-- UCI rejects
+abbrev pub rejection_segments : Content → ℕ → List Content
+rejection_segments header code = answer_segments header (uci header (Rejected code) ∷ [])
 
--- UNH, and UCI without its verdict: 0020, S002, S003
-abbrev pub interchange_response : Content → List ℕ
-interchange_response header = response_start ++ reference header ++ codes "+" ++ parties header
-
--- 0083 action: 7 acknowledged, 4 rejected with the code of the error (0085)
-abbrev pub verdict_text : Verdict → List ℕ
-verdict_text Accepted = codes "+7'"
-verdict_text (Rejected code) = codes "+4+" ++ decimal code ++ codes "'"
-
--- UCM: 0062, S009, 0083, 0085
-abbrev pub message_response : Verdict × Message → List ℕ
-message_response (verdict, message) =
-    codes "UCM+" ++ referenced message ++ codes "+" ++ identity message ++ verdict_text verdict
-
-abbrev pub message_responses : List Message → List Verdict → List ℕ
-message_responses messages verdicts = flat_map message_response (zip verdicts messages)
-
--- UNT with the number of segments (0074), and UNZ
-abbrev pub closing : Content → ℕ → List ℕ
-closing header count = codes "UNT+" ++ decimal count ++ codes "+1'UNZ+1+" ++ reference header ++ codes "'"
+-- ---- its text
 
 -- The interchange is acknowledged, with a verdict on each message.
-abbrev pub contrl_text : Content → List Message → List Verdict → List ℕ
-contrl_text header messages verdicts =
-    opening header ++ interchange_response header ++ verdict_text Accepted ++ message_responses messages verdicts ++ closing header (3 + length verdicts)
+unfoldable pub contrl_text : Content → List Message → List Verdict → List ℕ
+contrl_text header messages verdicts = segments_text (contrl_segments header messages verdicts)
 
--- The interchange is rejected.
-abbrev pub rejection_text : Content → ℕ → List ℕ
-rejection_text header code = opening header ++ interchange_response header ++ verdict_text (Rejected code) ++ closing header 3
+-- The interchange is rejected, with the code of the error.
+unfoldable pub rejection_text : Content → ℕ → List ℕ
+rejection_text header code = segments_text (rejection_segments header code)
+
+-- ---- a law
+
+-- Its segments have none of the faults of what a header announces: there is one message, from UNH to UNT, with as many segments
+-- as it says and its reference in both, and UNZ counts it and repeats the control reference.
+abbrev pub ContrlsAreCounted : Type 0
+ContrlsAreCounted =
+    (header : Content)
+    → ((messages : List Message) (verdicts : List Verdict) → length verdicts ≡ length messages → length verdicts < 999997
+    → body_fault_of (contrl_segments header messages verdicts) ≡ None)
+    × ((code : ℕ) → body_fault_of (rejection_segments header code) ≡ None)

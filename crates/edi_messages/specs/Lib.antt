@@ -12,6 +12,5 @@ pub mod Laws
 pub mod Spans
 pub mod Owned
 pub mod Contrl
-pub mod ContrlSegments
 pub mod ErrorCodes
 pub mod Forms

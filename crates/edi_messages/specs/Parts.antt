@@ -1,35 +1,32 @@
 -- The parts of a message: what stands before the equipment, and the group of each equipment.
-use Rattle.std.specs.Prelude.{ℕ, Bool, false, cond, ◌&&◌, ◌||◌, List, [], ◌∷◌, codes}
+use Rattle.std.specs.Prelude.{ℕ, Bool, cond, ◌&&◌, ◌||◌, List, [], ◌∷◌, codes}
 use Rattle.std.specs.Str.{bytes_eq}
 use Rattle.edi_segments.specs.Text.{Content}
 use Rattle.edi_segments.specs.Text.{has_tag}
 use Rattle.edi_segments.specs.Text.{component_of}
 use Rattle.edi_syntax.specs.Frames.{message_segments_left}
 use Rattle.edi_messages.specs.declared.part.Part.{Part}
-use Rattle.edi_messages.specs.declared.part.PartEnd.{PartEnd}
-use Rattle.edi_messages.specs.declared.part.PartEnd.TheVariants.{Equipment, Group, Whole}
 
 -- EQD
 abbrev pub is_equipment : Content → Bool
 is_equipment segment = has_tag (codes "EQD") segment
 
--- whether the segment stands behind the end of such a part
-abbrev pub ends_part : PartEnd → Content → Bool
-ends_part Equipment segment = is_equipment segment
-ends_part Group segment = is_equipment segment || has_tag (codes "CNT") segment
-ends_part Whole segment = false
+-- the next equipment, or a control total
+abbrev pub ends_group : Content → Bool
+ends_group segment = is_equipment segment || has_tag (codes "CNT") segment
 
--- the segments before the first that ends the part
-abbrev pub before_end : PartEnd → List Content → List Content
-before_end end [] = []
-before_end end (segment ∷ segments) = cond (ends_part end segment) [] (segment ∷ before_end end segments)
+-- the segments before the first that ends the group
+abbrev pub before_end : List Content → List Content
+before_end [] = []
+before_end (segment ∷ segments) = cond (ends_group segment) [] (segment ∷ before_end segments)
 
 abbrev pub part_left : Part → List Content
-part_left part = before_end part.end (message_segments_left part.rest)
+part_left part = before_end (message_segments_left part.rest)
 
 -- the header: what stands before the first equipment
 abbrev pub heading : List Content → List Content
-heading segments = before_end Equipment segments
+heading [] = []
+heading (segment ∷ segments) = cond (is_equipment segment) [] (segment ∷ heading segments)
 
 -- an equipment and the segments that speak of it
 pub record EquipmentGroup : Type 0 where
@@ -41,7 +38,7 @@ abbrev pub groups_of : List Content → List EquipmentGroup
 groups_of [] = []
 groups_of (segment ∷ segments) =
     cond (is_equipment segment)
-    (record { equipment = segment; details = before_end Group segments } ∷ groups_of segments)
+    (record { equipment = segment; details = before_end segments } ∷ groups_of segments)
     (groups_of segments)
 
 -- a segment with this tag whose first component is the qualifier

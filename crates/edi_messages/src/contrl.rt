@@ -1,15 +1,15 @@
-ghost use Rattle.std.specs.Prelude.{◌≡◌, ◌++◌, ◌+◌, ◌<◌, ◌^◌, length, map, codes, decimal, OnOk, IfOk};
-ghost use Rattle.std.specs.List.{list_all};
+ghost use Rattle.std.specs.Prelude.{◌≡◌, ◌∷◌, [], length, map, zip, decimal, false, true, OnOk, IfOk};
 ghost use Rattle.edi_segments.specs.Segment.{value};
+ghost use Rattle.edi_segments.specs.Spelling.{with_element, with_elements, with_segment};
+ghost use Rattle.edi_segments.specs.Written.{with_segments};
 ghost use Rattle.edi_syntax.specs.Envelope.{header_of, messages_of};
 ghost use Rattle.edi_syntax.specs.Heads.{head_segments};
 ghost use Rattle.edi_syntax.specs.Envelopes.{envelope_segments};
 ghost use Rattle.edi_syntax.specs.Frames.{message, messages_left};
-ghost use Rattle.edi_segments.specs.Spelling.{is_empty_value, composite};
-ghost use Rattle.edi_messages.specs.Contrl.{sender, recipient, prepared, parties, parties_answered, preparation, opening_start, response_start, reference, referenced, identity, opening, interchange_response, closing, verdict_text, message_response, message_responses, contrl_text, rejection_text};
+ghost use Rattle.edi_messages.specs.Contrl.{sender_of, recipient_of, identity_of, unb, unh, verdict_elements, uci, ucm, unt, unz, contrl_text, rejection_text};
 
 use crate::verdict::Verdict;
-use edi_segments::Component;
+use edi_segments::{Component, SegmentWriter};
 use edi_syntax::{Envelope, Frame, Frames, Head};
 use itoa::Buffer;
 use std::alloc::{AllocError, Global};
@@ -28,13 +28,11 @@ pub fn write_contrl(
 {
     let head = envelope.head();
     let frames = envelope.frames();
-    let mut text = Vec::new(alloc);
-    write_opening(&head, &mut text)?;
-    write_interchange_response(&head, &mut text)?;
-    write_verdict(Verdict::Accepted, &mut text)?;
-    write_message_responses(frames, verdicts, &mut text)?;
-    write_closing(&head, 3 + verdicts.len(), &mut text)?;
-    Ok(text)
+    let mut writer = SegmentWriter::new(alloc);
+    write_opening(&head, Verdict::Accepted, &mut writer)?;
+    write_message_responses(frames, verdicts, &mut writer)?;
+    write_closing(&head, 3 + verdicts.len(), &mut writer)?;
+    Ok(writer.into_text())
 }
 
 /// The CONTRL that rejects an interchange (UCI, 0083 `4`) with the code of an error (0085). An error is that memory was
@@ -42,209 +40,165 @@ pub fn write_contrl(
 pub fn write_rejection(alloc: Global, head: &Head<'_>, code: u8) -> Result<Vec<u8>, AllocError>
     ensures { IfOk result (λ text. text.items ≡ rejection_text (header_of (head_segments head.now)) code) }
 {
-    let mut text = Vec::new(alloc);
-    write_opening(head, &mut text)?;
-    write_interchange_response(head, &mut text)?;
-    write_verdict(Verdict::Rejected(code), &mut text)?;
-    write_closing(head, 3, &mut text)?;
-    Ok(text)
+    let mut writer = SegmentWriter::new(alloc);
+    write_opening(head, Verdict::Rejected(code), &mut writer)?;
+    write_closing(head, 3, &mut writer)?;
+    Ok(writer.into_text())
 }
 
-/// No component has a value.
-fn are_empty(components: &[Component<'_>]) -> bool
-    ensures { result ≡ list_all is_empty_value (map value components.now) }
+fn sender<'a>(head: &Head<'a>) -> [Component<'a>; 3]
+    ensures { map value result ≡ sender_of (header_of (head_segments head.now)) }
 {
-    for component in components {
-        if !component.is_empty() {
-            return false;
-        }
-    }
-    true
+    [head.sender(1), head.sender(2), head.sender(3)]
 }
 
-/// Writes the components, without the empty ones at the end.
-fn write_composite(components: &[Component<'_>], out: &mut Vec<u8>) -> Result<(), AllocError>
-    ensures { OnOk result (out.new.items ≡ out.old.items ++ composite (map value components.now)) }
+fn recipient<'a>(head: &Head<'a>) -> [Component<'a>; 3]
+    ensures { map value result ≡ recipient_of (header_of (head_segments head.now)) }
 {
-    for (i, component) in components.iter().enumerate() {
-        component.spell_into(out)?;
-        if are_empty(&components[i + 1..]) {
-            return Ok(());
-        }
-        out.push(b':')?;
-    }
-    Ok(())
+    [head.recipient(1), head.recipient(2), head.recipient(3)]
 }
 
-#[tactic(auto, unfolding(crate::specs::Contrl::sender))]
-fn write_sender(head: &Head<'_>, out: &mut Vec<u8>) -> Result<(), AllocError>
-    ensures { OnOk result (out.new.items ≡ out.old.items ++ sender (header_of (head_segments head.now))) }
+fn identity<'a>(frame: &Frame<'a>) -> [Component<'a>; 5]
+    ensures { map value result ≡ identity_of (message frame.now) }
 {
-    let components = [head.sender(1), head.sender(2), head.sender(3)];
-    write_composite(&components, out)
-}
-
-#[tactic(auto, unfolding(crate::specs::Contrl::recipient))]
-fn write_recipient(head: &Head<'_>, out: &mut Vec<u8>) -> Result<(), AllocError>
-    ensures { OnOk result (out.new.items ≡ out.old.items ++ recipient (header_of (head_segments head.now))) }
-{
-    let components = [head.recipient(1), head.recipient(2), head.recipient(3)];
-    write_composite(&components, out)
-}
-
-#[tactic(auto, unfolding(crate::specs::Contrl::prepared))]
-fn write_prepared(head: &Head<'_>, out: &mut Vec<u8>) -> Result<(), AllocError>
-    ensures { OnOk result (out.new.items ≡ out.old.items ++ prepared (header_of (head_segments head.now))) }
-{
-    let components = [head.preparation(1), head.preparation(2)];
-    write_composite(&components, out)
-}
-
-#[tactic(auto, unfolding(crate::specs::Contrl::identity))]
-fn write_identity(frame: &Frame<'_>, out: &mut Vec<u8>) -> Result<(), AllocError>
-    ensures { OnOk result (out.new.items ≡ out.old.items ++ identity (message frame.now)) }
-{
-    let components = [
+    [
         frame.identity(1),
         frame.identity(2),
         frame.identity(3),
         frame.identity(4),
         frame.identity(5),
-    ];
-    write_composite(&components, out)
+    ]
 }
 
-#[tactic(auto, unfolding(crate::specs::Contrl::reference))]
-fn write_reference(head: &Head<'_>, out: &mut Vec<u8>) -> Result<(), AllocError>
-    ensures { OnOk result (out.new.items ≡ out.old.items ++ reference (header_of (head_segments head.now))) }
+/// The interchange's header, the message's, and what is said of the interchange that is answered.
+fn write_opening(
+    head: &Head<'_>,
+    verdict: Verdict,
+    writer: &mut SegmentWriter,
+) -> Result<(), AllocError>
+    requires { writer.old.is_open ≡ false }
+    ensures { OnOk result (writer.new ≡ with_segments writer.old (unb (header_of (head_segments head.now))
+        ∷ unh ∷ uci (header_of (head_segments head.now)) verdict ∷ [])) }
 {
-    head.reference().spell_into(out)
+    write_unb(head, writer)?;
+    write_unh(writer)?;
+    write_uci(head, verdict, writer)
 }
 
-#[tactic(auto, unfolding(crate::specs::Contrl::referenced))]
-fn write_message_reference(frame: &Frame<'_>, out: &mut Vec<u8>) -> Result<(), AllocError>
-    ensures { OnOk result (out.new.items ≡ out.old.items ++ referenced (message frame.now)) }
+fn write_unb(head: &Head<'_>, writer: &mut SegmentWriter) -> Result<(), AllocError>
+    requires { writer.old.is_open ≡ false }
+    ensures { OnOk result (writer.new ≡ with_segment writer.old (unb (header_of (head_segments head.now)))) }
 {
-    frame.reference().spell_into(out)
+    writer.begin(b"UNB")?;
+    writer.element(&[b"UNOA", b"3"])?;
+    writer.components(&recipient(head))?;
+    writer.components(&sender(head))?;
+    writer.components(&[head.preparation(1), head.preparation(2)])?;
+    writer.components(&[head.reference()])?;
+    writer.end()
 }
 
-#[tactic(auto, unfolding(crate::specs::Contrl::parties))]
-fn write_parties(head: &Head<'_>, out: &mut Vec<u8>) -> Result<(), AllocError>
-    ensures { OnOk result (out.new.items ≡ out.old.items ++ parties (header_of (head_segments head.now))) }
+fn write_unh(writer: &mut SegmentWriter) -> Result<(), AllocError>
+    requires { writer.old.is_open ≡ false }
+    ensures { OnOk result (writer.new ≡ with_segment writer.old unh) }
 {
-    write_sender(head, out)?;
-    out.push(b'+')?;
-    write_recipient(head, out)
+    writer.begin(b"UNH")?;
+    writer.element(&[b"1"])?;
+    writer.element(&[b"CONTRL", b"D", b"3", b"UN"])?;
+    writer.end()
 }
 
-#[tactic(auto, unfolding(crate::specs::Contrl::parties_answered))]
-fn write_parties_answered(head: &Head<'_>, out: &mut Vec<u8>) -> Result<(), AllocError>
-    ensures { OnOk result
-        (out.new.items ≡ out.old.items ++ parties_answered (header_of (head_segments head.now))) }
+fn write_uci(
+    head: &Head<'_>,
+    verdict: Verdict,
+    writer: &mut SegmentWriter,
+) -> Result<(), AllocError>
+    requires { writer.old.is_open ≡ false }
+    ensures { OnOk result (writer.new ≡ with_segment writer.old (uci (header_of (head_segments head.now)) verdict)) }
 {
-    write_recipient(head, out)?;
-    out.push(b'+')?;
-    write_sender(head, out)
+    writer.begin(b"UCI")?;
+    writer.components(&[head.reference()])?;
+    writer.components(&sender(head))?;
+    writer.components(&recipient(head))?;
+    write_verdict(verdict, writer)?;
+    writer.end()
 }
 
-#[tactic(auto, unfolding(crate::specs::Contrl::preparation))]
-fn write_preparation(head: &Head<'_>, out: &mut Vec<u8>) -> Result<(), AllocError>
-    ensures { OnOk result (out.new.items ≡ out.old.items ++ preparation (header_of (head_segments head.now))) }
+fn write_ucm(
+    frame: &Frame<'_>,
+    verdict: Verdict,
+    writer: &mut SegmentWriter,
+) -> Result<(), AllocError>
+    requires { writer.old.is_open ≡ false }
+    ensures { OnOk result (writer.new ≡ with_segment writer.old (ucm (verdict, message frame.now))) }
 {
-    write_prepared(head, out)?;
-    out.push(b'+')?;
-    write_reference(head, out)
+    writer.begin(b"UCM")?;
+    writer.components(&[frame.reference()])?;
+    writer.components(&identity(frame))?;
+    write_verdict(verdict, writer)?;
+    writer.end()
 }
 
-#[tactic(auto, unfolding(crate::specs::Contrl::opening_start))]
-fn write_opening_start(out: &mut Vec<u8>) -> Result<(), AllocError>
-    ensures { OnOk result (out.new.items ≡ out.old.items ++ opening_start) }
-{
-    out.extend_from_slice(b"UNB+UNOA:3+")
-}
-
-#[tactic(auto, unfolding(crate::specs::Contrl::response_start))]
-fn write_response_start(out: &mut Vec<u8>) -> Result<(), AllocError>
-    ensures { OnOk result (out.new.items ≡ out.old.items ++ response_start) }
-{
-    out.extend_from_slice(b"UNH+1+CONTRL:D:3:UN'UCI+")
-}
-
-fn write_opening(head: &Head<'_>, out: &mut Vec<u8>) -> Result<(), AllocError>
-    ensures { OnOk result (out.new.items ≡ out.old.items ++ opening (header_of (head_segments head.now))) }
-{
-    write_opening_start(out)?;
-    write_parties_answered(head, out)?;
-    out.push(b'+')?;
-    write_preparation(head, out)?;
-    out.extend_from_slice(b"'")?;
-    Ok(())
-}
-
-fn write_interchange_response(head: &Head<'_>, out: &mut Vec<u8>) -> Result<(), AllocError>
-    ensures { OnOk result
-        (out.new.items ≡ out.old.items ++ interchange_response (header_of (head_segments head.now))) }
-{
-    write_response_start(out)?;
-    write_reference(head, out)?;
-    out.push(b'+')?;
-    write_parties(head, out)
-}
-
-fn write_closing(head: &Head<'_>, count: usize, out: &mut Vec<u8>) -> Result<(), AllocError>
-    ensures { OnOk result (out.new.items ≡ out.old.items ++ closing (header_of (head_segments head.now)) count) }
-{
-    let mut buffer = Buffer::new();
-    out.extend_from_slice(b"UNT+")?;
-    out.extend_from_slice(buffer.format(count).as_bytes())?;
-    out.extend_from_slice(b"+1'UNZ+1+")?;
-    write_reference(head, out)?;
-    out.extend_from_slice(b"'")?;
-    Ok(())
-}
-
-fn write_verdict(verdict: Verdict, out: &mut Vec<u8>) -> Result<(), AllocError>
-    ensures { OnOk result (out.new.items ≡ out.old.items ++ verdict_text verdict) }
+/// Writes the last elements of a UCI or UCM.
+fn write_verdict(verdict: Verdict, writer: &mut SegmentWriter) -> Result<(), AllocError>
+    requires { writer.old.is_open ≡ true }
+    ensures { OnOk result (writer.new ≡ with_elements writer.old (verdict_elements verdict)) }
 {
     match verdict {
-        Verdict::Accepted => out.extend_from_slice(b"+7'"),
+        Verdict::Accepted => writer.element(&[b"7"]),
         Verdict::Rejected(code) => {
-            let mut buffer = Buffer::new();
-            out.extend_from_slice(b"+4+")?;
-            out.extend_from_slice(buffer.format(code).as_bytes())?;
-            out.extend_from_slice(b"'")
+            writer.element(&[b"4"])?;
+            write_number(usize::from(code), writer)
         }
     }
 }
 
-fn write_message_response(
-    frame: &Frame<'_>,
-    verdict: Verdict,
-    out: &mut Vec<u8>,
-) -> Result<(), AllocError>
-    ensures { OnOk result (out.new.items ≡ out.old.items ++ message_response (verdict, message frame.now)) }
+/// Writes an element of one number.
+fn write_number(number: usize, writer: &mut SegmentWriter) -> Result<(), AllocError>
+    requires { writer.old.is_open ≡ true }
+    ensures { OnOk result (writer.new ≡ with_element writer.old (decimal number ∷ [])) }
 {
-    out.extend_from_slice(b"UCM+")?;
-    write_message_reference(frame, out)?;
-    out.extend_from_slice(b"+")?;
-    write_identity(frame, out)?;
-    write_verdict(verdict, out)
+    let mut buffer = Buffer::new();
+    writer.element(&[buffer.format(number).as_bytes()])
 }
 
+/// A UCM for each message.
 fn write_message_responses(
     frames: Frames<'_>,
     verdicts: &[Verdict],
-    out: &mut Vec<u8>,
+    writer: &mut SegmentWriter,
 ) -> Result<(), AllocError>
-    ensures { OnOk result
-        (out.new.items ≡ out.old.items ++ message_responses (messages_left frames.entry) verdicts.now) }
+    requires { writer.old.is_open ≡ false }
+    ensures written { OnOk result
+        (writer.new ≡ with_segments writer.old (map ucm (zip verdicts.now (messages_left frames.entry)))) }
+    ensures between { OnOk result (writer.new.is_open ≡ false) }
 {
     let mut frames = frames;
     for verdict in verdicts {
         match frames.next() {
-            Some(frame) => write_message_response(&frame, *verdict, out)?,
+            Some(frame) => write_ucm(&frame, *verdict, writer)?,
             None => return Ok(()),
         }
     }
     Ok(())
+}
+
+/// The message's trailer and the interchange's.
+fn write_closing(
+    head: &Head<'_>,
+    count: usize,
+    writer: &mut SegmentWriter,
+) -> Result<(), AllocError>
+    requires { writer.old.is_open ≡ false }
+    ensures { OnOk result
+        (writer.new ≡ with_segments writer.old (unt count ∷ unz (header_of (head_segments head.now)) ∷ [])) }
+{
+    writer.begin(b"UNT")?;
+    write_number(count, writer)?;
+    writer.element(&[b"1"])?;
+    writer.end()?;
+    writer.begin(b"UNZ")?;
+    writer.element(&[b"1"])?;
+    writer.components(&[head.reference()])?;
+    writer.end()
 }

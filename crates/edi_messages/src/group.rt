@@ -6,7 +6,7 @@ ghost use Rattle.edi_segments.specs.Segment.{content};
 ghost use Rattle.edi_messages.specs.Parts.{part_left, is_qualified, states_moment};
 
 use crate::part::{
-    Part, PartEnd, is_qualified, keep_first, keep_first_places, next_of_group, states_moment,
+    Part, is_qualified, keep_first, keep_first_places, next_of_group, states_moment,
 };
 use edi_segments::Segment;
 use edi_syntax::MessageSegments;
@@ -48,8 +48,7 @@ impl<'a> Group<'a> {
     pub fn of(equipment: Segment<'a>, segments: MessageSegments<'a>) -> Group<'a>
         ensures group { group_content result ≡ record {
           equipment = content equipment.entry;
-          details = before_end
-              PartEnd.Group (message_segments_left segments.entry);
+          details = before_end (message_segments_left segments.entry);
         } }
         ensures others { groups_of (message_segments_left result.behind)
             ≡ groups_of (message_segments_left segments.entry) }
@@ -68,7 +67,7 @@ impl<'a> Group<'a> {
         }
         Group {
             equipment,
-            details: Part::new(segments, PartEnd::Group),
+            details: Part::new(segments),
             moment,
             slot,
             port,

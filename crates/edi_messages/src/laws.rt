@@ -1,4 +1,4 @@
-ghost use Rattle.edi_messages.specs.ContrlSegments.{ContrlsAreSegments, ContrlsAreCounted};
+ghost use Rattle.edi_messages.specs.Contrl.{ContrlsAreCounted};
 ghost use Rattle.edi_messages.specs.Forms.{OrdersAreFormed};
 ghost use Rattle.edi_messages.specs.Laws.{FaultlessAreRead, LinesAnswerTheirFirstFault};
 
@@ -10,11 +10,6 @@ pub fn faultless_are_read()
 /// What a line is refused for is the first of its faults in their order, and a line without fault is an order.
 pub fn lines_answer_their_first_fault()
     ensures { LinesAnswerTheirFirstFault }
-{}
-
-/// A CONTRL is an interchange of one message: UNB, UNH, UCI, a UCM for each message that is answered, UNT and UNZ.
-pub fn contrls_are_segments()
-    ensures { ContrlsAreSegments }
 {}
 
 /// The segments of a CONTRL have none of faults 9 to 15: they are one message, and their counts and references are right.

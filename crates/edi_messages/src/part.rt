@@ -3,63 +3,36 @@ ghost use Rattle.std.specs.Option.{option_map, option_or};
 ghost use Rattle.std.specs.Str.{bytes_eq};
 ghost use Rattle.edi_syntax.specs.Frames.{message_segments_left};
 ghost use Rattle.edi_segments.specs.Segment.{content, value};
-ghost use Rattle.edi_messages.specs.Parts.{is_equipment, ends_part, before_end, part_left, is_qualified, states_moment};
+ghost use Rattle.edi_messages.specs.Parts.{is_equipment, ends_group, before_end, part_left, is_qualified, states_moment};
 
 use edi_segments::{Component, Segment};
 use edi_syntax::MessageSegments;
 
-/// Where a part of a message ends.
-#[derive(Clone, Copy)]
-pub(crate) enum PartEnd {
-    /// Before the first equipment.
-    Equipment,
-    /// Before the next equipment or control total.
-    Group,
-    /// With the message.
-    Whole,
-}
-
-impl PartEnd {
-    pub fn is_before(self, segment: &Segment<'_>) -> bool
-        ensures { result ≡ ends_part self (content segment.now) }
-    {
-        match self {
-            PartEnd::Equipment => is_equipment(segment),
-            PartEnd::Group => is_equipment(segment) || segment.has_tag(b"CNT"),
-            PartEnd::Whole => false,
-        }
-    }
-}
-
-/// The segments of a part of a message that are left.
+/// The segments behind an equipment, before the next equipment or control total.
 #[derive(Clone, Copy)]
 pub(crate) struct Part<'a> {
     rest: MessageSegments<'a>,
-    end: PartEnd,
 }
 
 impl<'a> Part<'a> {
     /// The part that begins with these segments.
-    pub fn new(segments: MessageSegments<'a>, end: PartEnd) -> Part<'a>
-        ensures { part_left result ≡ before_end end (message_segments_left segments.entry) }
+    pub fn new(segments: MessageSegments<'a>) -> Part<'a>
+        ensures { part_left result ≡ before_end (message_segments_left segments.entry) }
     {
-        Part {
-            rest: segments,
-            end,
-        }
+        Part { rest: segments }
     }
 }
 
 /// The next segment of a group.
 pub(crate) fn next_of_group<'a>(rest: &mut MessageSegments<'a>) -> Option<Segment<'a>>
-    ensures left { MatchOption result (before_end PartEnd.Group (message_segments_left rest.old) ≡ []) (λ segment.
+    ensures left { MatchOption result (before_end (message_segments_left rest.old) ≡ []) (λ segment.
         message_segments_left rest.old ≡ content segment ∷ message_segments_left rest.new) }
-    ensures inside { IfSome result (λ segment. ends_part PartEnd.Group (content segment) ≡ false) }
+    ensures inside { IfSome result (λ segment. ends_group (content segment) ≡ false) }
     ensures same { IfNone result (rest.new ≡ rest.old) }
 {
     let mut ahead = *rest;
     let segment = ahead.next()?;
-    if PartEnd::Group.is_before(&segment) {
+    if ends_group(&segment) {
         return None;
     }
     *rest = ahead;
@@ -77,6 +50,13 @@ pub(crate) fn is_equipment(segment: &Segment<'_>) -> bool
     ensures { result ≡ is_equipment (content segment.now) }
 {
     segment.has_tag(b"EQD")
+}
+
+/// The segment is the next equipment, or a control total.
+fn ends_group(segment: &Segment<'_>) -> bool
+    ensures { result ≡ ends_group (content segment.now) }
+{
+    is_equipment(segment) || segment.has_tag(b"CNT")
 }
 
 /// The segment has the tag and the qualifier.

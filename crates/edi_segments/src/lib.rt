@@ -18,6 +18,7 @@ pub mod segment_reader;
 pub mod segment_writer;
 pub mod segments;
 pub mod service;
+mod spell;
 pub mod spelling;
 pub mod syntax_fault;
 pub mod token;

@@ -1,8 +1,11 @@
 ghost use Rattle.std.specs.Prelude.{◌≡◌, ◌≤◌, ℕ, List, length, map, IsTrue, OnOk, OnErr, true, false};
 ghost use Rattle.std.specs.List.{list_all};
 ghost use Rattle.edi_segments.specs.Characters.{is_data_byte};
+ghost use Rattle.edi_segments.specs.Segment.{value};
 ghost use Rattle.edi_segments.specs.Spelling.{Writing, IsSegmentTag, nothing_written, begun, with_element, ended};
 
+use super::component::Component;
+use super::spell::Spell;
 use super::spelling::{are_empty, write_composite};
 use std::alloc::{AllocError, Global};
 use std::marker::Model;
@@ -56,6 +59,22 @@ impl SegmentWriter {
         requires within { self.old.is_open ≡ true }
         ensures ok { OnOk result (self.new ≡ with_element self.old (map
             (λ value. value.now) values.now)) }
+        ensures err { OnErr result (self.new ≡ self.old) }
+    {
+        self.write_element(values)
+    }
+
+    /// Writes an element by components that were read: their values, written anew.
+    pub fn components(&mut self, components: &[Component<'_>]) -> Result<(), AllocError>
+        requires { self.old.is_open ≡ true }
+        ensures ok { OnOk result (self.new ≡ with_element self.old (map value components.now)) }
+        ensures err { OnErr result (self.new ≡ self.old) }
+    {
+        self.write_element(components)
+    }
+
+    fn write_element<V: Spell>(&mut self, values: &[V]) -> Result<(), AllocError>
+        ensures ok { OnOk result (self.new ≡ with_element self.old (map V.bytes_of values.now)) }
         ensures err { OnErr result (self.new ≡ self.old) }
     {
         let start = self.text.as_slice().len();

@@ -1,15 +1,23 @@
-ghost use Rattle.std.specs.Prelude.{◌≡◌, ◌++◌, ◌∷◌, ℕ, List, [], OnOk, OnErr, map, cond, IsTrue, take, drop};
+ghost use Rattle.std.specs.Prelude.{◌≡◌, ◌++◌, ◌∷◌, ℕ, List, [], OnOk, OnErr, map, cond, take, drop};
 ghost use Rattle.std.specs.List.{list_all};
-ghost use Rattle.edi_segments.specs.Characters.{is_data_byte};
 ghost use Rattle.edi_segments.specs.Tokens.{is_service};
 ghost use Rattle.edi_segments.specs.Advice.{default_service};
 ghost use Rattle.edi_segments.specs.Spelling.{spelled_byte, spelling, is_empty_value, composite, IsWritable};
 
+use super::spell::Spell;
 use std::alloc::AllocError;
 
 /// Writes the value at the end, under the default service characters. Where memory is refused the vector is as it was.
 pub fn write_component(value: &[u8], out: &mut Vec<u8>) -> Result<(), AllocError>
     requires { IsWritable value.now }
+    ensures ok { OnOk result (out.new.items ≡ out.old.items ++ spelling value.now) }
+    ensures err { OnErr result (out.new.items ≡ out.old.items) }
+{
+    write_value(value, out)
+}
+
+/// Writes any bytes as a value is written.
+pub(crate) fn write_value(value: &[u8], out: &mut Vec<u8>) -> Result<(), AllocError>
     ensures ok { OnOk result (out.new.items ≡ out.old.items ++ spelling value.now) }
     ensures err { OnErr result (out.new.items ≡ out.old.items) }
 {
@@ -43,10 +51,8 @@ fn serves(byte: u8) -> bool
 }
 
 /// Writes the values as components, without the empty ones at the end.
-pub(crate) fn write_composite(values: &[&[u8]], out: &mut Vec<u8>) -> Result<(), AllocError>
-    requires { IsTrue (list_all (λ value. list_all is_data_byte value.now) values.now) }
-    ensures ok { OnOk result (out.new.items ≡ out.old.items ++ composite (map
-        (λ value. value.now) values.now)) }
+pub(crate) fn write_composite<V: Spell>(values: &[V], out: &mut Vec<u8>) -> Result<(), AllocError>
+    ensures ok { OnOk result (out.new.items ≡ out.old.items ++ composite (map V.bytes_of values.now)) }
     ensures err { OnErr result (out.new.items ≡ out.old.items) }
 {
     let start = out.len();
@@ -64,14 +70,13 @@ pub(crate) fn write_composite(values: &[&[u8]], out: &mut Vec<u8>) -> Result<(),
 }
 
 /// Writes a value, and a separator behind it where it is not the last.
-fn write_part(value: &[u8], is_last: bool, out: &mut Vec<u8>) -> Result<(), AllocError>
-    requires { IsWritable value.now }
-    ensures ok { OnOk result (out.new.items ≡ out.old.items ++ (spelling value.now
+fn write_part<V: Spell>(value: &V, is_last: bool, out: &mut Vec<u8>) -> Result<(), AllocError>
+    ensures ok { OnOk result (out.new.items ≡ out.old.items ++ (spelling (V.bytes_of value.now)
         ++ cond is_last [] (58 ∷ []))) }
     ensures err { OnErr result (out.new.items ≡ out.old.items) }
 {
     let start = out.len();
-    write_component(value, out)?;
+    value.spell(out)?;
     if is_last {
         return Ok(());
     }
@@ -83,11 +88,11 @@ fn write_part(value: &[u8], is_last: bool, out: &mut Vec<u8>) -> Result<(), Allo
 }
 
 /// No value has any bytes.
-pub(crate) fn are_empty(values: &[&[u8]]) -> bool
-    ensures { result ≡ list_all is_empty_value (map (λ value. value.now) values.now) }
+pub(crate) fn are_empty<V: Spell>(values: &[V]) -> bool
+    ensures { result ≡ list_all is_empty_value (map V.bytes_of values.now) }
 {
     for value in values {
-        if !value.is_empty() {
+        if !value.is_empty_value() {
             return false;
         }
     }

@@ -4,14 +4,13 @@ use Rattle.std.specs.Option.{option_map}
 use Rattle.edi_segments.specs.Segment.{content}
 use Rattle.edi_syntax.specs.Frames.{message_segments_left}
 use Rattle.edi_messages.specs.Parts.{before_end, groups_of, is_qualified, states_moment}
-use Rattle.edi_messages.specs.declared.part.PartEnd.TheVariants.{Group}
 use Rattle.edi_messages.proofs.SurveyLemmas.{first_in}
 use Rattle.edi_messages.proofs.group.Group.of.Given as goal
 
 abbrev pub invariant-loop-segment : goal.invariant-loop-segment
 invariant-loop-segment l =
-    let all = before_end Group (message_segments_left l.segments) in
-    let left = before_end Group (message_segments_left l.behind) in
+    let all = before_end (message_segments_left l.segments) in
+    let left = before_end (message_segments_left l.behind) in
     record {
       moment : find states_moment all ≡ first_in (option_map content l.moment) states_moment left;
       slot : find (is_qualified (codes "LOC") (codes "ZZZ")) all
