@@ -31,6 +31,7 @@ and what holds the program to them:
     stores.py      the program over stores in files, beside the model
     worked_stores.py  the worked rows that want a store
     worked.py      the worked rows of docs/WORKED_ROWS.md, and the day of examples/day
+    cases.py       streams and deliveries whose answers are written out, in cases.txt
     beside.py      the program beside all this: scripts/beside
 
 A text is a str with one character for each byte (Latin-1), so that bytes from 0x80 stand for themselves.

@@ -1,11 +1,11 @@
-"""The program beside the model, on the worked rows, on random streams, and over random stores: scripts/beside."""
+"""The program beside the model, on the worked rows, the cases, random streams, and random stores: scripts/beside."""
 import os
 import subprocess
 import sys
 from collections import Counter
 from functools import partial
 
-from . import stores, worked
+from . import cases, stores, worked
 from .days import stream
 from .messages import MESSAGE_FAULTS
 from .office import Office
@@ -34,8 +34,8 @@ EVERY_KIND = (
 
 USAGE = """usage: scripts/beside [STREAMS DELIVERIES SHARE [SEED]]
 
-Compares crates/office/out/office with the model: first the worked rows and the day of examples/day, as `office demo`
-and over stores in files; then random set-ups, deliveries and reports over stores, and requests by HTTP; then random
+Compares crates/office/out/office with the model: first the worked rows, the day of examples/day and the cases of
+scripts/model/cases.txt, as `office demo` and over stores in files; then random set-ups, deliveries and reports over stores, and requests by HTTP; then random
 streams. With arguments the rows, and STREAMS streams of DELIVERIES interchanges each, SHARE of them (0 to 1) with
 altered bytes, with the seeds from SEED on (1 where none is given). Without arguments: %s.
 """ % ', then '.join('%d %d %s' % mix for mix in MIXES)
@@ -96,7 +96,7 @@ def read_arguments(words):
 
 
 def main():
-    """The worked rows; without arguments set-ups, stores and requests; then each mix. With `demo` alone no store is made.
+    """The worked rows and the cases; without arguments set-ups, stores and requests; then each mix. With `demo` alone no store is made.
     Gives the status."""
     demo_alone = sys.argv[1:] == ['demo']
     try:
@@ -110,6 +110,7 @@ def main():
     beside = stores.Beside(PROGRAM)
     over_store = (lambda row, setup, text: None) if demo_alone else partial(stores.over_store, beside)
     failed = worked.check(TOP, answered_by_program, over_store)
+    failed += cases.check(PROGRAM, with_stores=not demo_alone)
     if len(sys.argv) == 1:
         stores.try_all(beside)
     failed += stores.told(beside)

@@ -43,9 +43,9 @@ class Program:
             file.write(text)
         return path
 
-    def run(self, *words):
-        """What it prints, what it tells of faults, and its status."""
-        done = subprocess.run([self.path, *words], stdin=subprocess.DEVNULL, capture_output=True, check=False)
+    def run(self, *words, given=''):
+        """What it prints, what it tells of faults, and its status, with what is given to its standard input."""
+        done = subprocess.run([self.path, *words], input=given.encode('latin-1'), capture_output=True, check=False)
         return done.stdout.decode('utf-8'), done.stderr.decode('utf-8'), done.returncode
 
     def init(self, partners, blocks):

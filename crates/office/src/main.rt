@@ -1,8 +1,20 @@
 //! The office of a container terminal: `office init` makes a store, `office deliver` and `office serve` take interchanges,
 //! `office report` looks things up, and `office demo` takes interchanges from standard input to tables in memory.
+//! Its texts and exit statuses are tested; what its commands are made of is proved.
 #![tactic(auto)]
 
-use office_program::run;
+mod command;
+mod deliver;
+mod init;
+mod looked_at;
+mod report;
+mod serve;
+mod store;
+mod tally;
+mod telling;
+mod watched;
+
+use command::run;
 use office_stream::{Gathered, Port};
 use std::process::ExitCode;
 use std::{env, io};

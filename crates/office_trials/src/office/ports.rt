@@ -47,7 +47,10 @@ fn lines(alloc: Global, first: &[&str], others: &[&str]) -> Result<Vec<u8>, Fail
 }
 
 /// What `office demo` prints, what it tells, and its status.
-fn demo<R: Read + Drop>(alloc: Global, reader: R) -> Result<(Vec<u8>, Vec<u8>, u8), Fail> {
+pub(super) fn demo<R: Read + Drop>(
+    alloc: Global,
+    reader: R,
+) -> Result<(Vec<u8>, Vec<u8>, u8), Fail> {
     let mut input = Port::new(reader);
     let mut output = Port::new(Vec::new(alloc));
     let mut errors = Port::new(Vec::new(alloc));

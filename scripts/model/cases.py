@@ -1,0 +1,116 @@
+"""The streams and deliveries of cases.txt, by the model and by the program: each is answered by the bytes that stand there.
+
+A stream goes through `office demo`, where it has that set-up, and through `office deliver` over a store. Texts that are
+delivered by themselves are bodies of requests to `office serve`; where a stream of them is cut into just these, it is
+answered by the same lines.
+"""
+import os
+import re
+import tempfile
+from collections import namedtuple
+
+from .cuts import cut
+from .http import response
+from .office import Office, json_text
+from .reports import text_of
+from .setup import DEMO
+from .setups import files_of
+from .stores import Program
+from .stream import answers, lines, status
+from .yard import Block
+
+FILE = os.path.join(os.path.dirname(os.path.abspath(__file__)), 'cases.txt')
+SETUPS = {
+    'one stack of two tiers': DEMO._replace(plan=[Block('A', bays=1, rows=1, tiers=2)]),
+    'one visit': DEMO._replace(most_visits=1),
+}
+WORDS = {'set-up', 'stream', 'deliver', 'answer', 'status'}
+
+# texts are those that are delivered by themselves, or there are none and the stream is a text; the status is the stream's
+Case = namedtuple('Case', 'name setup stream texts lines status')
+
+
+def case_of(part):
+    """A case, from its name on."""
+    name, *rest = part.splitlines()
+    said = [line.partition(' ')[::2] for line in rest if line and not line.startswith('#')]
+    values = {word: [value for other, value in said if other == word] for word in WORDS}
+    setups, statuses = values['set-up'], values['status']
+    if {word for word, _value in said} - WORDS or len(setups) > 1 or len(statuses) != bool(values['stream']):
+        raise ValueError(name)
+    if values['stream'] and values['deliver'] or not values['stream'] and len(values['deliver']) != len(values['answer']):
+        raise ValueError(name)
+    return Case(
+        name, SETUPS[setups[0]] if setups else DEMO, read(''.join(values['stream'])),
+        [read(text) for text in values['deliver']], values['answer'], int(statuses[0]) if statuses else None)
+
+
+def read(text):
+    """The bytes that a line says."""
+    text = re.sub(r'\{(\d+) (.)\}', lambda found: found[2] * int(found[1]), text)
+    return text.replace(r'\r', '\r').replace(r'\n', '\n')
+
+
+class Cases:
+    """The program, whether stores are made, and what came of the comparisons so far."""
+
+    def __init__(self, path, with_stores):
+        self.path, self.with_stores = path, with_stores
+        self.compared, self.wrong = 0, []
+
+    def expect(self, name, by, wanted, got):
+        """Counts a comparison, and keeps what is wrong."""
+        self.compared += 1
+        if wanted != got:
+            self.wrong.append('%s, %s\n  case %r\n  got  %r' % (name, by, wanted, got))
+
+    def stream(self, case, text, wanted):
+        """A stream: what is printed, what is told of faults, and the status."""
+        given = answers(Office(case.setup), text)
+        self.expect(case.name, 'the model', wanted, (text_of(lines(given)), '', status(given)))
+        if case.setup == DEMO:
+            self.expect(case.name, 'demo', wanted, Program(self.path, '').run('demo', given=text))
+        if self.with_stores:
+            with tempfile.TemporaryDirectory(prefix='beside-') as folder:
+                program = Program(self.path, folder)
+                program.init(*files_of(case.setup))
+                self.expect(case.name, 'deliver', wanted, program.deliver(text))
+
+    def deliveries(self, case):
+        """Texts by themselves, one after the other; and as a stream, where it is cut into them."""
+        given = [json_text(answer) for answer in map(Office(case.setup).answer, case.texts)]
+        self.expect(case.name, 'the model', case.lines, given)
+        if self.with_stores:
+            self.serve(case)
+        text = '\r\n'.join(case.texts)
+        if cut(text) == (case.texts, None):
+            refused = any('"answer":"refused"' in line for line in case.lines)
+            self.stream(case, text, (text_of(case.lines), '', 1 if refused else 0))
+
+    def serve(self, case):
+        """Each text as the body of a request, to a store of its own."""
+        office, requests = Office(case.setup), []
+        for text, line in zip(case.texts, case.lines):
+            request = 'POST /interchanges HTTP/1.1\r\nContent-Length: %d\r\n\r\n%s' % (len(text), text)
+            wanted = response(office, request)
+            self.expect(case.name, 'the model over HTTP', line, wanted.partition('\r\n\r\n')[2])
+            requests.append((request, wanted))
+        with tempfile.TemporaryDirectory(prefix='beside-') as folder:
+            program = Program(self.path, folder)
+            program.init(*files_of(case.setup))
+            program.serve(requests, lambda what, wanted, got: self.expect(case.name + ', ' + what, 'serve', wanted, got))
+
+
+def check(path, with_stores):
+    """All cases; prints how many were compared, and each that is wrong. Gives how many are."""
+    with open(FILE, encoding='latin-1') as file:
+        cases = [case_of(part) for part in re.split(r'^== ', file.read(), flags=re.M)[1:]]
+    checked = Cases(path, with_stores)
+    for case in cases:
+        if case.texts:
+            checked.deliveries(case)
+        else:
+            checked.stream(case, case.stream, (text_of(case.lines), '', case.status))
+    print(''.join('wrong: %s\n' % text[:2000] for text in checked.wrong), end='')
+    print('%d cases: %d compared, %d wrong' % (len(cases), checked.compared, len(checked.wrong)))
+    return len(checked.wrong)
