@@ -21,7 +21,8 @@ are_two_same first second third = bytes_eq first second || bytes_eq first third 
 -- two codes of CODECO, of COPRAR or of COARRI are the same
 abbrev pub is_twice : List (List ℕ) → Bool
 is_twice (gate_in ∷ gate_out ∷ yard_move ∷ discharge_list ∷ load_list ∷ discharge_report ∷ load_report ∷ []) =
-    are_two_same gate_in gate_out yard_move || bytes_eq discharge_list load_list || bytes_eq discharge_report load_report
+    are_two_same gate_in gate_out yard_move || bytes_eq discharge_list load_list
+    || bytes_eq discharge_report load_report
 is_twice texts = false
 
 -- the first fault of seven texts as a table

@@ -27,7 +27,8 @@ table_texts table =
 abbrev pub meanings : CodeTable → PartnerKind → MessageType → List (List ℕ × OrderKind)
 meanings table Gate Codeco = (code_text table.gate_in, GateIn) ∷ (code_text table.gate_out, GateOut) ∷ []
 meanings table Yard Codeco = (code_text table.yard_move, Move) ∷ []
-meanings table Line Coprar = (code_text table.discharge_list, ListDischarge) ∷ (code_text table.load_list, ListLoad) ∷ []
+meanings table Line Coprar =
+    (code_text table.discharge_list, ListDischarge) ∷ (code_text table.load_list, ListLoad) ∷ []
 meanings table Quay Coarri = (code_text table.discharge_report, Discharge) ∷ (code_text table.load_report, Load) ∷ []
 meanings table kind type = []
 

@@ -1,6 +1,6 @@
--- CONTRL, the answer to an interchange (syntax version 3), as a function of the parts of the interchange that it answers: an
--- interchange of its own, UNB, one message from UNH to UNT, UNZ (ISO 9735). Values are written anew under the default service
--- characters, without empty components and elements at an end.
+-- CONTRL, the answer to an interchange (syntax version 3), as a function of the parts of the interchange that it
+-- answers: an interchange of its own, UNB, one message from UNH to UNT, UNZ (ISO 9735). Values are written anew under
+-- the default service characters, without empty components and elements at an end.
 use Rattle.std.specs.Prelude.{◌≡◌, ℕ, ◌+◌, ◌<◌, None, List, [], ◌∷◌, ◌++◌, length, map, zip, codes, decimal}
 use Rattle.edi_segments.specs.Text.{Content}
 use Rattle.edi_segments.specs.Spelling.{segments_text}
@@ -50,7 +50,8 @@ uci header verdict = record {
 -- S009 of a message
 abbrev pub identity_of : Message → List (List ℕ)
 identity_of message =
-    message_identity message 1 ∷ message_identity message 2 ∷ message_identity message 3 ∷ message_identity message 4 ∷ message_identity message 5 ∷ []
+    message_identity message 1 ∷ message_identity message 2 ∷ message_identity message 3 ∷ message_identity message 4
+    ∷ message_identity message 5 ∷ []
 
 -- UCM: 0062 and S009 of a message, and the verdict on it
 abbrev pub ucm : Verdict × Message → Content
@@ -73,7 +74,8 @@ answer_segments header between = unb header ∷ unh ∷ between ++ unt (length b
 
 -- UCI acknowledges, and a UCM for each message
 abbrev pub contrl_segments : Content → List Message → List Verdict → List Content
-contrl_segments header messages verdicts = answer_segments header (uci header Accepted ∷ map ucm (zip verdicts messages))
+contrl_segments header messages verdicts =
+    answer_segments header (uci header Accepted ∷ map ucm (zip verdicts messages))
 
 -- UCI rejects
 abbrev pub rejection_segments : Content → ℕ → List Content
@@ -91,11 +93,12 @@ rejection_text header code = segments_text (rejection_segments header code)
 
 -- ---- a law
 
--- Its segments have none of the faults of what a header announces: there is one message, from UNH to UNT, with as many segments
--- as it says and its reference in both, and UNZ counts it and repeats the control reference.
+-- Its segments have none of the faults of what a header announces: there is one message, from UNH to UNT, with as many
+-- segments as it says and its reference in both, and UNZ counts it and repeats the control reference.
 abbrev pub ContrlsAreCounted : Type 0
 ContrlsAreCounted =
     (header : Content)
-    → ((messages : List Message) (verdicts : List Verdict) → length verdicts ≡ length messages → length verdicts < 999997
+    → ((messages : List Message) (verdicts : List Verdict) → length verdicts ≡ length messages →
+    length verdicts < 999997
     → body_fault_of (contrl_segments header messages verdicts) ≡ None)
     × ((code : ℕ) → body_fault_of (rejection_segments header code) ≡ None)

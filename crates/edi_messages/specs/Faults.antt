@@ -68,7 +68,9 @@ speaks_of_call Coarri = true
 -- what the message orders for each of its containers
 abbrev pub order_kind_of : Codes → Message → Option OrderKind
 order_kind_of codes message =
-    option_and_then (λ type. option_and_then (λ segment. order_meant codes type (document_name segment)) (beginning message)) (message_type_of message.header)
+    option_and_then (λ type.
+    option_and_then (λ segment. order_meant codes type (document_name segment)) (beginning message))
+    (message_type_of message.header)
 
 -- the call that the transport names, if it does
 abbrev pub call_named : Content → CallContent
@@ -94,7 +96,8 @@ is_no_original message = not (option_map_or is_original (beginning message) true
 
 abbrev pub lacks_transport : Message → Bool
 lacks_transport message =
-    option_map_or speaks_of_call (message_type_of message.header) false && not (option_map_or names_call (transport message) false)
+    option_map_or speaks_of_call (message_type_of message.header) false
+    && not (option_map_or names_call (transport message) false)
 
 abbrev pub lacks_equipment : Message → Bool
 lacks_equipment message = not (list_any is_container message.segments)
@@ -102,7 +105,8 @@ lacks_equipment message = not (list_any is_container message.segments)
 -- 6066 isn't one to six digits with the number of all equipments
 abbrev pub miscounts_equipment : Message → Bool
 miscounts_equipment message =
-    not (option_map_or (λ segment. is_count (control_value segment) (count_by is_equipment message.segments)) (control message) true)
+    not (option_map_or (λ segment. is_count (control_value segment) (count_by is_equipment message.segments))
+    (control message) true)
 
 abbrev pub has_too_many : Message → Bool
 has_too_many message = nat_lt 999 (count_by is_container message.segments)

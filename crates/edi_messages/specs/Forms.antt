@@ -52,5 +52,6 @@ OrdersWell (refused fault number) = Unit {0}
 -- what a message is read as gives orders that have their form, in an interchange of a moment of the calendar
 abbrev pub OrdersAreFormed : Type 0
 OrdersAreFormed =
-    (codes : Codes) (opened : CivilMoment) (message : Message) (content : MessageContent) → IsTrue (is_moment opened) → reading codes opened message ≡ Ok content
+    (codes : Codes) (opened : CivilMoment) (message : Message) (content : MessageContent) → IsTrue (is_moment opened) →
+    reading codes opened message ≡ Ok content
     → All OrdersWell content.lines

@@ -15,7 +15,8 @@ use Rattle.edi_messages.specs.declared.codes.Codes.{Codes}
 abbrev pub FaultlessAreRead : Type 0
 FaultlessAreRead =
     (codes : Codes) (message : Message) → fault_of codes message ≡ None
-    → (purpose : Purpose) × ((opened : CivilMoment) → reading codes opened message ≡ Ok (message_of purpose opened message))
+    → (purpose : Purpose)
+    × ((opened : CivilMoment) → reading codes opened message ≡ Ok (message_of purpose opened message))
 
 -- What a line is refused for is the first of its faults, and a line without fault is an order.
 abbrev pub LinesAnswerTheirFirstFault : Type 0

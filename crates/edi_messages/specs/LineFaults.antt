@@ -52,7 +52,8 @@ is_size text = size.has_form text && size.has_length text
 
 -- the group states a moment (2380) that is none
 abbrev pub has_bad_moment : EquipmentGroup → Bool
-has_bad_moment group = option_map_or (λ segment. is_none (moment_stated segment)) (find states_moment group.details) false
+has_bad_moment group =
+    option_map_or (λ segment. is_none (moment_stated segment)) (find states_moment group.details) false
 
 abbrev pub has_bad_slot : EquipmentGroup → Bool
 has_bad_slot group = is_none (slot_of (location (codes "ZZZ") group))

@@ -53,8 +53,9 @@ judged (Some fault) message = Err fault
 judged None message = message
 
 -- What a message says to a terminal that got it from a partner with these codes, in an interchange of that moment: the
--- lowest fault that applies, or else its lines. A message without fault has a purpose (Laws.antt), so the last case is of
--- none.
+-- lowest fault that applies, or else its lines. A message without fault has a purpose (Laws.antt), so the last case is
+-- of none.
 abbrev pub reading : Codes → CivilMoment → Message → Result MessageContent MessageFault
 reading codes opened message =
-    judged (fault_of codes message) (option_map_or (λ purpose. Ok (message_of purpose opened message)) (purpose_of codes message) (Err Code))
+    judged (fault_of codes message)
+    (option_map_or (λ purpose. Ok (message_of purpose opened message)) (purpose_of codes message) (Err Code))

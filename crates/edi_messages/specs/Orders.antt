@@ -65,12 +65,14 @@ name_kept text = cond (is_name text) text []
 -- the first RFF with 1153 BN; 1154 booking
 abbrev pub booking : EquipmentGroup → List ℕ
 booking group =
-    option_map_or (λ segment. name_kept (component_of segment 1 2)) (find (is_qualified (codes "RFF") (codes "BN")) group.details) []
+    option_map_or (λ segment. name_kept (component_of segment 1 2))
+    (find (is_qualified (codes "RFF") (codes "BN")) group.details) []
 
 -- the first LOC with 3227 11, port of discharge
 abbrev pub port : EquipmentGroup → List ℕ
 port group =
-    option_map_or (λ segment. name_kept (component_of segment 2 1)) (find (is_qualified (codes "LOC") (codes "11")) group.details) []
+    option_map_or (λ segment. name_kept (component_of segment 2 1))
+    (find (is_qualified (codes "LOC") (codes "11")) group.details) []
 
 -- the digits that a format (2379) wants
 abbrev pub digits_wanted : List ℕ → ℕ
@@ -103,7 +105,8 @@ read_size group = result_map_both (λ size. size) (λ fault. line_fault.TheVaria
 -- the moment that the group states, or else that of the interchange
 abbrev pub read_moment : CivilMoment → EquipmentGroup → Result CivilMoment LineFault
 read_moment opened group =
-    option_map_or (λ segment. ok_or (moment_stated segment) line_fault.TheVariants.Moment) (find states_moment group.details) (Ok opened)
+    option_map_or (λ segment. ok_or (moment_stated segment) line_fault.TheVariants.Moment)
+    (find states_moment group.details) (Ok opened)
 
 abbrev pub read_slot : EquipmentGroup → Result Slot LineFault
 read_slot group = ok_or (slot_of (location (codes "ZZZ") group)) line_fault.TheVariants.SlotText
@@ -121,17 +124,26 @@ read_entry opened group =
     then_read (read_size group) (λ size_type.
     then_read (read_moment opened group) (λ moment.
     then_read (read_slot_if_named group) (λ slot.
-    Ok (record { number = number; size_type = size_type; is_laden = is_laden group; booking = booking group; moment = moment; slot = slot })))))
+    Ok (record {
+      number = number;
+      size_type = size_type;
+      is_laden = is_laden group;
+      booking = booking group;
+      moment = moment;
+      slot = slot;
+    })))))
 
 abbrev pub read_gate_in : CivilMoment → EquipmentGroup → Result OrderContent LineFault
 read_gate_in opened group = then_read (read_entry opened group) (λ entry. Ok (gate_in entry))
 
 abbrev pub read_gate_out : CivilMoment → EquipmentGroup → Result OrderContent LineFault
 read_gate_out opened group =
-    then_read (read_number group) (λ number. then_read (read_moment opened group) (λ moment. Ok (gate_out number moment)))
+    then_read (read_number group)
+    (λ number. then_read (read_moment opened group) (λ moment. Ok (gate_out number moment)))
 
 abbrev pub read_yard_move : EquipmentGroup → Result OrderContent LineFault
-read_yard_move group = then_read (read_number group) (λ number. then_read (read_slot group) (λ slot. Ok (move number slot)))
+read_yard_move group =
+    then_read (read_number group) (λ number. then_read (read_slot group) (λ slot. Ok (move number slot)))
 
 abbrev pub read_discharge_line : CallContent → EquipmentGroup → Result OrderContent LineFault
 read_discharge_line call group = then_read (read_number group) (λ number. Ok (list_discharge call number))
@@ -144,7 +156,8 @@ read_discharge call opened group = then_read (read_entry opened group) (λ entry
 
 abbrev pub read_load : CallContent → CivilMoment → EquipmentGroup → Result OrderContent LineFault
 read_load call opened group =
-    then_read (read_number group) (λ number. then_read (read_moment opened group) (λ moment. Ok (load call number moment)))
+    then_read (read_number group)
+    (λ number. then_read (read_moment opened group) (λ moment. Ok (load call number moment)))
 
 -- the order of a group in a message for that purpose, in an interchange of that moment, or the first fault of its line
 abbrev pub order_of : Purpose → CivilMoment → EquipmentGroup → Result OrderContent LineFault

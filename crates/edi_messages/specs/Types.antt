@@ -15,6 +15,7 @@ type_named name =
 -- the message type that a header identifies, in directory D.95B of the United Nations
 abbrev pub message_type_of : Content → Option MessageType
 message_type_of header =
-    cond (bytes_eq (component_of header 2 2) (codes "D") && bytes_eq (component_of header 2 3) (codes "95B") && bytes_eq (component_of header 2 4) (codes "UN"))
+    cond (bytes_eq (component_of header 2 2) (codes "D") && bytes_eq (component_of header 2 3) (codes "95B")
+    && bytes_eq (component_of header 2 4) (codes "UN"))
     (type_named (component_of header 2 1))
     None

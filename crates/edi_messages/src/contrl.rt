@@ -14,8 +14,8 @@ use edi_syntax::{Envelope, Frame, Frames, Head};
 use itoa::Buffer;
 use std::alloc::{AllocError, Global};
 
-/// The CONTRL that acknowledges an interchange (UCI, 0083 `7`), with a verdict on each of its messages, in their order (UCM,
-/// 0083 and 0085). An error is that memory was refused.
+/// The CONTRL that acknowledges an interchange (UCI, 0083 `7`), with a verdict on each of its messages, in their order
+/// (UCM, 0083 and 0085). An error is that memory was refused.
 pub fn write_contrl(
     alloc: Global,
     envelope: &Envelope<'_>,

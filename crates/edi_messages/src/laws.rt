@@ -12,12 +12,14 @@ pub fn lines_answer_their_first_fault()
     ensures { LinesAnswerTheirFirstFault }
 {}
 
-/// The segments of a CONTRL have none of faults 9 to 15: they are one message, and their counts and references are right.
+/// The segments of a CONTRL have none of faults 9 to 15: they are one message, and their counts and references are
+/// right.
 pub fn contrls_are_counted()
     ensures { ContrlsAreCounted }
 {}
 
-/// What a message orders has its form: the container's number, its size-type, the moment, the call, the booking and the port.
+/// What a message orders has its form: the container's number, its size-type, the moment, the call, the booking and the
+/// port.
 pub fn orders_are_formed()
     ensures { OrdersAreFormed }
 {}

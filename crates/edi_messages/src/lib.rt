@@ -1,5 +1,5 @@
-//! The messages of a container terminal's partners as orders, and CONTRL, the answer to them: CODECO, COPRAR and COARRI of
-//! UN/EDIFACT directory D.95B in the office's profile, and CONTRL of syntax version 3.
+//! The messages of a container terminal's partners as orders, and CONTRL, the answer to them: CODECO, COPRAR and COARRI
+//! of UN/EDIFACT directory D.95B in the office's profile, and CONTRL of syntax version 3.
 #![tactic(auto)]
 
 pub mod call;

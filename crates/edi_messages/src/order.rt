@@ -3,8 +3,8 @@ use crate::entry::Entry;
 use box6346::{BoxNumber, Slot};
 use edi_moments::Moment;
 
-/// What a message orders for one container, by its number (8260). Each kind has what it reads and nothing else. A moment is
-/// that of its group (2380), or else that of the interchange.
+/// What a message orders for one container, by its number (8260). Each kind has what it reads and nothing else. A
+/// moment is that of its group (2380), or else that of the interchange.
 #[derive(Debug, Drop)]
 pub enum Order {
     /// It comes in by the gate.

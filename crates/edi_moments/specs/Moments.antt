@@ -40,7 +40,8 @@ is_digit b = nat_le digit_zero b && nat_le b digit_nine
 
 -- the number of the two digits at a place, 0 where there are none
 abbrev pub number_at : List ℕ → ℕ → ℕ
-number_at text i = cond (nat_le (i + 2) (length text)) ((get_or text i 0 - digit_zero) * 10 + (get_or text (i + 1) 0 - digit_zero)) 0
+number_at text i = cond (nat_le (i + 2) (length text))
+    ((get_or text i 0 - digit_zero) * 10 + (get_or text (i + 1) 0 - digit_zero)) 0
 
 -- what CCYYMMDDHHMM writes, and CCYYMMDD at 00:00
 abbrev pub moment_written : List ℕ → CivilMoment

@@ -30,7 +30,13 @@ advised text = record {
 
 -- `:`, `+`, `?` and `'`
 abbrev pub default_service : Service
-default_service = record { component = colon; element = plus_sign; release = Some question_mark; terminator = apostrophe; distinct = refl }
+default_service = record {
+  component = colon;
+  element = plus_sign;
+  release = Some question_mark;
+  terminator = apostrophe;
+  distinct = refl;
+}
 
 abbrev pub service_with : (c : ServiceCharacters) (usable : Bool) → may_be_used c ≡ usable → Service
 service_with c true h =

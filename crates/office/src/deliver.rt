@@ -41,7 +41,7 @@ fn deliver_all<R: Read, W: Write, E: Write>(
     }
 }
 
-// A person sees how far it is, and in the end how the interchanges were answered.
+/// A person sees how far it is, and in the end how the interchanges were answered.
 fn deliver_to<D: Deliver, R: Read, W: Write, E: Write>(
     rt: &HostRuntime,
     desk: D,

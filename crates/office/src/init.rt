@@ -37,7 +37,7 @@ pub(crate) fn init<W: Write, E: Write>(
     }
 }
 
-// The fault's name, and for a person also which record shows it. Each file comes with its path.
+/// The fault's name, and for a person also which record shows it. Each file comes with its path.
 fn fault_text(
     rt: &HostRuntime,
     fault: SetupFault,

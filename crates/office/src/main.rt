@@ -1,6 +1,6 @@
-//! The office of a container terminal: `office init` makes a store, `office deliver` and `office serve` take interchanges,
-//! `office report` looks things up, and `office demo` takes interchanges from standard input to tables in memory.
-//! Its texts and exit statuses are tested; what its commands are made of is proved.
+//! The office of a container terminal: `office init` makes a store, `office deliver` and `office serve` take
+//! interchanges, `office report` looks things up, and `office demo` takes interchanges from standard input to tables in
+//! memory. Its texts and exit statuses are tested; what its commands are made of is proved.
 #![tactic(auto)]
 
 mod command;

@@ -23,7 +23,7 @@ pub(crate) fn report<W: Write, E: Write>(
     }
 }
 
-// The report in whole lines.
+/// The report in whole lines.
 fn find(
     rt: &HostRuntime,
     store: &str,
@@ -51,7 +51,7 @@ fn find_in(
     }
 }
 
-// A reply is a line without its end.
+/// A reply is a line without its end.
 fn in_lines(text: String) -> Result<String, AllocError> {
     let mut text = text;
     if !text.ends_with('\n') {

@@ -7,7 +7,7 @@ use std::fs;
 /// A store in a file of the operating system.
 pub(crate) type Store = FileStore<File>;
 
-// A store that can't be opened.
+/// A store that can't be opened.
 const NO_STORE: Error = Error::SqliteFailure(ErrorCode::CannotOpen);
 
 /// The desk of a store that is there. No file is made, and an empty one is no store.

@@ -35,8 +35,8 @@ fn assert_served<R: Read + Drop, D: Report>(
     assert_eq!(rt; writer.written.as_slice(), response);
 }
 
-/// One request after the other is served by a desk to which nothing had been delivered, and answered so: each twice, where it
-/// comes as a whole and where it comes byte by byte.
+/// One request after the other is served by a desk to which nothing had been delivered, and answered so: each twice,
+/// where it comes as a whole and where it comes byte by byte.
 fn assert_responses(rt: &impl Abort, alloc: Global, rows: &[(&[u8], &[u8])]) -> Result<(), Fail> {
     let mut desk = open_demo(alloc)?;
     for (request, response) in rows {

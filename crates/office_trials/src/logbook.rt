@@ -9,8 +9,8 @@ use office_stream::Port;
 use std::alloc::Global;
 use std::io::Write;
 
-/// The plainest desk that keeps records: it writes each text into a book, and knows no sender. Once a write has failed, what
-/// the book holds isn't known any more.
+/// The plainest desk that keeps records: it writes each text into a book, and knows no sender. Once a write has failed,
+/// what the book holds isn't known any more.
 #[derive(Drop)]
 pub struct Logbook<W> {
     pages: Port<W>,

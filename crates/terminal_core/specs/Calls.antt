@@ -18,7 +18,8 @@ use Rattle.terminal_core.specs.State.{TerminalState, is_open_visit}
 use Rattle.terminal_core.specs.Step.{Stepped, settled, reason_of}
 
 -- the state, the answer and the changes that were added are those of a step
-pub record Follows (step : Stepped) (now : TerminalState) (answer : Outcome) (old new : List ChangeContent) : Type 0 where
+pub record Follows (step : Stepped) (now : TerminalState) (answer : Outcome)
+    (old new : List ChangeContent) : Type 0 where
   pub state : now ≡ step.state
   pub outcome : answer ≡ step.outcome
   pub changes : new ≡ old ++ step.changes

@@ -31,7 +31,9 @@ pub record TerminalRows : Type 0 where
   pub lines : Lines
 
 abbrev pub standing_of : TerminalState → BoxNumber → Option Standing
-standing_of state container = option_map (λ s. standing_in (number_of_visit (open_visit state container)) s.slot) (finite_map.get state.yard.boxes container)
+standing_of state container =
+    option_map (λ s. standing_in (number_of_visit (open_visit state container)) s.slot)
+    (finite_map.get state.yard.boxes container)
 
 abbrev pub rows_of : TerminalState → TerminalRows
 rows_of state = record { visits = state.visits; places = standing_of state; lines = state.lines }
@@ -53,11 +55,24 @@ with_line_done lines key (Some line) = finite_map.insert lines key (record line 
 abbrev pub changed : TerminalRows → ChangeContent → TerminalRows
 changed rows (visit_opened visit) = record rows { visits = rows.visits ++ visit ∷ [] }
 changed rows (visit_closed number departure) = record rows { visits = map (closed_as number departure) rows.visits }
-changed rows (placed_at container visit slot) = record rows { places = update bytes_eq rows.places container (Some (standing_in visit slot)) }
-changed rows (moved_to container slot) = record rows { places = update bytes_eq rows.places container (option_map (standing_elsewhere slot) (rows.places container)) }
+changed rows (placed_at container visit slot) =
+    record rows { places = update bytes_eq rows.places container (Some (standing_in visit slot)) }
+changed rows (moved_to container slot) =
+    record rows {
+      places = update bytes_eq rows.places container
+          (option_map (standing_elsewhere slot) (rows.places container));
+    }
 changed rows (removed_from container) = record rows { places = update bytes_eq rows.places container None }
-changed rows (listed_on call side container port) = record rows { lines = finite_map.insert rows.lines (line_key call side container) (record { port = port; state = Pending }) }
-changed rows (line_done call side container) = record rows { lines = with_line_done rows.lines (line_key call side container) (finite_map.get rows.lines (line_key call side container)) }
+changed rows (listed_on call side container port) =
+    record rows {
+      lines = finite_map.insert rows.lines (line_key call side container)
+          (record { port = port; state = Pending });
+    }
+changed rows (line_done call side container) =
+    record rows {
+      lines = with_line_done rows.lines (line_key call side container)
+          (finite_map.get rows.lines (line_key call side container));
+    }
 
 -- the rows after changes, one after another
 abbrev pub all_changed : TerminalRows → List ChangeContent → TerminalRows
@@ -82,7 +97,8 @@ pub record IsOneOpenVisit (number : ℕ) (visits : List VisitContent) : Type 0 w
   pub stays : visit.departure ≡ None
 
 -- the container stands nowhere yet, and no other has the slot or the visit
-pub record IsNewPlace (container : BoxNumber) (visit : ℕ) (slot : Slot) (places : BoxNumber → Option Standing) : Type 0 where
+pub record IsNewPlace (container : BoxNumber) (visit : ℕ) (slot : Slot)
+    (places : BoxNumber → Option Standing) : Type 0 where
   pub absent : places container ≡ None
   pub slot_free : (other : BoxNumber) (standing : Standing) → places other ≡ Some standing → standing.slot ≢ slot
   pub visit_free : (other : BoxNumber) (standing : Standing) → places other ≡ Some standing → standing.visit ≢ visit
@@ -90,7 +106,8 @@ pub record IsNewPlace (container : BoxNumber) (visit : ℕ) (slot : Slot) (place
 -- the container stands somewhere, and no other has the slot
 pub record IsNewSlot (container : BoxNumber) (slot : Slot) (places : BoxNumber → Option Standing) : Type 0 where
   pub there : is_some (places container) ≡ true
-  pub slot_free : (other : BoxNumber) (standing : Standing) → other ≢ container → places other ≡ Some standing → standing.slot ≢ slot
+  pub slot_free : (other : BoxNumber) (standing : Standing) → other ≢ container → places other ≡ Some standing →
+      standing.slot ≢ slot
 
 -- the line is there, and not done
 pub record IsPendingLine (key : LineKey) (lines : Lines) : Type 0 where
@@ -119,12 +136,15 @@ AreApplicable rows (change ∷ changes) = IsApplicable rows change × AreApplica
 -- changes that are appended come after those before
 abbrev pub ChangesAreAppended : Type 0
 ChangesAreAppended =
-    (rows : TerminalRows) (before after : List ChangeContent) → all_changed rows (before ++ after) ≡ all_changed (all_changed rows before) after
+    (rows : TerminalRows) (before after : List ChangeContent) →
+    all_changed rows (before ++ after) ≡ all_changed (all_changed rows before) after
 
 -- they are applicable exactly if those before are, and they are to what those leave
 abbrev pub AreApplicableAppended : Type 0
 AreApplicableAppended =
-    (rows : TerminalRows) (before after : List ChangeContent) → AreApplicable rows (before ++ after) ↔ (AreApplicable rows before × AreApplicable (all_changed rows before) after)
+    (rows : TerminalRows) (before after : List ChangeContent) →
+    AreApplicable rows (before ++ after) ↔
+    (AreApplicable rows before × AreApplicable (all_changed rows before) after)
 
 -- the changes of a step turn the rows of the old state into those of the new
 abbrev pub ChangesTurnRows : Type 0
@@ -135,4 +155,5 @@ ChangesTurnRows =
 -- each change of a step adds, alters or removes one row
 abbrev pub ChangesAreApplicable : Type 0
 ChangesAreApplicable =
-    (state : TerminalState) (source : Source) (order : OrderContent) → IsWhole state → AreApplicable (rows_of state) (step state source order).changes
+    (state : TerminalState) (source : Source) (order : OrderContent) → IsWhole state →
+    AreApplicable (rows_of state) (step state source order).changes

@@ -19,18 +19,30 @@ VisitParts = ℕ × (BoxNumber × (SizeType × (Bool × (List ℕ × (Arrival ×
 
 abbrev pub visit_parts_code : Coded VisitParts
 visit_parts_code =
-    coded× coded_ℕ (coded× (coded_list coded_ℕ) (coded× (coded_list coded_ℕ) (coded× coded_bool (coded× (coded_list coded_ℕ) (coded× arrivals.the_row.coded (coded_option departures.the_row.coded))))))
+    coded× coded_ℕ (coded× (coded_list coded_ℕ)
+    (coded× (coded_list coded_ℕ)
+    (coded× coded_bool (coded× (coded_list coded_ℕ)
+    (coded× arrivals.the_row.coded (coded_option departures.the_row.coded))))))
 
 abbrev pub visit_code : Coded VisitContent
 visit_code =
     code_by VisitParts visit_parts_code
     (λ v. (v.number, (v.container, (v.size_type, (v.is_laden, (v.booking, (v.arrival, v.departure)))))))
-    (λ p. record { number = p.0; container = p.1.0; size_type = p.1.1.0; is_laden = p.1.1.1.0; booking = p.1.1.1.1.0; arrival = p.1.1.1.1.1.0; departure = p.1.1.1.1.1.1 })
+    (λ p. record {
+      number = p.0;
+      container = p.1.0;
+      size_type = p.1.1.0;
+      is_laden = p.1.1.1.0;
+      booking = p.1.1.1.1.0;
+      arrival = p.1.1.1.1.1.0;
+      departure = p.1.1.1.1.1.1;
+    })
     (λ _. refl)
 
 abbrev pub line_code : Coded LineContent
 line_code =
-    code_by (List ℕ × LineState) (coded× (coded_list coded_ℕ) line_states.the_row.coded) (λ l. (l.port, l.state)) (λ p. record { port = p.0; state = p.1 }) (λ _. refl)
+    code_by (List ℕ × LineState) (coded× (coded_list coded_ℕ) line_states.the_row.coded) (λ l. (l.port, l.state))
+    (λ p. record { port = p.0; state = p.1 }) (λ _. refl)
 
 abbrev pub lines_code : Coded Lines
 lines_code = finite_map.code (coded_list (coded_list coded_ℕ)) line_code

@@ -12,4 +12,5 @@ is_closed visit = is_some visit.departure
 -- exits.
 abbrev pub EntriesLessExitsStand : Type 0
 EntriesLessExitsStand =
-    (state : TerminalState) → IsWhole state → finite_map.len state.yard.boxes + length (filter is_closed state.visits) ≡ length state.visits
+    (state : TerminalState) → IsWhole state →
+    finite_map.len state.yard.boxes + length (filter is_closed state.visits) ≡ length state.visits

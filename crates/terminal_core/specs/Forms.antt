@@ -63,8 +63,10 @@ pub record IsFormedLine (call : CallContent) (side : Side) (container : BoxNumbe
 -- each visit and each line has its form, and each container stands in a slot that has a name
 pub record IsWellFormed (state : TerminalState) : Type 0 where
   pub visits : (visit : VisitContent) → Contains state.visits visit → IsFormedVisit visit
-  pub lines : (call : CallContent) (side : Side) (container : BoxNumber) (line : LineContent) → line_of state call side container ≡ Some line → IsFormedLine call side container line
-  pub slots : (container : BoxNumber) (s : Placement) → finite_map.get state.yard.boxes container ≡ Some s → IsNamed s.slot
+  pub lines : (call : CallContent) (side : Side) (container : BoxNumber) (line : LineContent) →
+      line_of state call side container ≡ Some line → IsFormedLine call side container line
+  pub slots : (container : BoxNumber) (s : Placement) → finite_map.get state.yard.boxes container ≡ Some s →
+      IsNamed s.slot
 
 -- ---- the laws
 
@@ -75,4 +77,5 @@ EmptyIsWellFormed = (yard : YardMap) (limit : ℕ) → yard.boxes ≡ finite_map
 -- a well-formed order leaves a well-formed state
 abbrev pub StepsKeepForms : Type 0
 StepsKeepForms =
-    (state : TerminalState) (source : Source) (order : OrderContent) → IsWhole state → IsWellFormed state → IsSource source → IsFormedOrder order → IsWellFormed (step state source order).state
+    (state : TerminalState) (source : Source) (order : OrderContent) → IsWhole state → IsWellFormed state →
+    IsSource source → IsFormedOrder order → IsWellFormed (step state source order).state

@@ -12,7 +12,8 @@ use Rattle.terminal_core.specs.Codes.{visit_code}
 -- each container's open visit is found by the index of its row
 abbrev pub AreIndexed : List VisitContent → List (BoxNumber × ℕ) → Type 0
 AreIndexed visits open_indexes =
-    (container : BoxNumber) (row_index : ℕ) (visit : VisitContent) → slice_get visits row_index ≡ Some visit → is_open_visit container visit ≡ true
+    (container : BoxNumber) (row_index : ℕ) (visit : VisitContent) → slice_get visits row_index ≡ Some visit →
+    is_open_visit container visit ≡ true
     → lookup (bytes_eq container) open_indexes ≡ Some row_index
 
 -- the visits, and how many more there is room for among them and among the indexes of those that are open
@@ -28,6 +29,7 @@ pub record HasRoom (book : VisitBook) : Type 0 where
 
 abbrev pub book_code : Coded VisitBook
 book_code =
-    code_by (List VisitContent × (ℕ × ℕ)) (coded× (coded_list visit_code) (coded× coded_ℕ coded_ℕ)) (λ b. (b.visits, (b.spare_visits, b.spare_indexes)))
+    code_by (List VisitContent × (ℕ × ℕ)) (coded× (coded_list visit_code) (coded× coded_ℕ coded_ℕ))
+    (λ b. (b.visits, (b.spare_visits, b.spare_indexes)))
     (λ p. record { visits = p.0; spare_visits = p.1.0; spare_indexes = p.1.1 })
     (λ _. refl)

@@ -21,7 +21,8 @@ abbrev pub AllIndexes : Type 0
 AllIndexes = HashMap Call CallIndexes (BuildHasherDefault FoldHasher)
 
 abbrev pub is_call : CallContent → Call → Bool
-is_call call other = bytes_eq call.vessel (string_bytes other.vessel) && bytes_eq call.voyage (string_bytes other.voyage)
+is_call call other = bytes_eq call.vessel (string_bytes other.vessel)
+    && bytes_eq call.voyage (string_bytes other.voyage)
 
 abbrev pub is_key : Side → BoxNumber → ℕ × List ℕ → Bool
 is_key side container key = side_code side == key.0 && bytes_eq container key.1
@@ -40,18 +41,25 @@ index_in indexes call side container = index_by (indexes_of indexes call) side c
 
 -- each line has the index that it had
 abbrev pub SameIndexes : AllIndexes → AllIndexes → Type 0
-SameIndexes old new = (call : Call) (side : Side) (container : BoxNumber) → index_in new (call_content call) side container ≡ index_in old (call_content call) side container
+SameIndexes old new =
+    (call : Call) (side : Side) (container : BoxNumber) →
+    index_in new (call_content call) side container ≡ index_in old (call_content call) side container
 
 -- two lines go by one key
 abbrev pub is_same_line : CallContent → Side → BoxNumber → Call → Side → BoxNumber → Bool
-is_same_line call side container other_call other_side other = is_call call other_call && (side_code side == side_code other_side && bytes_eq container other)
+is_same_line call side container other_call other_side other =
+    is_call call other_call && (side_code side == side_code other_side && bytes_eq container other)
 
 -- the line has that index, and each other the one that it had
 abbrev pub NotesIndex : AllIndexes → AllIndexes → CallContent → Side → BoxNumber → ℕ → Type 0
 NotesIndex old new call side container row_index =
     (other_call : Call) (other_side : Side) (other : BoxNumber)
-    → index_in new (call_content other_call) other_side other ≡ cond (is_same_line call side container other_call other_side other) (Some row_index) (index_in old (call_content other_call) other_side other)
+    → index_in new (call_content other_call) other_side other
+    ≡ cond (is_same_line call side container other_call other_side other) (Some row_index)
+    (index_in old (call_content other_call) other_side other)
 
 -- each line is said to stand where it stands
 abbrev pub AreNoted : List Listing → AllIndexes → Type 0
-AreNoted rows indexes = (k : ℕ) (row : Listing) → slice_get rows k ≡ Some row → index_in indexes (call_content row.call) row.side row.container ≡ Some k
+AreNoted rows indexes =
+    (k : ℕ) (row : Listing) → slice_get rows k ≡ Some row →
+    index_in indexes (call_content row.call) row.side row.container ≡ Some k

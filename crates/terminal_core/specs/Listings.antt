@@ -28,14 +28,17 @@ lines_of rows = finite_map.from_entries (map line_entry rows)
 -- the row is the line of that call, side and container
 abbrev pub is_line : CallContent → Side → BoxNumber → Listing → Bool
 is_line call side container row =
-    bytes_eq row.container container && is_side row.side side && bytes_eq (string_bytes row.call.voyage) call.voyage && bytes_eq (string_bytes row.call.vessel) call.vessel
+    bytes_eq row.container container && is_side row.side side && bytes_eq (string_bytes row.call.voyage) call.voyage
+    && bytes_eq (string_bytes row.call.vessel) call.vessel
 
 -- no row before that place is
 abbrev pub NoneBefore : CallContent → Side → BoxNumber → List Listing → ℕ → Type 0
-NoneBefore call side container rows place = (k : ℕ) (row : Listing) → k < place → slice_get rows k ≡ Some row → is_line call side container row ≡ false
+NoneBefore call side container rows place =
+    (k : ℕ) (row : Listing) → k < place → slice_get rows k ≡ Some row → is_line call side container row ≡ false
 
 -- the row at that place is, and none before
-pub record IsFirstAt (call : CallContent) (side : Side) (container : BoxNumber) (rows : List Listing) (place : ℕ) : Type 0 where
+pub record IsFirstAt (call : CallContent) (side : Side) (container : BoxNumber) (rows : List Listing)
+    (place : ℕ) : Type 0 where
   pub row : Listing
   pub at : slice_get rows place ≡ Some row
   pub is : is_line call side container row ≡ true

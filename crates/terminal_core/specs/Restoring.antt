@@ -37,12 +37,14 @@ pub record Stands (visits : List VisitContent) (boxes : Boxes) (place : Place) :
 -- the places are those where the yard's containers stand, each once
 pub record ArePlacesOf (visits : List VisitContent) (boxes : Boxes) (places : List Place) : Type 0 where
   pub each : (place : Place) → Contains places place → Stands visits boxes place
-  pub every : (container : BoxNumber) (s : Placement) → finite_map.get boxes container ≡ Some s → (place : Place) × Contains places place × (place.container ≡ container)
+  pub every : (container : BoxNumber) (s : Placement) → finite_map.get boxes container ≡ Some s →
+      (place : Place) × Contains places place × (place.container ≡ container)
   pub once : (container : BoxNumber) → count_by (λ place. bytes_eq place.container container) places ≤ 1
 
 -- no line stands twice
 abbrev pub AreOnce : List Listing → Type 0
-AreOnce lines = (call : CallContent) (side : Side) (container : BoxNumber) → count_by (is_line call side container) lines ≤ 1
+AreOnce lines = (call : CallContent) (side : Side) (container : BoxNumber) →
+    count_by (is_line call side container) lines ≤ 1
 
 -- why lines are not restored: one stands twice, or memory was refused
 abbrev pub RefusesLines : List Listing → RestoreFault → Type 0
@@ -50,7 +52,8 @@ RefusesLines lines Unsound = ¬ AreOnce lines
 RefusesLines lines Memory = Unit {0}
 
 -- these are the rows of that whole state
-pub record AreRowsOf (plan : List Block) (limit : ℕ) (visits : List Visit) (places : List Place) (lines : List Listing) (state : TerminalState) : Type 0 where
+pub record AreRowsOf (plan : List Block) (limit : ℕ) (visits : List Visit) (places : List Place) (lines : List Listing)
+    (state : TerminalState) : Type 0 where
   pub whole : IsWhole state
   pub plan_is : state.yard.plan ≡ plan
   pub limit_is : state.limit ≡ limit
@@ -61,7 +64,8 @@ pub record AreRowsOf (plan : List Block) (limit : ℕ) (visits : List Visit) (pl
 
 -- why rows are not restored: they are those of no whole state, or memory was refused
 abbrev pub RefusesRows : List Block → ℕ → List Visit → List Place → List Listing → RestoreFault → Type 0
-RefusesRows plan limit visits places lines Unsound = (state : TerminalState) → ¬ AreRowsOf plan limit visits places lines state
+RefusesRows plan limit visits places lines Unsound =
+    (state : TerminalState) → ¬ AreRowsOf plan limit visits places lines state
 RefusesRows plan limit visits places lines Memory = Unit {0}
 
 -- ---- a part of it: the yard
@@ -71,7 +75,8 @@ abbrev pub without_lines : YardMap → ℕ → List VisitContent → TerminalSta
 without_lines yard limit visits = record { yard = yard; limit = limit; visits = visits; lines = finite_map.empty }
 
 -- the places are those of that yard, beside these visits
-pub record IsYardOf (plan : List Block) (limit : ℕ) (visits : List VisitContent) (places : List Place) (yard : YardMap) : Type 0 where
+pub record IsYardOf (plan : List Block) (limit : ℕ) (visits : List VisitContent) (places : List Place)
+    (yard : YardMap) : Type 0 where
   pub whole : IsWhole (without_lines yard limit visits)
   pub plan_is : yard.plan ≡ plan
   pub places_are : ArePlacesOf visits yard.boxes places
@@ -82,7 +87,8 @@ RefusesYard plan limit visits places Memory = Unit {0}
 
 -- no sound yard has these places
 abbrev pub RefusesPlaces : List Block → List VisitContent → List Place → RestoreFault → Type 0
-RefusesPlaces plan visits places Unsound = (boxes : Boxes) → IsSound plan (finite_map.get boxes) → ¬ ArePlacesOf visits boxes places
+RefusesPlaces plan visits places Unsound =
+    (boxes : Boxes) → IsSound plan (finite_map.get boxes) → ¬ ArePlacesOf visits boxes places
 RefusesPlaces plan visits places Memory = Unit {0}
 
 -- the container of a place was placed in its slot, with the length of the visit that the place names
@@ -107,9 +113,12 @@ cause_of yard.NoRoom = Unsound
 abbrev pub RefusesPut : List VisitContent → YardMap → Place → RestoreFault → Type 0
 RefusesPut visits old place Unsound =
     (visit : VisitContent) → Names visits place visit
-    → (fault : YardFault) × (fault ≢ yard.Memory) × RefusesPlace old place.container (placement (length_of visit.size_type) place.slot) fault
+    → (fault : YardFault) × (fault ≢ yard.Memory)
+    × RefusesPlace old place.container (placement (length_of visit.size_type) place.slot) fault
 RefusesPut visits old place Memory = Unit {0}
 
 -- a place names each open visit
 abbrev pub AreNamed : List VisitContent → List Place → Type 0
-AreNamed visits places = (visit : VisitContent) → Contains visits visit → is_none visit.departure ≡ true → (place : Place) × Contains places place × (place.visit ≡ visit.number)
+AreNamed visits places =
+    (visit : VisitContent) → Contains visits visit → is_none visit.departure ≡ true →
+    (place : Place) × Contains places place × (place.visit ≡ visit.number)

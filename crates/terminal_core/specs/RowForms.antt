@@ -15,11 +15,13 @@ use Rattle.terminal_core.specs.Changes.{Standing, standing_in, TerminalRows, row
 
 -- where a container stands by places: of two the first counts
 abbrev pub standing_by : List Place → BoxNumber → Option Standing
-standing_by places container = option_map (λ place. standing_in place.visit place.slot) (find (λ place. bytes_eq place.container container) places)
+standing_by places container =
+    option_map (λ place. standing_in place.visit place.slot) (find (λ place. bytes_eq place.container container) places)
 
 -- rows that are lists, by their keys
 abbrev pub rows_by_key : List Visit → List Place → List Listing → TerminalRows
-rows_by_key visits places lines = record { visits = map visit_content visits; places = standing_by places; lines = lines_of lines }
+rows_by_key visits places lines =
+    record { visits = map visit_content visits; places = standing_by places; lines = lines_of lines }
 
 -- no container has two places
 abbrev pub ArePlacedOnce : List Place → Type 0
@@ -28,21 +30,25 @@ ArePlacedOnce places = (container : BoxNumber) → count_by (λ place. bytes_eq 
 -- the lists that are a state's rows are by key the rows of that state
 abbrev pub ListsAreRowsByKey : Type 0
 ListsAreRowsByKey =
-    (plan : List Block) (limit : ℕ) (visits : List Visit) (places : List Place) (lines : List Listing) (state : TerminalState) → AreRowsOf plan limit visits places lines state
+    (plan : List Block) (limit : ℕ) (visits : List Visit) (places : List Place) (lines : List Listing)
+    (state : TerminalState) → AreRowsOf plan limit visits places lines state
     → rows_by_key visits places lines ≡ rows_of state
 
 -- lists with no key twice that are by key the rows of a whole state are its rows
 abbrev pub RowsByKeyAreLists : Type 0
 RowsByKeyAreLists =
-    (visits : List Visit) (places : List Place) (lines : List Listing) (state : TerminalState) → IsWhole state → ArePlacedOnce places → AreOnce lines → rows_by_key visits places lines ≡ rows_of state
+    (visits : List Visit) (places : List Place) (lines : List Listing) (state : TerminalState) → IsWhole state →
+    ArePlacedOnce places → AreOnce lines → rows_by_key visits places lines ≡ rows_of state
     → AreRowsOf state.yard.plan state.limit visits places lines state
 
 -- two whole states of one plan and limit that have the same rows are one
 abbrev pub RowsGiveState : Type 0
-RowsGiveState = (one other : TerminalState) → IsWhole one → IsWhole other → one.yard.plan ≡ other.yard.plan → one.limit ≡ other.limit → rows_of one ≡ rows_of other → one ≡ other
+RowsGiveState = (one other : TerminalState) → IsWhole one → IsWhole other → one.yard.plan ≡ other.yard.plan →
+    one.limit ≡ other.limit → rows_of one ≡ rows_of other → one ≡ other
 
 -- lists are the rows of one state at most
 abbrev pub ListsGiveState : Type 0
 ListsGiveState =
-    (plan : List Block) (limit : ℕ) (visits : List Visit) (places : List Place) (lines : List Listing) (one other : TerminalState) → AreRowsOf plan limit visits places lines one
+    (plan : List Block) (limit : ℕ) (visits : List Visit) (places : List Place) (lines : List Listing)
+    (one other : TerminalState) → AreRowsOf plan limit visits places lines one
     → AreRowsOf plan limit visits places lines other → one ≡ other

@@ -49,5 +49,6 @@ change_content (change.VisitClosed visit departure) = visit_closed visit departu
 change_content (change.Placed container visit slot) = placed_at container visit slot
 change_content (change.Moved container slot) = moved_to container slot
 change_content (change.Removed container) = removed_from container
-change_content (change.Listed call side container port) = listed_on (call_content call) side container (string_bytes port)
+change_content (change.Listed call side container port) =
+    listed_on (call_content call) side container (string_bytes port)
 change_content (change.LineDone call side container) = line_done (call_content call) side container

@@ -72,7 +72,9 @@ AreNumbered next (visit ∷ visits) = (visit.number ≡ next) × AreNumbered (ne
 
 -- the container in the yard is as long as its open visit's size-type tells
 abbrev pub IsAsLong : TerminalState → BoxNumber → Type 0
-IsAsLong state container = (s : Placement) (visit : VisitContent) → finite_map.get state.yard.boxes container ≡ Some s → open_visit state container ≡ Some visit → s.length ≡ length_of visit.size_type
+IsAsLong state container =
+    (s : Placement) (visit : VisitContent) → finite_map.get state.yard.boxes container ≡ Some s →
+    open_visit state container ≡ Some visit → s.length ≡ length_of visit.size_type
 
 -- The yard is sound, the visits are numbered within the limit, and the containers of the yard are exactly those with an
 -- open visit, each having one and standing in its length.

@@ -91,12 +91,14 @@ entered_at state way source entry (Ok (y, slot)) =
     (visit_opened (visit_of state way source entry slot) ∷ placed_at entry.number (length state.visits + 1) slot ∷ [])
 
 abbrev pub entered : TerminalState → Way → Source → EntryContent → Stepped
-entered state way source entry = cond (is_full state) (refused state VisitLimit) (entered_at state way source entry (settled state.yard entry))
+entered state way source entry =
+    cond (is_full state) (refused state VisitLimit) (entered_at state way source entry (settled state.yard entry))
 
 -- ---- going
 
 abbrev pub closed : Departure → BoxNumber → VisitContent → VisitContent
-closed departure container visit = cond (is_open_visit container visit) (record visit { departure = Some departure }) visit
+closed departure container visit =
+    cond (is_open_visit container visit) (record visit { departure = Some departure }) visit
 
 -- the container's open visit is closed
 abbrev pub close_visit : TerminalState → BoxNumber → Departure → List VisitContent
@@ -116,7 +118,8 @@ abbrev pub departure_by : Way → Source → CivilMoment → Departure
 departure_by way source moment = record { way = way; source = source; moment = moment }
 
 abbrev pub departed : TerminalState → Way → Source → BoxNumber → CivilMoment → Stepped
-departed state way source container moment = departed_at state container (departure_by way source moment) (removed state.yard container)
+departed state way source container moment =
+    departed_at state container (departure_by way source moment) (removed state.yard container)
 
 -- ---- moving
 
@@ -130,12 +133,14 @@ moved state container slot = moved_at state container slot (shifted state.yard c
 -- ---- lists
 
 abbrev pub with_line : TerminalState → CallContent → Side → BoxNumber → LineContent → TerminalState
-with_line state call side container line = record state { lines = finite_map.insert state.lines (line_key call side container) line }
+with_line state call side container line =
+    record state { lines = finite_map.insert state.lines (line_key call side container) line }
 
 abbrev pub listed_at : TerminalState → CallContent → Side → BoxNumber → List ℕ → Option LineContent → Stepped
 listed_at state call side container port (Some line) = refused state AlreadyListed
 listed_at state call side container port None =
-    stepped (with_line state call side container (record { port = port; state = Pending })) Listed (listed_on call side container port ∷ [])
+    stepped (with_line state call side container (record { port = port; state = Pending })) Listed
+    (listed_on call side container port ∷ [])
 
 abbrev pub listed : TerminalState → CallContent → Side → BoxNumber → List ℕ → Stepped
 listed state call side container port = listed_at state call side container port (line_of state call side container)
@@ -144,7 +149,8 @@ listed state call side container port = listed_at state call side container port
 abbrev pub then_line_done_at : CallContent → Side → BoxNumber → LineContent → Stepped → Outcome → Stepped
 then_line_done_at call side container line after (Refused reason) = after
 then_line_done_at call side container line after outcome =
-    stepped (with_line after.state call side container (record line { state = LineIsDone })) after.outcome (after.changes ++ line_done call side container ∷ [])
+    stepped (with_line after.state call side container (record line { state = LineIsDone })) after.outcome
+    (after.changes ++ line_done call side container ∷ [])
 
 abbrev pub then_line_done : CallContent → Side → BoxNumber → LineContent → Stepped → Stepped
 then_line_done call side container line after = then_line_done_at call side container line after after.outcome
@@ -162,7 +168,8 @@ by_line state call side container (Some line) after = by_state state call side c
 
 -- GateIn: AlreadyIn; VisitLimit; the slot
 abbrev pub step_gate_in : TerminalState → Source → EntryContent → Stepped
-step_gate_in state source entry = cond (is_in state entry.number) (refused state AlreadyIn) (entered state Gate source entry)
+step_gate_in state source entry =
+    cond (is_in state entry.number) (refused state AlreadyIn) (entered state Gate source entry)
 
 -- GateOut: NotIn; Buried
 abbrev pub step_gate_out : TerminalState → Source → BoxNumber → CivilMoment → Stepped
@@ -172,13 +179,15 @@ step_gate_out state source container moment = departed state Gate source contain
 abbrev pub step_discharge : TerminalState → Source → CallContent → EntryContent → Stepped
 step_discharge state source call entry =
     cond (is_in state entry.number) (refused state AlreadyIn)
-    (by_line state call Discharge entry.number (line_of state call Discharge entry.number) (entered state Ship source entry))
+    (by_line state call Discharge entry.number (line_of state call Discharge entry.number)
+    (entered state Ship source entry))
 
 -- Load: NotIn; NotListed; ListLineDone; Buried
 abbrev pub step_load : TerminalState → Source → CallContent → BoxNumber → CivilMoment → Stepped
 step_load state source call container moment =
     cond (is_in state container)
-    (by_line state call Load container (line_of state call Load container) (departed state Ship source container moment))
+    (by_line state call Load container (line_of state call Load container)
+    (departed state Ship source container moment))
     (refused state NotIn)
 
 -- what an order does

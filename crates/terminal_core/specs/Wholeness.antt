@@ -10,8 +10,10 @@ use Rattle.terminal_core.specs.Step.{step}
 
 -- a terminal with nothing in it is whole
 abbrev pub EmptyIsWhole : Type 0
-EmptyIsWhole = (yard : YardMap) (limit : ℕ) → IsPlan yard.plan → yard.boxes ≡ finite_map.empty → IsWhole (empty_state yard limit)
+EmptyIsWhole = (yard : YardMap) (limit : ℕ) → IsPlan yard.plan → yard.boxes ≡ finite_map.empty →
+    IsWhole (empty_state yard limit)
 
 -- what an order leaves of a whole state is whole
 abbrev pub StepsKeepWhole : Type 0
-StepsKeepWhole = (state : TerminalState) (source : Source) (order : OrderContent) → IsWhole state → IsWhole (step state source order).state
+StepsKeepWhole = (state : TerminalState) (source : Source) (order : OrderContent) → IsWhole state →
+    IsWhole (step state source order).state

@@ -52,7 +52,8 @@ impl Model for Terminal {
 
     ghost view = { λ t. record { yard = t.yard; limit = t.limit; visits = t.visits.visits; lines = t.lists } };
 
-    ghost invariant = { λ t. IsWhole (record { yard = t.yard; limit = t.limit; visits = t.visits.visits; lines = t.lists }) };
+    ghost invariant = { λ t.
+        IsWhole (record { yard = t.yard; limit = t.limit; visits = t.visits.visits; lines = t.lists }) };
 }
 
 impl Terminal {

@@ -17,8 +17,8 @@ const REQUEST: &[u8] =
 
 const ASKED: &[u8] = b"GET /replies/HAULA/3 HTTP/1.1\r\n\r\n";
 
-/// What is left of a request where so many reads and writes don't fail: nothing is written, and the same desk answers so
-/// when it is asked for the interchange.
+/// What is left of a request where so many reads and writes don't fail: nothing is written, and the same desk answers
+/// so when it is asked for the interchange.
 fn assert_left(
     rt: &impl Abort,
     alloc: Global,

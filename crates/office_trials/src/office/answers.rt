@@ -1,5 +1,5 @@
-//! One stream, one refusal and one other set-up, by the calls of the library. All other rows of this kind go through the
-//! program: the model's cases.
+//! One stream, one refusal and one other set-up, by the calls of the library. All other rows of this kind go through
+//! the program: the model's cases.
 
 use super::ports::demo;
 use office_commands::demo_setup::demo_setup;
@@ -16,8 +16,8 @@ const STREAM: &[u8] =
 const LINES: &str =
     "{\"answer\":\"waiting\",\"next\":1,\"number\":3,\"partner\":\"HAULA\"}\n{\"answer\":\"waiting\",\"next\":1,\"number\":2,\"partner\":\"HAULA\"}\n{\"answer\":\"waiting\",\"next\":1,\"number\":3,\"partner\":\"HAULA\"}\n{\"answer\":\"taken\",\"number\":1,\"partner\":\"HAULA\",\"reply\":{\"contrl\":\"UNB+UNOA:3+TERM1+HAULA+240305:0910+1'UNH+1+CONTRL:D:3:UN'UCI+1+HAULA+TERM1+7'UCM+1+CODECO:D:95B:UN+7'UNT+4+1'UNZ+1+1'\",\"messages\":[{\"lines\":[{\"box\":\"ABCU0000017\",\"line\":1,\"outcome\":\"done\",\"slot\":\"A001011\"}],\"reference\":\"1\",\"result\":\"accepted\"}]}}\n{\"answer\":\"repeat\",\"number\":3,\"partner\":\"HAULA\",\"reply\":{\"contrl\":\"UNB+UNOA:3+TERM1+HAULA+240305:0910+3'UNH+1+CONTRL:D:3:UN'UCI+3+HAULA+TERM1+7'UCM+1+CODECO:D:95B:UN+7'UNT+4+1'UNZ+1+3'\",\"messages\":[{\"lines\":[{\"box\":\"ABCU0000038\",\"line\":1,\"outcome\":\"done\",\"slot\":\"A003011\"}],\"reference\":\"1\",\"result\":\"accepted\"}]}}\n";
 
-/// Delivers each text to a desk of that set-up, to which nothing had been delivered, and holds the body of its answer to the
-/// one beside.
+/// Delivers each text to a desk of that set-up, to which nothing had been delivered, and holds the body of its answer
+/// to the one beside.
 fn assert_answers(
     rt: &impl Abort,
     alloc: Global,

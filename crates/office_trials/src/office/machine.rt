@@ -1,4 +1,5 @@
-//! The machine by itself: it takes the interchanges that are admitted for the partner who hands them over, and no others.
+//! The machine by itself: it takes the interchanges that are admitted for the partner who hands them over, and no
+//! others.
 
 use office_commands::demo_setup::demo_setup;
 use office_taking::TerminalMachine;
