@@ -8,11 +8,20 @@ use Rattle.edi_cutter.specs.Cuts.{Cutting, pending, interchange, IsInterchange, 
 abbrev pub HasNone : List ℕ → Type 0
 HasNone bytes = (n : ℕ) → IsInterchange (take n bytes) → ⊥
 
--- The interchanges of a stream, each behind any number of CR and LF, and what is left over without those at its front.
+-- A stream begins with these interchanges, each behind any number of CR and LF. What is left over behind them, without
+-- the CR and LF at its front, ends so.
+abbrev pub CutsFrom : (List ℕ → Type 0) → List ℕ → List (List ℕ) → Type 0
+CutsFrom Ends stream [] = Ends (without_breaks stream)
+CutsFrom Ends stream (first ∷ others) =
+    (behind : List ℕ) × IsInterchange first × (without_breaks stream ≡ first ++ behind) × CutsFrom Ends behind others
+
+-- with that rest, of which no front is an interchange
+abbrev pub EndsWith : List ℕ → List ℕ → Type 0
+EndsWith rest over = (rest ≡ over) × HasNone rest
+
+-- these are the interchanges of a stream, and that is its rest
 abbrev pub AreCuts : List ℕ → List (List ℕ) → List ℕ → Type 0
-AreCuts stream [] rest = (rest ≡ without_breaks stream) × HasNone rest
-AreCuts stream (first ∷ others) rest =
-    (behind : List ℕ) × IsInterchange first × (without_breaks stream ≡ first ++ behind) × AreCuts behind others rest
+AreCuts stream interchanges rest = CutsFrom (EndsWith rest) stream interchanges
 
 -- the interchanges that calls of `feed` give for a piece, each with what the one before left of it, until it is used up
 abbrev pub Feeds : Cutting → List ℕ → List (List ℕ) → Cutting → Type 0

@@ -13,7 +13,8 @@ use Rattle.office_replies.specs.declared.worst.Worst.{Worst}
 use Rattle.office_replies.specs.Responses.{body_of, worst_of, worse_of}
 use Rattle.office_replies.specs.Delivering.{deliveries}
 use Rattle.office_stream.specs.Lines.{line, response_lines, worst_of_all}
-use Rattle.office_stream.specs.Streams.{CutsFrom, IsCutBy, GoesOnAnyhow, LineCutShort}
+use Rattle.edi_cutter.specs.Streams.{CutsFrom}
+use Rattle.office_stream.specs.Streams.{IsCutBy, GoesOnAnyhow, LineCutShort}
 use Rattle.office_stream.specs.Pieces.{AnsweredOne, DeliveredOne, EndsPiece, PieceAnswered}
 use Rattle.office_stream.proofs.Writing.{in_two}
 use Rattle.office_stream.proofs.Answering.{answered_more, worse_of-Fine, worse_of-assoc, worst_of_more}

@@ -14,7 +14,8 @@ use Rattle.office_replies.specs.Responses.{worse_of}
 use Rattle.office_replies.specs.Delivering.{deliveries}
 use Rattle.office_stream.specs.Fronts.{AppendsFront}
 use Rattle.office_stream.specs.Lines.{response_lines, worst_of_all, end_text, end_worst}
-use Rattle.office_stream.specs.Streams.{CutsFrom, EndsAs, ReadsTo, GoesOnAnyhow, Answered, Streamed, Began, LineCutShort, Delivered, port_bytes}
+use Rattle.edi_cutter.specs.Streams.{CutsFrom}
+use Rattle.office_stream.specs.Streams.{EndsAs, ReadsTo, GoesOnAnyhow, Answered, Streamed, Began, LineCutShort, Delivered, port_bytes}
 use Rattle.office_stream.specs.Pieces.{EndsPiece, LeavesOver, PieceAnswered}
 use Rattle.office_stream.specs.Faults.{MatchFault}
 use Rattle.office_stream.specs.declared.stream_fault.StreamFault.{StreamFault}

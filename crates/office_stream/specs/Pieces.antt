@@ -10,7 +10,8 @@ use Rattle.office_stream.specs.declared.stream_end.StreamEnd.TheVariants.{Cut}
 use Rattle.office_replies.specs.Delivering.{Delivers}
 use Rattle.office_stream.specs.Fronts.{AppendsFront}
 use Rattle.office_stream.specs.Lines.{line, response_lines, worst_of_all}
-use Rattle.office_stream.specs.Streams.{CutsFrom, EndsAs, Answered}
+use Rattle.edi_cutter.specs.Streams.{CutsFrom}
+use Rattle.office_stream.specs.Streams.{EndsAs, Answered}
 
 -- one interchange was delivered, and its line written
 pub record AnsweredOne {D : Type 0} (stands : List (List ℕ) → D → Type 0)

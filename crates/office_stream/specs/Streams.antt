@@ -2,7 +2,8 @@
 use Rattle.std.specs.Prelude.{◌≡◌, ◌≢◌, ◌⊎◌, ℕ, List, [], ◌∷◌, ◌++◌, Option}
 use Rattle.std.specs.Io.KnownBytes.{Consumes, Appends, IsAtEnd}
 use Rattle.edi_segments.specs.Advice.{without_breaks}
-use Rattle.edi_cutter.specs.Cuts.{IsInterchange, IsPending, Faults, HasNoFault}
+use Rattle.edi_cutter.specs.Cuts.{IsPending, Faults, HasNoFault}
+use Rattle.edi_cutter.specs.Streams.{CutsFrom}
 use Rattle.edi_cutter.specs.declared.cut_fault.CutFault.{CutFault}
 use Rattle.edi_cutter.specs.declared.cut_fault.CutFault.TheVariants.{TooLong, Service, Segment, Memory}
 use Rattle.office_replies.specs.declared.response.Response.{Response}
@@ -15,13 +16,6 @@ use Rattle.office_stream.specs.declared.stream_end.StreamEnd.{StreamEnd}
 use Rattle.office_stream.specs.declared.stream_end.StreamEnd.TheVariants.{Whole, Open, Cut}
 
 -- ---- cutting
-
--- A stream begins with these interchanges, each behind any number of CR and LF. What is left over behind them, without
--- the CR and LF at its front, ends so.
-abbrev pub CutsFrom : (List ℕ → Type 0) → List ℕ → List (List ℕ) → Type 0
-CutsFrom Ends stream [] = Ends (without_breaks stream)
-CutsFrom Ends stream (first ∷ others) =
-    (behind : List ℕ) × IsInterchange first × (without_breaks stream ≡ first ++ behind) × CutsFrom Ends behind others
 
 -- with a fault at one of the bytes, and none before
 abbrev pub IsCutBy : CutFault → List ℕ → Type 0
