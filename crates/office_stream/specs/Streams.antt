@@ -1,7 +1,6 @@
 -- A stream as the interchanges that are cut out of it, and what is done with them.
 use Rattle.std.specs.Prelude.{◌≡◌, ◌≢◌, ◌⊎◌, ℕ, List, [], ◌∷◌, ◌++◌, Option}
 use Rattle.std.specs.Io.KnownBytes.{Consumes, Appends, IsAtEnd}
-use Rattle.edi_segments.specs.Advice.{without_breaks}
 use Rattle.edi_cutter.specs.Cuts.{IsPending, Faults, HasNoFault}
 use Rattle.edi_cutter.specs.Streams.{CutsFrom}
 use Rattle.edi_cutter.specs.declared.cut_fault.CutFault.{CutFault}
