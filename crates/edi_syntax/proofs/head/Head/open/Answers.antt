@@ -11,7 +11,7 @@ use Rattle.edi_syntax.proofs.head.Head.open.Goals as goal
 pub returns-in_err-check-clause-err : goal.returns-in_err-check-clause-err
 returns-in_err-check-clause-err c =
     let p = err_from_is_err_and c.from_residual.result c.from_residual.ensures.1 in
-    rw (p.1, p.2) (of_bytes c.args.text.now header_faults c.in_err-check.field-0.0 c.if-text-gt-LIMIT.false c.in_err-check.ensures.err)
+    rw (p.1, p.2) (of_bytes c.args.text.now header_faults c.in_err-check.field-0.0 c.if-text-gt-MOST_BYTES.false c.in_err-check.ensures.err)
 
 left_is : (c : goal.After-of-2) → checked_left c.segments.result ≡ segments_in c.args.text.now
 left_is c = c.segments.ensures.left ∙ c.in_ok-check.ensures.ok.1
@@ -21,7 +21,7 @@ all_is c = c.segments.ensures.all ∙ c.in_ok-check.ensures.ok.2
 
 faults_are : (c : goal.After-of-2) → head_fault_of c.args.text.now ≡ segments_fault (are_all c.segments.result) (checked_left c.segments.result)
 faults_are c =
-    head_fault_is c.args.text.now c.if-text-gt-LIMIT.false c.in_ok-check.ensures.ok.0
+    head_fault_is c.args.text.now c.if-text-gt-MOST_BYTES.false c.in_ok-check.ensures.ok.0
     ∙ ap (λ (b : Bool). segments_fault b (segments_in c.args.text.now)) (sym (all_is c)) ∙ ap (segments_fault (are_all c.segments.result)) (sym (left_is c))
 
 pub returns-clause-ok : goal.returns-clause-ok
