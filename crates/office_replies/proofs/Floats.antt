@@ -49,7 +49,7 @@ lines_have_no_float line (report ∷ reports) = rw (outcome_has_no_float _ line 
 
 verdict_has_no_float : (reference : List ℕ) (verdict : VerdictContent) → has_float (verdict_data reference verdict) ≡ false
 verdict_has_no_float reference (accepted lines) = rw (lines_have_no_float 1 lines) refl
-verdict_has_no_float reference (rejected fault) = refl
+verdict_has_no_float reference (rejected fault code) = refl
 
 reports_have_no_float : (reports : List ReportContent) → items_have_float (items_of (map report_data reports)) ≡ false
 reports_have_no_float [] = refl

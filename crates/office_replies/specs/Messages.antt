@@ -12,10 +12,10 @@ use Rattle.office_replies.specs.Names.{message_fault_name}
 use Rattle.office_replies.specs.Members.{text_member}
 use Rattle.office_replies.specs.Lines.{lines_from}
 
--- what became of a message's lines, or why it gave no orders
+-- what became of a message's lines, or why it gave no orders, with the code of the error (0085)
 pub data VerdictContent : Type 0 where
   accepted : List LineReport → VerdictContent
-  rejected : MessageFault → VerdictContent
+  rejected : MessageFault → ℕ → VerdictContent
 
 -- a message's reference, and what became of it
 pub record ReportContent : Type 0 where
@@ -24,7 +24,7 @@ pub record ReportContent : Type 0 where
 
 abbrev pub verdict_content : MessageVerdict → VerdictContent
 verdict_content (verdict.Accepted lines) = accepted lines.items
-verdict_content (verdict.Rejected fault) = rejected fault
+verdict_content (verdict.Rejected rejection) = rejected rejection.fault rejection.code
 
 abbrev pub report_content : MessageReport → ReportContent
 report_content report = record { reference = string_bytes report.reference; verdict = verdict_content report.verdict }
@@ -33,7 +33,7 @@ abbrev pub verdict_data : List ℕ → VerdictContent → Data
 verdict_data reference (accepted lines) =
     object (member (codes "lines") (array (items_of (lines_from 1 lines)))
     (text_member (codes "reference") reference (text_member (codes "result") (codes "accepted") no_members)))
-verdict_data reference (rejected fault) =
+verdict_data reference (rejected fault code) =
     object (text_member (codes "fault") (message_fault_name fault)
     (text_member (codes "reference") reference (text_member (codes "result") (codes "rejected") no_members)))
 

@@ -29,8 +29,8 @@ fn message_value(alloc: Global, report: &MessageReport) -> Result<Value, AllocEr
             let lines = lines_value(alloc, lines.as_slice())?;
             json!(in alloc; {"lines": lines, "reference": reference, "result": "accepted"})
         }
-        MessageVerdict::Rejected(fault) => {
-            let fault = message_fault_name(*fault);
+        MessageVerdict::Rejected(rejection) => {
+            let fault = message_fault_name(rejection.fault);
             json!(in alloc; {"fault": fault, "reference": reference, "result": "rejected"})
         }
     }

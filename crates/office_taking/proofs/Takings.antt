@@ -1,5 +1,5 @@
 -- What is taken, where it is known what partner it is of and that it is an interchange.
-use Rattle.std.proofs.Common.{◌≡◌, ◌≢◌, ℕ, suc, ◌==◌, true, false, cond, List, [], ◌∷◌, length, Some, Result, Ok, Err, OnOk, IfOk, eq-eqb, refl, sym, ap, subst, ◌∙◌, ◌≤◌, ◌++◌}
+use Rattle.std.proofs.Common.{◌≡◌, ℕ, suc, ◌==◌, true, false, cond, List, [], ◌∷◌, length, Some, Result, Ok, Err, OnOk, IfOk, eq-eqb, refl, sym, ap, subst, ◌∙◌, ◌≤◌, ◌++◌}
 use Rattle.std.specs.Result.{MatchResult}
 use Rattle.edi_moments.specs.Moments.{CivilMoment}
 use Rattle.edi_segments.specs.Text.{Content}
@@ -7,6 +7,7 @@ use Rattle.edi_segments.specs.Interchange.{segments_in}
 use Rattle.edi_syntax.specs.Envelope.{header_of, messages_of}
 use Rattle.edi_syntax.specs.Header.{preparation}
 use Rattle.edi_syntax.specs.Messages.{Message}
+use Rattle.edi_messages.specs.ErrorCodes.{message_error}
 use Rattle.edi_messages.specs.Message.{MessageContent, reading}
 use Rattle.edi_messages.specs.declared.codes.Codes.{Codes}
 use Rattle.edi_messages.specs.declared.message_fault.MessageFault.{MessageFault}
@@ -21,15 +22,14 @@ use Rattle.office_setup.specs.declared.setup.Setup.{Setup}
 use Rattle.office_setup.specs.Parties.{partner_kinds, parties_of}
 use Rattle.office_setup.specs.Setups.{setup_content, account_contents}
 use Rattle.std.proofs.lemmas.List.{append-nil, length-map}
+use Rattle.std.proofs.lemmas.Option.{none-some}
 use Rattle.office_setup.proofs.Contents.{same_parties, same_kinds}
 use Rattle.office_admission.specs.Admission.{admission, is_for}
-use Rattle.office_admission.specs.Outcomes.{IsAdmitted, IsRefused}
-use Rattle.office_admission.specs.declared.refusal.Refusal.{Refusal}
-use Rattle.office_admission.specs.declared.refusal.Refusal.TheVariants.{Plain, WithContrl}
+use Rattle.office_admission.specs.Outcomes.{IsAdmitted}
 use Rattle.office_admission.specs.declared.admitted.Admitted.{Admitted}
 use Rattle.edi_syntax.specs.Envelopes.{envelope_segments}
 use Rattle.terminal_core.specs.Rows.{ChangeContent}
-use Rattle.office_taking.specs.Taking.{MachineState, machine_of, verdict_on, messages_taken, verdict_changes, messages_changes, verdicts_of, with_messages, nothing_taken, reply_to, codes_for, source_in, taken_at, taken_of, changes_at, changes_of, interchange_taken, interchange_changes}
+use Rattle.office_taking.specs.Taking.{MachineState, machine_of, rejected_by, verdict_on, messages_taken, verdict_changes, messages_changes, verdicts_of, with_messages, nothing_taken, reply_to, codes_for, source_in, taken_at, taken_of, changes_at, changes_of, interchange_taken, interchange_changes}
 
 -- ---- a machine and its set-up
 
@@ -43,12 +43,15 @@ copied_machine copy setup left terminal same same_terminal =
     ∙ ap (λ limit. record { parties = parties_of setup; codes = setup.codes; kinds = partner_kinds setup.partners.items; blocks = setup.blocks.items; visit_limit = limit; terminal = left }) (ap (λ content. content.visit_limit) same)
     ∙ ap (machine_of setup) same_terminal
 
--- a fault that is not want of memory is that of the message
-pub rejected_on : (state : TerminalState) (source : Source) (read : Result MessageContent MessageFault) (fault : MessageFault) →
-    MatchResult read (λ content. fault ≡ message.Memory) (λ lowest. fault ≡ lowest) → fault ≢ message.Memory →
-    (state ≡ (verdict_on state source read).0) × (rejected fault ≡ (verdict_on state source read).1)
-rejected_on state source (Ok content) fault is not_memory = absurd (not_memory is)
-rejected_on state source (Err lowest) fault is not_memory = (refl, ap rejected is)
+memory_has_none : (fault : MessageFault) (code : ℕ) → fault ≡ message.Memory → message_error fault ≡ Some code → ⊥
+memory_has_none fault code is told = none-some code (sym (ap message_error is) ∙ told)
+
+-- a fault that has a code is that of the message
+pub rejected_on : (state : TerminalState) (source : Source) (read : Result MessageContent MessageFault) (fault : MessageFault) (code : ℕ) →
+    MatchResult read (λ content. fault ≡ message.Memory) (λ lowest. fault ≡ lowest) → message_error fault ≡ Some code →
+    (state ≡ (verdict_on state source read).0) × (rejected fault code ≡ (verdict_on state source read).1)
+rejected_on state source (Ok content) fault code is told = absurd (memory_has_none fault code is told)
+rejected_on state source (Err lowest) fault code is told = (refl, ap (rejected_by fault) (sym told) ∙ ap (λ f. rejected_by f (message_error f)) is)
 
 -- a report for each message
 pub reports_count : (state : TerminalState) (codes : Codes) (source : Source) (opened : CivilMoment) (messages : List Message) →
@@ -66,11 +69,11 @@ pub same_count : (a b : List Account) → account_contents a ≡ account_content
 same_count a b same few = subst (λ n. n ≤ 999) (sym (length-map b _) ∙ ap length (sym same) ∙ length-map a _) few
 
 -- a message that is rejected changes nothing
-pub rejected_changes : (state : TerminalState) (source : Source) (read : Result MessageContent MessageFault) (fault : MessageFault) (changes : List ChangeContent) →
-    MatchResult read (λ content. fault ≡ message.Memory) (λ lowest. fault ≡ lowest) → fault ≢ message.Memory →
+pub rejected_changes : (state : TerminalState) (source : Source) (read : Result MessageContent MessageFault) (fault : MessageFault) (code : ℕ) (changes : List ChangeContent) →
+    MatchResult read (λ content. fault ≡ message.Memory) (λ lowest. fault ≡ lowest) → message_error fault ≡ Some code →
     changes ≡ changes ++ verdict_changes state source read
-rejected_changes state source (Ok content) fault changes is not_memory = absurd (not_memory is)
-rejected_changes state source (Err lowest) fault changes is not_memory = sym (append-nil changes)
+rejected_changes state source (Ok content) fault code changes is told = absurd (memory_has_none fault code is told)
+rejected_changes state source (Err lowest) fault code changes is told = sym (append-nil changes)
 
 -- ---- what is not taken
 

@@ -102,10 +102,16 @@ lines_changes state source [] = []
 lines_changes state source (line ∷ lines) =
     line_changes state source line ++ lines_changes (line_taken state source line).0 source lines
 
+-- A fault of a message rejects it, with its code (0085). Want of memory has no code and is no fault of a message (`applies`), so
+-- the last case is of none.
+abbrev pub rejected_by : MessageFault → Option ℕ → VerdictContent
+rejected_by fault (Some code) = rejected fault code
+rejected_by fault None = accepted []
+
 -- a message that is rejected gives no orders
 abbrev pub verdict_on : TerminalState → Source → Result MessageContent MessageFault → TerminalState × VerdictContent
 verdict_on state source (Ok content) = ((lines_taken state source content.lines).0, accepted (lines_taken state source content.lines).1)
-verdict_on state source (Err fault) = (state, rejected fault)
+verdict_on state source (Err fault) = (state, rejected_by fault (message_error fault))
 
 abbrev pub verdict_changes : TerminalState → Source → Result MessageContent MessageFault → List ChangeContent
 verdict_changes state source (Ok content) = lines_changes state source content.lines
@@ -135,7 +141,7 @@ messages_changes state codes source opened (message ∷ messages) =
 -- what the CONTRL says of a message
 abbrev pub verdict_of : VerdictContent → Verdict
 verdict_of (accepted lines) = Accepted
-verdict_of (rejected fault) = Rejected (unwrap_or (message_error fault) 0)
+verdict_of (rejected fault code) = Rejected code
 
 abbrev pub verdicts_of : List ReportContent → List Verdict
 verdicts_of reports = map (λ report. verdict_of report.verdict) reports

@@ -1,14 +1,14 @@
-ghost use Rattle.std.specs.Prelude.{◌≡◌, ◌≢◌, ◌++◌, IfOk, OnOk, map, string_bytes, encode_utf8_all};
+ghost use Rattle.std.specs.Prelude.{◌≡◌, ◌++◌, IfOk, Some, map, string_bytes, encode_utf8_all};
 ghost use Rattle.edi_syntax.specs.Frames.{message, messages_left};
 ghost use Rattle.edi_syntax.specs.Messages.{message_reference};
 ghost use Rattle.edi_messages.specs.Message.{reading};
 ghost use Rattle.office_replies.specs.Messages.{verdict_content, report_content};
-ghost use Rattle.edi_messages.specs.declared.message_fault.MessageFault.{MessageFault};
+ghost use Rattle.edi_messages.specs.ErrorCodes.{message_error};
 ghost use Rattle.office_taking.specs.Taking.{verdict_on, verdict_of, verdicts_of, messages_taken, verdict_changes, messages_changes};
 ghost use Rattle.terminal_core.specs.Rows.{change_content};
 
 use crate::line::take_lines;
-use edi_messages::{Codes, MessageFault, Verdict, message_error, read_message};
+use edi_messages::{Codes, MessageFault, Rejection, Verdict, read_message};
 use edi_moments::Moment;
 use edi_syntax::{Frame, Frames};
 use office_replies::{MessageReport, MessageVerdict, text_of};
@@ -63,19 +63,16 @@ fn take_message(
             let lines = take_lines(alloc, terminal, source, message.lines.as_slice(), changes)?;
             Ok(MessageVerdict::Accepted(lines))
         }
-        Err(fault) => Ok(MessageVerdict::Rejected(unless_memory(fault)?)),
+        Err(fault) => Ok(MessageVerdict::Rejected(rejection_for(fault)?)),
     }
 }
 
-/// A fault that a reply can tell.
-fn unless_memory(fault: MessageFault) -> Result<MessageFault, AllocError>
-    ensures same { IfOk result (λ told. told ≡ fault) }
-    ensures told { OnOk result (fault ≢ MessageFault.Memory) }
+/// The rejection that a reply tells. Want of memory is none.
+fn rejection_for(fault: MessageFault) -> Result<Rejection, AllocError>
+    ensures same { IfOk result (λ rejection. rejection.fault ≡ fault) }
+    ensures told { IfOk result (λ rejection. message_error fault ≡ Some rejection.code) }
 {
-    match fault {
-        MessageFault::Memory => Err(AllocError),
-        other => Ok(other),
-    }
+    Rejection::of(fault).ok_or(AllocError)
 }
 
 fn reference_of(alloc: Global, frame: &Frame<'_>) -> Result<String, AllocError>
@@ -105,6 +102,6 @@ fn verdict_of(verdict: &MessageVerdict) -> Verdict
 {
     match verdict {
         MessageVerdict::Accepted(_) => Verdict::Accepted,
-        MessageVerdict::Rejected(fault) => { Verdict::Rejected(message_error(*fault).unwrap_or(0)) }
+        MessageVerdict::Rejected(rejection) => rejection.verdict(),
     }
 }
