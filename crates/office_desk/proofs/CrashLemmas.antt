@@ -4,7 +4,6 @@ use Rattle.sqlite.specs.State.{State, HasCleanDisk, Survives}
 use Rattle.sqlite.specs.Tree.{Trees}
 use Rattle.edi_segments.specs.Interchange.{interchange_of}
 use Rattle.partner_core.specs.Deliveries.{run}
-use Rattle.terminal_core.specs.State.{TerminalState}
 use Rattle.office_replies.specs.declared.fault.Fault.{Fault}
 use Rattle.office_replies.specs.declared.response.Response.{Response}
 use Rattle.office_replies.specs.declared.response.Response.TheVariants as response
@@ -21,7 +20,9 @@ use Rattle.office_history.specs.Laws.{IsFor}
 use Rattle.office_history.proofs.Lawful.{refused_adds, used_adds, early_adds, next_adds}
 use Rattle.office_delivery.specs.Reading.{OnlyReads}
 use Rattle.office_desk.specs.Crashes.{HasCommitted, IsAfter, Leaves, LeavesBehind}
-use Rattle.office_desk.specs.Telling.{Comes, Holds, IsBeside, IsRunDone}
+use Rattle.office_desk.specs.Beside.{IsAt}
+use Rattle.office_desk.specs.Telling.{Comes, Holds, IsRunDone}
+use Rattle.office_desk.specs.declared.beside.Beside.{Beside}
 
 -- ---- calls that only read
 
@@ -84,14 +85,14 @@ module _ (content : SetupContent) (ds : List (List ℕ)) (delivered : List ℕ) 
     after = (early_adds content ds rows delivered partner number after comes.is_for free (omega (arith, is, later))).rows_are;
   }
 
-  pub run_after : (rows : Rows) (text : List ℕ) (partner number next : ℕ) (now : TerminalState) (db : Trees) → IsGiven content → AreAfter content ds rows → IsBeside content ds (Some now) →
+  pub run_after : (rows : Rows) (text : List ℕ) (partner number next : ℕ) (now : Beside) (db : Trees) → IsGiven content → AreAfter content ds rows → IsAt content ds now →
       Comes content delivered text partner number → text_in rows partner number ≡ None → next ≡ run (delivered_to content ds) partner + 1 → number ≡ next →
-      IsRunDone rows partner number text (machine_with content now) db → IsAfter content (ds ++ delivered ∷ []) db
-  run_after rows text partner number next now db given after beside comes free is same done =
+      IsRunDone rows partner number text (machine_with content now.terminal) db → IsAfter content (ds ++ delivered ∷ []) db
+  run_after rows text partner number next now db given after at comes free is same done =
       let own = interchange_of delivered in
       let here : AreTakenFrom partner (texts_with rows partner number own) number (machine_after content ds) done.taken done.new =
-      subst (λ m. AreTakenFrom partner (texts_with rows partner number own) number m done.taken done.new) beside
-      (subst (λ t. AreTakenFrom partner (texts_with rows partner number t) number (machine_with content now) done.taken done.new) comes.text_is done.are_taken) in
+      subst (λ m. AreTakenFrom partner (texts_with rows partner number own) number m done.taken done.new) at.terminal
+      (subst (λ t. AreTakenFrom partner (texts_with rows partner number t) number (machine_with content now.terminal) done.taken done.new) comes.text_is done.are_taken) in
       record {
         rows = with_run partner number own done.taken rows;
         are = subst (λ t. AreRows (with_run partner number t done.taken rows) db) comes.text_is done.are;
@@ -113,6 +114,6 @@ pub committed_leaves : (content : SetupContent) (ds : List (List ℕ)) (s : Stat
 committed_leaves content ds s rows done has after db left = record { rows = rows; are = subst (AreRows rows) (sym (done.alone db left)) has.rows_are; after = after }
 
 -- while it is open, a crash leaves what was committed alone, so the rows that are held
-pub held_leaves : (content : SetupContent) (ds : List (List ℕ)) (s : State) (terminal : Option TerminalState) → IsTrue s.is_open → ((db : Trees) → s.may_leave db → db ≡ s.committed.trees) →
-    Holds content ds s.committed terminal → Leaves content ds s
-held_leaves content ds s terminal is_open alone holds = committed_leaves content ds s holds.rows (record { is_open = is_open; alone = alone }) holds.has holds.after
+pub held_leaves : (content : SetupContent) (ds : List (List ℕ)) (s : State) (there : Option Beside) → IsTrue s.is_open → ((db : Trees) → s.may_leave db → db ≡ s.committed.trees) →
+    Holds content ds s.committed there → Leaves content ds s
+held_leaves content ds s there is_open alone holds = committed_leaves content ds s holds.rows (record { is_open = is_open; alone = alone }) holds.has holds.after

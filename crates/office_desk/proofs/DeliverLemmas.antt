@@ -89,7 +89,7 @@ module _ {S : Type 0} (g : Ghosts S) (content : SetupContent) where
       let adds = refused_adds content ds stands.holds.rows delivered fault stands.holds.after here in
       let after : StandsFor g content (ds ++ delivered ∷ []) desk = record {
         setup = stands.setup;
-        holds = record { rows = stands.holds.rows; has = stands.holds.has; after = adds.rows_are; beside = beside_same content ds (ds ++ delivered ∷ []) desk.terminal adds.machine stands.holds.beside };
+        holds = record { rows = stands.holds.rows; has = stands.holds.has; after = adds.rows_are; beside = beside_same content ds (ds ++ delivered ∷ []) desk.beside adds.machine adds.runs stands.holds.beside };
       } in
       let told : GivesOrNotNow (refusal_of P (header_of (segments_in own)) fault) given =
       subst (λ others. GivesOrNotNow (refusal_of others (header_of (segments_in own)) fault) given) same
@@ -100,7 +100,7 @@ module _ {S : Type 0} (g : Ghosts S) (content : SetupContent) where
 
   pub taken_delivered : (ds : List (List ℕ)) (delivered : List ℕ) (given : Response) (desk : Desk S g) (partner number : ℕ) (code : List ℕ) → setup_content desk.setup ≡ content →
       IsFor content delivered partner number → code ≡ code_of (parties_in content) partner →
-      Answers content ds delivered partner number code given (state g desk.conn).committed desk.terminal → Next ds delivered given desk
+      Answers content ds delivered partner number code given (state g desk.conn).committed desk.beside → Next ds delivered given desk
   taken_delivered ds delivered given desk partner number code setup is_for is_code told =
       let kind = told_of content ds partner number delivered in
       let here : content_of given ≡ told_answer (code_of (parties_in content) partner) number kind = told.answers ∙ ap (λ c. told_answer c number kind) is_code in
@@ -115,26 +115,26 @@ module _ {S : Type 0} (g : Ghosts S) (content : SetupContent) where
   -- a text that is admitted, and was taken in
   pub taken_in : (ds : List (List ℕ)) (delivered text : List ℕ) (given : Response) (old new : Desk S g) (partner number : ℕ) (code : List ℕ) → text ≡ interchange_of delivered → StandsFor g content ds old →
       new.setup ≡ old.setup → admission (parties_of old.setup) text ≡ Ok (partner, number) → code ≡ code_of (parties_of old.setup) partner →
-      ((before : List (List ℕ)) (now : List ℕ) → Holds (setup_content old.setup) before (state g old.conn).committed old.terminal → Comes (setup_content old.setup) now text partner number →
-      Answers (setup_content old.setup) before now partner number code given (state g new.conn).committed new.terminal) →
+      ((before : List (List ℕ)) (now : List ℕ) → Holds (setup_content old.setup) before (state g old.conn).committed old.beside → Comes (setup_content old.setup) now text partner number →
+      Answers (setup_content old.setup) before now partner number code given (state g new.conn).committed new.beside) →
       Next ds delivered given new
   taken_in ds delivered text given old new partner number code is stands same admits is_code takes =
       let first = setup_content old.setup in
       let own : IsFor first delivered partner number = subst (λ P. admission P (interchange_of delivered) ≡ Ok (partner, number)) (parties_same old.setup) (subst (λ t. admission (parties_of old.setup) t ≡ Ok (partner, number)) is admits) in
-      let holds : Holds first ds (state g old.conn).committed old.terminal = subst (λ k. Holds k ds (state g old.conn).committed old.terminal) (sym stands.setup) stands.holds in
+      let holds : Holds first ds (state g old.conn).committed old.beside = subst (λ k. Holds k ds (state g old.conn).committed old.beside) (sym stands.setup) stands.holds in
       let told = takes ds delivered holds (record { text_is = is; is_for = own }) in
       taken_delivered ds delivered given new partner number code (ap setup_content same ∙ stands.setup) (subst (λ k. IsFor k delivered partner number) stands.setup own)
       (is_code ∙ ap (λ P. code_of P partner) (parties_same old.setup ∙ ap parties_in stands.setup))
-      (subst (λ k. Answers k ds delivered partner number code given (state g new.conn).committed new.terminal) stands.setup told)
+      (subst (λ k. Answers k ds delivered partner number code given (state g new.conn).committed new.beside) stands.setup told)
 
   -- one that is admitted, and could not be taken now
   pub not_taken : (ds : List (List ℕ)) (delivered : List ℕ) (old new : Desk S g) → StandsFor g content ds old → new.setup ≡ old.setup → RefusedSurely (parties_of old.setup) (interchange_of delivered) response.NotNow →
-      ((before : List (List ℕ)) → Holds (setup_content old.setup) before (state g old.conn).committed old.terminal → Holds (setup_content old.setup) before (state g new.conn).committed new.terminal) →
+      ((before : List (List ℕ)) → Holds (setup_content old.setup) before (state g old.conn).committed old.beside → Holds (setup_content old.setup) before (state g new.conn).committed new.beside) →
       Next ds delivered response.NotNow new
   not_taken ds delivered old new stands same surely keeps =
-      let holds = keeps ds (subst (λ k. Holds k ds (state g old.conn).committed old.terminal) (sym stands.setup) stands.holds) in
+      let holds = keeps ds (subst (λ k. Holds k ds (state g old.conn).committed old.beside) (sym stands.setup) stands.holds) in
       not_now_delivered ds delivered new
-      (record { setup = ap setup_content same ∙ stands.setup; holds = subst (λ k. Holds k ds (state g new.conn).committed new.terminal) stands.setup holds })
+      (record { setup = ap setup_content same ∙ stands.setup; holds = subst (λ k. Holds k ds (state g new.conn).committed new.beside) stands.setup holds })
       (subst (λ P. RefusedSurely P (interchange_of delivered) response.NotNow) (parties_same old.setup ∙ ap parties_in stands.setup) surely)
 
   -- ---- what a crash leaves
@@ -151,12 +151,12 @@ module _ {S : Type 0} (g : Ghosts S) (content : SetupContent) where
   -- what is told of a text that is admitted, for the desk's own set-up
   pub admitted_leaves : (ds : List (List ℕ)) (delivered text : List ℕ) (old : Desk S g) (partner number : ℕ) (P : SetupContent → Type 0) → text ≡ interchange_of delivered → StandsFor g content ds old →
       admission (parties_of old.setup) text ≡ Ok (partner, number) → Leaves content ds (state g old.conn) →
-      ((before : List (List ℕ)) (now : List ℕ) → before ≡ ds → now ≡ delivered → Holds (setup_content old.setup) before (state g old.conn).committed old.terminal → Leaves (setup_content old.setup) before (state g old.conn) →
+      ((before : List (List ℕ)) (now : List ℕ) → before ≡ ds → now ≡ delivered → Holds (setup_content old.setup) before (state g old.conn).committed old.beside → Leaves (setup_content old.setup) before (state g old.conn) →
       Comes (setup_content old.setup) now text partner number → P (setup_content old.setup)) →
       P content
   admitted_leaves ds delivered text old partner number P is stands admits leaves takes =
       let first = setup_content old.setup in
       let own : IsFor first delivered partner number = subst (λ P. admission P (interchange_of delivered) ≡ Ok (partner, number)) (parties_same old.setup) (subst (λ t. admission (parties_of old.setup) t ≡ Ok (partner, number)) is admits) in
       subst P stands.setup
-      (takes ds delivered refl refl (subst (λ k. Holds k ds (state g old.conn).committed old.terminal) (sym stands.setup) stands.holds)
+      (takes ds delivered refl refl (subst (λ k. Holds k ds (state g old.conn).committed old.beside) (sym stands.setup) stands.holds)
       (subst (λ k. Leaves k ds (state g old.conn)) (sym stands.setup) leaves) (record { text_is = is; is_for = own }))

@@ -1,16 +1,17 @@
 -- What the desk holds behind each delivery.
-use Rattle.std.proofs.Common.{◌≡◌, ℕ, ◌+◌, ◌<◌, Bool, true, false, cond, List, [], ◌∷◌, ◌++◌, Option, None, Some, Result, Ok, Err, IfOk, OnOk, String, string_bytes, refl, sym, ap, subst, ◌∙◌, arith}
+use Rattle.std.proofs.Common.{◌≡◌, ℕ, ◌+◌, ◌-◌, ◌<◌, ◌≤◌, Bool, true, false, cond, List, [], ◌∷◌, ◌++◌, length, Option, None, Some, Result, Ok, Err, IfOk, OnOk, String, string_bytes, refl, sym, ap, ap₂, subst, ◌∙◌, arith}
+use Rattle.std.specs.Prelude.{slice_set}
+use Rattle.std.specs.List.{range_with_len}
 use Rattle.std.specs.declared.alloc.Global.{Global}
 use Rattle.std.specs.Option.{option_map, option_and_then}
 use Rattle.std.specs.Cmp.Lexicographic.{same_text, other_text}
-use Rattle.std.proofs.lemmas.Bool.{eqb-true}
 use Rattle.std.proofs.lemmas.Simd.{map-map}
-use Rattle.sqlite_rules.proofs.ListLemmas.{has_filtered, has_contained, contains_had}
 use Rattle.sqlite.specs.Effect.{Database}
 use Rattle.sqlite.specs.State.{State}
 use Rattle.edi_segments.specs.Interchange.{interchange_of}
 use Rattle.partner_core.specs.Answers.{Told, Waiting, answer_by}
 use Rattle.partner_core.specs.Deliveries.{run}
+use Rattle.partner_core.specs.Numbered.{with_number}
 use Rattle.partner_core.specs.Standings.{standing_of, is_same_text}
 use Rattle.partner_core.specs.declared.standing.Standing.TheVariants.{Known, Other}
 use Rattle.terminal_core.specs.State.{TerminalState}
@@ -23,19 +24,22 @@ use Rattle.office_setup.specs.Parties.{partner_kinds}
 use Rattle.office_setup.specs.Setups.{SetupContent, setup_content}
 use Rattle.office_setup.specs.declared.setup.Setup.{Setup}
 use Rattle.office_setup.specs.Given.{IsGiven}
-use Rattle.office_tables.specs.Answers.{IsKept, IsNextOf, RepliesAs, has_id}
+use Rattle.office_tables.specs.Answers.{IsKept, RepliesAs}
 use Rattle.office_tables.specs.declared.kept_interchange.Kept.{Kept}
-use Rattle.office_taking.specs.Taking.{machine_of}
+use Rattle.office_taking.specs.Taking.{MachineState, machine_of}
 use Rattle.office_history.specs.Cascade.{AreTakenFrom, text_in, texts_with, with_run}
 use Rattle.office_history.specs.After.{AreAfter, AreKeptOnce, delivered_to, machine_after, machine_with, parties_in, reply_in, reply_if_any}
-use Rattle.office_history.specs.Laws.{IsFor, AnswersBy, told_of}
+use Rattle.office_history.specs.Laws.{AddsRun, IsFor, AnswersBy, told_of}
 use Rattle.office_history.proofs.Lawful.{used_adds, early_adds, next_adds}
-use Rattle.office_history.proofs.Telling.{answers, text_within, next_follows}
+use Rattle.office_history.proofs.Telling.{answers, text_within}
 use Rattle.office_delivery.specs.Taking.{IsNumbered}
 use Rattle.office_delivery.specs.Writing.{Commits}
 use Rattle.office_delivery.proofs.ReadLemmas.{one_kept, text_kept}
 use Rattle.office_desk.specs.Answers.{told_answer}
-use Rattle.office_desk.specs.Telling.{Answers, Comes, Holds, IsBeside, TakesNext}
+use Rattle.office_desk.specs.Beside.{IsAt, IsBeside, nexts_after}
+use Rattle.office_desk.specs.Telling.{Answers, Comes, TakesNext}
+use Rattle.office_desk.specs.declared.beside.Beside.{Beside}
+use Rattle.office_desk.proofs.NumberLemmas.{map_alike, number_of, set_one}
 
 -- ---- what the rows tell
 
@@ -48,10 +52,9 @@ pub reply_kept : (partner number : ℕ) (rows : Rows) (kept : Kept) → AreKeptO
 reply_kept partner number rows kept once is =
     ap (option_and_then (λ (i : Interchange). reply_if_any i.reply)) (one_kept partner number rows is.0 once is.1) ∙ reply_is kept.reply is.0.reply is.3
 
-pub next_is : (content : SetupContent) (ds : List (List ℕ)) (rows : Rows) (partner next : ℕ) → AreAfter content ds rows → IsNextOf partner rows next → next ≡ run (delivered_to content ds) partner + 1
-next_is content ds rows partner next after is =
-    let there = has_filtered (has_id partner) rows.partners is.0 (has_contained _ is.0 is.1) in
-    sym is.2 ∙ next_follows content ds rows is.0 after (contains_had _ is.0 there.0) ∙ ap (λ p. run (delivered_to content ds) p + 1) (eqb-true is.0.id partner there.1)
+pub next_is : (content : SetupContent) (ds : List (List ℕ)) (there : Beside) (partner next : ℕ) → IsAt content ds there → with_number there.nexts.items partner ≡ Some next → next ≡ run (delivered_to content ds) partner + 1
+next_is content ds there partner next at is =
+    number_of (λ p. run (delivered_to content ds) p + 1) (length content.partners) partner next (sym (ap (λ l. with_number l partner) at.nexts) ∙ is)
 
 pub numbered : (content : SetupContent) (ds : List (List ℕ)) (rows : Rows) (partner : ℕ) → AreAfter content ds rows → IsNumbered partner rows
 numbered content ds rows partner after = record { kept_once = after.kept_once; none_beyond = at (text_in rows partner 1000000000) refl }
@@ -84,28 +87,33 @@ module _ (content : SetupContent) (ds : List (List ℕ)) (rows : Rows) (delivere
 
 -- ---- what is held
 
-pub beside_same : (content : SetupContent) (ds ds' : List (List ℕ)) (terminal : Option TerminalState) → machine_after content ds' ≡ machine_after content ds → IsBeside content ds terminal → IsBeside content ds' terminal
-beside_same content ds ds' None same beside = tt
-beside_same content ds ds' (Some terminal) same beside = beside ∙ sym same
+pub beside_same : (content : SetupContent) (ds ds' : List (List ℕ)) (there : Option Beside) → machine_after content ds' ≡ machine_after content ds →
+    ((partner : ℕ) → run (delivered_to content ds') partner ≡ run (delivered_to content ds) partner) → IsBeside content ds there → IsBeside content ds' there
+beside_same content ds ds' None same runs beside = tt
+beside_same content ds ds' (Some there) same runs beside = record {
+  terminal = beside.terminal ∙ sym same;
+  nexts = beside.nexts
+      ∙ sym (map_alike (λ p. run (delivered_to content ds) p + 1) (λ p. run (delivered_to content ds') p + 1) (λ p. ap (λ r. r + 1) (runs p)) (range_with_len 1 (length content.partners)));
+}
 
-pub used_answers : (content : SetupContent) (ds : List (List ℕ)) (rows : Rows) (delivered text : List ℕ) (partner number next : ℕ) (code : List ℕ) (kept : Kept) (response : Response) (was db : Database) (terminal : Option TerminalState) →
-    AreAfter content ds rows → HasRows rows was → was ≡ db → IsBeside content ds terminal → Comes content delivered text partner number → IsKept partner number rows (Some kept) → IsNextOf partner rows next →
+pub used_answers : (content : SetupContent) (ds : List (List ℕ)) (rows : Rows) (delivered text : List ℕ) (partner number next : ℕ) (code : List ℕ) (kept : Kept) (response : Response) (was db : Database) (there : Option Beside) →
+    AreAfter content ds rows → HasRows rows was → was ≡ db → IsBeside content ds there → Comes content delivered text partner number → IsKept partner number rows (Some kept) → next ≡ run (delivered_to content ds) partner + 1 →
     content_of response ≡ told_answer code number (answer_by (standing_of next number (Some kept.text.items) text) next (option_map string_bytes kept.reply) None) →
-    Answers content ds delivered partner number code response db terminal
-used_answers content ds rows delivered text partner number next code kept response was db terminal after has same beside comes is next_of told =
-    let there : text_in rows partner number ≡ Some kept.text.items = text_kept partner number rows kept after.kept_once is in
-    let adds = used_adds content ds rows delivered partner number kept.text.items after comes.is_for there in
-    let answer = used_told content ds rows delivered partner number after comes.is_for kept.text.items (option_map string_bytes kept.reply) next there (reply_kept partner number rows kept after.kept_once is) (next_is content ds rows partner next after next_of) in
+    Answers content ds delivered partner number code response db there
+used_answers content ds rows delivered text partner number next code kept response was db there after has same beside comes is next_of told =
+    let used : text_in rows partner number ≡ Some kept.text.items = text_kept partner number rows kept after.kept_once is in
+    let adds = used_adds content ds rows delivered partner number kept.text.items after comes.is_for used in
+    let answer = used_told content ds rows delivered partner number after comes.is_for kept.text.items (option_map string_bytes kept.reply) next used (reply_kept partner number rows kept after.kept_once is) next_of in
     record {
       answers = told ∙ ap (λ t. told_answer code number (answer_by (standing_of next number (Some kept.text.items) t) next (option_map string_bytes kept.reply) None)) comes.text_is ∙ ap (told_answer code number) (sym answer);
-      holds = record { rows = rows; has = subst (HasRows rows) same has; after = adds.rows_are; beside = beside_same content ds (ds ++ delivered ∷ []) terminal adds.machine beside };
+      holds = record { rows = rows; has = subst (HasRows rows) same has; after = adds.rows_are; beside = beside_same content ds (ds ++ delivered ∷ []) there adds.machine adds.runs beside };
     }
 
-pub early_answers : (content : SetupContent) (ds : List (List ℕ)) (rows : Rows) (delivered text : List ℕ) (partner number next : ℕ) (code : List ℕ) (response : Response) (old new : State) (terminal : Option TerminalState) →
-    AreAfter content ds rows → HasRows rows old.now → old.now ≡ old.committed → IsBeside content ds terminal → Comes content delivered text partner number → text_in rows partner number ≡ None →
+pub early_answers : (content : SetupContent) (ds : List (List ℕ)) (rows : Rows) (delivered text : List ℕ) (partner number next : ℕ) (code : List ℕ) (response : Response) (old new : State) (there : Option Beside) →
+    AreAfter content ds rows → HasRows rows old.now → old.now ≡ old.committed → IsBeside content ds there → Comes content delivered text partner number → text_in rows partner number ≡ None →
     next ≡ run (delivered_to content ds) partner + 1 → next < number → content_of response ≡ told_answer code number (Waiting next) → Commits (with_kept partner number text) old new →
-    Answers content ds delivered partner number code response new.committed terminal
-early_answers content ds rows delivered text partner number next code response old new terminal after has settled beside comes free is later told wrote =
+    Answers content ds delivered partner number code response new.committed there
+early_answers content ds rows delivered text partner number next code response old new there after has settled beside comes free is later told wrote =
     let beyond : run (delivered_to content ds) partner + 1 < number = omega (arith, is, later) in
     let adds = early_adds content ds rows delivered partner number after comes.is_for free beyond in
     let answer = (answers content ds rows delivered partner number after comes.is_for).early free beyond in
@@ -115,29 +123,7 @@ early_answers content ds rows delivered text partner number next code response o
         rows = with_kept partner number (interchange_of delivered) rows;
         has = subst (λ t. HasRows (with_kept partner number t rows) new.committed) comes.text_is (wrote.rows rows (subst (HasRows rows) settled has));
         after = adds.rows_are;
-        beside = beside_same content ds (ds ++ delivered ∷ []) terminal adds.machine beside;
-      };
-    }
-
-pub next_answers : (content : SetupContent) (ds : List (List ℕ)) (rows : Rows) (delivered text : List ℕ) (partner number next : ℕ) (code : List ℕ) (response : Response) (now left : TerminalState) (end : State) →
-    IsGiven content → AreAfter content ds rows → IsBeside content ds (Some now) → Comes content delivered text partner number → text_in rows partner number ≡ None →
-    next ≡ run (delivered_to content ds) partner + 1 → number ≡ next → TakesNext rows partner number text code (machine_with content now) response (machine_with content left) end →
-    Answers content ds delivered partner number code response end.committed (Some left)
-next_answers content ds rows delivered text partner number next code response now left end given after beside comes free is same takes =
-    let own = interchange_of delivered in
-    let number_is : number ≡ run (delivered_to content ds) partner + 1 = same ∙ is in
-    let here : AreTakenFrom partner (texts_with rows partner number own) number (machine_after content ds) (takes.first ∷ takes.later) (machine_with content left) =
-    subst (λ m. AreTakenFrom partner (texts_with rows partner number own) number m (takes.first ∷ takes.later) (machine_with content left)) beside
-    (subst (λ t. AreTakenFrom partner (texts_with rows partner number t) number (machine_with content now) (takes.first ∷ takes.later) (machine_with content left)) comes.text_is takes.taken) in
-    let adds = next_adds content ds rows delivered partner number (takes.first ∷ takes.later) (machine_with content left) given after comes.is_for free number_is here in
-    let answer = (answers content ds rows delivered partner number after comes.is_for).next takes.first takes.later (machine_with content left) given free number_is here in
-    record {
-      answers = takes.answers ∙ ap (told_answer code number) (sym answer);
-      holds = record {
-        rows = with_run partner number own (takes.first ∷ takes.later) rows;
-        has = subst (λ t. HasRows (with_run partner number t (takes.first ∷ takes.later) rows) end.committed) comes.text_is takes.has;
-        after = adds.rows_are;
-        beside = adds.machine_is;
+        beside = beside_same content ds (ds ++ delivered ∷ []) there adds.machine adds.runs beside;
       };
     }
 
@@ -149,19 +135,42 @@ machine_same setup terminal =
     (sym (map-map _ _ setup.partners.items))
     ∙ ap (λ kinds. record { parties = parties_in (setup_content setup); codes = setup.codes; kinds = kinds; blocks = setup.blocks.items; visit_limit = setup.visit_limit; terminal = terminal }) (sym (map-map _ _ setup.partners.items))
 
--- what is held stays so, with or without the terminal
-pub holds_without : (content : SetupContent) (ds : List (List ℕ)) (db db' : Database) (rows : Rows) → HasRows rows db → db' ≡ db → AreAfter content ds rows → Holds content ds db' None
-holds_without content ds db db' rows has same after = record { rows = rows; has = subst (HasRows rows) (sym same) has; after = after; beside = tt }
+-- the numbers after a run: its partner's is raised by its length
+nexts_raised : (content : SetupContent) (ds : List (List ℕ)) (delivered nexts : List ℕ) (partner number count : ℕ) (rows : Rows) (machine : MachineState) → 1 ≤ partner → number ≡ run (delivered_to content ds) partner + 1 →
+    nexts ≡ nexts_after content ds → AddsRun content ds delivered partner count rows machine → slice_set nexts (partner - 1) (number + count) ≡ nexts_after content (ds ++ delivered ∷ [])
+nexts_raised content ds delivered nexts partner number count rows machine one is are adds =
+    let f : ℕ → ℕ = λ p. run (delivered_to content ds) p + 1 in
+    let f' : ℕ → ℕ = λ p. run (delivered_to content (ds ++ delivered ∷ [])) p + 1 in
+    let last : number + count ≡ f' partner = omega (arith, is, adds.run_is) in
+    ap₂ (λ l n. slice_set l (partner - 1) n) are last
+    ∙ set_one f f' partner (λ p apart. ap (λ r. r + 1) (adds.other_runs p apart)) (length content.partners) one
 
-pub holds_with : (content : SetupContent) (ds : List (List ℕ)) (db db' : Database) (terminal : Option TerminalState) (rows : Rows) → HasRows rows db → db' ≡ db → AreAfter content ds rows → IsBeside content ds terminal → Holds content ds db' terminal
-holds_with content ds db db' terminal rows has same after beside = record { rows = rows; has = subst (HasRows rows) (sym same) has; after = after; beside = beside }
-
-pub with_setup : (setup : Setup) (now left : TerminalState) (rows : Rows) (partner number : ℕ) (text code : List ℕ) (response : Response) (end : State) →
-    TakesNext rows partner number text code (machine_of setup now) response (machine_of setup left) end →
-    TakesNext rows partner number text code (machine_with (setup_content setup) now) response (machine_with (setup_content setup) left) end
-with_setup setup now left rows partner number text code response end takes =
-    subst (λ m. TakesNext rows partner number text code (machine_with (setup_content setup) now) response m end) (machine_same setup left)
-    (subst (λ m. TakesNext rows partner number text code m response (machine_of setup left) end) (machine_same setup now) takes)
+pub next_answers : (setup : Setup) (ds : List (List ℕ)) (rows : Rows) (delivered text : List ℕ) (partner number next : ℕ) (code : List ℕ) (response : Response) (now left : Beside) (end : State) →
+    IsGiven (setup_content setup) → AreAfter (setup_content setup) ds rows → IsAt (setup_content setup) ds now → Comes (setup_content setup) delivered text partner number → text_in rows partner number ≡ None →
+    1 ≤ partner → next ≡ run (delivered_to (setup_content setup) ds) partner + 1 → number ≡ next → TakesNext rows partner number text code setup now response left end →
+    Answers (setup_content setup) ds delivered partner number code response end.committed (Some left)
+next_answers setup ds rows delivered text partner number next code response now left end given after at comes free one is same takes =
+    let content = setup_content setup in
+    let own = interchange_of delivered in
+    let number_is : number ≡ run (delivered_to content ds) partner + 1 = same ∙ is in
+    let here : AreTakenFrom partner (texts_with rows partner number own) number (machine_after content ds) (takes.first ∷ takes.later) (machine_with content left.terminal) =
+    subst (λ m. AreTakenFrom partner (texts_with rows partner number own) number (machine_after content ds) (takes.first ∷ takes.later) m) (machine_same setup left.terminal)
+    (subst (λ m. AreTakenFrom partner (texts_with rows partner number own) number m (takes.first ∷ takes.later) (machine_of setup left.terminal)) (machine_same setup now.terminal ∙ at.terminal)
+    (subst (λ t. AreTakenFrom partner (texts_with rows partner number t) number (machine_of setup now.terminal) (takes.first ∷ takes.later) (machine_of setup left.terminal)) comes.text_is takes.taken)) in
+    let adds = next_adds content ds rows delivered partner number (takes.first ∷ takes.later) (machine_with content left.terminal) given after comes.is_for free number_is here in
+    let answer = (answers content ds rows delivered partner number after comes.is_for).next takes.first takes.later (machine_with content left.terminal) given free number_is here in
+    record {
+      answers = takes.answers ∙ ap (told_answer code number) (sym answer);
+      holds = record {
+        rows = with_run partner number own (takes.first ∷ takes.later) rows;
+        has = subst (λ t. HasRows (with_run partner number t (takes.first ∷ takes.later) rows) end.committed) comes.text_is takes.has;
+        after = adds.rows_are;
+        beside = record {
+          terminal = adds.machine_is;
+          nexts = takes.raised ∙ nexts_raised content ds delivered now.nexts.items partner number (length (takes.first ∷ takes.later)) _ _ one number_is at.nexts adds;
+        };
+      };
+    }
 
 -- ---- results
 

@@ -1,4 +1,5 @@
 pub mod Admitted
+pub mod NumberLemmas
 pub mod AnswerLemmas
 pub mod CrashLemmas
 pub mod HoldLemmas

@@ -1,6 +1,7 @@
 -- What holds of the rows of an office, whether or not deliveries led to them.
-use Rattle.std.proofs.Common.{◌≡◌, Option, sym, subst}
+use Rattle.std.proofs.Common.{◌≡◌, Option, sym, subst, ◌∙◌}
 use Rattle.sqlite.specs.Effect.{Database}
+use Rattle.sqlite.specs.State.{State, IsUnchanged}
 use Rattle.terminal_core.specs.State.{TerminalState}
 use Rattle.office_rows.specs.Rows.{Rows}
 use Rattle.office_rows.specs.Stored.{HasRows}
@@ -9,10 +10,29 @@ use Rattle.office_history.specs.After.{AreKeptOnce}
 use Rattle.office_history.proofs.Loads.{one_terminal}
 use Rattle.office_history.proofs.Once.{kept_once}
 use Rattle.office_loading.specs.Tables.{Loads}
-use Rattle.office_desk.specs.Offices.{HoldsOffice, IsOrNone}
+use Rattle.office_desk.specs.Beside.{IsOrNone}
+use Rattle.office_desk.specs.Offices.{HoldsOffice}
+use Rattle.office_desk.specs.declared.beside.Beside.{Beside}
 
--- the same rows hold the same office, with or without its terminal
-pub office_with : (content : SetupContent) (rows : Rows) (terminal : TerminalState) (db db' : Database) (there there' : Option TerminalState) → db' ≡ db → IsOrNone terminal there' →
+-- ---- calls that change nothing
+
+pub unchanged_then : (a b c : State) → IsUnchanged a b → IsUnchanged b c → IsUnchanged a c
+unchanged_then a b c p q = (
+  record {
+    was_open = p.0.was_open;
+    is_open = q.0.is_open;
+    now_is = q.0.now_is ∙ p.0.now_is;
+    committed_is = q.0.committed_is ∙ p.0.committed_is;
+    mode = q.0.mode ∙ p.0.mode;
+  },
+  record { changes = q.1.changes ∙ p.1.changes; last_rowid = q.1.last_rowid ∙ p.1.last_rowid },
+  q.2 ∙ p.2,
+)
+
+-- ---- the office
+
+-- the same rows hold the same office, with what stands beside them or without
+pub office_with : (content : SetupContent) (rows : Rows) (terminal : TerminalState) (db db' : Database) (there there' : Option Beside) → db' ≡ db → IsOrNone rows terminal there' →
     HoldsOffice content rows terminal db there → HoldsOffice content rows terminal db' there'
 office_with content rows terminal db db' there there' same beside holds = record {
   has = subst (HasRows rows) (sym same) holds.has;
@@ -21,10 +41,10 @@ office_with content rows terminal db db' there there' same beside holds = record
 }
 
 -- what is loaded is the office's terminal
-pub loaded_is : (content other : SetupContent) (rows : Rows) (terminal loaded : TerminalState) (db : Database) (there : Option TerminalState) → HoldsOffice content rows terminal db there → Loads db other loaded → loaded ≡ terminal
+pub loaded_is : (content other : SetupContent) (rows : Rows) (terminal loaded : TerminalState) (db : Database) (there : Option Beside) → HoldsOffice content rows terminal db there → Loads db other loaded → loaded ≡ terminal
 loaded_is content other rows terminal loaded db there holds loads =
     one_terminal db loads.0 holds.loads.0 other content loaded terminal loads.1 holds.loads.1 loads.2 holds.loads.2
 
 -- no number of a partner is kept twice
-pub office_once : (content : SetupContent) (rows : Rows) (terminal : TerminalState) (db : Database) (there : Option TerminalState) → HoldsOffice content rows terminal db there → AreKeptOnce rows.interchanges
+pub office_once : (content : SetupContent) (rows : Rows) (terminal : TerminalState) (db : Database) (there : Option Beside) → HoldsOffice content rows terminal db there → AreKeptOnce rows.interchanges
 office_once content rows terminal db there holds = kept_once db rows holds.loads.0 content terminal holds.has holds.loads.1 holds.loads.2

@@ -26,7 +26,7 @@ IsSound g desk = HasCleanDisk (state g desk.conn) × IsTrue (state g desk.conn).
 -- for that set-up, after those deliveries, it is this desk
 pub record StandsFor {S : Type 0} (g : Ghosts S) (content : SetupContent) (ds : List (List ℕ)) (desk : Desk S g) : Type 0 where
   pub setup : setup_content desk.setup ≡ content
-  pub holds : Holds content ds (state g desk.conn).committed desk.terminal
+  pub holds : Holds content ds (state g desk.conn).committed desk.beside
 
 -- a desk that was opened on the rows after those deliveries: its set-up says the same, it stands there, and a crash leaves these
 pub record OpensAt {S : Type 0} (g : Ghosts S) (content : SetupContent) (ds : List (List ℕ)) (desk : Desk S g) : Type 0 where
@@ -48,4 +48,4 @@ DeskAnswers g opening ds delivered given = answers_for (setup_content opening.se
 abbrev pub Refuses : {S : Type 0} (g : Ghosts S) → List ℕ → Desk S g → Response → Desk S g → Type 0
 Refuses g delivered old given new =
     (fault : Fault) → admission (parties_of old.setup) (interchange_of delivered) ≡ Err fault →
-    (new.conn ≡ old.conn) × (new.setup ≡ old.setup) × (new.terminal ≡ old.terminal) × GivesOrNotNow (refusal_of (parties_of old.setup) (header_of (segments_in (interchange_of delivered))) fault) given
+    (new.conn ≡ old.conn) × (new.setup ≡ old.setup) × (new.beside ≡ old.beside) × GivesOrNotNow (refusal_of (parties_of old.setup) (header_of (segments_in (interchange_of delivered))) fault) given

@@ -1,4 +1,5 @@
 pub mod Answers
+pub mod Beside
 pub mod Telling
 pub mod Crashes
 pub mod Offices

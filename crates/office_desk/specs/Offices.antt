@@ -1,5 +1,5 @@
 -- A desk over the rows of an office, whether or not deliveries led to them.
-use Rattle.std.specs.Prelude.{◌≡◌, Option, None, Some}
+use Rattle.std.specs.Prelude.{◌≡◌, Option, Some}
 use Rattle.sqlite.specs.Effect.{Database}
 use Rattle.sqlite.specs.Held.{state}
 use Rattle.sqlite.specs.State.{State, IsUnchanged}
@@ -9,28 +9,26 @@ use Rattle.office_rows.specs.Rows.{Rows}
 use Rattle.office_rows.specs.Stored.{HasRows}
 use Rattle.office_setup.specs.Setups.{SetupContent, setup_content}
 use Rattle.office_loading.specs.Tables.{Loads}
+use Rattle.office_desk.specs.Beside.{IsOrNone}
+use Rattle.office_desk.specs.declared.beside.Beside.{Beside}
 use Rattle.office_desk.specs.declared.desk.Desk.{Desk}
 
--- the one that stands there is that terminal, or there is none
-abbrev pub IsOrNone : TerminalState → Option TerminalState → Type 0
-IsOrNone terminal None = Unit {0}
-IsOrNone terminal (Some there) = there ≡ terminal
-
--- the database has these rows, which show an office with that set-up and that terminal; the terminal beside them is that one, or none
-pub record HoldsOffice (content : SetupContent) (rows : Rows) (terminal : TerminalState) (db : Database) (there : Option TerminalState) : Type 0 where
+-- the database has these rows, which show an office with that set-up and that terminal; what stands beside them is this
+-- terminal and the rows' numbers, or there is none
+pub record HoldsOffice (content : SetupContent) (rows : Rows) (terminal : TerminalState) (db : Database) (there : Option Beside) : Type 0 where
   pub has : HasRows rows db
   pub loads : Loads db content terminal
-  pub beside : IsOrNone terminal there
+  pub beside : IsOrNone rows terminal there
 
 -- the desk is over these rows, which are its office's, with that terminal
 abbrev pub DeskHolds : {S : Type 0} (g : Ghosts S) → Desk S g → Rows → TerminalState → Type 0
-DeskHolds g desk rows terminal = HoldsOffice (setup_content desk.setup) rows terminal (state g desk.conn).committed desk.terminal
+DeskHolds g desk rows terminal = HoldsOffice (setup_content desk.setup) rows terminal (state g desk.conn).committed desk.beside
 
--- a desk that was opened on a store: its set-up and the terminal beside it are those that the store's tables show, so it holds
+-- a desk that was opened on a store: its set-up and what stands beside it are those that the store's tables show, so it holds
 -- whatever rows they have; and opening changed nothing
 pub record OpensOffice {S : Type 0} (g : Ghosts S) (found : State) (desk : Desk S g) : Type 0 where
-  pub terminal : TerminalState
-  pub beside : desk.terminal ≡ Some terminal
-  pub loads : Loads found.committed (setup_content desk.setup) terminal
-  pub holds : (rows : Rows) → HasRows rows found.committed → DeskHolds g desk rows terminal
+  pub there : Beside
+  pub beside : desk.beside ≡ Some there
+  pub loads : Loads found.committed (setup_content desk.setup) there.terminal
+  pub holds : (rows : Rows) → HasRows rows found.committed → DeskHolds g desk rows there.terminal
   pub unchanged : IsUnchanged found (state g desk.conn)

@@ -74,5 +74,5 @@ pub record TellsAfter (content : SetupContent) (ds : List (List ℕ)) (query : Q
 -- what the desk tells, whatever rows it has: those after deliveries tell what the rows after that tell; those of any office
 -- tell what they are
 pub record DeskTells {S : Type 0} (g : Ghosts S) (desk : Desk S g) (query : Query) (found : Option (List ℕ)) : Type 0 where
-  pub after : (ds : List (List ℕ)) → Holds (setup_content desk.setup) ds (state g desk.conn).committed desk.terminal → TellsAfter (setup_content desk.setup) ds query found
+  pub after : (ds : List (List ℕ)) → Holds (setup_content desk.setup) ds (state g desk.conn).committed desk.beside → TellsAfter (setup_content desk.setup) ds query found
   pub office : (rows : Rows) (terminal : TerminalState) → DeskHolds g desk rows terminal → TellsOf (setup_content desk.setup) terminal rows query found

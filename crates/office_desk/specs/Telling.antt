@@ -1,28 +1,31 @@
 -- What the desk answers, and what it leaves.
-use Rattle.std.specs.Prelude.{◌≡◌, ℕ, List, [], ◌∷◌, ◌++◌, Option, None, Some, IsTrue}
+use Rattle.std.specs.Prelude.{◌≡◌, ℕ, ◌+◌, ◌-◌, List, [], ◌∷◌, ◌++◌, length, slice_set, Option, Some, IsTrue}
 use Rattle.sqlite.specs.Effect.{Database}
 use Rattle.sqlite.specs.State.{State}
 use Rattle.sqlite.specs.Tree.{Trees}
 use Rattle.edi_segments.specs.Interchange.{interchange_of}
 use Rattle.partner_core.specs.Answers.{Taken}
-use Rattle.terminal_core.specs.State.{TerminalState}
 use Rattle.office_replies.specs.Contents.{content_of}
 use Rattle.office_replies.specs.declared.response.Response.{Response}
 use Rattle.office_rows.specs.Rows.{Rows}
 use Rattle.office_rows.specs.Stored.{HasRows, AreRows}
 use Rattle.office_setup.specs.Setups.{SetupContent}
-use Rattle.office_taking.specs.Taking.{MachineState}
-use Rattle.office_history.specs.After.{AreAfter, machine_after, machine_with}
+use Rattle.office_setup.specs.declared.setup.Setup.{Setup}
+use Rattle.office_taking.specs.Taking.{MachineState, machine_of}
+use Rattle.office_history.specs.After.{AreAfter}
 use Rattle.office_history.specs.Cascade.{TakenContent, AreTakenFrom, texts_with, with_run}
 use Rattle.office_history.specs.Laws.{IsFor, told_of}
 use Rattle.office_desk.specs.Answers.{told_answer}
+use Rattle.office_desk.specs.Beside.{IsBeside}
+use Rattle.office_desk.specs.declared.beside.Beside.{Beside}
 
--- the text is taken, and those that become next by it; the response has the reply of the first, and the rows are committed, so
--- that a crash leaves these alone
-pub record TakesNext (rows : Rows) (partner number : ℕ) (text code : List ℕ) (old : MachineState) (response : Response) (new : MachineState) (end : State) : Type 0 where
+-- the text is taken, and those that become next by it, and the partner's number is raised by the length of this run; the
+-- response has the reply of the first, and the rows are committed, so that a crash leaves these alone
+pub record TakesNext (rows : Rows) (partner number : ℕ) (text code : List ℕ) (setup : Setup) (old : Beside) (response : Response) (new : Beside) (end : State) : Type 0 where
   pub first : TakenContent
   pub later : List TakenContent
-  pub taken : AreTakenFrom partner (texts_with rows partner number text) number old (first ∷ later) new
+  pub taken : AreTakenFrom partner (texts_with rows partner number text) number (machine_of setup old.terminal) (first ∷ later) (machine_of setup new.terminal)
+  pub raised : new.nexts.items ≡ slice_set old.nexts.items (partner - 1) (number + length (first ∷ later))
   pub answers : content_of response ≡ told_answer code number (Taken (Some first.reply))
   pub has : HasRows (with_run partner number text (first ∷ later) rows) end.committed
   pub is_open : IsTrue end.is_open
@@ -35,17 +38,12 @@ pub record IsRunDone (rows : Rows) (partner number : ℕ) (text : List ℕ) (old
   pub are_taken : AreTakenFrom partner (texts_with rows partner number text) number old taken new
   pub are : AreRows (with_run partner number text taken rows) db
 
--- the machine of the set-up over the terminal, if there is one, is that after the deliveries
-abbrev pub IsBeside : SetupContent → List (List ℕ) → Option TerminalState → Type 0
-IsBeside content ds None = Unit {0}
-IsBeside content ds (Some terminal) = machine_with content terminal ≡ machine_after content ds
-
--- the database has the rows after the deliveries, and the terminal beside it is that after them
-pub record Holds (content : SetupContent) (ds : List (List ℕ)) (db : Database) (terminal : Option TerminalState) : Type 0 where
+-- the database has the rows after the deliveries, and what stands beside it is at them
+pub record Holds (content : SetupContent) (ds : List (List ℕ)) (db : Database) (there : Option Beside) : Type 0 where
   pub rows : Rows
   pub has : HasRows rows db
   pub after : AreAfter content ds rows
-  pub beside : IsBeside content ds terminal
+  pub beside : IsBeside content ds there
 
 -- the text is what was delivered, and admitted for that partner under that number
 pub record Comes (content : SetupContent) (delivered text : List ℕ) (partner number : ℕ) : Type 0 where
@@ -53,6 +51,6 @@ pub record Comes (content : SetupContent) (delivered text : List ℕ) (partner n
   pub is_for : IsFor content delivered partner number
 
 -- the response to the partner with a code is what is to be told, and these are held behind it
-pub record Answers (content : SetupContent) (ds : List (List ℕ)) (delivered : List ℕ) (partner number : ℕ) (code : List ℕ) (response : Response) (db : Database) (terminal : Option TerminalState) : Type 0 where
+pub record Answers (content : SetupContent) (ds : List (List ℕ)) (delivered : List ℕ) (partner number : ℕ) (code : List ℕ) (response : Response) (db : Database) (there : Option Beside) : Type 0 where
   pub answers : content_of response ≡ told_answer code number (told_of content ds partner number delivered)
-  pub holds : Holds content (ds ++ delivered ∷ []) db terminal
+  pub holds : Holds content (ds ++ delivered ∷ []) db there

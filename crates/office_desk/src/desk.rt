@@ -5,44 +5,44 @@ ghost use Rattle.office_setup.specs.Parties.{parties_of};
 ghost use Rattle.office_setup.specs.Given.{IsGiven};
 ghost use Rattle.office_setup.specs.Setups.{setup_content};
 
-use crate::reloading::terminal_of;
+use crate::beside::Beside;
+use crate::reloading::{beside_of, load_beside};
 use crate::taking::take_in;
 use crate::telling::tell;
 use edi_segments::interchange_text;
 use office_admission::admit;
-use office_loading::load;
 use office_queries::{NotNow, Query, Report};
 use office_replies::{Deliver, Response};
 use office_setup::Setup;
 use office_tables::TableFault;
 use sqlite::{Alter, Connection};
 use std::alloc::Global;
-use terminal_core::Terminal;
 
-/// The terminal's desk over a store: its records are the rows of the tables, and the terminal stands beside them in memory.
+/// The terminal's desk over a store: its records are the rows of the tables, and the terminal and the partners' next numbers
+/// stand beside them in memory.
 #[derive(Drop)]
 pub struct Desk<S: Alter> {
     conn: Connection<S>,
     setup: Setup,
-    // The terminal as the rows have it; none where it has to be loaded again.
-    terminal: Option<Terminal>,
+    // What the rows say; none where it has to be loaded again.
+    beside: Option<Beside>,
     ghost idle: { conn.in_transaction ≡ false },
     ghost given: { IsGiven (setup_content setup) },
 }
 
 impl<S: Alter> Desk<S> {
-    /// A desk over tables that were opened, with the terminal that they are of.
-    pub fn new(conn: Connection<S>, setup: Setup, terminal: Terminal) -> Desk<S>
+    /// A desk over tables that were opened, with what stands beside them.
+    pub fn new(conn: Connection<S>, setup: Setup, beside: Beside) -> Desk<S>
         requires idle { conn.in_transaction ≡ false }
         requires given { IsGiven (setup_content setup) }
         ensures conn { result.conn ≡ conn }
         ensures setup { result.setup ≡ setup }
-        ensures terminal { result.terminal ≡ Some terminal }
+        ensures beside { result.beside ≡ Some beside }
     {
         Desk {
             conn,
             setup,
-            terminal: Some(terminal),
+            beside: Some(beside),
         }
     }
 
@@ -53,7 +53,7 @@ impl<S: Alter> Desk<S> {
         let Desk {
             conn,
             setup: _,
-            terminal: _,
+            beside: _,
         } = self;
         conn
     }
@@ -69,8 +69,8 @@ impl<S: Alter + Drop> Desk<S> {
     ghost use Rattle.office_desk.specs.Desks.{IsSound, OpensAt};
     ghost use Rattle.office_desk.specs.Offices.{OpensOffice};
 
-    /// The desk of a store that holds an office: its set-up and its terminal are those that the tables hold. Where it is
-    /// refused, the connection is given up.
+    /// The desk of a store that holds an office: its set-up, its terminal and its partners' numbers are those that the tables
+    /// hold. Where it is refused, the connection is given up.
     pub fn open(alloc: Global, conn: Connection<S>) -> Result<Desk<S>, TableFault>
         requires idle { conn.in_transaction ≡ false }
         ensures opens { IfOk result (λ desk. IsSound S.Store desk → (content : SetupContent) (ds : List (List ℕ)) (rows : Rows) →
@@ -82,8 +82,8 @@ impl<S: Alter + Drop> Desk<S> {
         let mut conn = conn;
         let is_idle = conn.is_autocommit();
         prove!(is_idle);
-        let (setup, terminal) = load(alloc, &mut conn)?;
-        Ok(Desk::new(conn, setup, terminal))
+        let (setup, beside) = load_beside(alloc, &mut conn)?;
+        Ok(Desk::new(conn, setup, beside))
     }
 }
 
@@ -111,9 +111,9 @@ impl<S: Alter + Drop> Desk<S> {
     {
         let is_idle = self.conn.is_autocommit();
         prove!(is_idle);
-        let terminal = terminal_of(alloc, &mut self.conn, self.terminal.take())?;
-        let found = tell(alloc, &mut self.conn, &self.setup, &terminal, query);
-        self.terminal = Some(terminal);
+        let there = beside_of(alloc, &mut self.conn, self.beside.take())?;
+        let found = tell(alloc, &mut self.conn, &self.setup, &there.terminal, query);
+        self.beside = Some(there);
         found
     }
 }
@@ -184,7 +184,7 @@ impl<S: Alter + Drop> Deliver for Desk<S> {
             alloc,
             &mut self.conn,
             setup,
-            &mut self.terminal,
+            &mut self.beside,
             code,
             &admitted,
             number,

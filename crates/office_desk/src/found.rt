@@ -1,36 +1,65 @@
-ghost use Rattle.std.specs.Prelude.{◌≡◌, IfOk, OnOk};
+ghost use Rattle.std.specs.Prelude.{◌≡◌, ◌≤◌, ℕ, List, None, Some, IfOk, OnOk, OnErr, length};
 ghost use Rattle.sqlite.specs.Held.{state};
 ghost use Rattle.sqlite.specs.State.{HasCleanDisk};
+ghost use Rattle.partner_core.specs.Numbered.{with_number};
 ghost use Rattle.office_rows.specs.Rows.{Rows};
 ghost use Rattle.office_rows.specs.Stored.{HasRows};
 ghost use Rattle.office_rows.specs.Tables.{office_schema};
-ghost use Rattle.office_tables.specs.Answers.{IsKept, IsNextOf};
+ghost use Rattle.office_setup.specs.Given.{IsGiven};
+ghost use Rattle.office_setup.specs.Setups.{SetupContent};
+ghost use Rattle.office_tables.specs.Answers.{IsKept};
+ghost use Rattle.office_history.specs.After.{AreAfter};
 ghost use Rattle.office_delivery.specs.Reading.{IsSame, OnlyReads};
+ghost use Rattle.office_desk.specs.Beside.{IsBeside};
 
-use office_tables::{Kept, TableFault, kept, next_of};
+use crate::beside::Beside;
+use crate::reloading::beside_of;
+use office_tables::{Kept, TableFault, kept};
 use sqlite::{Alter, Connection};
+use std::alloc::Global;
 
-/// What the tables have for a partner's number.
-#[derive(Debug, Drop)]
+/// What a delivery is answered by.
+#[derive(Drop)]
 pub struct Found {
-    /// What is kept under it.
+    /// What is kept under its number.
     pub kept: Option<Kept>,
-    /// The number that the partner's next interchange has.
+    /// The number of its partner's next interchange.
     pub next: u32,
+    /// What stands beside the tables.
+    pub there: Beside,
 }
 
-/// Looks up a partner's number. It changes nothing.
+/// Looks up a partner's number, and takes out what stands beside the tables: loaded, where there is none. It changes no row.
 pub(crate) fn look<S: Alter>(
+    alloc: Global,
     conn: &mut Connection<S>,
+    beside: &mut Option<Beside>,
     partner: u16,
     number: u32,
 ) -> Result<Found, TableFault>
+    requires { 1 ≤ partner }
     ensures kept { HasCleanDisk (state S.Store conn.new) → IfOk result (λ found. (rows : Rows) → HasRows rows (state S.Store conn.old).now → IsKept partner number rows found.kept) }
-    ensures next { HasCleanDisk (state S.Store conn.new) → IfOk result (λ found. (rows : Rows) → HasRows rows (state S.Store conn.old).now → IsNextOf partner rows found.next) }
+    ensures next { IfOk result (λ found. with_number found.there.nexts.items partner ≡ Some found.next) }
+    ensures known { IfOk result (λ found. partner ≤ length found.there.nexts.items) }
+    ensures beside { HasCleanDisk (state S.Store conn.new) → IfOk result (λ found.
+        (content : SetupContent) (ds : List (List ℕ)) (rows : Rows) → IsGiven content →
+        HasRows rows (state S.Store conn.old).now → AreAfter content ds rows → IsBeside content ds beside.old → IsBeside content ds (Some found.there)) }
+    ensures out { OnOk result (beside.new ≡ None) }
+    ensures err { HasCleanDisk (state S.Store conn.new) → OnErr result (
+        (content : SetupContent) (ds : List (List ℕ)) (rows : Rows) → IsGiven content →
+        HasRows rows (state S.Store conn.old).now → AreAfter content ds rows → IsBeside content ds beside.old → IsBeside content ds beside.new) }
     ensures same { HasCleanDisk (state S.Store conn.new) → (state S.Store conn.old).now.schema ≡ office_schema → OnOk result (IsSame (state S.Store conn.old) (state S.Store conn.new)) }
     ensures reads { OnlyReads (state S.Store conn.old) (state S.Store conn.new) }
 {
-    let kept = kept(conn, partner, number)?;
-    let next = next_of(conn, partner)?;
-    Ok(Found { kept, next })
+    let there = beside_of(alloc, conn, beside.take())?;
+    let Some(next) = there.next_of(partner) else {
+        return Err(TableFault::Damaged);
+    };
+    match kept(conn, partner, number) {
+        Ok(kept) => Ok(Found { kept, next, there }),
+        Err(fault) => {
+            *beside = Some(there);
+            Err(fault)
+        }
+    }
 }

@@ -2,6 +2,7 @@
 #![tactic(auto)]
 
 mod answers;
+mod beside;
 mod desk;
 mod early;
 mod found;
@@ -10,5 +11,6 @@ mod reloading;
 mod taking;
 mod telling;
 
+pub use beside::Beside;
 pub use desk::Desk;
 pub use found::Found;

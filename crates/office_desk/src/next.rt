@@ -10,6 +10,7 @@ ghost use Rattle.office_taking.specs.Taking.{machine_of};
 ghost use Rattle.office_delivery.specs.Taking.{IsNumbered};
 ghost use Rattle.office_desk.specs.Telling.{TakesNext, IsRunDone};
 
+use crate::beside::Beside;
 use office_admission::Admitted;
 use office_delivery::{take_run, write_run};
 use office_replies::{Response, answered};
@@ -18,40 +19,41 @@ use office_tables::TableFault;
 use partner_core::LAST_NUMBER;
 use sqlite::{Alter, Connection};
 use std::alloc::Global;
-use terminal_core::Terminal;
 
-/// Takes a partner's next interchange and those that become next by it, and answers the terminal that they leave.
+/// Takes a partner's next interchange and those that become next by it, and answers what they leave to stand beside the tables.
 pub(crate) fn take_next<S: Alter>(
     alloc: Global,
     conn: &mut Connection<S>,
     setup: &Setup,
-    terminal: Terminal,
+    beside: Beside,
     code: &str,
     admitted: &Admitted<'_>,
     number: u32,
     text: &[u8],
-) -> Result<(Response, Terminal), TableFault>
+) -> Result<(Response, Beside), TableFault>
     requires idle { (state S.Store conn.old).in_transaction ≡ false }
     requires few { length setup.now.partners.items ≤ 999 }
     requires number { number ≤ LAST_NUMBER }
     requires admitted { IsAdmitted setup.now text.now admitted.now }
+    requires known { admitted.now.partner ≤ length beside.nexts.items }
     ensures idle { (state S.Store conn.new).in_transaction ≡ false }
     ensures ok { HasCleanDisk (state S.Store conn.new) → IfOk result (λ taken. (rows : Rows) →
         HasRows rows (state S.Store conn.old).now → (state S.Store conn.old).now ≡ (state S.Store conn.old).committed →
-        IsNumbered admitted.now.partner rows → TakesNext rows admitted.now.partner number text.now code.now (machine_of setup.now terminal)
-        taken.0 (machine_of setup.now taken.1) (state S.Store conn.new)) }
+        IsNumbered admitted.now.partner rows → TakesNext rows admitted.now.partner number text.now code.now setup.now beside
+        taken.0 taken.1 (state S.Store conn.new)) }
     ensures err { HasCleanDisk (state S.Store conn.new) → IsTrue (state S.Store conn.new).is_open →
         (state S.Store conn.old).now.schema ≡ office_schema → OnErr result ((state S.Store conn.new).committed ≡ (state S.Store conn.old).committed) }
     ensures crash { HasCleanDisk (state S.Store conn.new) → OnErr result ((rows : Rows) →
         HasRows rows (state S.Store conn.old).now → (state S.Store conn.old).now ≡ (state S.Store conn.old).committed → IsNumbered admitted.now.partner rows →
         (db : Trees) → (state S.Store conn.new).may_leave db →
-        (state S.Store conn.old).may_leave db ⊎ IsRunDone rows admitted.now.partner number text.now (machine_of setup.now terminal) db) }
+        (state S.Store conn.old).may_leave db ⊎ IsRunDone rows admitted.now.partner number text.now (machine_of setup.now beside.terminal) db) }
     ensures was_open { HasCleanDisk (state S.Store conn.new) → IsTrue (state S.Store conn.new).is_open → IsTrue (state S.Store conn.old).is_open }
     ensures clean { HasCleanDisk (state S.Store conn.new) → HasCleanDisk (state S.Store conn.old) }
 {
-    let mut terminal = terminal;
-    let taken = take_run(alloc, conn, setup, &mut terminal, admitted, number)?;
+    let mut beside = beside;
+    let taken = take_run(alloc, conn, setup, &mut beside.terminal, admitted, number)?;
     let body = answered(alloc, "taken", number, code, taken[0].reply.as_str())?;
     write_run(conn, admitted.partner, number, text, &taken)?;
-    Ok((Response::Taken(body), terminal))
+    beside.raise(admitted.partner, taken[taken.len() - 1].number + 1);
+    Ok((Response::Taken(body), beside))
 }

@@ -1,43 +1,66 @@
-ghost use Rattle.std.specs.Prelude.{◌≡◌, ℕ, List, Some, IfOk, OnOk};
+ghost use Rattle.std.specs.Prelude.{◌≡◌, ℕ, List, Some, IfOk, OnOk, false};
 ghost use Rattle.sqlite.specs.Held.{state};
-ghost use Rattle.sqlite.specs.State.{HasCleanDisk};
+ghost use Rattle.sqlite.specs.State.{HasCleanDisk, IsUnchanged};
 ghost use Rattle.office_rows.specs.Rows.{Rows};
+ghost use Rattle.office_rows.specs.Shown.{AreNexts};
 ghost use Rattle.office_rows.specs.Stored.{HasRows};
 ghost use Rattle.office_rows.specs.Tables.{office_schema};
 ghost use Rattle.office_setup.specs.Given.{IsGiven};
-ghost use Rattle.office_setup.specs.Setups.{SetupContent};
+ghost use Rattle.office_setup.specs.Setups.{SetupContent, setup_content};
 ghost use Rattle.office_history.specs.After.{AreAfter};
+ghost use Rattle.office_loading.specs.Tables.{Loads};
 ghost use Rattle.office_delivery.specs.Reading.{IsSame, OnlyReads};
 ghost use Rattle.terminal_core.specs.State.{TerminalState};
+ghost use Rattle.office_desk.specs.Beside.{IsBeside, IsOf};
 ghost use Rattle.office_desk.specs.Offices.{HoldsOffice};
-ghost use Rattle.office_desk.specs.Telling.{IsBeside};
 
-use office_loading::load;
+use crate::beside::Beside;
+use office_loading::{load, nexts};
+use office_setup::Setup;
 use office_tables::TableFault;
 use sqlite::{Alter, Connection};
 use std::alloc::Global;
-use terminal_core::Terminal;
 
-/// The terminal as the rows have it: the one that stands beside them, or else loaded from them.
-pub(crate) fn terminal_of<S: Alter>(
+/// The set-up that the tables hold, and what stands beside them. It changes nothing.
+pub(crate) fn load_beside<S: Alter>(
     alloc: Global,
     conn: &mut Connection<S>,
-    beside: Option<Terminal>,
-) -> Result<Terminal, TableFault>
+) -> Result<(Setup, Beside), TableFault>
+    ensures loaded { HasCleanDisk (state S.Store conn.new) → (state S.Store conn.old).now.schema ≡ office_schema →
+        IfOk result (λ p. Loads (state S.Store conn.old).now (setup_content p.0) p.1.terminal) }
+    ensures nexts { HasCleanDisk (state S.Store conn.new) → IfOk result (λ p. (rows : Rows) →
+        HasRows rows (state S.Store conn.old).now → AreNexts rows p.1.nexts.items) }
+    ensures given { IfOk result (λ p. IsGiven (setup_content p.0)) }
+    ensures same { HasCleanDisk (state S.Store conn.new) → (state S.Store conn.old).now.schema ≡ office_schema →
+        OnOk result (IsUnchanged (state S.Store conn.old) (state S.Store conn.new)) }
+    ensures mode { conn.old.in_transaction ≡ false → conn.new.in_transaction ≡ false }
+    ensures reads { OnlyReads (state S.Store conn.old) (state S.Store conn.new) }
+{
+    let (setup, terminal) = load(alloc, conn)?;
+    let nexts = nexts(alloc, conn)?;
+    Ok((setup, Beside { terminal, nexts }))
+}
+
+/// What stands beside the rows: what is there, or else loaded from them.
+pub(crate) fn beside_of<S: Alter>(
+    alloc: Global,
+    conn: &mut Connection<S>,
+    beside: Option<Beside>,
+) -> Result<Beside, TableFault>
     ensures beside { HasCleanDisk (state S.Store conn.new) → IfOk result (λ now.
         (content : SetupContent) (ds : List (List ℕ)) (rows : Rows) → IsGiven content →
         HasRows rows (state S.Store conn.old).now → AreAfter content ds rows → IsBeside content ds beside → IsBeside content ds (Some now)) }
     ensures office { HasCleanDisk (state S.Store conn.new) → IfOk result (λ now. (content : SetupContent) (rows : Rows) (terminal : TerminalState) →
-        HoldsOffice content rows terminal (state S.Store conn.old).now beside → now ≡ terminal) }
+        HoldsOffice content rows terminal (state S.Store conn.old).now beside → IsOf rows terminal now) }
     ensures same { HasCleanDisk (state S.Store conn.new) → (state S.Store conn.old).now.schema ≡ office_schema →
         OnOk result (IsSame (state S.Store conn.old) (state S.Store conn.new)) }
     ensures reads { OnlyReads (state S.Store conn.old) (state S.Store conn.new) }
 {
     match beside {
-        Some(terminal) => Ok(terminal),
+        Some(there) => Ok(there),
         None => {
-            let (_, terminal) = load(alloc, conn)?;
-            Ok(terminal)
+            let (_, there) = load_beside(alloc, conn)?;
+            Ok(there)
         }
     }
 }

@@ -1,4 +1,4 @@
-ghost use Rattle.std.specs.Prelude.{◌≡◌, ◌⊎◌, ℕ, List, [], ◌∷◌, ◌++◌, ◌+◌, ◌≤◌, None, false, IfOk, OnOk, OnErr, IsTrue};
+ghost use Rattle.std.specs.Prelude.{◌≡◌, ◌⊎◌, ℕ, List, [], ◌∷◌, ◌++◌, ◌+◌, ◌≤◌, length, None, Some, false, IfOk, OnOk, OnErr, IsTrue};
 ghost use Rattle.sqlite.specs.Held.{state};
 ghost use Rattle.sqlite.specs.State.{HasCleanDisk};
 ghost use Rattle.sqlite.specs.Tree.{Trees};
@@ -12,13 +12,14 @@ ghost use Rattle.office_history.specs.After.{AreAfter, delivered_to};
 ghost use Rattle.office_history.specs.Cascade.{text_in};
 ghost use Rattle.office_delivery.specs.Taking.{IsNumbered};
 ghost use Rattle.office_desk.specs.Crashes.{HasCommitted, IsAfter, Leaves, LeavesEither};
-ghost use Rattle.office_desk.specs.Telling.{Answers, Comes, Holds, IsBeside};
+ghost use Rattle.office_desk.specs.Beside.{IsBeside};
+ghost use Rattle.office_desk.specs.Telling.{Answers, Comes, Holds};
 
 use crate::answers::answer_used;
+use crate::beside::Beside;
 use crate::early::take_early;
 use crate::found::{Found, look};
 use crate::next::take_next;
-use crate::reloading::terminal_of;
 use office_admission::Admitted;
 use office_replies::Response;
 use office_setup::Setup;
@@ -26,14 +27,13 @@ use office_tables::TableFault;
 use partner_core::LAST_NUMBER;
 use sqlite::{Alter, Connection};
 use std::alloc::Global;
-use terminal_core::Terminal;
 
 /// Answers a partner's text by what is kept, and keeps and takes it where it is new.
 pub(crate) fn take_in<S: Alter>(
     alloc: Global,
     conn: &mut Connection<S>,
     setup: &Setup,
-    terminal: &mut Option<Terminal>,
+    beside: &mut Option<Beside>,
     code: &str,
     admitted: &Admitted<'_>,
     number: u32,
@@ -46,38 +46,43 @@ pub(crate) fn take_in<S: Alter>(
     ensures idle { (state S.Store conn.new).in_transaction ≡ false }
     ensures ok { HasCleanDisk (state S.Store conn.new) → IsTrue (state S.Store conn.new).is_open → IfOk result (λ response.
         (ds : List (List ℕ)) (delivered : List ℕ) →
-        Holds (setup_content setup.now) ds (state S.Store conn.old).committed terminal.old →
+        Holds (setup_content setup.now) ds (state S.Store conn.old).committed beside.old →
         Comes (setup_content setup.now) delivered text.now admitted.now.partner number →
-        Answers (setup_content setup.now) ds delivered admitted.now.partner number code.now response (state S.Store conn.new).committed terminal.new) }
+        Answers (setup_content setup.now) ds delivered admitted.now.partner number code.now response (state S.Store conn.new).committed beside.new) }
     ensures err { HasCleanDisk (state S.Store conn.new) → IsTrue (state S.Store conn.new).is_open → OnErr result ((ds : List (List ℕ)) →
-        Holds (setup_content setup.now) ds (state S.Store conn.old).committed terminal.old →
-        Holds (setup_content setup.now) ds (state S.Store conn.new).committed terminal.new) }
+        Holds (setup_content setup.now) ds (state S.Store conn.old).committed beside.old →
+        Holds (setup_content setup.now) ds (state S.Store conn.new).committed beside.new) }
     ensures leaves { HasCleanDisk (state S.Store conn.new) → IsTrue (state S.Store conn.old).is_open → OnOk result ((ds : List (List ℕ)) (delivered : List ℕ) →
-        Holds (setup_content setup.now) ds (state S.Store conn.old).committed terminal.old → Leaves (setup_content setup.now) ds (state S.Store conn.old) →
+        Holds (setup_content setup.now) ds (state S.Store conn.old).committed beside.old → Leaves (setup_content setup.now) ds (state S.Store conn.old) →
         Comes (setup_content setup.now) delivered text.now admitted.now.partner number → Leaves (setup_content setup.now) (ds ++ delivered ∷ []) (state S.Store conn.new)) }
     ensures crash { HasCleanDisk (state S.Store conn.new) → IsTrue (state S.Store conn.old).is_open → OnErr result ((ds : List (List ℕ)) (delivered : List ℕ) →
-        Holds (setup_content setup.now) ds (state S.Store conn.old).committed terminal.old → Leaves (setup_content setup.now) ds (state S.Store conn.old) →
+        Holds (setup_content setup.now) ds (state S.Store conn.old).committed beside.old → Leaves (setup_content setup.now) ds (state S.Store conn.old) →
         Comes (setup_content setup.now) delivered text.now admitted.now.partner number → LeavesEither (setup_content setup.now) ds delivered (state S.Store conn.new)) }
     ensures was_open { HasCleanDisk (state S.Store conn.new) → IsTrue (state S.Store conn.new).is_open → IsTrue (state S.Store conn.old).is_open }
     ensures clean { HasCleanDisk (state S.Store conn.new) → HasCleanDisk (state S.Store conn.old) }
 {
     let is_idle = conn.is_autocommit();
     prove!(is_idle);
-    let Found { kept, next } = look(conn, admitted.partner, number)?;
+    let Found { kept, next, there } = look(alloc, conn, beside, admitted.partner, number)?;
     match kept {
-        Some(kept) => Ok(answer_used(alloc, kept, next, code, number, text)?),
+        Some(kept) => {
+            *beside = Some(there);
+            Ok(answer_used(alloc, kept, next, code, number, text)?)
+        }
         None => take_new(
-            alloc, conn, setup, terminal, next, code, admitted, number, text,
+            alloc, conn, setup, beside, there, next, code, admitted, number, text,
         ),
     }
 }
 
-/// Keeps a text under a number that is not used, and takes it where it is next.
+/// Keeps a text under a number that is not used, and takes it where it is next. A run that fails leaves nothing beside the
+/// tables, so that what it did there is loaded again.
 fn take_new<S: Alter>(
     alloc: Global,
     conn: &mut Connection<S>,
     setup: &Setup,
-    terminal: &mut Option<Terminal>,
+    beside: &mut Option<Beside>,
+    there: Beside,
     next: u32,
     code: &str,
     admitted: &Admitted<'_>,
@@ -88,25 +93,27 @@ fn take_new<S: Alter>(
     requires given { IsGiven (setup_content setup.now) }
     requires number { number ≤ LAST_NUMBER }
     requires admitted { IsAdmitted setup.now text.now admitted.now }
+    requires known { admitted.now.partner ≤ length there.nexts.items }
+    requires out { beside.old ≡ None }
     ensures idle { (state S.Store conn.new).in_transaction ≡ false }
     ensures ok { HasCleanDisk (state S.Store conn.new) → IsTrue (state S.Store conn.new).is_open → IfOk result (λ response.
         (ds : List (List ℕ)) (delivered : List ℕ) (rows : Rows) →
         HasRows rows (state S.Store conn.old).now → (state S.Store conn.old).now ≡ (state S.Store conn.old).committed →
-        AreAfter (setup_content setup.now) ds rows → IsBeside (setup_content setup.now) ds terminal.old →
+        AreAfter (setup_content setup.now) ds rows → IsBeside (setup_content setup.now) ds (Some there) →
         text_in rows admitted.now.partner number ≡ None → next ≡ run (delivered_to (setup_content setup.now) ds) admitted.now.partner + 1 →
         Comes (setup_content setup.now) delivered text.now admitted.now.partner number →
-        Answers (setup_content setup.now) ds delivered admitted.now.partner number code.now response (state S.Store conn.new).committed terminal.new) }
+        Answers (setup_content setup.now) ds delivered admitted.now.partner number code.now response (state S.Store conn.new).committed beside.new) }
     ensures err { HasCleanDisk (state S.Store conn.new) → IsTrue (state S.Store conn.new).is_open → OnErr result (
         (ds : List (List ℕ)) (rows : Rows) →
         HasRows rows (state S.Store conn.old).now → (state S.Store conn.old).now ≡ (state S.Store conn.old).committed →
-        AreAfter (setup_content setup.now) ds rows → IsBeside (setup_content setup.now) ds terminal.old →
-        Holds (setup_content setup.now) ds (state S.Store conn.new).committed terminal.new) }
+        AreAfter (setup_content setup.now) ds rows → IsBeside (setup_content setup.now) ds (Some there) →
+        Holds (setup_content setup.now) ds (state S.Store conn.new).committed beside.new) }
     ensures commits { HasCleanDisk (state S.Store conn.new) → OnOk result ((rows : Rows) → HasRows rows (state S.Store conn.old).now →
         (state S.Store conn.old).now ≡ (state S.Store conn.old).committed → IsNumbered admitted.now.partner rows → HasCommitted (state S.Store conn.new)) }
     ensures crash { HasCleanDisk (state S.Store conn.new) → OnErr result (
         (ds : List (List ℕ)) (delivered : List ℕ) (rows : Rows) →
         HasRows rows (state S.Store conn.old).now → (state S.Store conn.old).now ≡ (state S.Store conn.old).committed →
-        AreAfter (setup_content setup.now) ds rows → IsBeside (setup_content setup.now) ds terminal.old →
+        AreAfter (setup_content setup.now) ds rows → IsBeside (setup_content setup.now) ds (Some there) →
         text_in rows admitted.now.partner number ≡ None → next ≡ run (delivered_to (setup_content setup.now) ds) admitted.now.partner + 1 →
         Comes (setup_content setup.now) delivered text.now admitted.now.partner number →
         (db : Trees) → (state S.Store conn.new).may_leave db →
@@ -118,10 +125,10 @@ fn take_new<S: Alter>(
         return Err(TableFault::Damaged);
     }
     if next < number {
+        *beside = Some(there);
         return take_early(alloc, conn, next, code, admitted.partner, number, text);
     }
-    let now = terminal_of(alloc, conn, terminal.take())?;
-    let (answer, now) = take_next(alloc, conn, setup, now, code, admitted, number, text)?;
-    *terminal = Some(now);
+    let (answer, now) = take_next(alloc, conn, setup, there, code, admitted, number, text)?;
+    *beside = Some(now);
     Ok(answer)
 }

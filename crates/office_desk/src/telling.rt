@@ -11,12 +11,11 @@ ghost use Rattle.office_delivery.specs.Reading.{IsSame, OnlyReads};
 ghost use Rattle.std.specs.Option.{option_and_then};
 ghost use Rattle.office_desk.specs.Reports.{TellsOf, TellsReply, reply_text, ticket_told};
 
-use crate::found::{Found, look};
 use office_queries::Query;
 use office_replies::{answered, waiting};
 use office_reports::{list_report, ticket, visit_report, yard_csv, yard_report};
 use office_setup::Setup;
-use office_tables::{Kept, TableFault};
+use office_tables::{Kept, TableFault, kept, next_of};
 use sqlite::{Alter, Connection};
 use std::alloc::{AllocError, Global};
 use terminal_core::Terminal;
@@ -65,8 +64,7 @@ fn tell_ticket<S: Alter>(
         option_map string_bytes found ≡ ticket_told terminal.now.visits code.now partner number (reply_in rows partner number)) }
     ensures reads { OnlyReads (state S.Store conn.old) (state S.Store conn.new) }
 {
-    let Found { kept, next: _ } = look(conn, partner, number)?;
-    if was_taken(kept) {
+    if was_taken(kept(conn, partner, number)?) {
         return Ok(Some(ticket(alloc, terminal, code, partner, number)?));
     }
     Ok(None)
@@ -95,9 +93,11 @@ fn tell_reply<S: Alter>(
         TellsReply rows code.now partner number (text_in rows partner number) (reply_in rows partner number) (option_map string_bytes found)) }
     ensures reads { OnlyReads (state S.Store conn.old) (state S.Store conn.new) }
 {
-    let Found { kept, next } = look(conn, partner, number)?;
-    match kept {
-        Some(kept) => Ok(Some(tell_kept(alloc, kept, next, code, number)?)),
+    match kept(conn, partner, number)? {
+        Some(kept) => {
+            let next = next_of(conn, partner)?;
+            Ok(Some(tell_kept(alloc, kept, next, code, number)?))
+        }
         None => Ok(None),
     }
 }

@@ -1,14 +1,17 @@
-use Rattle.std.proofs.Common.{◌⊎◌, arith, sym, subst, ◌∙◌}
+use Rattle.std.proofs.Common.{◌≡◌, ◌⊎◌, ◌+◌, ◌-◌, length, arith, sym, ap, subst, ◌∙◌}
+use Rattle.std.specs.Prelude.{slice_index_or, slice_set}
 use Rattle.sqlite.specs.Held.{state}
 use Rattle.sqlite.specs.State.{HasCleanDisk}
 use Rattle.office_taking.specs.Taking.{machine_of}
-use Rattle.office_history.specs.Cascade.{with_run}
+use Rattle.office_history.specs.Cascade.{AreTakenFrom, texts_with, with_run}
 use Rattle.office_delivery.specs.Reading.{IsSame}
 use Rattle.office_delivery.specs.Taken.{taken_contents}
+use Rattle.office_delivery.specs.declared.taken.Taken.{Taken}
 use Rattle.office_rows.specs.Stored.{HasRows}
 use Rattle.office_delivery.specs.Writing.{Commits, IsWhole}
 use Rattle.office_desk.proofs.AnswerLemmas.{takes_next}
 use Rattle.office_desk.proofs.CrashLemmas.{either_of, on_err, reads_less}
+use Rattle.office_desk.proofs.NumberLemmas.{number_at}
 use Rattle.office_desk.proofs.next.take_next.Goals as goal
 
 pub returns-clause-ok : goal.returns-clause-ok
@@ -20,8 +23,20 @@ returns-clause-ok g c clean rows has settled numbered =
     let before : HasCleanDisk mid = omega (arith, c.write_run.ensures.crash.clean) in
     let same : IsSame old mid = c.in_ok-taken.ensures.same before has.schema in
     let wrote : Commits (with_run c.args.admitted.now.partner c.args.number c.args.text.now (taken_contents items)) mid new = rw c.deref.ensures.value at (c.in_ok-write_run.ensures.ok clean) in
-    takes_next rows c.args.admitted.now.partner c.args.number c.args.text.now c.args.code.now (machine_of c.args.setup.now c.args.terminal) (machine_of c.args.setup.now c.take_run.new.terminal) c.in_ok-body.body c.index.result.now items old mid new
-    c.in_ok-taken.ensures.first c.index.ensures (c.in_ok-taken.ensures.taken before rows c.args.text.now has numbered c.requires.admitted) (rw c.as_str.ensures.value at c.in_ok-body.ensures.bytes) has settled same wrote
+    let texts = texts_with rows c.args.admitted.now.partner c.args.number c.args.text.now in
+    let taken : AreTakenFrom c.args.admitted.now.partner texts c.args.number (machine_of c.args.setup.now c.args.beside.terminal) (taken_contents items) (machine_of c.args.setup.now c.raise.new.self.terminal) =
+    subst (λ t. AreTakenFrom c.args.admitted.now.partner texts c.args.number (machine_of c.args.setup.now c.args.beside.terminal) (taken_contents items) (machine_of c.args.setup.now t)) (sym c.raise.ensures.terminal)
+    (c.in_ok-taken.ensures.taken before rows c.args.text.now has numbered c.requires.admitted) in
+    let many = length items in
+    let last = c.index-2.result.now in
+    let is_last : last ≡ slice_index_or items (many - 1) last = c.index-2.ensures ∙ ap (λ k. slice_index_or items (k - 1) last) (c.len.ensures ∙ sym c.deref.ensures.len ∙ ap length c.deref.ensures.value) in
+    let placed : (slice_index_or items (many - 1) last).number ≡ c.args.number + (many - 1) =
+    number_at c.args.admitted.now.partner texts c.args.number _ _ items (many - 1) last taken (omega (arith, c.in_ok-taken.ensures.first)) in
+    let after : last.number + 1 ≡ c.args.number + many = omega (arith, ap (λ (t : Taken). t.number) is_last, placed, c.in_ok-taken.ensures.first) in
+    let raised : c.raise.new.self.nexts.items ≡ slice_set c.args.beside.nexts.items (c.args.admitted.now.partner - 1) (c.args.number + many) =
+    c.raise.ensures.nexts ∙ ap (slice_set c.args.beside.nexts.items (c.args.admitted.now.partner - 1)) after in
+    takes_next rows c.args.admitted.now.partner c.args.number c.args.text.now c.args.code.now c.args.setup.now c.args.beside c.raise.new.self c.in_ok-body.body c.index.result.now items old mid new
+    c.in_ok-taken.ensures.first c.index.ensures taken raised (rw c.as_str.ensures.value at c.in_ok-body.ensures.bytes) has settled same wrote
 
 pub returns-in_err-write_run-clause-crash : goal.returns-in_err-write_run-clause-crash
 returns-in_err-write_run-clause-crash g c clean = on_err c.from_residual-in_err-write_run.result (λ rows has settled numbered db left.

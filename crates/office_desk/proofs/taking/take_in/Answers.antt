@@ -6,6 +6,7 @@ use Rattle.office_setup.specs.Setups.{setup_content}
 use Rattle.office_tables.specs.Answers.{IsKept}
 use Rattle.office_delivery.specs.Reading.{IsSame}
 use Rattle.office_delivery.proofs.ReadLemmas.{no_text, text_kept}
+use Rattle.office_desk.specs.Beside.{IsAt}
 use Rattle.office_desk.proofs.HoldLemmas.{used_answers, next_is, numbered}
 use Rattle.office_desk.proofs.CrashLemmas.{committed_leaves, either_of, on_err, on_err_then, on_told, reads_less, used_leaves}
 use Rattle.office_desk.proofs.taking.take_in.Goals as goal
@@ -22,8 +23,9 @@ returns-in_ok-answer_used-in-Some-clause-ok g c clean is_open ds delivered holds
     let found = c.in_ok-kept.field-0 in
     let kept_is : found.kept ≡ Some c.in-Some.kept = let e = c.in_ok-kept.kept-is in let is = c.in-Some.is in cc in
     let kept : IsKept a.admitted.now.partner a.number holds.rows (Some c.in-Some.kept) = subst (IsKept a.admitted.now.partner a.number holds.rows) kept_is (c.in_ok-kept.ensures.kept clean holds.rows has) in
-    used_answers content ds holds.rows delivered a.text.now a.admitted.now.partner a.number found.next a.code.now c.in-Some.kept c.in_ok-answer_used-in-Some.field-0 old.now mid.committed a.terminal.now
-    holds.after has (settled ∙ sym same.committed) holds.beside comes kept (c.in_ok-kept.ensures.next clean holds.rows has) c.in_ok-answer_used-in-Some.ensures
+    let at : IsAt content ds found.there = c.in_ok-kept.ensures.beside clean content ds holds.rows c.requires.given has holds.after holds.beside in
+    used_answers content ds holds.rows delivered a.text.now a.admitted.now.partner a.number found.next a.code.now c.in-Some.kept c.in_ok-answer_used-in-Some.field-0 old.now mid.committed (Some found.there)
+    holds.after has (settled ∙ sym same.committed) at comes kept (next_is content ds found.there a.admitted.now.partner found.next at c.in_ok-kept.ensures.next) c.in_ok-answer_used-in-Some.ensures
 
 pub returns-in-None-clause-ok : goal.returns-in-None-clause-ok
 returns-in-None-clause-ok g c clean is_open =
@@ -40,8 +42,9 @@ returns-in-None-clause-ok g c clean is_open =
     let kept_is : found.kept ≡ None = let e = c.in_ok-kept.kept-is in let is = c.in-None.is in cc in
     let kept : IsKept a.admitted.now.partner a.number holds.rows None = subst (IsKept a.admitted.now.partner a.number holds.rows) kept_is (c.in_ok-kept.ensures.kept before holds.rows has) in
     let none = no_text a.admitted.now.partner a.number holds.rows kept in
-    told ds delivered holds.rows (subst (HasRows holds.rows) (sym same.now) has) (same.now ∙ settled ∙ sym same.committed) holds.after holds.beside none
-    (next_is content ds holds.rows a.admitted.now.partner found.next holds.after (c.in_ok-kept.ensures.next before holds.rows has)) comes)
+    let at : IsAt content ds found.there = c.in_ok-kept.ensures.beside before content ds holds.rows c.requires.given has holds.after holds.beside in
+    told ds delivered holds.rows (subst (HasRows holds.rows) (sym same.now) has) (same.now ∙ settled ∙ sym same.committed) holds.after at none
+    (next_is content ds found.there a.admitted.now.partner found.next at c.in_ok-kept.ensures.next) comes)
     (c.take_new.ensures.ok clean is_open)
 
 pub returns-in_ok-answer_used-in-Some-clause-leaves : goal.returns-in_ok-answer_used-in-Some-clause-leaves
@@ -74,11 +77,12 @@ returns-in-None-clause-leaves g c clean was_open =
     let kept_is : found.kept ≡ None = let e = c.in_ok-kept.kept-is in let is = c.in-None.is in cc in
     let kept : IsKept a.admitted.now.partner a.number holds.rows None = subst (IsKept a.admitted.now.partner a.number holds.rows) kept_is (c.in_ok-kept.ensures.kept before holds.rows has) in
     let none = no_text a.admitted.now.partner a.number holds.rows kept in
+    let at : IsAt content ds found.there = c.in_ok-kept.ensures.beside before content ds holds.rows c.requires.given has holds.after holds.beside in
     let there : HasRows holds.rows mid.now = subst (HasRows holds.rows) (sym same.now) has in
     let still : mid.now ≡ mid.committed = same.now ∙ settled ∙ sym same.committed in
     let done = committed holds.rows there still (numbered content ds holds.rows a.admitted.now.partner holds.after) in
-    let after = (told done.is_open ds delivered holds.rows there still holds.after holds.beside none
-    (next_is content ds holds.rows a.admitted.now.partner found.next holds.after (c.in_ok-kept.ensures.next before holds.rows has)) comes).holds in
+    let after = (told done.is_open ds delivered holds.rows there still holds.after at none
+    (next_is content ds found.there a.admitted.now.partner found.next at c.in_ok-kept.ensures.next) comes).holds in
     committed_leaves content (ds ++ delivered ∷ []) new after.rows done after.has after.after)
 
 pub returns-in-None-clause-crash : goal.returns-in-None-clause-crash
@@ -96,9 +100,10 @@ returns-in-None-clause-crash g c clean was_open =
     let kept_is : found.kept ≡ None = let e = c.in_ok-kept.kept-is in let is = c.in-None.is in cc in
     let kept : IsKept a.admitted.now.partner a.number holds.rows None = subst (IsKept a.admitted.now.partner a.number holds.rows) kept_is (c.in_ok-kept.ensures.kept before holds.rows has) in
     let none = no_text a.admitted.now.partner a.number holds.rows kept in
+    let at : IsAt content ds found.there = c.in_ok-kept.ensures.beside before content ds holds.rows c.requires.given has holds.after holds.beside in
     either_of (λ first. leaves db (reads_less old mid before has.schema c.look.ensures.reads db first)) (λ after. after)
-    (told ds delivered holds.rows (subst (HasRows holds.rows) (sym same.now) has) (same.now ∙ settled ∙ sym same.committed) holds.after holds.beside none
-    (next_is content ds holds.rows a.admitted.now.partner found.next holds.after (c.in_ok-kept.ensures.next before holds.rows has)) comes db left))
+    (told ds delivered holds.rows (subst (HasRows holds.rows) (sym same.now) has) (same.now ∙ settled ∙ sym same.committed) holds.after at none
+    (next_is content ds found.there a.admitted.now.partner found.next at c.in_ok-kept.ensures.next) comes db left))
     (c.take_new.ensures.crash clean)
 
 pub returns-in-None-clause-err : goal.returns-in-None-clause-err
@@ -112,7 +117,8 @@ returns-in-None-clause-err g c clean is_open =
     on_err_then c.take_new.result (λ told. λ ds holds.
     let has : HasRows holds.rows old.now = subst (HasRows holds.rows) (sym settled) holds.has in
     let same : IsSame old mid = c.in_ok-kept.ensures.same before has.schema in
-    told ds holds.rows (subst (HasRows holds.rows) (sym same.now) has) (same.now ∙ settled ∙ sym same.committed) holds.after holds.beside)
+    told ds holds.rows (subst (HasRows holds.rows) (sym same.now) has) (same.now ∙ settled ∙ sym same.committed) holds.after
+    (c.in_ok-kept.ensures.beside before content ds holds.rows c.requires.given has holds.after holds.beside))
     (c.take_new.ensures.err clean is_open)
 
 pub returns-in_err-answer_used-in-Some-clause-crash : goal.returns-in_err-answer_used-in-Some-clause-crash
@@ -123,3 +129,41 @@ returns-in_err-answer_used-in-Some-clause-crash g c clean was_open = on_err c.fr
     let settled : old.now ≡ old.committed = c.is_autocommit-is_idle.ensures.settled (c.is_autocommit-is_idle.ensures.value ∙ ap not c.requires.idle) was_open in
     let has : HasRows holds.rows old.now = subst (HasRows holds.rows) (sym settled) holds.has in
     inl (leaves db (reads_less old mid clean has.schema c.look.ensures.reads db left)))
+
+pub returns-in_err-kept-clause-err : goal.returns-in_err-kept-clause-err
+returns-in_err-kept-clause-err g c clean is_open = on_err c.from_residual.result (λ ds holds.
+    let a = c.args in
+    let old = state g.S.Store a.conn.now in
+    let mid = state g.S.Store c.look.new.conn in
+    let settled : old.now ≡ old.committed = c.is_autocommit-is_idle.ensures.settled (c.is_autocommit-is_idle.ensures.value ∙ ap not c.requires.idle) (c.look.ensures.reads.was_open clean is_open) in
+    let has : HasRows holds.rows old.now = subst (HasRows holds.rows) (sym settled) holds.has in
+    record {
+      rows = holds.rows;
+      has = subst (HasRows holds.rows) (sym ((c.look.ensures.reads.keeps clean has.schema).committed is_open)) holds.has;
+      after = holds.after;
+      beside = c.in_err-kept.ensures.err clean (setup_content a.setup.now) ds holds.rows c.requires.given has holds.after holds.beside;
+    })
+
+pub returns-in_err-kept-clause-crash : goal.returns-in_err-kept-clause-crash
+returns-in_err-kept-clause-crash g c clean was_open = on_err c.from_residual.result (λ ds delivered holds leaves comes db left.
+    let old = state g.S.Store c.args.conn.now in
+    let mid = state g.S.Store c.look.new.conn in
+    let settled : old.now ≡ old.committed = c.is_autocommit-is_idle.ensures.settled (c.is_autocommit-is_idle.ensures.value ∙ ap not c.requires.idle) was_open in
+    let has : HasRows holds.rows old.now = subst (HasRows holds.rows) (sym settled) holds.has in
+    inl (leaves db (reads_less old mid clean has.schema c.look.ensures.reads db left)))
+
+pub returns-in_err-answer_used-in-Some-clause-err : goal.returns-in_err-answer_used-in-Some-clause-err
+returns-in_err-answer_used-in-Some-clause-err g c clean is_open = on_err c.from_residual-in_err-answer_used-in-Some.result (λ ds holds.
+    let a = c.args in
+    let content = setup_content a.setup.now in
+    let old = state g.S.Store a.conn.now in
+    let mid = state g.S.Store c.look.new.conn in
+    let settled : old.now ≡ old.committed = c.is_autocommit-is_idle.ensures.settled (c.is_autocommit-is_idle.ensures.value ∙ ap not c.requires.idle) (c.look.ensures.reads.was_open clean is_open) in
+    let has : HasRows holds.rows old.now = subst (HasRows holds.rows) (sym settled) holds.has in
+    let same : IsSame old mid = c.in_ok-kept.ensures.same clean has.schema in
+    record {
+      rows = holds.rows;
+      has = subst (HasRows holds.rows) (sym same.committed) holds.has;
+      after = holds.after;
+      beside = c.in_ok-kept.ensures.beside clean content ds holds.rows c.requires.given has holds.after holds.beside;
+    })

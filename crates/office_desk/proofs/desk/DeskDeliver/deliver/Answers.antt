@@ -55,14 +55,14 @@ returns-in-Err-taken-clause-delivers g c = λ sound opening ds stands.
 pub returns-in-Err-clause-crash : goal.returns-in-Err-clause-crash
 returns-in-Err-clause-crash g c = λ sound clean opening ds stands.
     let leaves : Leaves (setup_content opening.setup) ds (state g.S.Store c.args.self.now.conn) =
-    held_leaves (setup_content opening.setup) ds (state g.S.Store c.args.self.now.conn) c.args.self.now.terminal sound.1 (λ db left. g.met.S.Store.settled c.args.self.now.conn.store db sound.1 left) stands.holds in
+    held_leaves (setup_content opening.setup) ds (state g.S.Store c.args.self.now.conn) c.args.self.now.beside sound.1 (λ db left. g.met.S.Store.settled c.args.self.now.conn.store db sound.1 left) stands.holds in
     refusal_leaves g.S.Store (setup_content opening.setup) ds c.args.delivered.now c.interchange_text-text.result.now c.answer.result c.args.self.now c.in-Err.refusal
     c.interchange_text-text.ensures.exact (record { setup = stands.setup; holds = stands.holds }) c.in-Err.ensures.err leaves
 
 pub returns-in-Ok-taken-clause-crash : goal.returns-in-Ok-taken-clause-crash
 returns-in-Ok-taken-clause-crash g c = λ sound clean opening ds stands.
     let leaves : Leaves (setup_content opening.setup) ds (state g.S.Store c.args.self.now.conn) =
-    held_leaves (setup_content opening.setup) ds (state g.S.Store c.args.self.now.conn) c.args.self.now.terminal sound.1 (λ db left. g.met.S.Store.settled c.args.self.now.conn.store db sound.1 left) stands.holds in
+    held_leaves (setup_content opening.setup) ds (state g.S.Store c.args.self.now.conn) c.args.self.now.beside sound.1 (λ db left. g.met.S.Store.settled c.args.self.now.conn.store db sound.1 left) stands.holds in
     let old = c.args.self.now in
     let text = c.interchange_text-text.result.now in
     let admitted = c.in-Ok.admitted in
@@ -79,7 +79,7 @@ returns-in-Ok-taken-clause-crash g c = λ sound clean opening ds stands.
 pub returns-in-Err-taken-clause-crash : goal.returns-in-Err-taken-clause-crash
 returns-in-Err-taken-clause-crash g c = λ sound clean opening ds stands.
     let leaves : Leaves (setup_content opening.setup) ds (state g.S.Store c.args.self.now.conn) =
-    held_leaves (setup_content opening.setup) ds (state g.S.Store c.args.self.now.conn) c.args.self.now.terminal sound.1 (λ db left. g.met.S.Store.settled c.args.self.now.conn.store db sound.1 left) stands.holds in
+    held_leaves (setup_content opening.setup) ds (state g.S.Store c.args.self.now.conn) c.args.self.now.beside sound.1 (λ db left. g.met.S.Store.settled c.args.self.now.conn.store db sound.1 left) stands.holds in
     let old = c.args.self.now in
     let text = c.interchange_text-text.result.now in
     let admitted = c.in-Ok.admitted in

@@ -1,0 +1,21 @@
+use Rattle.sqlite.specs.Held.{state}
+use Rattle.office_setup.specs.Setups.{setup_content}
+use Rattle.office_desk.proofs.NumberLemmas.{nexts_loaded}
+use Rattle.office_desk.proofs.OfficeLemmas.{loaded_is}
+use Rattle.office_desk.proofs.PartLemmas.{beside_loaded}
+use Rattle.office_desk.proofs.reloading.beside_of.Goals as goal
+
+pub returns-in_ok-there-in-None-clause-beside : goal.returns-in_ok-there-in-None-clause-beside
+returns-in_ok-there-in-None-clause-beside g c clean content ds rows given has after beside = record {
+  terminal =
+      beside_loaded content ds rows (state g.S.Store c.args.conn.now).now (setup_content c.in_ok-there-in-None.field-0-0) c.in_ok-there-in-None.there.terminal given after has (c.in_ok-there-in-None.ensures.loaded clean has.schema);
+  nexts = nexts_loaded content ds rows c.in_ok-there-in-None.there.nexts.items after (c.in_ok-there-in-None.ensures.nexts clean rows has);
+}
+
+pub returns-in_ok-there-in-None-clause-office : goal.returns-in_ok-there-in-None-clause-office
+returns-in_ok-there-in-None-clause-office g c clean content rows terminal holds = record {
+  terminal_is =
+      loaded_is content (setup_content c.in_ok-there-in-None.field-0-0) rows terminal c.in_ok-there-in-None.there.terminal (state g.S.Store c.args.conn.now).now c.args.beside holds
+      (c.in_ok-there-in-None.ensures.loaded clean holds.has.schema);
+  nexts = c.in_ok-there-in-None.ensures.nexts clean rows holds.has;
+}
