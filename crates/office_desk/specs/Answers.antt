@@ -26,7 +26,8 @@ taken_answer code number reply = answer_with kinds.Taken 200 (answer_text (codes
 
 -- the answer to one that was taken before
 abbrev pub repeat_answer : List ℕ → ℕ → List ℕ → AnswerContent
-repeat_answer code number reply = answer_with kinds.Repeat 200 (answer_text (codes "repeat") number code reply) worst.Fine
+repeat_answer code number reply =
+    answer_with kinds.Repeat 200 (answer_text (codes "repeat") number code reply) worst.Fine
 
 -- what the runs tell of a number of the partner with a code
 abbrev pub told_answer : List ℕ → ℕ → Told → AnswerContent
@@ -38,7 +39,8 @@ told_answer code number told.Clash = answer_with kinds.Clash 409 (clash_text num
 abbrev pub code_of : Parties → ℕ → List ℕ
 code_of parties partner = unwrap_or (with_number parties.partners partner) []
 
-abbrev pub answer_at : {S : Type 0} → Parties → Taking S → S → List Delivery → List ℕ → Result (ℕ × ℕ) Fault → AnswerContent
+abbrev pub answer_at : {S : Type 0} → Parties → Taking S → S → List Delivery → List ℕ → Result (ℕ × ℕ) Fault →
+    AnswerContent
 answer_at parties taken opening before text (Err fault) = refusal_of parties (header_of (segments_in text)) fault
 answer_at parties taken opening before text (Ok place) =
     told_answer (code_of parties place.0) place.1 (answer_of taken opening before (delivery place.0 place.1 text))
@@ -46,7 +48,8 @@ answer_at parties taken opening before text (Ok place) =
 -- AnswerOf: the answer to what is delivered after those before it
 abbrev pub answer_to : {S : Type 0} → Parties → Taking S → S → List (List ℕ) → List ℕ → AnswerContent
 answer_to parties taken opening ds delivered =
-    answer_at parties taken opening (deliveries_of parties ds) (interchange_of delivered) (admission parties (interchange_of delivered))
+    answer_at parties taken opening (deliveries_of parties ds) (interchange_of delivered)
+    (admission parties (interchange_of delivered))
 
 -- from that opening state, after those deliveries, the response is the answer to the next, or NotNow where that may be
 abbrev pub AnswersNext : {S : Type 0} → Taking S → Parties → S → List (List ℕ) → List ℕ → Response → Type 0

@@ -11,9 +11,11 @@ use Rattle.office_desk.specs.declared.beside.Beside.{Beside}
 
 -- after the deliveries, partner by partner in the order of their ids: the number after its unbroken run
 abbrev pub nexts_after : SetupContent → List (List ℕ) → List ℕ
-nexts_after content ds = map (λ partner. run (delivered_to content ds) partner + 1) (range_with_len 1 (length content.partners))
+nexts_after content ds =
+    map (λ partner. run (delivered_to content ds) partner + 1) (range_with_len 1 (length content.partners))
 
--- beside the rows after the deliveries: the set-up's machine over the terminal is that after them, and the numbers are theirs
+-- beside the rows after the deliveries: the set-up's machine over the terminal is that after them, and the numbers are
+-- theirs
 pub record IsAt (content : SetupContent) (ds : List (List ℕ)) (there : Beside) : Type 0 where
   pub terminal : machine_with content there.terminal ≡ machine_after content ds
   pub nexts : there.nexts.items ≡ nexts_after content ds

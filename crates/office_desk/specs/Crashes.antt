@@ -26,7 +26,8 @@ Leaves content ds s = (db : Trees) → s.may_leave db → IsAfter content ds db
 
 -- a crash leaves those, or those after one delivery more
 abbrev pub LeavesEither : SetupContent → List (List ℕ) → List ℕ → State → Type 0
-LeavesEither content ds delivered s = (db : Trees) → s.may_leave db → IsAfter content ds db ⊎ IsAfter content (ds ++ delivered ∷ []) db
+LeavesEither content ds delivered s =
+    (db : Trees) → s.may_leave db → IsAfter content ds db ⊎ IsAfter content (ds ++ delivered ∷ []) db
 
 -- a crash leaves nothing that it would not have left before
 abbrev pub LeavesNoMore : State → State → Type 0

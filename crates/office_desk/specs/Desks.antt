@@ -24,12 +24,15 @@ abbrev pub IsSound : {S : Type 0} (g : Ghosts S) → Desk S g → Type 0
 IsSound g desk = HasCleanDisk (state g desk.conn) × IsTrue (state g desk.conn).is_open
 
 -- for that set-up, after those deliveries, it is this desk
-pub record StandsFor {S : Type 0} (g : Ghosts S) (content : SetupContent) (ds : List (List ℕ)) (desk : Desk S g) : Type 0 where
+pub record StandsFor {S : Type 0} (g : Ghosts S) (content : SetupContent) (ds : List (List ℕ))
+    (desk : Desk S g) : Type 0 where
   pub setup : setup_content desk.setup ≡ content
   pub holds : Holds content ds (state g desk.conn).committed desk.beside
 
--- a desk that was opened on the rows after those deliveries: its set-up says the same, it stands there, and a crash leaves these
-pub record OpensAt {S : Type 0} (g : Ghosts S) (content : SetupContent) (ds : List (List ℕ)) (desk : Desk S g) : Type 0 where
+-- a desk that was opened on the rows after those deliveries: its set-up says the same, it stands there, and a crash
+-- leaves these
+pub record OpensAt {S : Type 0} (g : Ghosts S) (content : SetupContent) (ds : List (List ℕ))
+    (desk : Desk S g) : Type 0 where
   pub says : SaysSame (setup_content desk.setup) content
   pub stands : StandsFor g (setup_content desk.setup) ds desk
   pub leaves : Leaves (setup_content desk.setup) ds (state g desk.conn)
@@ -39,7 +42,8 @@ abbrev pub DeskStands : {S : Type 0} (g : Ghosts S) → Desk S g → List (List 
 DeskStands g opening ds desk = StandsFor g (setup_content opening.setup) ds desk
 
 abbrev pub answers_for : SetupContent → List (List ℕ) → List ℕ → Response → Type 0
-answers_for content ds delivered given = AnswersNext interchange_taken (parties_in content) (opening_of content) ds delivered given
+answers_for content ds delivered given =
+    AnswersNext interchange_taken (parties_in content) (opening_of content) ds delivered given
 
 abbrev pub DeskAnswers : {S : Type 0} (g : Ghosts S) → Desk S g → List (List ℕ) → List ℕ → Response → Type 0
 DeskAnswers g opening ds delivered given = answers_for (setup_content opening.setup) ds delivered given
@@ -48,4 +52,6 @@ DeskAnswers g opening ds delivered given = answers_for (setup_content opening.se
 abbrev pub Refuses : {S : Type 0} (g : Ghosts S) → List ℕ → Desk S g → Response → Desk S g → Type 0
 Refuses g delivered old given new =
     (fault : Fault) → admission (parties_of old.setup) (interchange_of delivered) ≡ Err fault →
-    (new.conn ≡ old.conn) × (new.setup ≡ old.setup) × (new.beside ≡ old.beside) × GivesOrNotNow (refusal_of (parties_of old.setup) (header_of (segments_in (interchange_of delivered))) fault) given
+    (new.conn ≡ old.conn) × (new.setup ≡ old.setup) × (new.beside ≡ old.beside)
+    × GivesOrNotNow (refusal_of (parties_of old.setup)
+    (header_of (segments_in (interchange_of delivered))) fault) given

@@ -15,17 +15,19 @@ use Rattle.office_desk.specs.declared.desk.Desk.{Desk}
 
 -- the database has these rows, which show an office with that set-up and that terminal; what stands beside them is this
 -- terminal and the rows' numbers, or there is none
-pub record HoldsOffice (content : SetupContent) (rows : Rows) (terminal : TerminalState) (db : Database) (there : Option Beside) : Type 0 where
+pub record HoldsOffice (content : SetupContent) (rows : Rows) (terminal : TerminalState) (db : Database)
+    (there : Option Beside) : Type 0 where
   pub has : HasRows rows db
   pub loads : Loads db content terminal
   pub beside : IsOrNone rows terminal there
 
 -- the desk is over these rows, which are its office's, with that terminal
 abbrev pub DeskHolds : {S : Type 0} (g : Ghosts S) → Desk S g → Rows → TerminalState → Type 0
-DeskHolds g desk rows terminal = HoldsOffice (setup_content desk.setup) rows terminal (state g desk.conn).committed desk.beside
+DeskHolds g desk rows terminal =
+    HoldsOffice (setup_content desk.setup) rows terminal (state g desk.conn).committed desk.beside
 
--- a desk that was opened on a store: its set-up and what stands beside it are those that the store's tables show, so it holds
--- whatever rows they have; and opening changed nothing
+-- a desk that was opened on a store: its set-up and what stands beside it are those that the store's tables show, so it
+-- holds whatever rows they have; and opening changed nothing
 pub record OpensOffice {S : Type 0} (g : Ghosts S) (found : State) (desk : Desk S g) : Type 0 where
   pub there : Beside
   pub beside : desk.beside ≡ Some there

@@ -37,18 +37,21 @@ reply_text next code number (Some reply) = answer_text (codes "repeat") number c
 -- by the text that is kept and its reply; nothing is told of what is not kept
 abbrev pub TellsReply : Rows → List ℕ → ℕ → ℕ → (text reply : Option (List ℕ)) → (found : Option (List ℕ)) → Type 0
 TellsReply rows code partner number None reply found = found ≡ None
-TellsReply rows code partner number (Some text) reply found = (next : ℕ) × IsNextOf partner rows next × (found ≡ Some (reply_text next code number reply))
+TellsReply rows code partner number (Some text) reply found =
+    (next : ℕ) × IsNextOf partner rows next × (found ≡ Some (reply_text next code number reply))
 
 abbrev pub TellsReplyOf : Rows → List ℕ → ℕ → Option ℕ → (found : Option (List ℕ)) → Type 0
 TellsReplyOf rows code number None found = found ≡ None
-TellsReplyOf rows code number (Some partner) found = TellsReply rows code partner number (text_in rows partner number) (reply_in rows partner number) found
+TellsReplyOf rows code number (Some partner) found =
+    TellsReply rows code partner number (text_in rows partner number) (reply_in rows partner number) found
 
 -- ---- tickets
 
 -- what was taken has a ticket
 abbrev pub ticket_told : List VisitContent → List ℕ → ℕ → ℕ → (reply : Option (List ℕ)) → Option (List ℕ)
 ticket_told visits code partner number None = None
-ticket_told visits code partner number (Some reply) = Some (ticket_text code (record { partner = partner; number = number }) visits)
+ticket_told visits code partner number (Some reply) =
+    Some (ticket_text code (record { partner = partner; number = number }) visits)
 
 abbrev pub ticket_of : List VisitContent → Rows → List ℕ → ℕ → Option ℕ → Option (List ℕ)
 ticket_of visits rows code number None = None
@@ -62,17 +65,23 @@ TellsOf content state rows query.Yard found = (text : List ℕ) × (found ≡ So
 TellsOf content state rows query.YardTable found = (text : List ℕ) × (found ≡ Some text) × IsYardExport state text
 TellsOf content state rows (query.Visits container) found = found ≡ visit_report content state container
 TellsOf content state rows (query.List call side) found = IsListReport state (call_content call) side found
-TellsOf content state rows (query.Ticket partner number) found = found ≡ ticket_of state.visits rows (string_bytes partner) number (partner_called content (string_bytes partner))
-TellsOf content state rows (query.Reply partner number) found = TellsReplyOf rows (string_bytes partner) number (partner_called content (string_bytes partner)) found
+TellsOf content state rows (query.Ticket partner number) found =
+    found ≡ ticket_of state.visits rows (string_bytes partner) number (partner_called content (string_bytes partner))
+TellsOf content state rows (query.Reply partner number) found =
+    TellsReplyOf rows (string_bytes partner) number (partner_called content (string_bytes partner)) found
 
 -- what the rows after those deliveries tell
-pub record TellsAfter (content : SetupContent) (ds : List (List ℕ)) (query : Query) (found : Option (List ℕ)) : Type 0 where
+pub record TellsAfter (content : SetupContent) (ds : List (List ℕ)) (query : Query)
+    (found : Option (List ℕ)) : Type 0 where
   pub rows : Rows
   pub after : AreAfter content ds rows
   pub tells : TellsOf content (machine_after content ds).terminal rows query found
 
--- what the desk tells, whatever rows it has: those after deliveries tell what the rows after that tell; those of any office
--- tell what they are
-pub record DeskTells {S : Type 0} (g : Ghosts S) (desk : Desk S g) (query : Query) (found : Option (List ℕ)) : Type 0 where
-  pub after : (ds : List (List ℕ)) → Holds (setup_content desk.setup) ds (state g desk.conn).committed desk.beside → TellsAfter (setup_content desk.setup) ds query found
-  pub office : (rows : Rows) (terminal : TerminalState) → DeskHolds g desk rows terminal → TellsOf (setup_content desk.setup) terminal rows query found
+-- what the desk tells, whatever rows it has: those after deliveries tell what the rows after that tell; those of any
+-- office tell what they are
+pub record DeskTells {S : Type 0} (g : Ghosts S) (desk : Desk S g) (query : Query)
+    (found : Option (List ℕ)) : Type 0 where
+  pub after : (ds : List (List ℕ)) → Holds (setup_content desk.setup) ds (state g desk.conn).committed desk.beside →
+      TellsAfter (setup_content desk.setup) ds query found
+  pub office : (rows : Rows) (terminal : TerminalState) → DeskHolds g desk rows terminal →
+      TellsOf (setup_content desk.setup) terminal rows query found

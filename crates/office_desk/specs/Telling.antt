@@ -19,12 +19,14 @@ use Rattle.office_desk.specs.Answers.{told_answer}
 use Rattle.office_desk.specs.Beside.{IsBeside}
 use Rattle.office_desk.specs.declared.beside.Beside.{Beside}
 
--- the text is taken, and those that become next by it, and the partner's number is raised by the length of this run; the
--- response has the reply of the first, and the rows are committed, so that a crash leaves these alone
-pub record TakesNext (rows : Rows) (partner number : ℕ) (text code : List ℕ) (setup : Setup) (old : Beside) (response : Response) (new : Beside) (end : State) : Type 0 where
+-- the text is taken, and those that become next by it, and the partner's number is raised by the length of this run;
+-- the response has the reply of the first, and the rows are committed, so that a crash leaves these alone
+pub record TakesNext (rows : Rows) (partner number : ℕ) (text code : List ℕ) (setup : Setup) (old : Beside)
+    (response : Response) (new : Beside) (end : State) : Type 0 where
   pub first : TakenContent
   pub later : List TakenContent
-  pub taken : AreTakenFrom partner (texts_with rows partner number text) number (machine_of setup old.terminal) (first ∷ later) (machine_of setup new.terminal)
+  pub taken : AreTakenFrom partner (texts_with rows partner number text) number (machine_of setup old.terminal)
+      (first ∷ later) (machine_of setup new.terminal)
   pub raised : new.nexts.items ≡ slice_set old.nexts.items (partner - 1) (number + length (first ∷ later))
   pub answers : content_of response ≡ told_answer code number (Taken (Some first.reply))
   pub has : HasRows (with_run partner number text (first ∷ later) rows) end.committed
@@ -51,6 +53,7 @@ pub record Comes (content : SetupContent) (delivered text : List ℕ) (partner n
   pub is_for : IsFor content delivered partner number
 
 -- the response to the partner with a code is what is to be told, and these are held behind it
-pub record Answers (content : SetupContent) (ds : List (List ℕ)) (delivered : List ℕ) (partner number : ℕ) (code : List ℕ) (response : Response) (db : Database) (there : Option Beside) : Type 0 where
+pub record Answers (content : SetupContent) (ds : List (List ℕ)) (delivered : List ℕ) (partner number : ℕ)
+    (code : List ℕ) (response : Response) (db : Database) (there : Option Beside) : Type 0 where
   pub answers : content_of response ≡ told_answer code number (told_of content ds partner number delivered)
   pub holds : Holds content (ds ++ delivered ∷ []) db there

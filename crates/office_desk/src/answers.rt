@@ -21,7 +21,8 @@ pub(crate) fn answer_used(
     text: &[u8],
 ) -> Result<Response, AllocError>
     ensures { IfOk result (λ response. content_of response ≡ told_answer code.now number
-        (answer_by (standing_of next number (Some kept.text.items) text.now) next (option_map string_bytes kept.reply) None)) }
+        (answer_by (standing_of next number (Some kept.text.items) text.now) next
+        (option_map string_bytes kept.reply) None)) }
 {
     match judge(next, number, Some(&kept.text), text) {
         Standing::Known => answer_known(alloc, kept.reply, next, code, number),
@@ -29,7 +30,7 @@ pub(crate) fn answer_used(
     }
 }
 
-// The answer to a text that is kept: with its reply, if it was taken.
+/// The answer to a text that is kept: with its reply, if it was taken.
 fn answer_known(
     alloc: Global,
     reply: Option<String>,

@@ -3,7 +3,8 @@ ghost use Rattle.partner_core.specs.Numbered.{with_number};
 
 use terminal_core::Terminal;
 
-/// What stands in memory beside the tables, so that a delivery reads no more of them than the interchanges that it needs.
+/// What stands in memory beside the tables, so that a delivery reads no more of them than the interchanges that it
+/// needs.
 #[derive(Drop)]
 pub struct Beside {
     /// The terminal as the rows have it.

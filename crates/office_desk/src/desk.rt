@@ -18,8 +18,8 @@ use office_tables::TableFault;
 use sqlite::{Alter, Connection};
 use std::alloc::Global;
 
-/// The terminal's desk over a store: its records are the rows of the tables, and the terminal and the partners' next numbers
-/// stand beside them in memory.
+/// The terminal's desk over a store: its records are the rows of the tables, and the terminal and the partners' next
+/// numbers stand beside them in memory.
 #[derive(Drop)]
 pub struct Desk<S: Alter> {
     conn: Connection<S>,
@@ -69,14 +69,16 @@ impl<S: Alter + Drop> Desk<S> {
     ghost use Rattle.office_desk.specs.Desks.{IsSound, OpensAt};
     ghost use Rattle.office_desk.specs.Offices.{OpensOffice};
 
-    /// The desk of a store that holds an office: its set-up, its terminal and its partners' numbers are those that the tables
-    /// hold. Where it is refused, the connection is given up.
+    /// The desk of a store that holds an office: its set-up, its terminal and its partners' numbers are those that the
+    /// tables hold. Where it is refused, the connection is given up.
     pub fn open(alloc: Global, conn: Connection<S>) -> Result<Desk<S>, TableFault>
         requires idle { conn.in_transaction ≡ false }
-        ensures opens { IfOk result (λ desk. IsSound S.Store desk → (content : SetupContent) (ds : List (List ℕ)) (rows : Rows) →
+        ensures opens { IfOk result
+            (λ desk. IsSound S.Store desk → (content : SetupContent) (ds : List (List ℕ)) (rows : Rows) →
             IsGiven content → HasRows rows (state S.Store conn).committed → AreAfter content ds rows →
             OpensAt S.Store content ds desk) }
-        ensures office { IfOk result (λ desk. IsSound S.Store desk → (state S.Store conn).committed.schema ≡ office_schema →
+        ensures office { IfOk result
+            (λ desk. IsSound S.Store desk → (state S.Store conn).committed.schema ≡ office_schema →
             OpensOffice S.Store (state S.Store conn) desk) }
     {
         let mut conn = conn;
@@ -102,11 +104,15 @@ impl<S: Alter + Drop> Desk<S> {
 
     /// What the rows tell at a query, if there is something. No row changes.
     pub fn told(&mut self, alloc: Global, query: &Query) -> Result<Option<String>, TableFault>
-        ensures told { IsSound S.Store self.new → IfOk result (λ found. DeskTells S.Store self.old query.now (option_map string_bytes found)) }
-        ensures same { IsSound S.Store self.new → (opening : Desk S S.Store) (ds : List (List ℕ)) → DeskStands S.Store opening ds self.old → DeskStands S.Store opening ds self.new }
-        ensures holds { IsSound S.Store self.new → (rows : Rows) (terminal : TerminalState) → DeskHolds S.Store self.old rows terminal → DeskHolds S.Store self.new rows terminal }
+        ensures told { IsSound S.Store self.new →
+            IfOk result (λ found. DeskTells S.Store self.old query.now (option_map string_bytes found)) }
+        ensures same { IsSound S.Store self.new → (opening : Desk S S.Store) (ds : List (List ℕ)) →
+            DeskStands S.Store opening ds self.old → DeskStands S.Store opening ds self.new }
+        ensures holds { IsSound S.Store self.new → (rows : Rows) (terminal : TerminalState) →
+            DeskHolds S.Store self.old rows terminal → DeskHolds S.Store self.new rows terminal }
         ensures crash { IsSound S.Store self.old → HasCleanDisk (state S.Store self.new.conn) →
-            (state S.Store self.old.conn).committed.schema ≡ office_schema → LeavesNoMore (state S.Store self.old.conn) (state S.Store self.new.conn) }
+            (state S.Store self.old.conn).committed.schema ≡ office_schema →
+            LeavesNoMore (state S.Store self.old.conn) (state S.Store self.new.conn) }
         ensures stays { IsSound S.Store self.new → IsSound S.Store self.old }
     {
         let is_idle = self.conn.is_autocommit();
@@ -134,11 +140,15 @@ impl<S: Alter + Drop> Report for Desk<S> {
     ghost tells = { DeskTells S.Store };
 
     fn report(&mut self, alloc: Global, query: &Query) -> Result<Option<String>, NotNow>
-        ensures told { IsSound S.Store self.new → IfOk result (λ found. DeskTells S.Store self.old query.now (option_map string_bytes found)) }
-        ensures same { IsSound S.Store self.new → (opening : Desk S S.Store) (ds : List (List ℕ)) → DeskStands S.Store opening ds self.old → DeskStands S.Store opening ds self.new }
-        ensures holds { IsSound S.Store self.new → (rows : Rows) (terminal : TerminalState) → DeskHolds S.Store self.old rows terminal → DeskHolds S.Store self.new rows terminal }
+        ensures told { IsSound S.Store self.new →
+            IfOk result (λ found. DeskTells S.Store self.old query.now (option_map string_bytes found)) }
+        ensures same { IsSound S.Store self.new → (opening : Desk S S.Store) (ds : List (List ℕ)) →
+            DeskStands S.Store opening ds self.old → DeskStands S.Store opening ds self.new }
+        ensures holds { IsSound S.Store self.new → (rows : Rows) (terminal : TerminalState) →
+            DeskHolds S.Store self.old rows terminal → DeskHolds S.Store self.new rows terminal }
         ensures crash { IsSound S.Store self.old → HasCleanDisk (state S.Store self.new.conn) →
-            (state S.Store self.old.conn).committed.schema ≡ office_schema → LeavesNoMore (state S.Store self.old.conn) (state S.Store self.new.conn) }
+            (state S.Store self.old.conn).committed.schema ≡ office_schema →
+            LeavesNoMore (state S.Store self.old.conn) (state S.Store self.new.conn) }
         ensures stays { IsSound S.Store self.new → IsSound S.Store self.old }
     {
         match self.told(alloc, query) {
@@ -163,10 +173,12 @@ impl<S: Alter + Drop> Deliver for Desk<S> {
 
     /// A refusal without a CONTRL takes no memory and no store, so it is never answered NotNow.
     fn deliver(&mut self, alloc: Global, delivered: &[u8]) -> Response
-        ensures delivers { IsSound S.Store self.new → (opening : Desk S S.Store) (ds : List (List ℕ)) → DeskStands S.Store opening ds self.old →
+        ensures delivers { IsSound S.Store self.new → (opening : Desk S S.Store) (ds : List (List ℕ)) →
+            DeskStands S.Store opening ds self.old →
             Delivers (DeskStands S.Store opening) (DeskAnswers S.Store opening) ds delivered.now result self.new }
         ensures stays { IsSound S.Store self.new → IsSound S.Store self.old }
-        ensures crash { IsSound S.Store self.old → HasCleanDisk (state S.Store self.new.conn) → (opening : Desk S S.Store) (ds : List (List ℕ)) →
+        ensures crash { IsSound S.Store self.old → HasCleanDisk (state S.Store self.new.conn) →
+            (opening : Desk S S.Store) (ds : List (List ℕ)) →
             DeskStands S.Store opening ds self.old →
             LeavesBehind (setup_content opening.setup) ds delivered.now result (state S.Store self.new.conn) }
         ensures refused { Refuses S.Store delivered.now self.old result self.new }

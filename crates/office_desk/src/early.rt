@@ -27,10 +27,14 @@ pub(crate) fn take_early<S: Alter>(
     requires idle { (state S.Store conn.old).in_transaction ≡ false }
     ensures idle { (state S.Store conn.new).in_transaction ≡ false }
     ensures told { IfOk result (λ response. content_of response ≡ told_answer code.now number (Waiting next)) }
-    ensures ok { HasCleanDisk (state S.Store conn.new) → OnOk result (Commits (with_kept partner number text.now) (state S.Store conn.old) (state S.Store conn.new)) }
-    ensures err { HasCleanDisk (state S.Store conn.new) → IsTrue (state S.Store conn.new).is_open → OnErr result ((state S.Store conn.new).committed ≡ (state S.Store conn.old).committed) }
-    ensures crash { Survives (state S.Store conn.old) (state S.Store conn.new) (IsWhole (with_kept partner number text.now) (state S.Store conn.old)) }
-    ensures was_open { HasCleanDisk (state S.Store conn.new) → IsTrue (state S.Store conn.new).is_open → IsTrue (state S.Store conn.old).is_open }
+    ensures ok { HasCleanDisk (state S.Store conn.new) →
+        OnOk result (Commits (with_kept partner number text.now) (state S.Store conn.old) (state S.Store conn.new)) }
+    ensures err { HasCleanDisk (state S.Store conn.new) → IsTrue (state S.Store conn.new).is_open →
+        OnErr result ((state S.Store conn.new).committed ≡ (state S.Store conn.old).committed) }
+    ensures crash { Survives (state S.Store conn.old) (state S.Store conn.new)
+        (IsWhole (with_kept partner number text.now) (state S.Store conn.old)) }
+    ensures was_open { HasCleanDisk (state S.Store conn.new) → IsTrue (state S.Store conn.new).is_open →
+        IsTrue (state S.Store conn.old).is_open }
     ensures clean { HasCleanDisk (state S.Store conn.new) → HasCleanDisk (state S.Store conn.old) }
 {
     let answer = answer_waiting(alloc, next, code, number)?;

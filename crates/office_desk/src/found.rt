@@ -29,7 +29,8 @@ pub struct Found {
     pub there: Beside,
 }
 
-/// Looks up a partner's number, and takes out what stands beside the tables: loaded, where there is none. It changes no row.
+/// Looks up a partner's number, and takes out what stands beside the tables: loaded, where there is none. It changes no
+/// row.
 pub(crate) fn look<S: Alter>(
     alloc: Global,
     conn: &mut Connection<S>,
@@ -38,17 +39,22 @@ pub(crate) fn look<S: Alter>(
     number: u32,
 ) -> Result<Found, TableFault>
     requires { 1 ≤ partner }
-    ensures kept { HasCleanDisk (state S.Store conn.new) → IfOk result (λ found. (rows : Rows) → HasRows rows (state S.Store conn.old).now → IsKept partner number rows found.kept) }
+    ensures kept { HasCleanDisk (state S.Store conn.new) →
+        IfOk result (λ found. (rows : Rows) → HasRows rows (state S.Store conn.old).now →
+        IsKept partner number rows found.kept) }
     ensures next { IfOk result (λ found. with_number found.there.nexts.items partner ≡ Some found.next) }
     ensures known { IfOk result (λ found. partner ≤ length found.there.nexts.items) }
     ensures beside { HasCleanDisk (state S.Store conn.new) → IfOk result (λ found.
         (content : SetupContent) (ds : List (List ℕ)) (rows : Rows) → IsGiven content →
-        HasRows rows (state S.Store conn.old).now → AreAfter content ds rows → IsBeside content ds beside.old → IsBeside content ds (Some found.there)) }
+        HasRows rows (state S.Store conn.old).now → AreAfter content ds rows → IsBeside content ds beside.old →
+        IsBeside content ds (Some found.there)) }
     ensures out { OnOk result (beside.new ≡ None) }
     ensures err { HasCleanDisk (state S.Store conn.new) → OnErr result (
         (content : SetupContent) (ds : List (List ℕ)) (rows : Rows) → IsGiven content →
-        HasRows rows (state S.Store conn.old).now → AreAfter content ds rows → IsBeside content ds beside.old → IsBeside content ds beside.new) }
-    ensures same { HasCleanDisk (state S.Store conn.new) → (state S.Store conn.old).now.schema ≡ office_schema → OnOk result (IsSame (state S.Store conn.old) (state S.Store conn.new)) }
+        HasRows rows (state S.Store conn.old).now → AreAfter content ds rows → IsBeside content ds beside.old →
+        IsBeside content ds beside.new) }
+    ensures same { HasCleanDisk (state S.Store conn.new) → (state S.Store conn.old).now.schema ≡ office_schema →
+        OnOk result (IsSame (state S.Store conn.old) (state S.Store conn.new)) }
     ensures reads { OnlyReads (state S.Store conn.old) (state S.Store conn.new) }
 {
     let there = beside_of(alloc, conn, beside.take())?;

@@ -20,7 +20,8 @@ use partner_core::LAST_NUMBER;
 use sqlite::{Alter, Connection};
 use std::alloc::Global;
 
-/// Takes a partner's next interchange and those that become next by it, and answers what they leave to stand beside the tables.
+/// Takes a partner's next interchange and those that become next by it, and answers what they leave to stand beside the
+/// tables.
 pub(crate) fn take_next<S: Alter>(
     alloc: Global,
     conn: &mut Connection<S>,
@@ -39,15 +40,20 @@ pub(crate) fn take_next<S: Alter>(
     ensures idle { (state S.Store conn.new).in_transaction ≡ false }
     ensures ok { HasCleanDisk (state S.Store conn.new) → IfOk result (λ taken. (rows : Rows) →
         HasRows rows (state S.Store conn.old).now → (state S.Store conn.old).now ≡ (state S.Store conn.old).committed →
-        IsNumbered admitted.now.partner rows → TakesNext rows admitted.now.partner number text.now code.now setup.now beside
+        IsNumbered admitted.now.partner rows →
+        TakesNext rows admitted.now.partner number text.now code.now setup.now beside
         taken.0 taken.1 (state S.Store conn.new)) }
     ensures err { HasCleanDisk (state S.Store conn.new) → IsTrue (state S.Store conn.new).is_open →
-        (state S.Store conn.old).now.schema ≡ office_schema → OnErr result ((state S.Store conn.new).committed ≡ (state S.Store conn.old).committed) }
+        (state S.Store conn.old).now.schema ≡ office_schema →
+        OnErr result ((state S.Store conn.new).committed ≡ (state S.Store conn.old).committed) }
     ensures crash { HasCleanDisk (state S.Store conn.new) → OnErr result ((rows : Rows) →
-        HasRows rows (state S.Store conn.old).now → (state S.Store conn.old).now ≡ (state S.Store conn.old).committed → IsNumbered admitted.now.partner rows →
+        HasRows rows (state S.Store conn.old).now → (state S.Store conn.old).now ≡ (state S.Store conn.old).committed →
+        IsNumbered admitted.now.partner rows →
         (db : Trees) → (state S.Store conn.new).may_leave db →
-        (state S.Store conn.old).may_leave db ⊎ IsRunDone rows admitted.now.partner number text.now (machine_of setup.now beside.terminal) db) }
-    ensures was_open { HasCleanDisk (state S.Store conn.new) → IsTrue (state S.Store conn.new).is_open → IsTrue (state S.Store conn.old).is_open }
+        (state S.Store conn.old).may_leave db
+        ⊎ IsRunDone rows admitted.now.partner number text.now (machine_of setup.now beside.terminal) db) }
+    ensures was_open { HasCleanDisk (state S.Store conn.new) → IsTrue (state S.Store conn.new).is_open →
+        IsTrue (state S.Store conn.old).is_open }
     ensures clean { HasCleanDisk (state S.Store conn.new) → HasCleanDisk (state S.Store conn.old) }
 {
     let mut beside = beside;

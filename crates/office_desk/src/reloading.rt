@@ -49,8 +49,10 @@ pub(crate) fn beside_of<S: Alter>(
 ) -> Result<Beside, TableFault>
     ensures beside { HasCleanDisk (state S.Store conn.new) → IfOk result (λ now.
         (content : SetupContent) (ds : List (List ℕ)) (rows : Rows) → IsGiven content →
-        HasRows rows (state S.Store conn.old).now → AreAfter content ds rows → IsBeside content ds beside → IsBeside content ds (Some now)) }
-    ensures office { HasCleanDisk (state S.Store conn.new) → IfOk result (λ now. (content : SetupContent) (rows : Rows) (terminal : TerminalState) →
+        HasRows rows (state S.Store conn.old).now → AreAfter content ds rows → IsBeside content ds beside →
+        IsBeside content ds (Some now)) }
+    ensures office { HasCleanDisk (state S.Store conn.new) →
+        IfOk result (λ now. (content : SetupContent) (rows : Rows) (terminal : TerminalState) →
         HoldsOffice content rows terminal (state S.Store conn.old).now beside → IsOf rows terminal now) }
     ensures same { HasCleanDisk (state S.Store conn.new) → (state S.Store conn.old).now.schema ≡ office_schema →
         OnOk result (IsSame (state S.Store conn.old) (state S.Store conn.new)) }

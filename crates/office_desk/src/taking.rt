@@ -44,21 +44,31 @@ pub(crate) fn take_in<S: Alter>(
     requires number { number ≤ LAST_NUMBER }
     requires admitted { IsAdmitted setup.now text.now admitted.now }
     ensures idle { (state S.Store conn.new).in_transaction ≡ false }
-    ensures ok { HasCleanDisk (state S.Store conn.new) → IsTrue (state S.Store conn.new).is_open → IfOk result (λ response.
+    ensures ok { HasCleanDisk (state S.Store conn.new) → IsTrue (state S.Store conn.new).is_open →
+        IfOk result (λ response.
         (ds : List (List ℕ)) (delivered : List ℕ) →
         Holds (setup_content setup.now) ds (state S.Store conn.old).committed beside.old →
         Comes (setup_content setup.now) delivered text.now admitted.now.partner number →
-        Answers (setup_content setup.now) ds delivered admitted.now.partner number code.now response (state S.Store conn.new).committed beside.new) }
-    ensures err { HasCleanDisk (state S.Store conn.new) → IsTrue (state S.Store conn.new).is_open → OnErr result ((ds : List (List ℕ)) →
+        Answers (setup_content setup.now) ds delivered admitted.now.partner number code.now response
+        (state S.Store conn.new).committed beside.new) }
+    ensures err { HasCleanDisk (state S.Store conn.new) → IsTrue (state S.Store conn.new).is_open →
+        OnErr result ((ds : List (List ℕ)) →
         Holds (setup_content setup.now) ds (state S.Store conn.old).committed beside.old →
         Holds (setup_content setup.now) ds (state S.Store conn.new).committed beside.new) }
-    ensures leaves { HasCleanDisk (state S.Store conn.new) → IsTrue (state S.Store conn.old).is_open → OnOk result ((ds : List (List ℕ)) (delivered : List ℕ) →
-        Holds (setup_content setup.now) ds (state S.Store conn.old).committed beside.old → Leaves (setup_content setup.now) ds (state S.Store conn.old) →
-        Comes (setup_content setup.now) delivered text.now admitted.now.partner number → Leaves (setup_content setup.now) (ds ++ delivered ∷ []) (state S.Store conn.new)) }
-    ensures crash { HasCleanDisk (state S.Store conn.new) → IsTrue (state S.Store conn.old).is_open → OnErr result ((ds : List (List ℕ)) (delivered : List ℕ) →
-        Holds (setup_content setup.now) ds (state S.Store conn.old).committed beside.old → Leaves (setup_content setup.now) ds (state S.Store conn.old) →
-        Comes (setup_content setup.now) delivered text.now admitted.now.partner number → LeavesEither (setup_content setup.now) ds delivered (state S.Store conn.new)) }
-    ensures was_open { HasCleanDisk (state S.Store conn.new) → IsTrue (state S.Store conn.new).is_open → IsTrue (state S.Store conn.old).is_open }
+    ensures leaves { HasCleanDisk (state S.Store conn.new) → IsTrue (state S.Store conn.old).is_open →
+        OnOk result ((ds : List (List ℕ)) (delivered : List ℕ) →
+        Holds (setup_content setup.now) ds (state S.Store conn.old).committed beside.old →
+        Leaves (setup_content setup.now) ds (state S.Store conn.old) →
+        Comes (setup_content setup.now) delivered text.now admitted.now.partner number →
+        Leaves (setup_content setup.now) (ds ++ delivered ∷ []) (state S.Store conn.new)) }
+    ensures crash { HasCleanDisk (state S.Store conn.new) → IsTrue (state S.Store conn.old).is_open →
+        OnErr result ((ds : List (List ℕ)) (delivered : List ℕ) →
+        Holds (setup_content setup.now) ds (state S.Store conn.old).committed beside.old →
+        Leaves (setup_content setup.now) ds (state S.Store conn.old) →
+        Comes (setup_content setup.now) delivered text.now admitted.now.partner number →
+        LeavesEither (setup_content setup.now) ds delivered (state S.Store conn.new)) }
+    ensures was_open { HasCleanDisk (state S.Store conn.new) → IsTrue (state S.Store conn.new).is_open →
+        IsTrue (state S.Store conn.old).is_open }
     ensures clean { HasCleanDisk (state S.Store conn.new) → HasCleanDisk (state S.Store conn.old) }
 {
     let is_idle = conn.is_autocommit();
@@ -75,8 +85,8 @@ pub(crate) fn take_in<S: Alter>(
     }
 }
 
-/// Keeps a text under a number that is not used, and takes it where it is next. A run that fails leaves nothing beside the
-/// tables, so that what it did there is loaded again.
+/// Keeps a text under a number that is not used, and takes it where it is next. A run that fails leaves nothing beside
+/// the tables, so that what it did there is loaded again.
 fn take_new<S: Alter>(
     alloc: Global,
     conn: &mut Connection<S>,
@@ -96,29 +106,36 @@ fn take_new<S: Alter>(
     requires known { admitted.now.partner ≤ length there.nexts.items }
     requires out { beside.old ≡ None }
     ensures idle { (state S.Store conn.new).in_transaction ≡ false }
-    ensures ok { HasCleanDisk (state S.Store conn.new) → IsTrue (state S.Store conn.new).is_open → IfOk result (λ response.
+    ensures ok { HasCleanDisk (state S.Store conn.new) → IsTrue (state S.Store conn.new).is_open →
+        IfOk result (λ response.
         (ds : List (List ℕ)) (delivered : List ℕ) (rows : Rows) →
         HasRows rows (state S.Store conn.old).now → (state S.Store conn.old).now ≡ (state S.Store conn.old).committed →
         AreAfter (setup_content setup.now) ds rows → IsBeside (setup_content setup.now) ds (Some there) →
-        text_in rows admitted.now.partner number ≡ None → next ≡ run (delivered_to (setup_content setup.now) ds) admitted.now.partner + 1 →
+        text_in rows admitted.now.partner number ≡ None →
+        next ≡ run (delivered_to (setup_content setup.now) ds) admitted.now.partner + 1 →
         Comes (setup_content setup.now) delivered text.now admitted.now.partner number →
-        Answers (setup_content setup.now) ds delivered admitted.now.partner number code.now response (state S.Store conn.new).committed beside.new) }
+        Answers (setup_content setup.now) ds delivered admitted.now.partner number code.now response
+        (state S.Store conn.new).committed beside.new) }
     ensures err { HasCleanDisk (state S.Store conn.new) → IsTrue (state S.Store conn.new).is_open → OnErr result (
         (ds : List (List ℕ)) (rows : Rows) →
         HasRows rows (state S.Store conn.old).now → (state S.Store conn.old).now ≡ (state S.Store conn.old).committed →
         AreAfter (setup_content setup.now) ds rows → IsBeside (setup_content setup.now) ds (Some there) →
         Holds (setup_content setup.now) ds (state S.Store conn.new).committed beside.new) }
-    ensures commits { HasCleanDisk (state S.Store conn.new) → OnOk result ((rows : Rows) → HasRows rows (state S.Store conn.old).now →
-        (state S.Store conn.old).now ≡ (state S.Store conn.old).committed → IsNumbered admitted.now.partner rows → HasCommitted (state S.Store conn.new)) }
+    ensures commits { HasCleanDisk (state S.Store conn.new) →
+        OnOk result ((rows : Rows) → HasRows rows (state S.Store conn.old).now →
+        (state S.Store conn.old).now ≡ (state S.Store conn.old).committed → IsNumbered admitted.now.partner rows →
+        HasCommitted (state S.Store conn.new)) }
     ensures crash { HasCleanDisk (state S.Store conn.new) → OnErr result (
         (ds : List (List ℕ)) (delivered : List ℕ) (rows : Rows) →
         HasRows rows (state S.Store conn.old).now → (state S.Store conn.old).now ≡ (state S.Store conn.old).committed →
         AreAfter (setup_content setup.now) ds rows → IsBeside (setup_content setup.now) ds (Some there) →
-        text_in rows admitted.now.partner number ≡ None → next ≡ run (delivered_to (setup_content setup.now) ds) admitted.now.partner + 1 →
+        text_in rows admitted.now.partner number ≡ None →
+        next ≡ run (delivered_to (setup_content setup.now) ds) admitted.now.partner + 1 →
         Comes (setup_content setup.now) delivered text.now admitted.now.partner number →
         (db : Trees) → (state S.Store conn.new).may_leave db →
         (state S.Store conn.old).may_leave db ⊎ IsAfter (setup_content setup.now) (ds ++ delivered ∷ []) db) }
-    ensures was_open { HasCleanDisk (state S.Store conn.new) → IsTrue (state S.Store conn.new).is_open → IsTrue (state S.Store conn.old).is_open }
+    ensures was_open { HasCleanDisk (state S.Store conn.new) → IsTrue (state S.Store conn.new).is_open →
+        IsTrue (state S.Store conn.old).is_open }
     ensures clean { HasCleanDisk (state S.Store conn.new) → HasCleanDisk (state S.Store conn.old) }
 {
     if number < next {

@@ -50,7 +50,7 @@ pub(crate) fn tell<S: Alter>(
     }
 }
 
-// What an interchange did, if it was taken.
+/// What an interchange did, if it was taken.
 fn tell_ticket<S: Alter>(
     alloc: Global,
     conn: &mut Connection<S>,
@@ -61,7 +61,8 @@ fn tell_ticket<S: Alter>(
 ) -> Result<Option<String>, TableFault>
     ensures told { HasCleanDisk (state S.Store conn.new) → IfOk result (λ found. (rows : Rows) →
         HasRows rows (state S.Store conn.old).now → AreKeptOnce rows.interchanges →
-        option_map string_bytes found ≡ ticket_told terminal.now.visits code.now partner number (reply_in rows partner number)) }
+        option_map string_bytes found
+        ≡ ticket_told terminal.now.visits code.now partner number (reply_in rows partner number)) }
     ensures reads { OnlyReads (state S.Store conn.old) (state S.Store conn.new) }
 {
     if was_taken(kept(conn, partner, number)?) {
@@ -70,7 +71,7 @@ fn tell_ticket<S: Alter>(
     Ok(None)
 }
 
-// Whether there is a reply.
+/// Whether there is a reply.
 fn was_taken(kept: Option<Kept>) -> bool
     ensures { result ≡ is_some (option_and_then (λ k. k.reply) kept) }
 {
@@ -80,7 +81,7 @@ fn was_taken(kept: Option<Kept>) -> bool
     }
 }
 
-// What an interchange was answered, if it is kept.
+/// What an interchange was answered, if it is kept.
 fn tell_reply<S: Alter>(
     alloc: Global,
     conn: &mut Connection<S>,
@@ -90,7 +91,8 @@ fn tell_reply<S: Alter>(
 ) -> Result<Option<String>, TableFault>
     ensures told { HasCleanDisk (state S.Store conn.new) → IfOk result (λ found. (rows : Rows) →
         HasRows rows (state S.Store conn.old).now → AreKeptOnce rows.interchanges →
-        TellsReply rows code.now partner number (text_in rows partner number) (reply_in rows partner number) (option_map string_bytes found)) }
+        TellsReply rows code.now partner number (text_in rows partner number) (reply_in rows partner number)
+        (option_map string_bytes found)) }
     ensures reads { OnlyReads (state S.Store conn.old) (state S.Store conn.new) }
 {
     match kept(conn, partner, number)? {
@@ -102,7 +104,7 @@ fn tell_reply<S: Alter>(
     }
 }
 
-// The answer to an interchange that is kept: as a repeat, if it was taken.
+/// The answer to an interchange that is kept: as a repeat, if it was taken.
 fn tell_kept(
     alloc: Global,
     kept: Kept,
@@ -110,7 +112,8 @@ fn tell_kept(
     code: &str,
     number: u32,
 ) -> Result<String, AllocError>
-    ensures { IfOk result (λ text. string_bytes text ≡ reply_text next code.now number (option_map string_bytes kept.reply)) }
+    ensures { IfOk result
+        (λ text. string_bytes text ≡ reply_text next code.now number (option_map string_bytes kept.reply)) }
 {
     let Kept { text: _, reply } = kept;
     match reply {

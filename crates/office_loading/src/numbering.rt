@@ -16,13 +16,18 @@ use std::alloc::Global;
 
 /// The number that each partner's next interchange has, in the order of the accounts' ids. It changes nothing.
 pub fn nexts<S: Alter>(alloc: Global, conn: &mut Connection<S>) -> Result<Vec<u32>, TableFault>
-    ensures answer { HasCleanDisk (state S.Store conn.new) → IfOk result (λ nexts. (rows : _) → HasRows rows (state S.Store conn.old).now → AreNexts rows nexts.items) }
-    ensures same { HasCleanDisk (state S.Store conn.new) → (state S.Store conn.old).now.schema ≡ office_schema → OnOk result (IsUnchanged (state S.Store conn.old) (state S.Store conn.new)) }
-    ensures keeps { HasCleanDisk (state S.Store conn.new) → (state S.Store conn.old).now.schema ≡ office_schema → KeepsCommit (state S.Store conn.old) (state S.Store conn.new) }
+    ensures answer { HasCleanDisk (state S.Store conn.new) →
+        IfOk result (λ nexts. (rows : _) → HasRows rows (state S.Store conn.old).now → AreNexts rows nexts.items) }
+    ensures same { HasCleanDisk (state S.Store conn.new) → (state S.Store conn.old).now.schema ≡ office_schema →
+        OnOk result (IsUnchanged (state S.Store conn.old) (state S.Store conn.new)) }
+    ensures keeps { HasCleanDisk (state S.Store conn.new) → (state S.Store conn.old).now.schema ≡ office_schema →
+        KeepsCommit (state S.Store conn.old) (state S.Store conn.new) }
     ensures clean { HasCleanDisk (state S.Store conn.new) → HasCleanDisk (state S.Store conn.old) }
-    ensures was_open { HasCleanDisk (state S.Store conn.new) → IsTrue (state S.Store conn.new).is_open → IsTrue (state S.Store conn.old).is_open }
+    ensures was_open { HasCleanDisk (state S.Store conn.new) → IsTrue (state S.Store conn.new).is_open →
+        IsTrue (state S.Store conn.old).is_open }
     ensures mode { conn.old.in_transaction ≡ false → conn.new.in_transaction ≡ false }
-    ensures survives { (state S.Store conn.old).now.schema ≡ office_schema → Survives (state S.Store conn.old) (state S.Store conn.new) (λ _. ⊥) }
+    ensures survives { (state S.Store conn.old).now.schema ≡ office_schema →
+        Survives (state S.Store conn.old) (state S.Store conn.new) (λ _. ⊥) }
 {
     let rows = select_partners(conn)?;
     read_nexts(alloc, &rows)

@@ -22,7 +22,18 @@ MachineParts = Parties × (CodeTable × (List PartnerKind × (List Block × (ℕ
 
 abbrev pub machine_code : Coded MachineState
 machine_code =
-    code_by MachineParts (coded× parties_code (coded× tables.the_row.coded (coded× (coded_list kinds.the_row.coded) (coded× (coded_list blocks.the_row.coded) (coded× coded_ℕ terminal_code)))))
+    code_by MachineParts
+    (coded× parties_code
+    (coded× tables.the_row.coded
+    (coded× (coded_list kinds.the_row.coded)
+    (coded× (coded_list blocks.the_row.coded) (coded× coded_ℕ terminal_code)))))
     (λ m. (m.parties, (m.codes, (m.kinds, (m.blocks, (m.visit_limit, m.terminal))))))
-    (λ p. record { parties = p.0; codes = p.1.0; kinds = p.1.1.0; blocks = p.1.1.1.0; visit_limit = p.1.1.1.1.0; terminal = p.1.1.1.1.1 })
+    (λ p. record {
+      parties = p.0;
+      codes = p.1.0;
+      kinds = p.1.1.0;
+      blocks = p.1.1.1.0;
+      visit_limit = p.1.1.1.1.0;
+      terminal = p.1.1.1.1.1;
+    })
     (λ _. refl)

@@ -75,11 +75,15 @@ reason_of line.Size = Size
 reason_of line.Moment = Moment
 reason_of line.SlotText = SlotText
 
--- what the line leaves of the terminal, and what is reported of it: an order is carried out, any other line changes nothing
+-- what the line leaves of the terminal, and what is reported of it: an order is carried out, any other line changes
+-- nothing
 abbrev pub line_taken : TerminalState → Source → LineContent → TerminalState × LineReport
-line_taken state source (ordered order) =
-    ((step state source order).state, record { number = Some (number_ordered order); outcome = (step state source order).outcome })
-line_taken state source (refused fault number) = (state, record { number = number; outcome = Refused (reason_of fault) })
+line_taken state source (ordered order) = (
+  (step state source order).state,
+  record { number = Some (number_ordered order); outcome = (step state source order).outcome },
+)
+line_taken state source (refused fault number) =
+    (state, record { number = number; outcome = Refused (reason_of fault) })
 
 -- its changes of the terminal's rows
 abbrev pub line_changes : TerminalState → Source → LineContent → List ChangeContent
@@ -102,15 +106,16 @@ lines_changes state source [] = []
 lines_changes state source (line ∷ lines) =
     line_changes state source line ++ lines_changes (line_taken state source line).0 source lines
 
--- A fault of a message rejects it, with its code (0085). Want of memory has no code and is no fault of a message (`applies`), so
--- the last case is of none.
+-- A fault of a message rejects it, with its code (0085). Want of memory has no code and is no fault of a message
+-- (`applies`), so the last case is of none.
 abbrev pub rejected_by : MessageFault → Option ℕ → VerdictContent
 rejected_by fault (Some code) = rejected fault code
 rejected_by fault None = accepted []
 
 -- a message that is rejected gives no orders
 abbrev pub verdict_on : TerminalState → Source → Result MessageContent MessageFault → TerminalState × VerdictContent
-verdict_on state source (Ok content) = ((lines_taken state source content.lines).0, accepted (lines_taken state source content.lines).1)
+verdict_on state source (Ok content) =
+    ((lines_taken state source content.lines).0, accepted (lines_taken state source content.lines).1)
 verdict_on state source (Err fault) = (state, rejected_by fault (message_error fault))
 
 abbrev pub verdict_changes : TerminalState → Source → Result MessageContent MessageFault → List ChangeContent
@@ -126,10 +131,12 @@ abbrev pub before_message : TerminalState × List ReportContent → ReportConten
 before_message later report = (later.0, report ∷ later.1)
 
 -- the messages of a partner with these codes, one after the other
-abbrev pub messages_taken : TerminalState → Codes → Source → CivilMoment → List Message → TerminalState × List ReportContent
+abbrev pub messages_taken : TerminalState → Codes → Source → CivilMoment → List Message →
+    TerminalState × List ReportContent
 messages_taken state codes source opened [] = (state, [])
 messages_taken state codes source opened (message ∷ messages) =
-    before_message (messages_taken (verdict_on state source (reading codes opened message)).0 codes source opened messages)
+    before_message (messages_taken
+    (verdict_on state source (reading codes opened message)).0 codes source opened messages)
     (reported message (verdict_on state source (reading codes opened message)).1)
 
 abbrev pub messages_changes : TerminalState → Codes → Source → CivilMoment → List Message → List ChangeContent
@@ -149,7 +156,8 @@ verdicts_of reports = map (λ report. verdict_of report.verdict) reports
 -- the reply: the CONTRL, and what became of each message
 abbrev pub reply_to : List Content → List ReportContent → List ℕ
 reply_to segments reports =
-    reply_content_text (encode_utf8_all (contrl_text (header_of segments) (messages_of segments) (verdicts_of reports))) reports
+    reply_content_text (encode_utf8_all
+    (contrl_text (header_of segments) (messages_of segments) (verdicts_of reports))) reports
 
 abbrev pub nothing_taken : MachineState → MachineState × List ℕ
 nothing_taken machine = (machine, reply_content_text [] [])
@@ -168,11 +176,13 @@ abbrev pub taken_at : MachineState → ℕ → PartnerKind → List Content → 
 taken_at machine partner kind segments None = nothing_taken machine
 taken_at machine partner kind segments (Some opened) =
     with_messages machine segments
-    (messages_taken machine.terminal (codes_for machine kind) (source_in partner (header_of segments)) opened (messages_of segments))
+    (messages_taken machine.terminal (codes_for machine kind) (source_in partner (header_of segments)) opened
+    (messages_of segments))
 
 abbrev pub taken_of : MachineState → ℕ → List Content → Option PartnerKind → MachineState × List ℕ
 taken_of machine partner segments None = nothing_taken machine
-taken_of machine partner segments (Some kind) = taken_at machine partner kind segments (preparation (header_of segments))
+taken_of machine partner segments (Some kind) =
+    taken_at machine partner kind segments (preparation (header_of segments))
 
 -- Take: the interchange of a partner, counted from 1. A text that is not admitted for that partner changes nothing.
 abbrev pub interchange_taken : MachineState → ℕ → List ℕ → MachineState × List ℕ
@@ -186,13 +196,16 @@ interchange_taken machine partner text =
 abbrev pub changes_at : MachineState → ℕ → PartnerKind → List Content → Option CivilMoment → List ChangeContent
 changes_at machine partner kind segments None = []
 changes_at machine partner kind segments (Some opened) =
-    messages_changes machine.terminal (codes_for machine kind) (source_in partner (header_of segments)) opened (messages_of segments)
+    messages_changes machine.terminal (codes_for machine kind) (source_in partner (header_of segments)) opened
+    (messages_of segments)
 
 abbrev pub changes_of : MachineState → ℕ → List Content → Option PartnerKind → List ChangeContent
 changes_of machine partner segments None = []
-changes_of machine partner segments (Some kind) = changes_at machine partner kind segments (preparation (header_of segments))
+changes_of machine partner segments (Some kind) =
+    changes_at machine partner kind segments (preparation (header_of segments))
 
 -- what taking the interchange changes of the terminal's rows, order by order
 abbrev pub interchange_changes : MachineState → ℕ → List ℕ → List ChangeContent
 interchange_changes machine partner text =
-    cond (is_for partner (admission machine.parties text)) (changes_of machine partner (segments_in text) (with_number machine.kinds partner)) []
+    cond (is_for partner (admission machine.parties text))
+    (changes_of machine partner (segments_in text) (with_number machine.kinds partner)) []

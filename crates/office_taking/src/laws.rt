@@ -32,8 +32,8 @@ pub fn cascade_changes_are_applicable()
     ensures { CascadeChangesAreApplicable }
 {}
 
-/// A machine of a set-up with at most 999 partners, over a terminal with nothing in it, is sound: its terminal is whole and
-/// well formed.
+/// A machine of a set-up with at most 999 partners, over a terminal with nothing in it, is sound: its terminal is whole
+/// and well formed.
 pub fn openings_are_sound()
     ensures { OpeningsAreSound }
 {}

@@ -1,5 +1,5 @@
-//! What taking an interchange does: its messages are read, their orders are carried out at the terminal, each change of the
-//! terminal's rows is told, and a reply says what became of each line.
+//! What taking an interchange does: its messages are read, their orders are carried out at the terminal, each change of
+//! the terminal's rows is told, and a reply says what became of each line.
 #![tactic(auto)]
 
 pub mod laws;
