@@ -8,6 +8,6 @@ mkdir -p "$work/crates/yard_bench/src"
 cp -a "$top/crates/box6346" "$top/crates/yard_core" "$work/crates"
 cp "$top/HANDLES" "$work"
 cp "$top/crates/yard_core/bench/main.rt.txt" "$work/crates/yard_bench/src/main.rt"
-printf 'box6346:\nyard_core: box6346\nyard_bench: box6346 yard_core\n' > "$work/crates.txt"
+{ grep -E '^(box6346|yard_core):' "$top/crates.txt"; echo 'yard_bench: box6346 yard_core'; } > "$work/crates.txt"
 cd "$work/crates/yard_bench"
 rt run
