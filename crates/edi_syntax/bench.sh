@@ -1,18 +1,22 @@
 #!/bin/sh
-# Times edi_syntax on an interchange of a megabyte, beside a plain C scanner in the same run: bench/main.rt.txt, as a program
-# over a copy of this crate and those that it stands on, bench/scan.c.txt, and bench/count.c.txt, which counts allocations.
-# Prints the best time of each per megabyte, and the share of the scanner's speed that it is. Wanted: half of it for opening
-# and walking in one go, a third of it for cutting, and no allocation while opening and walking.
+# bench.sh [CRATE]: times edi_syntax, or edi_messages if that is named, on an interchange of a megabyte, beside a plain C
+# scanner in the same run: the crate's bench/main.rt.txt, as a program over a copy of it and those that it stands on, and
+# bench/scan.c.txt. Prints the best time of each per megabyte, and the share of the scanner's speed that it is. Wanted: half
+# of it for opening and walking in one go and for opening and reading as orders, a third of it for cutting. Of edi_syntax also
+# the allocations while opening and walking, by bench/count.c.txt. Wanted: none.
 set -eu
 top=$(cd "$(dirname "$0")/../.." && pwd)
+crate=${1:-edi_syntax}
 work=$(mktemp -d)
 trap 'rm -rf "$work"' EXIT
 mkdir -p "$work/crates/edi_bench/src"
-for name in edi_segments edi_moments edi_cutter edi_syntax; do cp -a "$top/crates/$name" "$work/crates"; done
+for name in box6346 edi_segments edi_moments edi_cutter edi_syntax edi_messages; do
+    cp -a "$top/crates/$name" "$work/crates"
+    grep -E "^$name:" "$top/crates.txt"
+done > "$work/crates.txt"
+echo "edi_bench: $(sed -n "s/^$crate: //p" "$work/crates.txt") $crate" >> "$work/crates.txt"
 cp "$top/HANDLES" "$work"
-cp "$top/crates/edi_syntax/bench/main.rt.txt" "$work/crates/edi_bench/src/main.rt"
-grep -E '^(edi_segments|edi_moments|edi_cutter|edi_syntax):' "$top/crates.txt" > "$work/crates.txt"
-echo 'edi_bench: edi_syntax' >> "$work/crates.txt"
+cp "$top/crates/$crate/bench/main.rt.txt" "$work/crates/edi_bench/src/main.rt"
 awk 'BEGIN {
     printf "UNB+UNOA:3+HAULA+TERM1+240305:0910+000001\x27"
     for (n = 1; n <= 228; n++) {
@@ -23,7 +27,6 @@ awk 'BEGIN {
     printf "UNZ+228+000001\x27"
 }' > "$work/text.edi"
 cc -O2 -x c -o "$work/scan" "$top/crates/edi_syntax/bench/scan.c.txt"
-cc -O2 -shared -fPIC -x c -o "$work/count.so" "$top/crates/edi_syntax/bench/count.c.txt"
 cd "$work/crates/edi_bench"
 rt run -- "$work/text.edi" > "$work/build.log" || { cat "$work/build.log"; exit 1; }
 for run in 1 2 3; do
@@ -31,16 +34,22 @@ for run in 1 2 3; do
     "$work/scan" "$work/text.edi"
 done > "$work/times"
 awk '
+    function row(what, name, wanted) {
+        if (what in best) printf "%-16s %5d us, %.2f of its speed%s\n", name ":", best[what], best["scan"] / best[what], wanted
+    }
     $2 == "scanner:" { time = $(NF - 1); what = "scan" }
     $2 != "scanner:" { time = $2; what = $1 }
     !(what in best) || time < best[what] { best[what] = time }
     END {
         printf "C scanner:       %5d us\n", best["scan"]
-        printf "open:            %5d us, %.2f of its speed\n", best["open"], best["scan"] / best["open"]
-        printf "open and walk:   %5d us, %.2f of its speed (wanted: 0.50)\n", best["walk"], best["scan"] / best["walk"]
-        printf "by messages:     %5d us, %.2f of its speed\n", best["messages"], best["scan"] / best["messages"]
-        printf "cut in pieces:   %5d us, %.2f of its speed (wanted: 0.33)\n", best["cut"], best["scan"] / best["cut"]
+        row("open", "open")
+        row("walk", "open and walk", " (wanted: 0.50)")
+        row("messages", "by messages")
+        row("cut", "cut in pieces", " (wanted: 0.33)")
+        row("orders", "open and read", " (wanted: 0.50)")
     }' "$work/times"
+[ "$crate" = edi_syntax ] || exit 0
+cc -O2 -shared -fPIC -x c -o "$work/count.so" "$top/crates/edi_syntax/bench/count.c.txt"
 none=$(LD_PRELOAD="$work/count.so" out/edi_bench "$work/text.edi" 0 2>&1 > /dev/null)
 some=$(LD_PRELOAD="$work/count.so" out/edi_bench "$work/text.edi" 100 2>&1 > /dev/null)
 echo "allocations in 100 times opening and walking: $((some - none)) (wanted: 0)"
