@@ -3,7 +3,7 @@ use clap::error::ErrorKind;
 use std::fmt;
 
 /// Why a command line asks for nothing that the program does. `Display` gives what to print, in whole lines.
-#[derive(Drop)]
+#[derive(Debug, Drop)]
 pub enum CommandFault {
     /// The words aren't those of a command, or ask for help or for the version.
     Words(Error),
@@ -41,3 +41,5 @@ impl fmt::Display for CommandFault {
         }
     }
 }
+
+impl std::error::Error for CommandFault {}

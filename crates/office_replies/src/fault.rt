@@ -3,15 +3,19 @@ ghost use Rattle.office_replies.specs.Names.{syntax_name};
 ghost use Rattle.office_replies.specs.Responses.{syntax_status};
 
 use edi_segments::SyntaxFault;
+use thiserror::Error;
 
 /// Why a delivery was refused.
-#[derive(Clone, Copy, PartialEq, Eq, Debug)]
+#[derive(Clone, Copy, PartialEq, Eq, Debug, Error)]
 pub enum Fault {
     /// It is no interchange that this office reads: faults 1 to 15.
+    #[error(transparent)]
     Syntax(SyntaxFault),
     /// Fault 16: the sender has no account.
+    #[error("the sender has no account")]
     UnknownSender,
     /// Fault 17: the recipient isn't this terminal.
+    #[error("the recipient is not this terminal")]
     WrongRecipient,
 }
 

@@ -2,10 +2,11 @@ ghost use Rattle.std.specs.Prelude.{◌≡◌};
 ghost use Rattle.office_setup_files.specs.declared.setup_fault.SetupFault.TheVariants.{Memory};
 
 use std::alloc::AllocError;
+use std::error::Error;
 use std::fmt;
 
 /// Why set-up files give no set-up. Of the first six the lowest that applies to both files is answered.
-#[derive(Clone, Copy)]
+#[derive(Clone, Copy, Debug)]
 pub enum SetupFault {
     /// A file has another header, a record of another length, bytes that aren't UTF-8, or a record of another kind.
     Csv = 1,
@@ -47,6 +48,8 @@ impl fmt::Display for SetupFault {
         f.write_str(self.name())
     }
 }
+
+impl Error for SetupFault {}
 
 impl From<AllocError> for SetupFault {
     ghost from_gives = { λ _ fault. fault ≡ Memory };
