@@ -24,7 +24,7 @@ SETUPS = {
     'one stack of two tiers': DEMO._replace(plan=[Block('A', bays=1, rows=1, tiers=2)]),
     'one visit': DEMO._replace(most_visits=1),
 }
-WORDS = {'set-up', 'stream', 'deliver', 'answer', 'status'}
+WORDS = ['set-up', 'stream', 'deliver', 'answer', 'status']
 
 # texts are those that are delivered by themselves, or there are none and the stream is a text; the status is the stream's
 Case = namedtuple('Case', 'name setup stream texts lines status')
@@ -35,14 +35,13 @@ def case_of(part):
     name, *rest = part.splitlines()
     said = [line.partition(' ')[::2] for line in rest if line and not line.startswith('#')]
     values = {word: [value for other, value in said if other == word] for word in WORDS}
-    setups, statuses = values['set-up'], values['status']
-    if {word for word, _value in said} - WORDS or len(setups) > 1 or len(statuses) != bool(values['stream']):
-        raise ValueError(name)
-    if values['stream'] and values['deliver'] or not values['stream'] and len(values['deliver']) != len(values['answer']):
-        raise ValueError(name)
+    setups, streams, texts, lines_said, statuses = (values[word] for word in WORDS)
+    is_whole = len(statuses) == 1 and not texts if streams else not statuses and 0 < len(texts) == len(lines_said)
+    if not is_whole or len(setups) > 1 or not {word for word, _value in said} <= set(WORDS):
+        raise ValueError('cases.txt: ' + name)
     return Case(
-        name, SETUPS[setups[0]] if setups else DEMO, read(''.join(values['stream'])),
-        [read(text) for text in values['deliver']], values['answer'], int(statuses[0]) if statuses else None)
+        name, SETUPS[setups[0]] if setups else DEMO, read(''.join(streams)), [read(text) for text in texts], lines_said,
+        int(statuses[0]) if statuses else None)
 
 
 def read(text):
