@@ -1,9 +1,9 @@
 #!/bin/sh
-# bench.sh [CRATE]: times edi_syntax, or edi_messages if that is named, on an interchange of a megabyte, beside a plain C
-# scanner in the same run: the crate's bench/main.rt.txt, as a program over a copy of it and those that it stands on, and
-# bench/scan.c.txt. Prints the best time of each per megabyte, and the share of the scanner's speed that it is. Wanted: half
-# of it for opening and walking in one go and for opening and reading as orders, a third of it for cutting. Of edi_syntax also
-# the allocations while opening and walking, by bench/count.c.txt. Wanted: none.
+# bench.sh [CRATE]: times edi_syntax, or edi_messages if that is named, on an interchange of a megabyte, beside a plain
+# C scanner in the same run: the crate's bench/main.rt.txt, as a program over a copy of it and those that it stands on,
+# and bench/scan.c.txt. Prints the best time of each per megabyte, and the share of the scanner's speed that it is.
+# Wanted: half of it for opening and walking in one go and for opening and reading as orders, a third of it for cutting.
+# Of edi_syntax also the allocations while opening and walking, by bench/count.c.txt. Wanted: none.
 set -eu
 top=$(cd "$(dirname "$0")/../.." && pwd)
 crate=${1:-edi_syntax}
@@ -35,7 +35,8 @@ for run in 1 2 3; do
 done > "$work/times"
 awk '
     function row(what, name, wanted) {
-        if (what in best) printf "%-16s %5d us, %.2f of its speed%s\n", name ":", best[what], best["scan"] / best[what], wanted
+        if (!(what in best)) return
+        printf "%-16s %5d us, %.2f of its speed%s\n", name ":", best[what], best["scan"] / best[what], wanted
     }
     $2 == "scanner:" { time = $(NF - 1); what = "scan" }
     $2 != "scanner:" { time = $2; what = $1 }
