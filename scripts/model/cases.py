@@ -105,6 +105,7 @@ def check(path, with_stores):
     with open(FILE, encoding='latin-1') as file:
         cases = [case_of(part) for part in re.split(r'^== ', file.read(), flags=re.M)[1:]]
     checked = Cases(path, with_stores)
+    checked.expect('cases.txt', 'any case', True, bool(cases))
     for case in cases:
         if case.texts:
             checked.deliveries(case)
