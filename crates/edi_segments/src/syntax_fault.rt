@@ -30,7 +30,7 @@ pub enum SyntaxFault {
     #[error("date (0017) and time (0019) aren't those of a moment from 2000 to 2099")]
     Moment,
     /// A test: the test indicator (0035) is `1`.
-    #[error("a test interchange")]
+    #[error("the indicator (0035) is `1`: not for real")]
     Test,
     /// Between UNB and UNZ stands anything but messages, from UNH to UNT.
     #[error("between UNB and UNZ stands anything but messages, from UNH to UNT")]
