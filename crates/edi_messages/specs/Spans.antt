@@ -1,4 +1,4 @@
--- What the spans of the code stand for.
+-- What the spans of the code stand for: what the code relies on, and no caller has to read.
 use Rattle.std.specs.Prelude.{ℕ, List}
 use Rattle.edi_segments.specs.Segment.{content}
 use Rattle.edi_messages.specs.Parts.{EquipmentGroup, part_left}

@@ -1,4 +1,4 @@
--- What one look at the segments of an interchange finds.
+-- What one look at the segments of an interchange finds: what the code relies on, and no caller has to read.
 use Rattle.std.specs.Prelude.{◌≡◌, true, ◌∷◌}
 use Rattle.std.specs.List.{list_any}
 use Rattle.edi_segments.specs.Text.{Content}

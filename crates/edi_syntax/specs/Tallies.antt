@@ -1,4 +1,4 @@
--- What the messages of an interchange come to, in the order of the segments.
+-- What the messages of an interchange come to, segment by segment: what the code relies on, and no caller has to read.
 use Rattle.std.specs.Prelude.{◌≡◌, ◌≤◌, ◌||◌, true, false, List, [], ◌∷◌, length}
 use Rattle.std.specs.List.{list_all, list_any}
 use Rattle.edi_segments.specs.Text.{Content}

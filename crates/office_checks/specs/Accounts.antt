@@ -1,4 +1,4 @@
--- The accounts that rows of partners say.
+-- The accounts that rows of partners say: what the code relies on, and no caller has to read.
 use Rattle.std.specs.Prelude.{◌≡◌, ℕ, ◌≤◌, List, length, map, string_bytes, true}
 use Rattle.std.specs.List.{list_all}
 use Rattle.edi_messages.specs.declared.partner_kind.PartnerKind.{PartnerKind}

@@ -1,4 +1,4 @@
--- The forms of rows.
+-- The forms of rows: what the code relies on, and no caller has to read.
 use Rattle.std.specs.Prelude.{ℕ, ◌≤◌, List, Option, None, Some, IsTrue, All}
 use Rattle.std.specs.List.Sorted.{IsNonDecreasingBy}
 use Rattle.box6346.specs.SlotName.{IsNamed}

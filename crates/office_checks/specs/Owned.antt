@@ -1,4 +1,4 @@
--- Whose interchanges a list of them begins with.
+-- Whose interchanges a list of them begins with: what the code relies on, and no caller has to read.
 use Rattle.std.specs.Prelude.{◌≡◌, ◌≢◌, ℕ, List, [], ◌∷◌}
 use Rattle.office_rows.specs.Opened.{Numbered}
 

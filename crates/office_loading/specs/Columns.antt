@@ -1,4 +1,4 @@
--- Which columns and rows say what.
+-- Which columns and rows say what: what the code relies on, and no caller has to read.
 use Rattle.std.specs.Prelude.{◌≡◌, ℕ, ◌+◌, ◌<◌, Bool, false, ◌&&◌, List, [], ◌∷◌, Option, IsTrue, IsUtf8, codes}
 use Rattle.std.specs.Str.{bytes_eq}
 use Rattle.box6346.specs.NumberText.{is_number}

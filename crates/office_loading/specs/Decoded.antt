@@ -1,4 +1,4 @@
--- What reading a row, or a column, answers.
+-- What reading a row, or a column, answers: what the code relies on, and no caller has to read.
 use Rattle.std.specs.Prelude.{List, Contains, Result, Ok, Err, Vec}
 use Rattle.std.specs.List.{AllZip}
 use Rattle.office_tables.specs.declared.table_fault.TableFault.{TableFault}

@@ -1,4 +1,4 @@
--- What the types of a row that is read can hold.
+-- What the types of a row that is read can hold: what the code relies on, and no caller has to read.
 use Rattle.std.specs.Prelude.{◌≡◌, ◌^◌, ◌<◌, Option, Some, None, IsTrue, IsUtf8}
 use Rattle.box6346.specs.NumberText.{is_number}
 use Rattle.box6346.specs.SizeText.{is_size}

@@ -1,4 +1,4 @@
--- What is done with a piece of a stream.
+-- What is done with a piece of a stream: what the code relies on, and no caller has to read.
 use Rattle.std.specs.Prelude.{◌≡◌, ℕ, List, Option, None, Some}
 use Rattle.std.specs.Io.KnownBytes.{Appends}
 use Rattle.edi_cutter.specs.Cuts.{IsPending}

@@ -1,4 +1,4 @@
--- Where the lines of the vessels' lists are found.
+-- Where the lines of the vessels' lists are found: what the code relies on, and no caller has to read.
 use Rattle.std.specs.Prelude.{◌≡◌, ℕ, Bool, cond, ◌&&◌, ◌==◌, List, Option, None, Some, string_bytes, slice_get}
 use Rattle.std.specs.Str.{bytes_eq}
 use Rattle.std.specs.Map.{lookup}

@@ -1,4 +1,4 @@
--- What the search for the first slot that fits finds among some of the slots.
+-- What the search for the first slot that fits finds among some: what the code relies on, and no caller has to read.
 use Rattle.std.specs.Prelude.{◌≡◌}
 use Rattle.std.specs.FinMap as map
 use Rattle.box6346.specs.declared.length.Length.{Length}
