@@ -1,6 +1,6 @@
 """Each allocation of `init`, `report` and `serve` refused in turn: scripts/memory.
 
-With one allocation refused, a command does what it does with all of them, or it tells by name that memory was wanting. An
+With one allocation refused, a command does what it does with all of them, or it tells by name that memory ran out. An
 `init` that told so left no store, or a whole one; a `report` or a request that is answered so changes nothing.
 """
 import os
@@ -56,7 +56,7 @@ def refuse_init(refusing, setup, step, counted):
             again = refusing.run(words)
             if again not in {('ready\n', '', 0), ('', 'store: Store\n', 3)}:
                 raise Different('%s, again: %r' % (what, again))
-            counted['init: told that memory was wanting; ' + ('no store' if again[2] == 0 else 'a store')] += 1
+            counted['init: told that memory ran out; ' + ('no store' if again[2] == 0 else 'a store')] += 1
         expect(what + ', rows', wanted, rows_in(refusing.store))
 
 
@@ -73,7 +73,7 @@ def refuse_reports(refusing, office, step, counted):
             given = refusing.run(words, refused)
             if given not in WANTS:
                 expect('report %s, allocation %d' % (kind, refused), (text, '', status), given)
-            counted['report: ' + ('told that memory was wanting' if given in WANTS else 'the report')] += 1
+            counted['report: ' + ('told that memory ran out' if given in WANTS else 'the report')] += 1
     expect('rows behind the reports', before, rows_in(refusing.store))
 
 
@@ -117,7 +117,7 @@ def serve(refusing, before, requests, refused, counted, what):
     if not server.line:
         if server.end() not in WANTS:
             raise Different(what + ', not opened')
-        counted['serve: told that memory was wanting'] += 1
+        counted['serve: told that memory ran out'] += 1
         return refusing.allocations()
     for request in requests:
         given = exchanged(server.port, request)

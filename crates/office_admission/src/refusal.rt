@@ -38,8 +38,8 @@ impl Refusal<'_> {
         }
     }
 
-    /// The answer to a text that is refused so, with its CONTRL where one is owed. NotNow where memory for that is
-    /// wanting; a refusal without a CONTRL takes none.
+    /// The answer to a text that is refused so, with its CONTRL if one is owed; NotNow if memory for that runs out. A
+    /// refusal without a CONTRL takes none.
     pub fn answer(self, alloc: Global) -> Response
         ensures answer { (setup : Setup) (text : List ℕ) → IsRefused setup text self.entry →
             GivesOrNotNow (refusal_of (parties_of setup) (header_of (segments_in text))

@@ -18,7 +18,7 @@ pub(crate) enum Refusal {
     NoLength,
     /// Its body is too long.
     TooLong,
-    /// Memory or the store is wanting: it may come again.
+    /// There was no memory, or the store failed: it may come again.
     NotNow,
 }
 

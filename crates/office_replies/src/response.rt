@@ -17,7 +17,7 @@ pub enum Response {
     Refused(Fault),
     /// It is refused, with a CONTRL in the body.
     Rejected { fault: Fault, body: String },
-    /// Memory or the store was wanting: nothing has changed, and the same delivery may come again.
+    /// There was no memory, or the store failed: nothing has changed, and the same delivery may come again.
     NotNow,
 }
 
