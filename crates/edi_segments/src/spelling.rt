@@ -1,4 +1,4 @@
-ghost use Rattle.std.specs.Prelude.{◌≡◌, ◌++◌, ◌∷◌, ℕ, List, [], OnOk, OnErr, map, cond, take, drop};
+ghost use Rattle.std.specs.Prelude.{◌≡◌, ◌++◌, ◌∷◌, ℕ, List, [], OnOk, OnErr, map, take, drop, if◌then◌else◌};
 ghost use Rattle.std.specs.List.{list_all};
 ghost use Rattle.edi_segments.specs.Tokens.{is_service};
 ghost use Rattle.edi_segments.specs.Advice.{default_service};
@@ -72,7 +72,7 @@ pub(crate) fn write_composite<V: Spell>(values: &[V], out: &mut Vec<u8>) -> Resu
 /// Writes a value, and a separator behind it where it is not the last.
 fn write_part<V: Spell>(value: &V, is_last: bool, out: &mut Vec<u8>) -> Result<(), AllocError>
     ensures ok { OnOk result (out.new.items ≡ out.old.items ++ (spelling (V.bytes_of value.now)
-        ++ cond is_last [] (58 ∷ []))) }
+        ++ (if is_last then [] else 58 ∷ []))) }
     ensures err { OnErr result (out.new.items ≡ out.old.items) }
 {
     let start = out.len();

@@ -1,5 +1,5 @@
 -- Which texts the office takes.
-use Rattle.std.specs.Prelude.{ℕ, List, ◌==◌, Bool, false, cond, Option, None, Some, Result, Ok, Err}
+use Rattle.std.specs.Prelude.{ℕ, List, ◌==◌, Bool, false, Option, None, Some, Result, Ok, Err, if◌then◌else◌}
 use Rattle.std.specs.Option.{unwrap_or}
 use Rattle.std.specs.Str.{bytes_eq}
 use Rattle.edi_segments.specs.Text.{Content}
@@ -23,7 +23,7 @@ number_in header = unwrap_or (control_number header) 0
 abbrev pub addressed : Parties → Content → Option ℕ → Result (ℕ × ℕ) Fault
 addressed parties header None = Err UnknownSender
 addressed parties header (Some partner) =
-    cond (bytes_eq (recipient header 1) parties.terminal) (Ok (partner, number_in header)) (Err WrongRecipient)
+    if bytes_eq (recipient header 1) parties.terminal then Ok (partner, number_in header) else Err WrongRecipient
 
 abbrev pub admitted : Parties → Content → Option SyntaxFault → Result (ℕ × ℕ) Fault
 admitted parties header (Some fault) = Err (Syntax fault)

@@ -1,5 +1,5 @@
 -- The keys by which reports are asked for.
-use Rattle.std.specs.Prelude.{ℕ, cond, ◌==◌, List, [], ◌∷◌, length, codes, Option, None, Some, option_map, string_bytes, Result, Ok, Err}
+use Rattle.std.specs.Prelude.{ℕ, ◌==◌, List, [], ◌∷◌, length, codes, Option, None, Some, option_map, string_bytes, Result, Ok, Err, if◌then◌else◌}
 use Rattle.std.specs.Option.{option_and_then}
 use Rattle.std.specs.List.{slice_split}
 use Rattle.std.specs.Str.{bytes_eq}
@@ -59,7 +59,7 @@ three (a ∷ b ∷ c ∷ d ∷ others) = None
 
 -- a vessel, a voyage or a partner: 1 to 35 bytes from space to tilde
 abbrev pub name_of : List ℕ → Option (List ℕ)
-name_of bytes = cond (is_name bytes) (Some bytes) None
+name_of bytes = if is_name bytes then Some bytes else None
 
 -- a control reference from 1 to 999,999,999, in 1 to 14 digits
 abbrev pub control_number_of : List ℕ → Option ℕ
@@ -67,7 +67,9 @@ control_number_of bytes = option_and_then as_control_number (number_of 14 bytes)
 
 abbrev pub side_of : List ℕ → Option Side
 side_of bytes =
-    cond (bytes_eq bytes (codes "load")) (Some Load) (cond (bytes_eq bytes (codes "discharge")) (Some Discharge) None)
+    if bytes_eq bytes (codes "load") then Some Load
+    else if bytes_eq bytes (codes "discharge") then Some Discharge
+    else None
 
 abbrev pub if_ok : Result BoxNumber NumberFault → Option BoxNumber
 if_ok (Ok number) = Some number
@@ -89,7 +91,7 @@ box_in part = option_and_then (λ bytes. if_ok (box_of bytes)) (decoded part)
 
 -- the empty key
 abbrev pub if_empty : List ℕ → Asked → Option Asked
-if_empty key what = cond (length key == 0) (Some what) None
+if_empty key what = if length key == 0 then Some what else None
 
 -- VESSEL/VOYAGE/SIDE
 abbrev pub list_in : List ℕ × List ℕ × List ℕ → Option Asked

@@ -1,5 +1,5 @@
 -- The terminal and its partners.
-use Rattle.std.specs.Prelude.{ℕ, ◌+◌, List, [], ◌∷◌, map, cond, string_bytes, Option, None, Some}
+use Rattle.std.specs.Prelude.{ℕ, ◌+◌, List, [], ◌∷◌, map, string_bytes, Option, None, Some, if◌then◌else◌}
 use Rattle.std.specs.Str.{bytes_eq}
 use Rattle.edi_messages.specs.declared.partner_kind.PartnerKind.{PartnerKind}
 use Rattle.office_setup.specs.declared.account.Account.{Account}
@@ -26,4 +26,4 @@ parties_of setup = record { terminal = string_bytes setup.terminal; partners = p
 abbrev pub partner_from : ℕ → List ℕ → List (List ℕ) → Option ℕ
 partner_from number code [] = None
 partner_from number code (partner ∷ partners) =
-    cond (bytes_eq code partner) (Some number) (partner_from (number + 1) code partners)
+    if bytes_eq code partner then Some number else partner_from (number + 1) code partners

@@ -1,5 +1,5 @@
 -- What taking an interchange does to the terminal, and what is replied.
-use Rattle.std.specs.Prelude.{ℕ, cond, List, [], ◌∷◌, ◌++◌, map, Option, None, Some, Result, Ok, Err, encode_utf8_all}
+use Rattle.std.specs.Prelude.{ℕ, List, [], ◌∷◌, ◌++◌, map, Option, None, Some, Result, Ok, Err, encode_utf8_all, if◌then◌else◌}
 use Rattle.std.specs.Option.{unwrap_or}
 use Rattle.box6346.specs.declared.box_number.BoxNumber.{BoxNumber}
 use Rattle.edi_moments.specs.Moments.{CivilMoment}
@@ -187,9 +187,9 @@ taken_of machine partner segments (Some kind) =
 -- Take: the interchange of a partner, counted from 1. A text that is not admitted for that partner changes nothing.
 abbrev pub interchange_taken : MachineState → ℕ → List ℕ → MachineState × List ℕ
 interchange_taken machine partner text =
-    cond (is_for partner (admission machine.parties text))
-    (taken_of machine partner (segments_in text) (with_number machine.kinds partner))
-    (nothing_taken machine)
+    if is_for partner (admission machine.parties text)
+    then taken_of machine partner (segments_in text) (with_number machine.kinds partner)
+    else nothing_taken machine
 
 -- ---- its changes
 
@@ -207,5 +207,6 @@ changes_of machine partner segments (Some kind) =
 -- what taking the interchange changes of the terminal's rows, order by order
 abbrev pub interchange_changes : MachineState → ℕ → List ℕ → List ChangeContent
 interchange_changes machine partner text =
-    cond (is_for partner (admission machine.parties text))
-    (changes_of machine partner (segments_in text) (with_number machine.kinds partner)) []
+    if is_for partner (admission machine.parties text)
+    then changes_of machine partner (segments_in text) (with_number machine.kinds partner)
+    else []

@@ -1,5 +1,5 @@
 -- The rows of a terminal's three lists, and what a change does to them.
-use Rattle.std.specs.Prelude.{◌≡◌, ◌≢◌, ℕ, ◌+◌, Bool, true, cond, ◌==◌, List, [], ◌∷◌, ◌++◌, length, map, filter, Option, None, Some, is_some, ◌↔◌}
+use Rattle.std.specs.Prelude.{◌≡◌, ◌≢◌, ℕ, ◌+◌, Bool, true, ◌==◌, List, [], ◌∷◌, ◌++◌, length, map, filter, Option, None, Some, is_some, ◌↔◌, if◌then◌else◌}
 use Rattle.std.specs.Option.{option_map}
 use Rattle.std.specs.Str.{bytes_eq}
 use Rattle.std.specs.Map.{update}
@@ -42,7 +42,7 @@ rows_of state = record { visits = state.visits; places = standing_of state; line
 
 -- the visit of that number gets the departure, and no other
 abbrev pub closed_as : ℕ → Departure → VisitContent → VisitContent
-closed_as number departure visit = cond (visit.number == number) (record visit { departure = Some departure }) visit
+closed_as number departure visit = if visit.number == number then record visit { departure = Some departure } else visit
 
 abbrev pub standing_elsewhere : Slot → Standing → Standing
 standing_elsewhere slot place = record place { slot = slot }

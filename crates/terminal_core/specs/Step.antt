@@ -1,6 +1,6 @@
 -- What an order does at a terminal: the refusals in their order, and otherwise the new state, the outcome and the
 -- changes.
-use Rattle.std.specs.Prelude.{ℕ, ◌+◌, Bool, cond, List, [], ◌∷◌, ◌++◌, length, map, nat_le, Option, None, Some, Result, Ok, Err}
+use Rattle.std.specs.Prelude.{ℕ, ◌+◌, Bool, List, [], ◌∷◌, ◌++◌, length, map, nat_le, Option, None, Some, Result, Ok, Err, if◌then◌else◌}
 use Rattle.std.specs.FinMap as finite_map
 use Rattle.box6346.specs.SizeCode.{length_of}
 use Rattle.box6346.specs.declared.box_number.BoxNumber.{BoxNumber}
@@ -92,13 +92,13 @@ entered_at state way source entry (Ok (y, slot)) =
 
 abbrev pub entered : TerminalState → Way → Source → EntryContent → Stepped
 entered state way source entry =
-    cond (is_full state) (refused state VisitLimit) (entered_at state way source entry (settled state.yard entry))
+    if is_full state then refused state VisitLimit else entered_at state way source entry (settled state.yard entry)
 
 -- ---- going
 
 abbrev pub closed : Departure → BoxNumber → VisitContent → VisitContent
 closed departure container visit =
-    cond (is_open_visit container visit) (record visit { departure = Some departure }) visit
+    if is_open_visit container visit then record visit { departure = Some departure } else visit
 
 -- the container's open visit is closed
 abbrev pub close_visit : TerminalState → BoxNumber → Departure → List VisitContent
@@ -169,7 +169,7 @@ by_line state call side container (Some line) after = by_state state call side c
 -- GateIn: AlreadyIn; VisitLimit; the slot
 abbrev pub step_gate_in : TerminalState → Source → EntryContent → Stepped
 step_gate_in state source entry =
-    cond (is_in state entry.number) (refused state AlreadyIn) (entered state Gate source entry)
+    if is_in state entry.number then refused state AlreadyIn else entered state Gate source entry
 
 -- GateOut: NotIn; Buried
 abbrev pub step_gate_out : TerminalState → Source → BoxNumber → CivilMoment → Stepped
@@ -178,17 +178,18 @@ step_gate_out state source container moment = departed state Gate source contain
 -- Discharge: AlreadyIn; NotListed; ListLineDone; VisitLimit; the slot
 abbrev pub step_discharge : TerminalState → Source → CallContent → EntryContent → Stepped
 step_discharge state source call entry =
-    cond (is_in state entry.number) (refused state AlreadyIn)
-    (by_line state call Discharge entry.number (line_of state call Discharge entry.number)
-    (entered state Ship source entry))
+    if is_in state entry.number
+    then refused state AlreadyIn
+    else by_line state call Discharge entry.number (line_of state call Discharge entry.number)
+    (entered state Ship source entry)
 
 -- Load: NotIn; NotListed; ListLineDone; Buried
 abbrev pub step_load : TerminalState → Source → CallContent → BoxNumber → CivilMoment → Stepped
 step_load state source call container moment =
-    cond (is_in state container)
-    (by_line state call Load container (line_of state call Load container)
-    (departed state Ship source container moment))
-    (refused state NotIn)
+    if is_in state container
+    then by_line state call Load container (line_of state call Load container)
+    (departed state Ship source container moment)
+    else refused state NotIn
 
 -- what an order does
 abbrev pub step : TerminalState → Source → OrderContent → Stepped

@@ -1,6 +1,6 @@
 -- What the calls on a yard answer, as functions of the map: a plain search over all its boxes. The calls themselves are
 -- told by relations; laws tie both together.
-use Rattle.std.specs.Prelude.{ℕ, ◌+◌, ◌-◌, ◌*◌, ◌%◌, Bool, true, false, cond, not, ◌&&◌, ◌||◌, ◌==◌, nat_le, nat_lt, List, [], ◌∷◌, map, flat_map, Option, None, Some, is_some, is_none, Result, Ok, Err, find}
+use Rattle.std.specs.Prelude.{ℕ, ◌+◌, ◌-◌, ◌*◌, ◌%◌, Bool, true, false, not, ◌&&◌, ◌||◌, ◌==◌, nat_le, nat_lt, List, [], ◌∷◌, map, flat_map, Option, None, Some, is_some, is_none, Result, Ok, Err, find, if◌then◌else◌}
 use Rattle.box6346.specs.Characters.{capital_a}
 use Rattle.std.specs.List.{list_any, range_with_len}
 use Rattle.std.specs.Option.{option_map, option_map_or}
@@ -112,10 +112,11 @@ is_carried boxes length slot = slot.tier == 1 || is_supported boxes length slot
 -- why a container does not fit there, if it does not: the first reason
 unfoldable pub misfit_of : List Block → Boxes → Placement → Option Refusal
 misfit_of plan boxes s =
-    cond (not (in_plan plan s.slot)) (Some no_slot)
-    (cond (not (is_kind s.length s.slot)) (Some slot_kind)
-    (cond (is_taken boxes s) (Some taken)
-    (cond (is_carried boxes s.length s.slot) None (Some on_air))))
+    if not (in_plan plan s.slot) then Some no_slot
+    else if not (is_kind s.length s.slot) then Some slot_kind
+    else if is_taken boxes s then Some taken
+    else if is_carried boxes s.length s.slot then None
+    else Some on_air
 
 -- the first that is there
 abbrev pub first_there : List (Option Box) → Option Box
@@ -156,9 +157,9 @@ with_misfit None y = Ok y
 -- one container more, in a named slot
 abbrev pub placed : YardMap → Box → Length → Slot → Result YardMap Refusal
 placed y b length slot =
-    cond (is_some (finite_map.get y.boxes b)) (Err present)
-    (with_misfit (misfit_of y.plan y.boxes (placement length slot))
-    (yard_map y.plan (finite_map.insert y.boxes b (placement length slot))))
+    if is_some (finite_map.get y.boxes b) then Err present
+    else with_misfit (misfit_of y.plan y.boxes (placement length slot))
+    (yard_map y.plan (finite_map.insert y.boxes b (placement length slot)))
 
 abbrev pub with_slot : Option Slot → YardMap → Box → Length → Result (YardMap × Slot) Refusal
 with_slot None y b length = Err no_room
@@ -167,7 +168,7 @@ with_slot (Some slot) y b length = Ok (yard_map y.plan (finite_map.insert y.boxe
 -- one container more, in the first slot that fits
 abbrev pub placed_first : YardMap → Box → Length → Result (YardMap × Slot) Refusal
 placed_first y b length =
-    cond (is_some (finite_map.get y.boxes b)) (Err present) (with_slot (first_fit y.plan y.boxes length) y b length)
+    if is_some (finite_map.get y.boxes b) then Err present else with_slot (first_fit y.plan y.boxes length) y b length
 
 abbrev pub unless_buried : {A : Type 0} → Option Box → Result A Refusal → Result A Refusal
 unless_buried None answer = answer
