@@ -93,14 +93,14 @@ Closes s bytes =
     (before : List Content) × (trailer : Content) × (front last : List ℕ) × SegmentsBehindBreaks s before front
     × SegmentText s trailer last × (trailer.tag ≡ codes "UNZ") × (bytes ≡ front ++ last)
 
--- No position is behind bytes just where no continuation is a text of segments.
+-- No position is behind bytes exactly if no continuation is a text of segments.
 abbrev pub RefusedWhereNothingGoesOn : Type 0
 RefusedWhereNothingGoesOn =
     (s : Service) (bytes : List ℕ)
     → (position_after s (Between false) bytes ≡ Refused → GoesOn s bytes → ⊥)
     × ((position_after s (Between false) bytes ≡ Refused → ⊥) → GoesOn s bytes)
 
--- Bytes lead to a closed position just where a trailer ends there.
+-- Bytes lead to a closed position exactly if a trailer ends there.
 abbrev pub ClosedWhereATrailerEnds : Type 0
 ClosedWhereATrailerEnds =
     (s : Service) (bytes : List ℕ)

@@ -41,7 +41,7 @@ FeedsAll c (piece ∷ pieces) interchanges new =
 abbrev pub joined : List (List ℕ) → List ℕ
 joined pieces = flat_map (λ piece. piece) pieces
 
--- Where no call is refused, the interchanges of pieces are those of the stream that they make, and what is pending is
+-- If no call is refused, the interchanges of pieces are those of the stream that they make, and what is pending is
 -- its rest.
 abbrev pub CutsTheStream : Type 0
 CutsTheStream =

@@ -57,7 +57,7 @@ pub(crate) fn read_piece(
     }
 }
 
-/// Reads a piece where an advice may still begin or go on.
+/// Reads a piece if an advice may still begin or go on.
 fn read_front(text: &[u8], reading: Reading, piece: &[u8]) -> Result<(usize, Reading), CutFault>
     requires short { length text.now < 9 }
     requires holds { Holds text.now reading }

@@ -16,7 +16,7 @@ use Rattle.edi_messages.specs.declared.order_kind.OrderKind.{OrderKind}
 use Rattle.edi_messages.specs.declared.message_fault.MessageFault.{MessageFault}
 use Rattle.edi_messages.specs.declared.message_fault.MessageFault.TheVariants.{Code}
 
--- an order, or the fault of the line with its container, where the number could be read
+-- an order, or the fault of the line with its container, if the number could be read
 pub data LineContent : Type 0 where
   ordered : OrderContent → LineContent
   refused : LineFault → Option BoxNumber → LineContent

@@ -53,7 +53,7 @@ size_text group = component_of group.equipment 3 1
 abbrev pub is_laden : EquipmentGroup → Bool
 is_laden group = not (bytes_eq (component_of group.equipment 6 1) (codes "4"))
 
--- the first location (LOC) with the qualifier (3227), empty where there is none; ZZZ is a slot of the yard
+-- the first location (LOC) with the qualifier (3227), empty if there is none; ZZZ is a slot of the yard
 abbrev pub location : List ℕ → EquipmentGroup → List ℕ
 location qualifier group =
     option_map_or (λ segment. component_of segment 2 1) (find (is_qualified (codes "LOC") qualifier) group.details) []

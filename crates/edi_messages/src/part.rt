@@ -77,7 +77,7 @@ pub(crate) fn states_moment(segment: &Segment<'_>) -> bool
     is_value(format, b"203") || is_value(format, b"102")
 }
 
-/// Keeps the segment where it is what is sought and none was found before it.
+/// Keeps the segment if it is what is sought and none was found before it.
 #[inline(always)]
 pub(crate) fn keep_first<'a>(found: &mut Option<Segment<'a>>, segment: Segment<'a>, is_sought: bool)
     ensures { option_map content found.new ≡ option_or (option_map content found.old)

@@ -38,7 +38,7 @@ day_number m = days_from_civil (pos m.year) m.month m.day
 abbrev pub is_digit : ℕ → Bool
 is_digit b = nat_le digit_zero b && nat_le b digit_nine
 
--- the number of the two digits at a place, 0 where there are none
+-- the number of the two digits at a place, 0 if there are none
 abbrev pub number_at : List ℕ → ℕ → ℕ
 number_at text i =
     if nat_le (i + 2) (length text) then (get_or text i 0 - digit_zero) * 10 + (get_or text (i + 1) 0 - digit_zero)

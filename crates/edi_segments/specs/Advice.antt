@@ -53,7 +53,7 @@ service_with c false h = default_service
 abbrev pub has_advice : List ℕ → Bool
 has_advice text = begins_with_advice text && nat_le 9 (length text)
 
--- The service characters of a text: those of its advice, or the defaults where it has none that may be used.
+-- The service characters of a text: those of its advice, or the defaults if it has none that may be used.
 abbrev pub service_at : List ℕ → Service
 service_at text =
     if has_advice text then service_with (advised text) (may_be_used (advised text)) refl
@@ -70,6 +70,6 @@ advice_len text = if begins_with_advice text then 9 else 0
 abbrev pub without_breaks : List ℕ → List ℕ
 without_breaks bytes = drop (breaks_len bytes) bytes
 
--- what stands behind the advice and the line breaks after it, where there is one
+-- what stands behind the advice and the line breaks after it, if there is one
 abbrev pub behind_advice : List ℕ → List ℕ
 behind_advice text = if begins_with_advice text then without_breaks (drop 9 text) else text

@@ -1,4 +1,4 @@
--- The text of an interchange (ISO 9735): an advice where there is one, and segments.
+-- The text of an interchange (ISO 9735): an advice if there is one, and segments.
 use Rattle.std.specs.Prelude.{◌≡◌, ◌⊎◌, ℕ, Bool, false, List, [], ◌∷◌, ◌++◌, codes, IsTrue, Option, None, Some, if◌then◌else◌}
 use Rattle.edi_segments.specs.Bytes.{space}
 use Rattle.std.specs.List.{list_all}
@@ -16,7 +16,7 @@ most_bytes = 1048576
 
 -- ---- the grammar
 
--- the byte in the place of the release character: a space where none is used
+-- the byte in the place of the release character: a space if none is used
 abbrev pub release_byte : Option ℕ → ℕ
 release_byte None = space
 release_byte (Some r) = r

@@ -80,7 +80,7 @@ end_of s released [] = None
 end_of s released (b ∷ bytes) =
     let token = token_of s released b in with_end token (end_of s (releases token) bytes)
 
--- the elements begin with an element separator, where there are any
+-- the elements begin with an element separator, if there are any
 abbrev pub begins_elements : Service → List ℕ → Bool
 begins_elements s [] = true
 begins_elements s (b ∷ bytes) = b == s.element || b == s.terminator

@@ -47,6 +47,6 @@ elements_left elements =
     map (value_of elements.service false) (parts_of elements.service elements.service.component false part))
     (parts_of elements.service elements.service.element false text.now)) elements.rest []
 
--- the value as an array of that length, where it has that length
+-- the value as an array of that length, if it has that length
 abbrev pub fixed : ℕ → List ℕ → Option (List ℕ)
 fixed size value = if length value == size then Some value else None

@@ -8,7 +8,7 @@ use Rattle.edi_segments.specs.Tokens.{is_service}
 use Rattle.edi_segments.specs.Advice.{default_service}
 use Rattle.edi_segments.specs.Text.{Content, IsTag}
 
--- the byte, behind the release character where it would serve otherwise
+-- the byte, behind the release character if it would serve otherwise
 abbrev pub spelled_byte : ℕ → List ℕ
 spelled_byte b = if is_service default_service b then question_mark ∷ b ∷ [] else b ∷ []
 

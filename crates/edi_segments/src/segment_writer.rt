@@ -11,7 +11,7 @@ use std::alloc::{AllocError, Global};
 use std::marker::Model;
 
 /// Writes segments under the default service characters: releases before service characters alone, no empty components
-/// or elements at an end, no line breaks. Where memory is refused, what is written is as it was.
+/// or elements at an end, no line breaks. If memory is refused, what is written is as it was.
 #[derive(Drop)]
 pub struct SegmentWriter {
     text: Vec<u8>,

@@ -16,7 +16,7 @@ use Rattle.office_setup.specs.Parties.{Parties, partner_from}
 abbrev pub sender_of : Parties → Content → Option ℕ
 sender_of parties header = partner_from 1 (sender header 1) parties.partners
 
--- what the control reference writes. Where a text has no fault it is from 1 to 999,999,999.
+-- what the control reference writes. If a text has no fault it is from 1 to 999,999,999.
 abbrev pub number_in : Content → ℕ
 number_in header = unwrap_or (control_number header) 0
 

@@ -92,7 +92,7 @@ serve_asked rows =
     (option_and_then (number_upto 65535) (first_of (codes "PORT") rows)))
     (first_of (codes "DB") rows)
 
--- the key is there where it is wanted, and nowhere else
+-- the key is there if it is wanted, and nowhere else
 abbrev pub report_with : Text → ReportKind → Option Text → Option Asked
 report_with store kind None = if wants_key kind then None else Some (report store kind None)
 report_with store kind (Some key) = if wants_key kind then Some (report store kind (Some key)) else None

@@ -55,7 +55,7 @@ three (a ∷ b ∷ []) = None
 three (a ∷ b ∷ c ∷ []) = Some (a, b, c)
 three (a ∷ b ∷ c ∷ d ∷ others) = None
 
--- ---- what a part names, where it can be read
+-- ---- what a part names, if it can be read
 
 -- a vessel, a voyage or a partner: 1 to 35 bytes from space to tilde
 abbrev pub name_of : List ℕ → Option (List ℕ)

@@ -22,7 +22,7 @@ partner_kinds accounts = map (λ account. account.kind) accounts
 abbrev pub parties_of : Setup → Parties
 parties_of setup = record { terminal = string_bytes setup.terminal; partners = partner_codes setup.partners.items }
 
--- the number of the first partner with a code, where partners are counted from a number on
+-- the number of the first partner with a code, counting from a number on
 abbrev pub partner_from : ℕ → List ℕ → List (List ℕ) → Option ℕ
 partner_from number code [] = None
 partner_from number code (partner ∷ partners) =

@@ -25,7 +25,7 @@ Named = Text × Text
 abbrev pub AreRows : Text → List Record → Type 0
 AreRows file rows = AreRecords default_config state.StartRecord (strip_bom file) rows
 
--- a field of a record, empty where there is none
+-- a field of a record, empty if there is none
 abbrev pub field : ℕ → Record → Text
 field index row = option_map_or (λ (text : Text). text) (field_at row index) []
 
@@ -93,6 +93,6 @@ is_number text = nat_le 1 (length text) && nat_le (length text) 9 && list_all is
 abbrev pub number_said : Text → Option ℕ
 number_said text = if is_number text then Some (digits_value 10 text) else None
 
--- the same, where it isn't above the greatest
+-- the same, if it isn't above the greatest
 abbrev pub count_said : ℕ → Text → Option ℕ
 count_said greatest text = option_and_then (λ (n : ℕ). if nat_le n greatest then Some n else None) (number_said text)

@@ -30,7 +30,7 @@ fn are_digits(bytes: &[u8]) -> bool
     bytes.iter().all(|byte| byte.is_ascii_digit())
 }
 
-/// The number that 1 to 9 digits write, where it isn't above the greatest.
+/// The number that 1 to 9 digits write, if it isn't above the greatest.
 pub(crate) fn count_of(text: &str, greatest: u8) -> Option<u8>
     ensures { result ≡ count_said greatest text.now }
 {

@@ -8,7 +8,7 @@ use std::io::{Result, Write};
 /// How many bytes are held back at most.
 const ROOM: usize = 4096;
 
-/// A writer that holds back what is written, and passes it on at once where it is flushed or full. So a text that is
+/// A writer that holds back what is written, and passes it on at once when it is flushed or full. So a text that is
 /// written in parts goes out in one write. It takes no memory.
 #[derive(Drop)]
 pub struct Gathered<W> {

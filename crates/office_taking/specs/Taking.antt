@@ -171,7 +171,7 @@ codes_for machine kind = record { kind = kind; table = machine.codes }
 abbrev pub source_in : ℕ → Content → Source
 source_in partner header = record { partner = partner; number = unwrap_or (control_number header) 0 }
 
--- where the header has a moment
+-- if the header has a moment
 abbrev pub taken_at : MachineState → ℕ → PartnerKind → List Content → Option CivilMoment → MachineState × List ℕ
 taken_at machine partner kind segments None = nothing_taken machine
 taken_at machine partner kind segments (Some opened) =

@@ -60,7 +60,7 @@ abbrev pub settled_in : YardMap → EntryContent → Option Slot → Result (Yar
 settled_in y entry (Some slot) = with_slot slot (placed y entry.number (length_of entry.size_type) slot)
 settled_in y entry None = placed_first y entry.number (length_of entry.size_type)
 
--- the yard with the container in the slot that it names, or in the first that fits where it names none
+-- the yard with the container in the slot that it names, or in the first that fits if it names none
 abbrev pub settled : YardMap → EntryContent → Result (YardMap × Slot) Refusal
 settled y entry = settled_in y entry entry.slot
 
@@ -145,7 +145,7 @@ listed_at state call side container port None =
 abbrev pub listed : TerminalState → CallContent → Side → BoxNumber → List ℕ → Stepped
 listed state call side container port = listed_at state call side container port (line_of state call side container)
 
--- where the order is carried out, the line is done too
+-- if the order is carried out, the line is done too
 abbrev pub then_line_done_at : CallContent → Side → BoxNumber → LineContent → Stepped → Outcome → Stepped
 then_line_done_at call side container line after (Refused reason) = after
 then_line_done_at call side container line after outcome =

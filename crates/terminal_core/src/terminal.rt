@@ -73,7 +73,7 @@ impl Terminal {
     }
 
     /// The terminal whose visits, places and lines these rows are, in any order of the places and of the lines. Unsound
-    /// where they are the rows of no whole state, and Memory. What was handed in is given up.
+    /// if they are the rows of no whole state, and Memory. What was handed in is given up.
     pub fn restore(
         alloc: Global,
         plan: Plan,
@@ -137,7 +137,7 @@ impl Terminal {
     }
 
     /// Carries an order out, or refuses it: the first reason that applies. What it added, altered or removed is
-    /// appended to the changes. Where memory is refused, the terminal and the changes stay as they were.
+    /// appended to the changes. If memory is refused, the terminal and the changes stay as they were.
     pub fn step(
         &mut self,
         alloc: Global,

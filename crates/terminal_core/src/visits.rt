@@ -99,7 +99,7 @@ impl Visits {
         Ok(())
     }
 
-    /// Adds a container's visit where it has none that is open.
+    /// Adds a container's visit if it has none that is open.
     pub(crate) fn open(&mut self, visit: Visit)
         requires room { HasRoom self.old }
         requires stays { visit.departure ≡ None }
