@@ -20,8 +20,8 @@ may_be_used c = are_service_characters c.component c.element c.release c.termina
 
 -- The characters that six bytes behind `UNA` name: component separator, element separator, decimal mark, release
 -- character, a reserved byte, terminator. A space in the release place says that none is used.
-abbrev pub advised : List ℕ → ServiceCharacters
-advised text = record {
+abbrev pub advised_characters : List ℕ → ServiceCharacters
+advised_characters text = record {
   component = get_or text 3 0;
   element = get_or text 4 0;
   release = if get_or text 6 0 == space then None else Some (get_or text 6 0);
@@ -56,12 +56,12 @@ has_advice text = begins_with_advice text && nat_le 9 (length text)
 -- The service characters of a text: those of its advice, or the defaults if it has none that may be used.
 abbrev pub service_at : List ℕ → Service
 service_at text =
-    if has_advice text then service_with (advised text) (may_be_used (advised text)) refl
+    if has_advice text then service_with (advised_characters text) (may_be_used (advised_characters text)) refl
     else default_service
 
 -- The advice is cut short, or its characters may not be used.
 abbrev pub has_bad_advice : List ℕ → Bool
-has_bad_advice text = begins_with_advice text && not (nat_le 9 (length text) && may_be_used (advised text))
+has_bad_advice text = begins_with_advice text && not (nat_le 9 (length text) && may_be_used (advised_characters text))
 
 abbrev pub advice_len : List ℕ → ℕ
 advice_len text = if begins_with_advice text then 9 else 0

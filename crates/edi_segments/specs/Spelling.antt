@@ -79,8 +79,8 @@ with_element w values = record {
 }
 
 -- the end of the segment
-abbrev pub ended : Writing → Writing
-ended w = record {
+abbrev pub with_terminator : Writing → Writing
+with_terminator w = record {
   text = take w.kept w.text ++ apostrophe ∷ [];
   kept = length (take w.kept w.text ++ apostrophe ∷ []);
   is_open = false;
@@ -93,4 +93,4 @@ with_elements w (element ∷ elements) = with_elements (with_element w element) 
 
 -- a segment more
 abbrev pub with_segment : Writing → Content → Writing
-with_segment w segment = ended (with_elements (begun w segment.tag) segment.elements)
+with_segment w segment = with_terminator (with_elements (begun w segment.tag) segment.elements)

@@ -24,12 +24,12 @@ pub data Asked : Type 0 where
   report : Text → ReportKind → Option Text → Asked
   demo : Asked
 
-abbrev pub asked : Request → Asked
-asked (request.Init store partners blocks) = init store.now partners.now blocks.now
-asked (request.Deliver store file) = deliver store.now file.now
-asked (request.Serve store port count) = serve store.now port count
-asked (request.Report store kind key) = report store.now kind (option_map (λ text. text.now) key)
-asked request.Demo = demo
+abbrev pub request_asked : Request → Asked
+request_asked (request.Init store partners blocks) = init store.now partners.now blocks.now
+request_asked (request.Deliver store file) = deliver store.now file.now
+request_asked (request.Serve store port count) = serve store.now port count
+request_asked (request.Report store kind key) = report store.now kind (option_map (λ text. text.now) key)
+request_asked request.Demo = demo
 
 -- ---- numbers
 

@@ -59,8 +59,8 @@ by_method method None = Err NotFound
 by_method method (Some to) = if bytes_eq method (method_of to) then Ok to else Err (other_method to)
 
 -- where a request goes to, or why it is refused
-abbrev pub directed : List ℕ → List ℕ → Result Endpoint Refusal
-directed method path = by_method method (endpoint_at path)
+abbrev pub endpoint_of : List ℕ → List ℕ → Result Endpoint Refusal
+endpoint_of method path = by_method method (endpoint_at path)
 
 -- ---- keys
 

@@ -15,9 +15,9 @@ onto behind byte = option_map (λ bytes. byte ∷ bytes) behind
 
 -- The bytes that a text stands for: `%` (37) and two hexadecimal digits stand for a byte, and another `%` can't be
 -- read. Every other byte stands for itself.
-abbrev pub decoded : List ℕ → Option (List ℕ)
-decoded [] = Some []
-decoded (a ∷ []) = if a == 37 then None else Some (a ∷ [])
-decoded (a ∷ b ∷ []) = if a == 37 then None else onto (decoded (b ∷ [])) a
-decoded (a ∷ b ∷ c ∷ rest) =
-    if a == 37 then option_and_then (onto (decoded rest)) (byte_of b c) else onto (decoded (b ∷ c ∷ rest)) a
+abbrev pub decoded_part : List ℕ → Option (List ℕ)
+decoded_part [] = Some []
+decoded_part (a ∷ []) = if a == 37 then None else Some (a ∷ [])
+decoded_part (a ∷ b ∷ []) = if a == 37 then None else onto (decoded_part (b ∷ [])) a
+decoded_part (a ∷ b ∷ c ∷ rest) =
+    if a == 37 then option_and_then (onto (decoded_part rest)) (byte_of b c) else onto (decoded_part (b ∷ c ∷ rest)) a

@@ -10,7 +10,7 @@ use Rattle.edi_messages.specs.Texts.{is_name}
 use Rattle.edi_syntax.specs.Numbers.{number_of, as_control_number}
 use Rattle.terminal_core.specs.declared.side.Side.{Side}
 use Rattle.terminal_core.specs.declared.side.Side.TheVariants.{Load, Discharge}
-use Rattle.office_queries.specs.Escapes.{decoded}
+use Rattle.office_queries.specs.Escapes.{decoded_part}
 use Rattle.office_queries.specs.declared.query.Query.{Query}
 use Rattle.office_queries.specs.declared.query.Query.TheVariants as query
 use Rattle.office_queries.specs.declared.report_kind.ReportKind.{ReportKind}
@@ -23,13 +23,13 @@ pub data Asked : Type 0 where
   list : List ℕ → List ℕ → Side → Asked
   ticket reply : List ℕ → ℕ → Asked
 
-abbrev pub asked : Query → Asked
-asked query.Yard = yard
-asked query.YardTable = yard_table
-asked (query.Visits number) = visits number
-asked (query.List call side) = list (string_bytes call.vessel) (string_bytes call.voyage) side
-asked (query.Ticket partner number) = ticket (string_bytes partner) number
-asked (query.Reply partner number) = reply (string_bytes partner) number
+abbrev pub query_asked : Query → Asked
+query_asked query.Yard = yard
+query_asked query.YardTable = yard_table
+query_asked (query.Visits number) = visits number
+query_asked (query.List call side) = list (string_bytes call.vessel) (string_bytes call.voyage) side
+query_asked (query.Ticket partner number) = ticket (string_bytes partner) number
+query_asked (query.Reply partner number) = reply (string_bytes partner) number
 
 -- ---- the parts of a key
 
@@ -76,16 +76,16 @@ if_ok (Ok number) = Some number
 if_ok (Err fault) = None
 
 abbrev pub name_in : List ℕ → Option (List ℕ)
-name_in part = option_and_then name_of (decoded part)
+name_in part = option_and_then name_of (decoded_part part)
 
 abbrev pub number_in : List ℕ → Option ℕ
-number_in part = option_and_then control_number_of (decoded part)
+number_in part = option_and_then control_number_of (decoded_part part)
 
 abbrev pub side_in : List ℕ → Option Side
-side_in part = option_and_then side_of (decoded part)
+side_in part = option_and_then side_of (decoded_part part)
 
 abbrev pub box_in : List ℕ → Option BoxNumber
-box_in part = option_and_then (λ bytes. if_ok (box_of bytes)) (decoded part)
+box_in part = option_and_then (λ bytes. if_ok (box_of bytes)) (decoded_part part)
 
 -- ---- what a key asks for
 

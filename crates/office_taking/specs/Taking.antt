@@ -122,8 +122,8 @@ abbrev pub verdict_changes : TerminalState → Source → Result MessageContent 
 verdict_changes state source (Ok content) = lines_changes state source content.lines
 verdict_changes state source (Err fault) = []
 
-abbrev pub reported : Message → VerdictContent → ReportContent
-reported message verdict = record { reference = encode_utf8_all (message_reference message); verdict = verdict }
+abbrev pub report_on : Message → VerdictContent → ReportContent
+report_on message verdict = record { reference = encode_utf8_all (message_reference message); verdict = verdict }
 
 -- ---- an interchange
 
@@ -137,7 +137,7 @@ messages_taken state codes source opened [] = (state, [])
 messages_taken state codes source opened (message ∷ messages) =
     before_message (messages_taken
     (verdict_on state source (reading codes opened message)).0 codes source opened messages)
-    (reported message (verdict_on state source (reading codes opened message)).1)
+    (report_on message (verdict_on state source (reading codes opened message)).1)
 
 abbrev pub messages_changes : TerminalState → Codes → Source → CivilMoment → List Message → List ChangeContent
 messages_changes state codes source opened [] = []

@@ -155,8 +155,8 @@ with_misfit (Some refusal) y = Err refusal
 with_misfit None y = Ok y
 
 -- one container more, in a named slot
-abbrev pub placed : YardMap → Box → Length → Slot → Result YardMap Refusal
-placed y b length slot =
+abbrev pub yard_with : YardMap → Box → Length → Slot → Result YardMap Refusal
+yard_with y b length slot =
     if is_some (finite_map.get y.boxes b) then Err present
     else with_misfit (misfit_of y.plan y.boxes (placement length slot))
     (yard_map y.plan (finite_map.insert y.boxes b (placement length slot)))
@@ -179,8 +179,8 @@ removed_at None y b = Err absent
 removed_at (Some s) y b = unless_buried (blocker_of y.boxes s) (Ok (yard_map y.plan (finite_map.remove y.boxes b), s))
 
 -- one container less
-abbrev pub removed : YardMap → Box → Result (YardMap × Placement) Refusal
-removed y b = removed_at (finite_map.get y.boxes b) y b
+abbrev pub yard_without : YardMap → Box → Result (YardMap × Placement) Refusal
+yard_without y b = removed_at (finite_map.get y.boxes b) y b
 
 abbrev pub shifted_at : Option Placement → YardMap → Box → Slot → Result YardMap Refusal
 shifted_at None y b slot = Err absent
@@ -190,5 +190,5 @@ shifted_at (Some s) y b slot =
     (yard_map y.plan (finite_map.insert y.boxes b (placement s.length slot))))
 
 -- a container in another slot, which has to fit the yard without it
-abbrev pub shifted : YardMap → Box → Slot → Result YardMap Refusal
-shifted y b slot = shifted_at (finite_map.get y.boxes b) y b slot
+abbrev pub yard_with_move : YardMap → Box → Slot → Result YardMap Refusal
+yard_with_move y b slot = shifted_at (finite_map.get y.boxes b) y b slot
