@@ -48,7 +48,8 @@ message_of purpose opened message = record {
   lines = lines_of purpose opened message.segments;
 }
 
-abbrev pub judged_message : Option MessageFault → Result MessageContent MessageFault → Result MessageContent MessageFault
+abbrev pub judged_message :
+    Option MessageFault → Result MessageContent MessageFault → Result MessageContent MessageFault
 judged_message (Some fault) message = Err fault
 judged_message None message = message
 

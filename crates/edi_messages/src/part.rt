@@ -96,9 +96,11 @@ pub(crate) fn keep_first_places<'a>(
     segment: Segment<'a>,
 )
     ensures slot { option_map content slot.new ≡ option_or (option_map content slot.old)
-        (if is_qualified (codes "LOC") (codes "ZZZ") (content segment.entry) then Some (content segment.entry) else None) }
+        (if is_qualified (codes "LOC") (codes "ZZZ") (content segment.entry)
+        then Some (content segment.entry) else None) }
     ensures port { option_map content port.new ≡ option_or (option_map content port.old)
-        (if is_qualified (codes "LOC") (codes "11") (content segment.entry) then Some (content segment.entry) else None) }
+        (if is_qualified (codes "LOC") (codes "11") (content segment.entry)
+        then Some (content segment.entry) else None) }
 {
     if segment.has_tag(b"LOC") {
         let qualifier = segment.component(1, 1);

@@ -15,4 +15,5 @@ with_delivery text (Err fault) later = later
 abbrev pub deliveries_of : Parties → List (List ℕ) → List Delivery
 deliveries_of parties [] = []
 deliveries_of parties (delivered ∷ later) =
-    with_delivery (interchange_of delivered) (admission parties (interchange_of delivered)) (deliveries_of parties later)
+    with_delivery (interchange_of delivered) (admission parties (interchange_of delivered))
+    (deliveries_of parties later)

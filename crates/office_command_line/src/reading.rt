@@ -111,7 +111,8 @@ fn report_in<'a>(matches: &ArgMatches<'a>) -> Option<Request<'a>>
 
 /// The report, if a key is given where one is wanted and nowhere else.
 fn report_with<'a>(store: &'a str, kind: ReportKind, key: Option<&'a str>) -> Option<Request<'a>>
-    ensures { option_map request_asked result ≡ report_with store.entry.now kind (option_map (λ text. text.now) key.entry) }
+    ensures { option_map request_asked result
+        ≡ report_with store.entry.now kind (option_map (λ text. text.now) key.entry) }
 {
     if wants_key(kind) == key.is_some() {
         Some(Request::Report { store, kind, key })

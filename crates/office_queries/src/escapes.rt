@@ -22,7 +22,8 @@ pub(crate) fn decode(alloc: Global, part: &str) -> Result<Option<Vec<u8>>, Alloc
 /// The byte that the front of a text stands for, and what is behind it.
 fn split_byte(text: &[u8]) -> Option<(u8, &[u8])>
     ensures { MatchOption result (text.now ≢ [] → decoded_part text.now ≡ None)
-        (λ found. (decoded_part text.now ≡ onto (decoded_part found.1.now) found.0) × (length found.1.now < length text.now)) }
+        (λ found. (decoded_part text.now ≡ onto (decoded_part found.1.now) found.0)
+        × (length found.1.now < length text.now)) }
 {
     let (first, behind) = text.split_first()?;
     if *first != b'%' {

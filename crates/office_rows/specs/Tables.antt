@@ -12,8 +12,8 @@ use Rattle.sqlite.specs.Kind.TheVariants.{Integer, Text, Blob}
 use Rattle.sqlite_catalog.specs.Change.{created}
 
 -- a column of a STRICT table, which has to have a value
-abbrev pub required_column : List ℕ → Kind → Column
-required_column name kind = record {
+abbrev pub required : List ℕ → Kind → Column
+required name kind = record {
   name = name;
   kind = kind;
   is_strict = true;
@@ -24,15 +24,15 @@ required_column name kind = record {
 
 -- an INTEGER PRIMARY KEY
 abbrev pub numbered : List ℕ → Column
-numbered name = record (required_column name Integer) { not_null = false }
+numbered name = record (required name Integer) { not_null = false }
 
 -- a row for each account
 abbrev pub partner : Table
 partner = record {
   name = codes "partner";
   tree = 0;
-  columns = numbered (codes "id") ∷ required_column (codes "code") Text ∷ required_column (codes "kind") Integer
-      ∷ required_column (codes "next") Integer ∷ [];
+  columns = numbered (codes "id") ∷ required (codes "code") Text ∷ required (codes "kind") Integer
+      ∷ required (codes "next") Integer ∷ [];
   key = Some 0;
   primary = 0 ∷ [];
   uniques = (2 ∷ []) ∷ [];
@@ -49,8 +49,8 @@ abbrev pub interchange : Table
 interchange = record {
   name = codes "interchange";
   tree = 2;
-  columns = required_column (codes "partner") Integer ∷ required_column (codes "number") Integer ∷ required_column (codes "body") Blob
-      ∷ required_column (codes "reply") Text ∷ [];
+  columns = required (codes "partner") Integer ∷ required (codes "number") Integer ∷ required (codes "body") Blob
+      ∷ required (codes "reply") Text ∷ [];
   key = None;
   primary = 1 ∷ 2 ∷ [];
   uniques = (1 ∷ 2 ∷ []) ∷ [];
@@ -74,11 +74,11 @@ abbrev pub visit : Table
 visit = record {
   name = codes "visit";
   tree = 4;
-  columns = numbered (codes "visit") ∷ required_column (codes "box") Text ∷ required_column (codes "size") Text
-      ∷ required_column (codes "laden") Integer ∷ required_column (codes "booking") Text ∷ required_column (codes "in_by") Integer
-      ∷ required_column (codes "in_partner") Integer ∷ required_column (codes "in_number") Integer ∷ required_column (codes "in_at") Text
-      ∷ required_column (codes "in_slot") Text ∷ required_column (codes "out_by") Integer ∷ required_column (codes "out_partner") Integer
-      ∷ required_column (codes "out_number") Integer ∷ required_column (codes "out_at") Text ∷ [];
+  columns = numbered (codes "visit") ∷ required (codes "box") Text ∷ required (codes "size") Text
+      ∷ required (codes "laden") Integer ∷ required (codes "booking") Text ∷ required (codes "in_by") Integer
+      ∷ required (codes "in_partner") Integer ∷ required (codes "in_number") Integer ∷ required (codes "in_at") Text
+      ∷ required (codes "in_slot") Text ∷ required (codes "out_by") Integer ∷ required (codes "out_partner") Integer
+      ∷ required (codes "out_number") Integer ∷ required (codes "out_at") Text ∷ [];
   key = Some 0;
   primary = 0 ∷ [];
   uniques = [];
@@ -95,7 +95,7 @@ abbrev pub place : Table
 place = record {
   name = codes "place";
   tree = 5;
-  columns = required_column (codes "box") Text ∷ required_column (codes "visit") Integer ∷ required_column (codes "slot") Text ∷ [];
+  columns = required (codes "box") Text ∷ required (codes "visit") Integer ∷ required (codes "slot") Text ∷ [];
   key = None;
   primary = 1 ∷ [];
   uniques = (1 ∷ []) ∷ (2 ∷ []) ∷ (3 ∷ []) ∷ [];
@@ -119,8 +119,8 @@ abbrev pub listed : Table
 listed = record {
   name = codes "listed";
   tree = 9;
-  columns = required_column (codes "vessel") Text ∷ required_column (codes "voyage") Text ∷ required_column (codes "side") Integer
-      ∷ required_column (codes "box") Text ∷ required_column (codes "port") Text ∷ required_column (codes "done") Integer ∷ [];
+  columns = required (codes "vessel") Text ∷ required (codes "voyage") Text ∷ required (codes "side") Integer
+      ∷ required (codes "box") Text ∷ required (codes "port") Text ∷ required (codes "done") Integer ∷ [];
   key = None;
   primary = 1 ∷ 2 ∷ 3 ∷ 4 ∷ [];
   uniques = (1 ∷ 2 ∷ 3 ∷ 4 ∷ []) ∷ [];
@@ -137,7 +137,7 @@ abbrev pub setting : Table
 setting = record {
   name = codes "setting";
   tree = 11;
-  columns = required_column (codes "name") Text ∷ required_column (codes "value") Text ∷ [];
+  columns = required (codes "name") Text ∷ required (codes "value") Text ∷ [];
   key = None;
   primary = 1 ∷ [];
   uniques = (1 ∷ []) ∷ [];
@@ -154,8 +154,8 @@ abbrev pub block : Table
 block = record {
   name = codes "block";
   tree = 13;
-  columns = required_column (codes "letter") Text ∷ required_column (codes "bays") Integer ∷ required_column (codes "lanes") Integer
-      ∷ required_column (codes "tiers") Integer ∷ [];
+  columns = required (codes "letter") Text ∷ required (codes "bays") Integer ∷ required (codes "lanes") Integer
+      ∷ required (codes "tiers") Integer ∷ [];
   key = None;
   primary = 1 ∷ [];
   uniques = (1 ∷ []) ∷ [];

@@ -76,7 +76,8 @@ impl<W: Write> Write for Gathered<W> {
 
     fn write(&mut self, buf: &[u8]) -> Result<usize>
         ensures bound { WritesAtMost result buf.now }
-        ensures bytes { WriteAppends (gathered_bytes W.contents self.old) (gathered_bytes W.contents self.new) result buf.now }
+        ensures bytes { WriteAppends (gathered_bytes W.contents self.old) (gathered_bytes W.contents self.new)
+            result buf.now }
         ensures gathers { array_vec_len self.old.held + length buf.now ≤ 4096
             → (result ≡ Ok (length buf.now)) × (self.new.inner ≡ self.old.inner) }
     {

@@ -87,12 +87,14 @@ visit_of state way source entry slot = opened_by (length state.visits + 1) way s
 abbrev pub entered_at : TerminalState → Way → Source → EntryContent → Result (YardMap × Slot) Refusal → Stepped
 entered_at state way source entry (Err refusal) = with_refusal state (reason_of refusal)
 entered_at state way source entry (Ok (y, slot)) =
-    step_with (record state { yard = y; visits = state.visits ++ visit_of state way source entry slot ∷ [] }) (Done slot)
+    step_with (record state { yard = y; visits = state.visits ++ visit_of state way source entry slot ∷ [] })
+    (Done slot)
     (visit_opened (visit_of state way source entry slot) ∷ placed_at entry.number (length state.visits + 1) slot ∷ [])
 
 abbrev pub after_entry : TerminalState → Way → Source → EntryContent → Stepped
 after_entry state way source entry =
-    if is_full state then with_refusal state VisitLimit else entered_at state way source entry (yard_with_entry state.yard entry)
+    if is_full state then with_refusal state VisitLimit
+    else entered_at state way source entry (yard_with_entry state.yard entry)
 
 -- ---- going
 
@@ -143,7 +145,8 @@ listed_at state call side container port None =
     (listed_on call side container port ∷ [])
 
 abbrev pub after_listing : TerminalState → CallContent → Side → BoxNumber → List ℕ → Stepped
-after_listing state call side container port = listed_at state call side container port (line_of state call side container)
+after_listing state call side container port =
+    listed_at state call side container port (line_of state call side container)
 
 -- if the order is carried out, the line is done too
 abbrev pub then_line_done_at : CallContent → Side → BoxNumber → LineContent → Stepped → Outcome → Stepped

@@ -121,7 +121,8 @@ impl Visits {
         moment: Moment,
     ) -> u32
         requires { HasOneVisit container self.old.visits }
-        ensures closed { self.new.visits ≡ map (closed_visit (departure_by way source moment) container) self.old.visits }
+        ensures closed { self.new.visits
+            ≡ map (closed_visit (departure_by way source moment) container) self.old.visits }
         ensures number { result ≡ number_of_visit (find (is_open_visit container) self.old.visits) }
     {
         let Some(row_index) = self.open_indexes.remove(&container.text()) else {
