@@ -191,7 +191,8 @@ impl<S: Alter + Drop> Deliver for Desk<S> {
         };
         let number = admitted.envelope.head().number();
         let setup = &self.setup;
-        let code = setup.partners[admitted.partner as usize - 1].code.as_str();
+        let account = &setup.partners.as_slice()[admitted.partner as usize - 1];
+        let code = account.code.as_str();
         let taken = take_in(
             alloc,
             &mut self.conn,
