@@ -32,13 +32,13 @@ pub record IsReasonFor (fault : YardFault) (reason : Reason) : Type 0 where
 
 -- the container of an entry was placed
 pub record Settles (old new : YardMap) (entry : EntryContent) (slot : Slot) : Type 0 where
-  pub yard_with_entry : yard_with_entry old entry ≡ Ok (new, slot)
+  pub settled : yard_with_entry old entry ≡ Ok (new, slot)
   pub places : Places old new entry.number (placement (length_of entry.size_type) slot)
 
 -- the container of an entry was not placed
 pub record Unsettled (old : YardMap) (entry : EntryContent) (given : Reason) : Type 0 where
   pub refusal : Refusal
-  pub yard_with_entry : yard_with_entry old entry ≡ Err refusal
+  pub settled : yard_with_entry old entry ≡ Err refusal
   pub reason : given ≡ reason_of refusal
 
 -- the container has one open visit
