@@ -1,5 +1,5 @@
 -- The partners' accounts, and which of them a code names.
-use Rattle.std.specs.Prelude.{◌≡◌, ℕ, ◌+◌, List, [], ◌∷◌, map, cond, string_bytes, Option, None, Some, All, IsTrue, Vec}
+use Rattle.std.specs.Prelude.{◌≡◌, ℕ, ◌+◌, List, [], ◌∷◌, map, string_bytes, Option, None, Some, All, IsTrue, Vec, if◌then◌else◌}
 use Rattle.std.specs.HashMap.{HashMap, get_by}
 use Rattle.std.specs.Str.{bytes_eq}
 use Rattle.std.specs.declared.alloc.Global.{Global}
@@ -23,11 +23,11 @@ account_contents accounts = map (λ account. (string_bytes account.code, account
 abbrev pub AreCoded : List Account → Type 0
 AreCoded accounts = All (λ (partner : List ℕ × PartnerKind). IsTrue (is_party_code partner.0)) (account_contents accounts)
 
--- the number of the first partner with a code, where partners are counted from a number on
+-- the number of the first partner with a code, counting from a number on
 abbrev pub partner_from : ℕ → List ℕ → List (List ℕ) → Option ℕ
 partner_from number code [] = None
 partner_from number code (partner ∷ partners) =
-    cond (bytes_eq code partner) (Some number) (partner_from (number + 1) code partners)
+    if bytes_eq code partner then Some number else partner_from (number + 1) code partners
 
 -- the index that a map has for a code
 abbrev pub index_in : {S : Type 0} → HashMap (Vec ℕ Global) ℕ S → List ℕ → Option ℕ

@@ -34,7 +34,7 @@ impl Model for Accounts {
 }
 
 impl Accounts {
-    /// The accounts of a list. Where one code stands twice, the first account is found by it.
+    /// The accounts of a list. If one code stands twice, the first account is found by it.
     pub fn of(alloc: Global, list: Vec<Account>) -> Result<Accounts, AllocError>
         requires { AreCoded list.items }
         ensures { IfOk result (λ accounts. accounts ≡ list) }
@@ -92,7 +92,7 @@ fn indexes_of(alloc: Global, accounts: &[Account]) -> Result<HashMap<Vec<u8>, us
     Ok(indexes)
 }
 
-/// The text of a code, which is `None` where it is longer than a partner's.
+/// The text of a code, which is `None` if it is longer than a partner's.
 fn code_text(code: Component<'_>) -> Option<ArrayVec<u8, 35>>
     ensures { MatchOption result (35 < length (value code.entry)) (λ text. text.items ≡ value code.entry) }
 {
