@@ -192,7 +192,8 @@ impl<S: Alter + Drop> Deliver for Desk<S> {
         let number = admitted.envelope.head().number();
         let setup = &self.setup;
         let accounts = setup.partners.as_slice();
-        let code = accounts[admitted.partner as usize - 1].code.as_str();
+        let place = admitted.partner as usize - 1;
+        let code = accounts[place].code.as_str();
         let taken = take_in(
             alloc,
             &mut self.conn,

@@ -1,8 +1,9 @@
-use Rattle.std.proofs.Common.{Some, None, true, false, refl, sym, arith, ◌∙◌, ◌+◌}
-use Rattle.std.proofs.lemmas.Option.{slice_get_read}
+use Rattle.std.proofs.Common.{◌≡◌, ◌<◌, List, length, slice_get, get_or, Some, None, true, false, refl, sym, ap, subst, arith, ◌∙◌, ◌+◌}
+use Rattle.std.proofs.lemmas.Option.{slice_get-get_or}
 use Rattle.edi_segments.specs.Segment.{value}
 use Rattle.edi_syntax.specs.Heads.{head_segments}
 use Rattle.office_setup.specs.Parties.{parties_of}
+use Rattle.office_setup.specs.declared.account.Account.{Account}
 use Rattle.office_admission.proofs.Admitting.{syntax_refused, stray_refused, text_admitted, body_fault_is, recipient_is, kind_there}
 use Rattle.office_admission.proofs.admission.admit_from.Goals as goal
 
@@ -25,12 +26,16 @@ pub returns-clause-ok : goal.returns-clause-ok
 returns-clause-ok c = λ text opened some.
     let P = parties_of c.args.setup.now in
     let accounts = c.args.setup.now.partners.items in
-    let account = c.index-accounts-index.result in
-    let is = slice_get_read c.as_slice-accounts.result.now _ c.args.index account refl (subst (λ (l : List Account). c.args.index < length l) (sym c.as_slice-accounts.ensures) c.requires.index) c.index-accounts-index.is in
+    let same = sym c.as_slice-accounts.ensures in
+    let there = c.as_slice-accounts.result.now in
+    let account = get_or there c.args.index c.index-accounts-index.result in
+    let low = subst (λ (l : List Account). c.args.index < length l) same c.requires.index in
+    let is : slice_get accounts c.args.index ≡ Some account =
+        ap (λ (l : List Account). slice_get l c.args.index) same ∙ slice_get-get_or there c.args.index c.index-accounts-index.result low in
     let ours = recipient_is P text (head_segments c.args.head) (value c.recipient.result) c.as_bytes.result.now true opened.segments c.recipient.ensures c.as_bytes.ensures.value (sym c.if-not-equals.false ∙ c.equals.ensures.test) in
     record {
       admits = text_admitted P text (c.args.index + 1) (body_fault_is text c.args.head None opened c.in-Ok.ensures.ok.0) some ours;
-      kind = kind_there accounts c.args.index account (ap (λ (l : List Account). slice_get l c.args.index) (sym c.as_slice-accounts.ensures) ∙ is);
+      kind = kind_there accounts c.args.index account is;
       segments = c.in-Ok.ensures.ok.1 ∙ opened.segments;
       from_one = omega arith;
       known = omega (arith, c.requires.index);

@@ -1,5 +1,5 @@
-use Rattle.std.proofs.Common.{[], ◌∷◌, ◌++◌, ◌-◌, arith, refl, sym, subst, ◌∙◌}
-use Rattle.std.proofs.lemmas.Option.{slice_get_read}
+use Rattle.std.proofs.Common.{◌≡◌, [], ◌∷◌, ◌++◌, ◌-◌, get_or, string_bytes, arith, refl, sym, subst, ◌∙◌}
+use Rattle.std.proofs.lemmas.Option.{slice_get-get_or}
 use Rattle.edi_syntax.specs.Heads.{head_segments}
 use Rattle.office_replies.specs.declared.response.Response.TheVariants.{NotNow}
 use Rattle.office_admission.specs.Refusals.{RefusedSurely}
@@ -39,8 +39,11 @@ returns-in-Ok-taken-clause-delivers g c = λ sound opening ds stands.
     let admitted = c.in-Ok.admitted in
     let is = c.in-Ok.ensures.ok in
     let accounts = old.setup.partners.items in
-    let account = c.index-accounts.result in
-    let code = c.as_str-code.ensures.value ∙ sym (code_at accounts admitted.partner account is.from_one (slice_get_read accounts _ (admitted.partner - 1) account refl (omega (arith, is.from_one, is.known)) c.index.ensures)) in
+    let place = admitted.partner - 1 in
+    let account = get_or accounts place c.index-accounts-place.result in
+    let found = slice_get-get_or accounts place c.index-accounts-place.result (omega (arith, is.from_one, is.known)) in
+    let named : c.as_str-code.result.now ≡ string_bytes account.code = rw c.as_slice-accounts.ensures at c.as_str-code.ensures.value in
+    let code = named ∙ sym (code_at accounts admitted.partner account is.from_one found) in
     taken_in g.S.Store (setup_content opening.setup) ds c.args.delivered.now text c.in-Ok-taken.response old _ admitted.partner c.number-number.result c.as_str-code.result.now
     c.interchange_text-text.ensures.exact stands refl
     (numbered (parties_of old.setup) text (head_segments c.head.result) admitted.partner c.number-number.result (c.head.ensures ∙ is.segments) c.number-number.ensures.number is.admits)
