@@ -13,7 +13,7 @@ const LETTER_VALUES: [u8; 26] = [
 
 /// The check digit of a container number's first ten characters (ISO 6346, annex A), 0 to 9: each
 /// character's value weighted by its power of two, summed, modulo 11, with the remainder 10 written as
-/// 0. None where the ten aren't three capitals, one of U, J and Z, and six digits.
+/// 0. None if the ten aren't three capitals, one of U, J and Z, and six digits.
 pub fn check_digit(text: &[u8; 10]) -> Option<u8>
     ensures exact { result ≡ (if names_container text.now then Some (check_digit_of text.now) else None) }
     ensures digit { IfSome result (λ digit. digit < 10) }

@@ -55,7 +55,7 @@ impl Slot {
         })
     }
 
-    /// The slot's name, from which it is read again where its block is a capital and its numbers fit their
+    /// The slot's name, from which it is read again if its block is a capital and its numbers fit their
     /// digits. Of a number that doesn't fit, the lowest digits are written.
     pub fn text(self) -> [u8; 7]
         ensures { result ≡ slot_text self }

@@ -7,7 +7,7 @@ use Rattle.edi_segments.specs.Reading.{breaks_len}
 use Rattle.edi_segments.specs.Advice.{without_breaks}
 use Rattle.edi_cutter.specs.Positions.{position_after}
 use Rattle.edi_cutter.specs.Cuts.{Cutting, is_whole, pending, interchange, IsOpen, IsInterchange, IsPending}
-use Rattle.edi_cutter.specs.Streams.{HasNone, AreCuts, Feeds, FeedsAll, joined, CutsTheStream, CutsAreOne}
+use Rattle.edi_cutter.specs.Streams.{HasNone, AreCuts, Feeds, FeedsAll, stream_of, CutsTheStream, CutsAreOne}
 use Rattle.edi_cutter.proofs.FeedLemmas.{nothing_open}
 use Rattle.edi_cutter.proofs.FirstLemmas.{first_is_one}
 
@@ -115,7 +115,7 @@ cuts_append (first ∷ here) later stream rest more end (behind, is, whole, cuts
     no_front [] b e = refl
     no_front (x ∷ a) b e = absurd cc
 
-feeds_all : (pieces interchanges : List (List ℕ)) (c new : Cutting) → Pends c → FeedsAll c pieces interchanges new → AreCuts (pending c ++ joined pieces) interchanges (pending new)
+feeds_all : (pieces interchanges : List (List ℕ)) (c new : Cutting) → Pends c → FeedsAll c pieces interchanges new → AreCuts (pending c ++ stream_of pieces) interchanges (pending new)
 feeds_all [] interchanges c new pends (none, same) =
     let stays : pending new ≡ pending c = ap pending same in
     let rest : pending new ≡ without_breaks (pending c ++ []) = stays ∙ sym (without_none (pending c) pends.front) ∙ ap without_breaks (sym (append-nil (pending c))) in
@@ -123,9 +123,9 @@ feeds_all [] interchanges c new pends (none, same) =
 feeds_all (piece ∷ pieces) interchanges c new pends (here, later, next, feeds, others, is) =
     let one = feeds_cut here c next piece feeds in
     let more = feeds_all pieces later next new one.1 others in
-    let all = cuts_append here later (pending c ++ piece) (pending next) (joined pieces) (pending new) one.0 more in
-    subst (λ (is : List (List ℕ)). AreCuts (pending c ++ (piece ++ joined pieces)) is (pending new)) (sym is)
-    (subst (λ (t : List ℕ). AreCuts t (here ++ later) (pending new)) (append_assoc (pending c) piece (joined pieces)) all)
+    let all = cuts_append here later (pending c ++ piece) (pending next) (stream_of pieces) (pending new) one.0 more in
+    subst (λ (is : List (List ℕ)). AreCuts (pending c ++ (piece ++ stream_of pieces)) is (pending new)) (sym is)
+    (subst (λ (t : List ℕ). AreCuts t (here ++ later) (pending new)) (append_assoc (pending c) piece (stream_of pieces)) all)
 
 nothing_pends : IsPending []
 unfolding position_after
@@ -136,7 +136,7 @@ starts_open c none = record { open_ = subst IsPending (sym none) nothing_pends; 
 
 pub cuts_the_stream : CutsTheStream
 cuts_the_stream c new pieces interchanges none feeds =
-    subst (λ (q : List ℕ). AreCuts (q ++ joined pieces) interchanges (pending new)) none (feeds_all pieces interchanges c new (starts_open c none) feeds)
+    subst (λ (q : List ℕ). AreCuts (q ++ stream_of pieces) interchanges (pending new)) none (feeds_all pieces interchanges c new (starts_open c none) feeds)
 
 -- ---- one list of interchanges
 

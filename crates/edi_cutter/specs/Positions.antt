@@ -1,5 +1,5 @@
 -- Where bytes of segments leave off: a grammar of the prefixes of segments.
-use Rattle.std.specs.Prelude.{◌≡◌, ℕ, ◌<◌, ◌≤◌, Bool, true, false, cond, ◌&&◌, ◌==◌, List, [], ◌∷◌, ◌++◌, length, take, codes, IsTrue}
+use Rattle.std.specs.Prelude.{◌≡◌, ℕ, ◌<◌, ◌≤◌, Bool, true, false, ◌&&◌, ◌==◌, List, [], ◌∷◌, ◌++◌, length, take, codes, IsTrue, if◌then◌else◌}
 use Rattle.edi_segments.specs.Bytes.{capital_z}
 use Rattle.std.specs.List.{list_all}
 use Rattle.edi_segments.specs.Characters.{is_tag_byte, is_break}
@@ -22,11 +22,14 @@ inside_by Invalid closes = Refused
 
 -- the position behind one byte more
 abbrev pub position_by : Service → Position → ℕ → Position
-position_by s (Between closed) b = cond (is_break b) (Between false) (cond (is_tag_byte b) (First (b == 85)) Refused)
-position_by s (First closes) b = cond (is_tag_byte b) (Second (closes && b == 78)) Refused
-position_by s (Second closes) b = cond (is_tag_byte b) (Tagged (closes && b == capital_z)) Refused
+position_by s (Between closed) b =
+    if is_break b then Between false
+    else if is_tag_byte b then First (b == 85)
+    else Refused
+position_by s (First closes) b = if is_tag_byte b then Second (closes && b == 78) else Refused
+position_by s (Second closes) b = if is_tag_byte b then Tagged (closes && b == capital_z) else Refused
 position_by s (Tagged closes) b =
-    cond (b == s.element) (Inside false closes) (cond (b == s.terminator) (Between closes) Refused)
+    if b == s.element then Inside false closes else if b == s.terminator then Between closes else Refused
 position_by s (Inside released closes) b = inside_by (token_of s released b) closes
 position_by s Refused b = Refused
 
@@ -90,14 +93,14 @@ Closes s bytes =
     (before : List Content) × (trailer : Content) × (front last : List ℕ) × SegmentsBehindBreaks s before front
     × SegmentText s trailer last × (trailer.tag ≡ codes "UNZ") × (bytes ≡ front ++ last)
 
--- No position is behind bytes just where no continuation is a text of segments.
+-- No position is behind bytes exactly if no continuation is a text of segments.
 abbrev pub RefusedWhereNothingGoesOn : Type 0
 RefusedWhereNothingGoesOn =
     (s : Service) (bytes : List ℕ)
     → (position_after s (Between false) bytes ≡ Refused → GoesOn s bytes → ⊥)
     × ((position_after s (Between false) bytes ≡ Refused → ⊥) → GoesOn s bytes)
 
--- Bytes lead to a closed position just where a trailer ends there.
+-- Bytes lead to a closed position exactly if a trailer ends there.
 abbrev pub ClosedWhereATrailerEnds : Type 0
 ClosedWhereATrailerEnds =
     (s : Service) (bytes : List ℕ)

@@ -38,15 +38,15 @@ FeedsAll c (piece ∷ pieces) interchanges new =
     × (interchanges ≡ here ++ later)
 
 -- the stream that pieces make
-abbrev pub joined : List (List ℕ) → List ℕ
-joined pieces = flat_map (λ piece. piece) pieces
+abbrev pub stream_of : List (List ℕ) → List ℕ
+stream_of pieces = flat_map (λ piece. piece) pieces
 
--- Where no call is refused, the interchanges of pieces are those of the stream that they make, and what is pending is
+-- If no call is refused, the interchanges of pieces are those of the stream that they make, and what is pending is
 -- its rest.
 abbrev pub CutsTheStream : Type 0
 CutsTheStream =
     (c new : Cutting) (pieces interchanges : List (List ℕ)) → pending c ≡ [] → FeedsAll c pieces interchanges new
-    → AreCuts (joined pieces) interchanges (pending new)
+    → AreCuts (stream_of pieces) interchanges (pending new)
 
 -- A stream has one list of interchanges and one rest. So these depend on the stream alone, however it is cut into
 -- pieces.

@@ -2,12 +2,12 @@ ghost use Rattle.edi_cutter.specs.Positions.{RefusedWhereNothingGoesOn, ClosedWh
 ghost use Rattle.edi_cutter.specs.Cuts.{FirstIsOne, CutsGoByTheGrammar};
 ghost use Rattle.edi_cutter.specs.Streams.{CutsTheStream, CutsAreOne};
 
-/// Bytes are refused just where no continuation of them is a text of segments.
+/// Bytes are refused exactly if no continuation of them is a text of segments.
 pub fn refused_where_nothing_goes_on()
     ensures { RefusedWhereNothingGoesOn }
 {}
 
-/// Bytes close just where they end with the terminator of a last segment.
+/// Bytes close exactly if they end with the terminator of a last segment.
 pub fn closed_where_a_trailer_ends()
     ensures { ClosedWhereATrailerEnds }
 {}

@@ -1,4 +1,4 @@
-ghost use Rattle.std.specs.Prelude.{◌≡◌, ◌+◌, ◌<◌, ◌≤◌, ◌++◌, IfOk, IfErr, cond, false, length, take};
+ghost use Rattle.std.specs.Prelude.{◌≡◌, ◌+◌, ◌<◌, ◌≤◌, ◌++◌, IfOk, IfErr, false, length, take, if◌then◌else◌};
 ghost use Rattle.edi_segments.specs.Reading.{breaks_len};
 ghost use Rattle.edi_cutter.specs.Cuts.{is_nil, is_whole};
 ghost use Rattle.edi_cutter.specs.Steps.{Holds, IsReadOn, IsRefusedBehind};
@@ -14,7 +14,7 @@ const ADVICE: usize = 9;
 
 /// How many line breaks stand in front of an interchange, at the front of a piece behind these bytes.
 pub(crate) fn breaks_before(text: &[u8], piece: &[u8]) -> usize
-    ensures found { result ≡ cond (is_nil text.now) (breaks_len piece.now) 0 }
+    ensures found { result ≡ if is_nil text.now then breaks_len piece.now else 0 }
     ensures within { result ≤ length piece.now }
 {
     if text.is_empty() {
@@ -57,7 +57,7 @@ pub(crate) fn read_piece(
     }
 }
 
-/// Reads a piece where an advice may still begin or go on.
+/// Reads a piece if an advice may still begin or go on.
 fn read_front(text: &[u8], reading: Reading, piece: &[u8]) -> Result<(usize, Reading), CutFault>
     requires short { length text.now < 9 }
     requires holds { Holds text.now reading }

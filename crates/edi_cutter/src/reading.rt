@@ -54,7 +54,7 @@ impl Reading {
     }
 }
 
-/// What is read where the text is within an advice, or ends with it.
+/// What is read if the text is within an advice, or ends with it.
 fn read_advice(text: &[u8]) -> Result<Reading, CutFault>
     requires within { is_in_advice text.now ≡ true }
     ensures ok { IfOk result (λ reading. IsReadingOf reading text.now

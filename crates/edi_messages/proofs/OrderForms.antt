@@ -23,7 +23,7 @@ use Rattle.edi_segments.specs.Text.{Content, component_of}
 use Rattle.edi_syntax.specs.Messages.{Message}
 use Rattle.edi_messages.specs.Faults.{voyage_of, vessel_of, names_call, call_named, call_if_named, call_in, transport, order_kind_of, purpose_of, fault_of}
 use Rattle.edi_messages.specs.Forms.{is_name_if_any, IsFormedCall, IsFormedEntry, IsFormedOrder, OrdersWell, OrdersAreFormed}
-use Rattle.edi_messages.specs.Message.{line_read, line_of, is_container_group, lines_of, MessageContent, message_of, judged}
+use Rattle.edi_messages.specs.Message.{line_read, line_of, is_container_group, lines_of, MessageContent, message_of, judged_message}
 use Rattle.edi_messages.specs.Orders.{OrderContent, EntryContent, number_text, size_text, is_laden, location, names_slot, name_kept, booking, port, digits_wanted, moment_of_length, moment_stated, then_read, line_fault_of, read_number, read_size, read_moment, read_slot, read_slot_if_named, read_entry, order_of}
 use Rattle.edi_messages.specs.Orders as order
 use Rattle.edi_messages.specs.Parts.{EquipmentGroup, groups_of, is_qualified, states_moment}
@@ -211,7 +211,7 @@ ReadsWell (Ok content) = All OrdersWell content.lines
 ReadsWell (Err fault) = Unit {0}
 
 read_formed : (fault : Option MessageFault) (p : Option Purpose) (opened : CivilMoment) (message : Message) → IfThere IsFormedPurpose p → IsCivil opened
-    → ReadsWell (judged fault (option_map_or (λ purpose. Ok (message_of purpose opened message)) p (Err Code)))
+    → ReadsWell (judged_message fault (option_map_or (λ purpose. Ok (message_of purpose opened message)) p (Err Code)))
 read_formed (Some fault) p opened message named its = tt
 read_formed None None opened message named its = tt
 read_formed None (Some p) opened message named its = lines_formed p opened message.segments named its

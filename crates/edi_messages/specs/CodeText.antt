@@ -1,5 +1,5 @@
 -- The texts of a table of codes.
-use Rattle.std.specs.Prelude.{ℕ, Bool, false, cond, ◌&&◌, ◌||◌, List, [], ◌∷◌, map, length, nat_le, Option, None, Some}
+use Rattle.std.specs.Prelude.{ℕ, Bool, false, ◌&&◌, ◌||◌, List, [], ◌∷◌, map, length, nat_le, Option, None, Some, if◌then◌else◌}
 use Rattle.std.specs.Borrow.{Bor}
 use Rattle.std.specs.List.{list_all}
 use Rattle.std.specs.Str.{bytes_eq}
@@ -27,4 +27,4 @@ is_twice texts = false
 
 -- the first fault of seven texts as a table
 abbrev pub table_fault : List (List ℕ) → Option CodeFault
-table_fault texts = cond (list_all is_code texts) (cond (is_twice texts) (Some Twice) None) (Some Form)
+table_fault texts = if list_all is_code texts then if is_twice texts then Some Twice else None else Some Form

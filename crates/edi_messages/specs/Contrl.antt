@@ -35,7 +35,7 @@ unh = record {
   elements = (codes "1" ∷ []) ∷ (codes "CONTRL" ∷ codes "D" ∷ codes "3" ∷ codes "UN" ∷ []) ∷ [];
 }
 
--- 0083 action, and 0085 error where it is rejected
+-- 0083 action, and 0085 error if it is rejected
 abbrev pub verdict_elements : Verdict → List (List (List ℕ))
 verdict_elements Accepted = (codes "7" ∷ []) ∷ []
 verdict_elements (Rejected code) = (codes "4" ∷ []) ∷ (decimal code ∷ []) ∷ []

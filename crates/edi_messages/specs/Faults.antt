@@ -1,5 +1,5 @@
 -- Why a message is rejected, in the terms of directory D.95B.
-use Rattle.std.specs.Prelude.{ℕ, Bool, true, false, cond, not, ◌&&◌, ◌||◌, nat_lt, List, [], ◌∷◌, codes, Option, None, Some, is_none, count_by}
+use Rattle.std.specs.Prelude.{ℕ, Bool, true, false, not, ◌&&◌, ◌||◌, nat_lt, List, [], ◌∷◌, codes, Option, None, Some, is_none, count_by, if◌then◌else◌}
 use Rattle.std.specs.Option.{option_map_or, option_and_then}
 use Rattle.std.specs.List.{list_any, find}
 use Rattle.std.specs.Str.{bytes_eq}
@@ -77,7 +77,7 @@ abbrev pub call_named : Content → CallContent
 call_named segment = record { vessel = vessel_of segment; voyage = voyage_of segment }
 
 abbrev pub call_if_named : Content → Option CallContent
-call_if_named segment = cond (names_call segment) (Some (call_named segment)) None
+call_if_named segment = if names_call segment then Some (call_named segment) else None
 
 abbrev pub call_in : Message → Option CallContent
 call_in message = option_and_then call_if_named (transport message)

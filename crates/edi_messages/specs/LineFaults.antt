@@ -34,7 +34,7 @@ reads_moment ListLoad = false
 reads_moment Discharge = true
 reads_moment Load = true
 
--- the slot, where the group names one: a move has to name it
+-- the slot, if the group names one: a move has to name it
 abbrev pub reads_slot : OrderKind → EquipmentGroup → Bool
 reads_slot GateIn group = names_slot group
 reads_slot GateOut group = false

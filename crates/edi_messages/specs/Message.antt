@@ -16,7 +16,7 @@ use Rattle.edi_messages.specs.declared.order_kind.OrderKind.{OrderKind}
 use Rattle.edi_messages.specs.declared.message_fault.MessageFault.{MessageFault}
 use Rattle.edi_messages.specs.declared.message_fault.MessageFault.TheVariants.{Code}
 
--- an order, or the fault of the line with its container, where the number could be read
+-- an order, or the fault of the line with its container, if the number could be read
 pub data LineContent : Type 0 where
   ordered : OrderContent → LineContent
   refused : LineFault → Option BoxNumber → LineContent
@@ -48,14 +48,15 @@ message_of purpose opened message = record {
   lines = lines_of purpose opened message.segments;
 }
 
-abbrev pub judged : Option MessageFault → Result MessageContent MessageFault → Result MessageContent MessageFault
-judged (Some fault) message = Err fault
-judged None message = message
+abbrev pub judged_message :
+    Option MessageFault → Result MessageContent MessageFault → Result MessageContent MessageFault
+judged_message (Some fault) message = Err fault
+judged_message None message = message
 
 -- What a message says to a terminal that got it from a partner with these codes, in an interchange of that moment: the
 -- lowest fault that applies, or else its lines. A message without fault has a purpose (Laws.antt), so the last case is
 -- of none.
 abbrev pub reading : Codes → CivilMoment → Message → Result MessageContent MessageFault
 reading codes opened message =
-    judged (fault_of codes message)
+    judged_message (fault_of codes message)
     (option_map_or (λ purpose. Ok (message_of purpose opened message)) (purpose_of codes message) (Err Code))

@@ -1,5 +1,5 @@
 -- What a message orders for each of its containers, in the terms of directory D.95B.
-use Rattle.std.specs.Prelude.{ℕ, Bool, not, cond, ◌==◌, List, [], length, codes, Option, None, Some, Result, Ok, Err}
+use Rattle.std.specs.Prelude.{ℕ, Bool, not, ◌==◌, List, [], length, codes, Option, None, Some, Result, Ok, Err, if◌then◌else◌}
 use Rattle.std.specs.Option.{option_map_or, ok_or}
 use Rattle.std.specs.Result.{result_map_both}
 use Rattle.std.specs.List.{find}
@@ -53,14 +53,14 @@ size_text group = component_of group.equipment 3 1
 abbrev pub is_laden : EquipmentGroup → Bool
 is_laden group = not (bytes_eq (component_of group.equipment 6 1) (codes "4"))
 
--- the first location (LOC) with the qualifier (3227), empty where there is none; ZZZ is a slot of the yard
+-- the first location (LOC) with the qualifier (3227), empty if there is none; ZZZ is a slot of the yard
 abbrev pub location : List ℕ → EquipmentGroup → List ℕ
 location qualifier group =
     option_map_or (λ segment. component_of segment 2 1) (find (is_qualified (codes "LOC") qualifier) group.details) []
 
 -- a text that is no name is kept as empty
 abbrev pub name_kept : List ℕ → List ℕ
-name_kept text = cond (is_name text) text []
+name_kept text = if is_name text then text else []
 
 -- the first RFF with 1153 BN; 1154 booking
 abbrev pub booking : EquipmentGroup → List ℕ
@@ -76,11 +76,11 @@ port group =
 
 -- the digits that a format (2379) wants
 abbrev pub digits_wanted : List ℕ → ℕ
-digits_wanted format = cond (bytes_eq format (codes "203")) 12 8
+digits_wanted format = if bytes_eq format (codes "203") then 12 else 8
 
 -- the moment of a text of that length
 abbrev pub moment_of_length : ℕ → List ℕ → Option CivilMoment
-moment_of_length wanted text = cond (length text == wanted) (moment_of text) None
+moment_of_length wanted text = if length text == wanted then moment_of text else None
 
 -- the moment (2380) that a DTM states in its format (2379), if there is one
 abbrev pub moment_stated : Content → Option CivilMoment
@@ -116,7 +116,7 @@ names_slot group = not (length (location (codes "ZZZ") group) == 0)
 
 -- the slot, if the group names one
 abbrev pub read_slot_if_named : EquipmentGroup → Result (Option Slot) LineFault
-read_slot_if_named group = cond (names_slot group) (then_read (read_slot group) (λ slot. Ok (Some slot))) (Ok None)
+read_slot_if_named group = if names_slot group then then_read (read_slot group) (λ slot. Ok (Some slot)) else Ok None
 
 abbrev pub read_entry : CivilMoment → EquipmentGroup → Result EntryContent LineFault
 read_entry opened group =

@@ -1,5 +1,5 @@
 -- The parts of a message: what stands before the equipment, and the group of each equipment.
-use Rattle.std.specs.Prelude.{ℕ, Bool, cond, ◌&&◌, ◌||◌, List, [], ◌∷◌, codes}
+use Rattle.std.specs.Prelude.{ℕ, Bool, ◌&&◌, ◌||◌, List, [], ◌∷◌, codes, if◌then◌else◌}
 use Rattle.std.specs.Str.{bytes_eq}
 use Rattle.edi_segments.specs.Text.{Content}
 use Rattle.edi_segments.specs.Text.{has_tag}
@@ -18,7 +18,7 @@ ends_group segment = is_equipment segment || has_tag (codes "CNT") segment
 -- the segments before the first that ends the group
 abbrev pub before_end : List Content → List Content
 before_end [] = []
-before_end (segment ∷ segments) = cond (ends_group segment) [] (segment ∷ before_end segments)
+before_end (segment ∷ segments) = if ends_group segment then [] else segment ∷ before_end segments
 
 abbrev pub part_left : Part → List Content
 part_left part = before_end (message_segments_left part.rest)
@@ -26,7 +26,7 @@ part_left part = before_end (message_segments_left part.rest)
 -- the header: what stands before the first equipment
 abbrev pub heading : List Content → List Content
 heading [] = []
-heading (segment ∷ segments) = cond (is_equipment segment) [] (segment ∷ heading segments)
+heading (segment ∷ segments) = if is_equipment segment then [] else segment ∷ heading segments
 
 -- an equipment and the segments that speak of it
 pub record EquipmentGroup : Type 0 where
@@ -37,9 +37,8 @@ pub record EquipmentGroup : Type 0 where
 abbrev pub groups_of : List Content → List EquipmentGroup
 groups_of [] = []
 groups_of (segment ∷ segments) =
-    cond (is_equipment segment)
-    (record { equipment = segment; details = before_end segments } ∷ groups_of segments)
-    (groups_of segments)
+    if is_equipment segment then record { equipment = segment; details = before_end segments } ∷ groups_of segments
+    else groups_of segments
 
 -- a segment with this tag whose first component is the qualifier
 abbrev pub is_qualified : List ℕ → List ℕ → Content → Bool

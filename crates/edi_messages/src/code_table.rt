@@ -22,8 +22,8 @@ pub struct CodeTable {
 impl CodeTable {
     ghost use Rattle.edi_messages.specs.Codes.{table_texts};
 
-    /// The table of seven codes, in the order above. Answers Form where one of them isn't 1 to 3 capitals or digits,
-    /// else Twice where two of one message type are the same: of the first three, of the next two or of the last two.
+    /// The table of seven codes, in the order above. Answers Form if one of them isn't 1 to 3 capitals or digits,
+    /// else Twice if two of one message type are the same: of the first three, of the next two or of the last two.
     #[tactic(auto, using(crate::proofs::CodeTexts::code_at))]
     pub fn new(codes: [&[u8]; 7]) -> Result<CodeTable, CodeFault>
         ensures ok { IfOk result

@@ -1,4 +1,4 @@
-ghost use Rattle.std.specs.Prelude.{◌≡◌, cond, Some, None};
+ghost use Rattle.std.specs.Prelude.{◌≡◌, Some, None, if◌then◌else◌};
 ghost use Rattle.std.specs.Str.{bytes_eq};
 ghost use Rattle.edi_segments.specs.Segment.{value};
 ghost use Rattle.edi_messages.specs.Codes.{code_text, order_meant};
@@ -73,8 +73,8 @@ fn first_meaning(
     first: (Code, OrderKind),
     second: (Code, OrderKind),
 ) -> Option<OrderKind>
-    ensures { result ≡ cond (bytes_eq (value component.entry) (code_text first.0)) (Some first.1)
-        (cond (bytes_eq (value component.entry) (code_text second.0)) (Some second.1) None) }
+    ensures { result ≡ if bytes_eq (value component.entry) (code_text first.0) then Some first.1
+        else if bytes_eq (value component.entry) (code_text second.0) then Some second.1 else None }
 {
     if first.0.is_in(component) {
         Some(first.1)

@@ -14,6 +14,6 @@ pub struct Entry {
     pub booking: String,
     /// When it came: the moment (2380) of its group, or else that of the interchange.
     pub moment: Moment,
-    /// The slot that is asked for, where one is named.
+    /// The slot that is asked for, if one is named.
     pub slot: Option<Slot>,
 }

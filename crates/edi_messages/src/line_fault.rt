@@ -15,7 +15,7 @@ pub enum LineFault {
     /// The date or time (2380) is none.
     #[error("the date or time (2380) is no moment")]
     Moment,
-    /// The slot's name has not its form, or none is named where one has to be.
+    /// The slot's name has not its form, or none is named though one has to be.
     #[error("no slot is named, or none of that form")]
     SlotText,
 }

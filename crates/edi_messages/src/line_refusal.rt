@@ -6,6 +6,6 @@ use box6346::BoxNumber;
 pub struct LineRefusal {
     /// The lowest fault that applies.
     pub fault: LineFault,
-    /// The line's container, where its number could be read.
+    /// The line's container, if its number could be read.
     pub number: Option<BoxNumber>,
 }

@@ -1,6 +1,6 @@
 use thiserror::Error;
 
-/// Why a message is rejected. Of those that apply the first is answered; Memory only where no other applies.
+/// Why a message is rejected. Of those that apply the first is answered; Memory only if no other applies.
 #[derive(Clone, Copy, PartialEq, Eq, Debug, Error)]
 pub enum MessageFault {
     /// Its identity (S009) isn't CODECO, COPRAR or COARRI of directory D.95B and agency UN.

@@ -1,4 +1,4 @@
-ghost use Rattle.std.specs.Prelude.{◌≡◌, ◌∷◌, [], codes, cond, false, MatchOption, IfNone, IfSome, Option, Some, None};
+ghost use Rattle.std.specs.Prelude.{◌≡◌, ◌∷◌, [], codes, false, MatchOption, IfNone, IfSome, Option, Some, None, if◌then◌else◌};
 ghost use Rattle.std.specs.Option.{option_map, option_or};
 ghost use Rattle.std.specs.Str.{bytes_eq};
 ghost use Rattle.edi_syntax.specs.Frames.{message_segments_left};
@@ -77,11 +77,11 @@ pub(crate) fn states_moment(segment: &Segment<'_>) -> bool
     is_value(format, b"203") || is_value(format, b"102")
 }
 
-/// Keeps the segment where it is what is sought and none was found before it.
+/// Keeps the segment if it is what is sought and none was found before it.
 #[inline(always)]
 pub(crate) fn keep_first<'a>(found: &mut Option<Segment<'a>>, segment: Segment<'a>, is_sought: bool)
     ensures { option_map content found.new ≡ option_or (option_map content found.old)
-        (cond is_sought (Some (content segment.entry)) None) }
+        (if is_sought then Some (content segment.entry) else None) }
 {
     if is_sought && found.is_none() {
         *found = Some(segment);
@@ -96,9 +96,11 @@ pub(crate) fn keep_first_places<'a>(
     segment: Segment<'a>,
 )
     ensures slot { option_map content slot.new ≡ option_or (option_map content slot.old)
-        (cond (is_qualified (codes "LOC") (codes "ZZZ") (content segment.entry)) (Some (content segment.entry)) None) }
+        (if is_qualified (codes "LOC") (codes "ZZZ") (content segment.entry)
+        then Some (content segment.entry) else None) }
     ensures port { option_map content port.new ≡ option_or (option_map content port.old)
-        (cond (is_qualified (codes "LOC") (codes "11") (content segment.entry)) (Some (content segment.entry)) None) }
+        (if is_qualified (codes "LOC") (codes "11") (content segment.entry)
+        then Some (content segment.entry) else None) }
 {
     if segment.has_tag(b"LOC") {
         let qualifier = segment.component(1, 1);

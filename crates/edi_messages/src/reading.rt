@@ -34,7 +34,7 @@ pub fn read_message(
 ) -> Result<Message, MessageFault>
     ensures ok { IfOk result (λ read. reading codes.now opened (message frame.now) ≡ Ok (message_content read)) }
 
-    // Memory is wanted only where no other fault applies.
+    // Memory is wanted only if no other fault applies.
     ensures err { IfErr result
         (λ fault. MatchResult (reading codes.now opened (message frame.now))
         (λ _. fault ≡ MessageFault.Memory) (λ lowest. fault ≡ lowest)) }

@@ -1,5 +1,5 @@
 -- Moments of the civil calendar, their digits and their text.
-use Rattle.std.specs.Prelude.{◌↔◌, ℕ, ◌+◌, ◌-◌, ◌*◌, ◌/◌, ◌%◌, ◌≤◌, Bool, cond, ◌&&◌, ◌||◌, ◌==◌, nat_le, nat_lt, ℤ, pos, List, [], ◌∷◌, ◌++◌, length, get_or, codes, IsTrue, Option, None, Some}
+use Rattle.std.specs.Prelude.{◌↔◌, ℕ, ◌+◌, ◌-◌, ◌*◌, ◌/◌, ◌%◌, ◌≤◌, Bool, ◌&&◌, ◌||◌, ◌==◌, nat_le, nat_lt, ℤ, pos, List, [], ◌∷◌, ◌++◌, length, get_or, codes, IsTrue, Option, None, Some, if◌then◌else◌}
 use Rattle.std.specs.List.{list_all}
 use Rattle.jiff.specs.Words.{IsDate, days_in_month}
 use Rattle.jiff_core.specs.Calendar.{days_from_civil}
@@ -38,10 +38,11 @@ day_number m = days_from_civil (pos m.year) m.month m.day
 abbrev pub is_digit : ℕ → Bool
 is_digit b = nat_le digit_zero b && nat_le b digit_nine
 
--- the number of the two digits at a place, 0 where there are none
+-- the number of the two digits at a place, 0 if there are none
 abbrev pub number_at : List ℕ → ℕ → ℕ
-number_at text i = cond (nat_le (i + 2) (length text))
-    ((get_or text i 0 - digit_zero) * 10 + (get_or text (i + 1) 0 - digit_zero)) 0
+number_at text i =
+    if nat_le (i + 2) (length text) then (get_or text i 0 - digit_zero) * 10 + (get_or text (i + 1) 0 - digit_zero)
+    else 0
 
 -- what CCYYMMDDHHMM writes, and CCYYMMDD at 00:00
 abbrev pub moment_written : List ℕ → CivilMoment
@@ -59,7 +60,7 @@ are_moment_digits text = (length text == 12 || length text == 8) && list_all is_
 
 -- the moment of a text of twelve digits, or of eight
 abbrev pub moment_of : List ℕ → Option CivilMoment
-moment_of text = cond (are_moment_digits text && is_moment (moment_written text)) (Some (moment_written text)) None
+moment_of text = if are_moment_digits text && is_moment (moment_written text) then Some (moment_written text) else None
 
 -- ---- texts of moments
 

@@ -46,7 +46,7 @@ impl PartialEq for Moment {
 }
 
 impl Moment {
-    /// The moment of twelve digits, CCYYMMDDHHMM, or of eight, CCYYMMDD at 00:00. `None` where the text isn't that, the
+    /// The moment of twelve digits, CCYYMMDDHHMM, or of eight, CCYYMMDD at 00:00. `None` if the text isn't that, the
     /// calendar has no such day, the hour is over 23 or the minute over 59.
     pub fn parse(text: &[u8]) -> Option<Moment>
         ensures { result ≡ moment_of text.now }
@@ -108,7 +108,7 @@ impl Moment {
         [c1, c0, y1, y0, m1, m0, d1, d0, h1, h0, n1, n0]
     }
 
-    /// The days from this moment's date to another's, negative where that is earlier.
+    /// The days from this moment's date to another's, negative if that is earlier.
     pub fn days_until(self, other: Moment) -> i32
         ensures { result ≡ day_number other -ℤ day_number self }
     {
@@ -135,7 +135,7 @@ fn are_digits(text: &[u8]) -> bool
     text.iter().all(|byte| byte.is_ascii_digit())
 }
 
-/// The number of the two digits at a place, 0 where there are none.
+/// The number of the two digits at a place, 0 if there are none.
 fn number_at(text: &[u8], i: usize) -> u8
     requires digits { list_all is_digit text.now ≡ true }
     requires within { i < 100 }

@@ -6,7 +6,7 @@ use Rattle.std.proofs.lemmas.Bool.{and_parts, and_from, eqb-true, false≢true, 
 use Rattle.std.proofs.lemmas.List.{take-append-drop, drop_at}
 use Rattle.std.proofs.lemmas.Slice.Eq.{bytes_eq-Decides}
 use Rattle.edi_segments.specs.Characters.{are_service_characters, begins_with_advice}
-use Rattle.edi_segments.specs.Advice.{ServiceCharacters, characters, advised, may_be_used, default_service, service_with, has_advice, service_at, has_bad_advice, behind_advice, without_breaks}
+use Rattle.edi_segments.specs.Advice.{ServiceCharacters, characters, advised_characters, may_be_used, default_service, service_with, has_advice, service_at, has_bad_advice, behind_advice, without_breaks}
 use Rattle.edi_segments.specs.Text.{Content, SegmentsText}
 use Rattle.edi_segments.specs.Reading.{breaks_len, are_segments, segments_of}
 use Rattle.edi_segments.specs.Interchange.{release_byte, AdviceText, InterchangeText, segments_in, is_segment_text}
@@ -27,15 +27,15 @@ with_characters c true h is = refl
 with_characters c false h is = absurd (false≢true is)
 
 -- the advice of a text is good where a service has the characters that it names
-pub service_of_advice : (text : List ℕ) (s : Service) → begins_with_advice text ≡ true → 9 ≤ length text → characters s ≡ advised text → (has_bad_advice text ≡ false) × (s ≡ service_at text)
+pub service_of_advice : (text : List ℕ) (s : Service) → begins_with_advice text ≡ true → 9 ≤ length text → characters s ≡ advised_characters text → (has_bad_advice text ≡ false) × (s ≡ service_at text)
 service_of_advice text s begins long same =
-    let usable : may_be_used (advised text) ≡ true = ap may_be_used (sym same) ∙ s.distinct in
+    let usable : may_be_used (advised_characters text) ≡ true = ap may_be_used (sym same) ∙ s.distinct in
     let reaches : nat_le 9 (length text) ≡ true = le-leb 9 (length text) long in
     let whole : has_advice text ≡ true = and_from (begins_with_advice text) (nat_le 9 (length text)) begins reaches in
-    let named : characters s ≡ characters (service_with (advised text) (may_be_used (advised text)) refl) = same ∙ sym (with_characters (advised text) (may_be_used (advised text)) refl usable) in (
+    let named : characters s ≡ characters (service_with (advised_characters text) (may_be_used (advised_characters text)) refl) = same ∙ sym (with_characters (advised_characters text) (may_be_used (advised_characters text)) refl usable) in (
       rw (begins, reaches, usable) refl,
-      same_service s (service_with (advised text) (may_be_used (advised text)) refl) named
-          ∙ ap (λ (b : Bool). cond b (service_with (advised text) (may_be_used (advised text)) refl) default_service) (sym whole),
+      same_service s (service_with (advised_characters text) (may_be_used (advised_characters text)) refl) named
+          ∙ ap (λ (b : Bool). cond b (service_with (advised_characters text) (may_be_used (advised_characters text)) refl) default_service) (sym whole),
     )
 
 -- ---- an advice as a text
@@ -73,13 +73,13 @@ release_kept b =
     ]
 
 -- the characters of a text with an advice are those that it names
-characters_at : (text : List ℕ) → begins_with_advice text ≡ true → has_bad_advice text ≡ false → (characters (service_at text) ≡ advised text) × (9 ≤ length text)
+characters_at : (text : List ℕ) → begins_with_advice text ≡ true → has_bad_advice text ≡ false → (characters (service_at text) ≡ advised_characters text) × (9 ≤ length text)
 characters_at text begins good =
-    let whole : nat_le 9 (length text) && may_be_used (advised text) ≡ true = not_not (begins_with_advice text) (nat_le 9 (length text) && may_be_used (advised text)) begins good in
-    let parts = and_parts (nat_le 9 (length text)) (may_be_used (advised text)) whole in
+    let whole : nat_le 9 (length text) && may_be_used (advised_characters text) ≡ true = not_not (begins_with_advice text) (nat_le 9 (length text) && may_be_used (advised_characters text)) begins good in
+    let parts = and_parts (nat_le 9 (length text)) (may_be_used (advised_characters text)) whole in
     let has : has_advice text ≡ true = and_from (begins_with_advice text) (nat_le 9 (length text)) begins parts.0 in (
-      ap (λ (b : Bool). characters (cond b (service_with (advised text) (may_be_used (advised text)) refl) default_service)) has
-          ∙ with_characters (advised text) (may_be_used (advised text)) refl parts.1,
+      ap (λ (b : Bool). characters (cond b (service_with (advised_characters text) (may_be_used (advised_characters text)) refl) default_service)) has
+          ∙ with_characters (advised_characters text) (may_be_used (advised_characters text)) refl parts.1,
       leb-true 9 (length text) parts.0,
     )
   where
@@ -88,7 +88,7 @@ characters_at text begins good =
     not_not true false h e = absurd (true≢false e)
     not_not false b h e = absurd (false≢true h)
 
-advice_named : (a b c d e f g h i : ℕ) (rest : List ℕ) (s : Service) → begins_with_advice (a ∷ b ∷ c ∷ d ∷ e ∷ f ∷ g ∷ h ∷ i ∷ rest) ≡ true → characters s ≡ advised (a ∷ b ∷ c ∷ d ∷ e ∷ f ∷ g ∷ h ∷ i ∷ rest) → AdviceText s (a ∷ b ∷ c ∷ d ∷ e ∷ f ∷ g ∷ h ∷ i ∷ [])
+advice_named : (a b c d e f g h i : ℕ) (rest : List ℕ) (s : Service) → begins_with_advice (a ∷ b ∷ c ∷ d ∷ e ∷ f ∷ g ∷ h ∷ i ∷ rest) ≡ true → characters s ≡ advised_characters (a ∷ b ∷ c ∷ d ∷ e ∷ f ∷ g ∷ h ∷ i ∷ rest) → AdviceText s (a ∷ b ∷ c ∷ d ∷ e ∷ f ∷ g ∷ h ∷ i ∷ [])
 advice_named a b c d e f g h i rest s begins same =
     let tag : a ∷ b ∷ c ∷ [] ≡ codes "UNA" = (bytes_eq-Decides (a ∷ b ∷ c ∷ []) (codes "UNA")).0 begins in
     let six : s.component ∷ s.element ∷ f ∷ release_byte s.release ∷ h ∷ s.terminator ∷ [] ≡ d ∷ e ∷ f ∷ release_byte (cond (nat_eq g 32) None (Some g)) ∷ h ∷ i ∷ [] =
@@ -97,7 +97,7 @@ advice_named a b c d e f g h i rest s begins same =
     six ∙ ap (λ (r : ℕ). d ∷ e ∷ f ∷ r ∷ h ∷ i ∷ []) (release_kept g) in
     (f, h, ap (λ (t : List ℕ). t ++ d ∷ e ∷ f ∷ g ∷ h ∷ i ∷ []) tag ∙ ap (λ (t : List ℕ). codes "UNA" ++ t) (sym kept))
 
-advice_sound_at : (text : List ℕ) (s : Service) → 9 ≤ length text → begins_with_advice text ≡ true → characters s ≡ advised text → AdviceText s (take 9 text)
+advice_sound_at : (text : List ℕ) (s : Service) → 9 ≤ length text → begins_with_advice text ≡ true → characters s ≡ advised_characters text → AdviceText s (take 9 text)
 advice_sound_at [] s long begins same = absurd (omega arith)
 advice_sound_at (a ∷ []) s long begins same = absurd (omega arith)
 advice_sound_at (a ∷ b ∷ []) s long begins same = absurd (omega arith)
@@ -126,7 +126,7 @@ advice_complete s advice more (decimal, reserved, is) =
     let used : cond (nat_eq (release_byte s.release) 32) None (Some (release_byte s.release)) ≡ s.release =
     release_back s.release (λ r e. release_may_serve s.component s.element s.release s.terminator r s.distinct e) in
     let with_release : Option ℕ → ServiceCharacters = λ r. record { component = s.component; element = s.element; release = r; terminator = s.terminator } in
-    let same : characters s ≡ advised whole = ap with_release (sym used) in
+    let same : characters s ≡ advised_characters whole = ap with_release (sym used) in
     let found = service_of_advice whole s refl (omega arith) same in
     let known : IsAdvised s more whole = record { begins = refl; good = found.0; service = found.1; behind = refl } in
     rw is known
@@ -176,4 +176,4 @@ interchange_complete segments text (inl (s, advice, breaks, rest, named, are_bre
     reads_from segments text rest s is.good is.service behind spelled
 interchange_complete segments text (inr (none, spelled)) =
     let behind : behind_advice text ≡ text = ap (λ (b : Bool). cond b (without_breaks (drop 9 text)) text) none in
-    reads_from segments text text default_service (ap (λ (b : Bool). b && not (nat_le 9 (length text) && may_be_used (advised text))) none) (sym (plain_service text none)) behind spelled
+    reads_from segments text text default_service (ap (λ (b : Bool). b && not (nat_le 9 (length text) && may_be_used (advised_characters text))) none) (sym (plain_service text none)) behind spelled

@@ -28,7 +28,7 @@ is_data_byte b = nat_le space b && not (b == delete)
 abbrev pub may_serve : ℕ → Bool
 may_serve b = nat_lt b 128 && not (is_capital b || is_digit b || is_small_letter b || is_break b || b == space)
 
--- the byte is the release character, where one is used
+-- the byte is the release character, if one is used
 abbrev pub is_release : Option ℕ → ℕ → Bool
 is_release None b = false
 is_release (Some r) b = b == r

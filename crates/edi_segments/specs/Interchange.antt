@@ -1,5 +1,5 @@
--- The text of an interchange (ISO 9735): an advice where there is one, and segments.
-use Rattle.std.specs.Prelude.{◌≡◌, ◌⊎◌, ℕ, Bool, false, cond, List, [], ◌∷◌, ◌++◌, codes, IsTrue, Option, None, Some}
+-- The text of an interchange (ISO 9735): an advice if there is one, and segments.
+use Rattle.std.specs.Prelude.{◌≡◌, ◌⊎◌, ℕ, Bool, false, List, [], ◌∷◌, ◌++◌, codes, IsTrue, Option, None, Some, if◌then◌else◌}
 use Rattle.edi_segments.specs.Bytes.{space}
 use Rattle.std.specs.List.{list_all}
 use Rattle.edi_segments.specs.Characters.{is_break, begins_with_advice}
@@ -16,7 +16,7 @@ most_bytes = 1048576
 
 -- ---- the grammar
 
--- the byte in the place of the release character: a space where none is used
+-- the byte in the place of the release character: a space if none is used
 abbrev pub release_byte : Option ℕ → ℕ
 release_byte None = space
 release_byte (Some r) = r
@@ -51,14 +51,17 @@ is_segment_text text = are_segments (service_at text) (behind_advice text)
 
 -- why no segments can be read
 abbrev pub read_fault : List ℕ → Option SyntaxFault
-read_fault text = cond (has_bad_advice text) (Some ServiceFault) (cond (is_segment_text text) None (Some SegmentFault))
+read_fault text =
+    if has_bad_advice text then Some ServiceFault
+    else if is_segment_text text then None
+    else Some SegmentFault
 
 -- ---- what is delivered
 
 -- without the CR and LF at the end
 abbrev pub without_breaks_at_end : List ℕ → List ℕ
 without_breaks_at_end [] = []
-without_breaks_at_end (b ∷ bytes) = cond (list_all is_break (b ∷ bytes)) [] (b ∷ without_breaks_at_end bytes)
+without_breaks_at_end (b ∷ bytes) = if list_all is_break (b ∷ bytes) then [] else b ∷ without_breaks_at_end bytes
 
 -- the text of what was delivered: without the CR and LF at both ends
 abbrev pub interchange_of : List ℕ → List ℕ

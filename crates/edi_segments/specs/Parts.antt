@@ -1,5 +1,5 @@
 -- The parts of a segment, as places in its text.
-use Rattle.std.specs.Prelude.{ℕ, suc, Bool, false, cond, not, ◌&&◌, ◌==◌, List, [], ◌∷◌, take, drop, ◌+◌, Option, None, Some}
+use Rattle.std.specs.Prelude.{ℕ, suc, Bool, false, not, ◌&&◌, ◌==◌, List, [], ◌∷◌, take, drop, ◌+◌, Option, None, Some, if◌then◌else◌}
 use Rattle.std.specs.Option.{option_map}
 use Rattle.edi_segments.specs.Tokens.{token_of, releases}
 use Rattle.edi_segments.specs.declared.service.Service.{Service}
@@ -17,17 +17,15 @@ push_front b (part ∷ parts) = (b ∷ part) ∷ parts
 unfoldable pub parts_of : Service → ℕ → Bool → List ℕ → List (List ℕ)
 parts_of s separator released [] = [] ∷ []
 parts_of s separator released (b ∷ bytes) =
-    cond (separates separator released b)
-    ([] ∷ parts_of s separator false bytes)
-    (push_front b (parts_of s separator (releases (token_of s released b)) bytes))
+    if separates separator released b then [] ∷ parts_of s separator false bytes
+    else push_front b (parts_of s separator (releases (token_of s released b)) bytes)
 
 -- where the first separator stands
 unfoldable pub separator_of : Service → ℕ → Bool → List ℕ → Option ℕ
 separator_of s separator released [] = None
 separator_of s separator released (b ∷ bytes) =
-    cond (separates separator released b)
-    (Some 0)
-    (option_map suc (separator_of s separator (releases (token_of s released b)) bytes))
+    if separates separator released b then Some 0
+    else option_map suc (separator_of s separator (releases (token_of s released b)) bytes)
 
 -- what stands before and behind the first separator
 abbrev pub split_of : Service → ℕ → List ℕ → Option (List ℕ × List ℕ)
@@ -39,4 +37,4 @@ unfoldable pub value_of : Service → Bool → List ℕ → List ℕ
 value_of s released [] = []
 value_of s released (b ∷ bytes) =
     let token = token_of s released b in
-    let value = value_of s (releases token) bytes in cond (releases token) value (b ∷ value)
+    let value = value_of s (releases token) bytes in if releases token then value else b ∷ value

@@ -36,8 +36,8 @@ abbrev pub values_in : List Content → List Placed
 values_in segments = flat_map segment_values segments
 
 -- what a value in its place stands for
-abbrev pub placed : PlacedValue → Placed
-placed v = record { element = v.element; component = v.component; value = value v.value }
+abbrev pub placed_content : PlacedValue → Placed
+placed_content v = record { element = v.element; component = v.component; value = value v.value }
 
 -- ---- from a place within a segment
 

@@ -1,5 +1,5 @@
 -- What bytes stand for, as functions of the bytes. A flag says whether the first byte is released.
-use Rattle.std.specs.Prelude.{ℕ, zero, suc, ◌+◌, Bool, true, false, cond, not, ◌&&◌, ◌||◌, ◌==◌, List, [], ◌∷◌, take, drop, Option, None, Some}
+use Rattle.std.specs.Prelude.{ℕ, zero, suc, ◌+◌, Bool, true, false, not, ◌&&◌, ◌||◌, ◌==◌, List, [], ◌∷◌, take, drop, Option, None, Some, if◌then◌else◌}
 use Rattle.std.specs.Option.{option_map, option_map_or}
 use Rattle.std.specs.List.{list_all}
 use Rattle.edi_segments.specs.Characters.{is_tag_byte, is_break}
@@ -80,7 +80,7 @@ end_of s released [] = None
 end_of s released (b ∷ bytes) =
     let token = token_of s released b in with_end token (end_of s (releases token) bytes)
 
--- the elements begin with an element separator, where there are any
+-- the elements begin with an element separator, if there are any
 abbrev pub begins_elements : Service → List ℕ → Bool
 begins_elements s [] = true
 begins_elements s (b ∷ bytes) = b == s.element || b == s.terminator
@@ -88,9 +88,9 @@ begins_elements s (b ∷ bytes) = b == s.element || b == s.terminator
 -- how many bytes the segment at the front has before its terminator
 abbrev pub body_len : Service → List ℕ → Option ℕ
 body_len s bytes =
-    cond (list_all is_tag_byte (take 3 bytes) && begins_elements s (drop 3 bytes))
-    (option_map (λ n. 3 + n) (end_of s false (drop 3 bytes)))
-    None
+    if list_all is_tag_byte (take 3 bytes) && begins_elements s (drop 3 bytes)
+    then option_map (λ n. 3 + n) (end_of s false (drop 3 bytes))
+    else None
 
 -- the segment that the bytes before a terminator stand for
 abbrev pub content_of : Service → List ℕ → Content
@@ -103,7 +103,7 @@ segment_at s bytes = option_map (λ n. (content_of s (take n bytes), drop (n + 1
 -- how many CR and LF stand at the front
 abbrev pub breaks_len : List ℕ → ℕ
 breaks_len [] = 0
-breaks_len (b ∷ bytes) = cond (is_break b) (suc (breaks_len bytes)) 0
+breaks_len (b ∷ bytes) = if is_break b then suc (breaks_len bytes) else 0
 
 -- the segment at the front, and what stands behind it and the line breaks after it
 abbrev pub next_at : Service → List ℕ → Option (Content × List ℕ)

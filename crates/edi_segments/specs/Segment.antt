@@ -1,5 +1,5 @@
 -- What the spans of the code stand for.
-use Rattle.std.specs.Prelude.{ℕ, ◌==◌, cond, List, [], length, map, get_or, drop, false, Option, None, Some}
+use Rattle.std.specs.Prelude.{ℕ, ◌==◌, List, [], length, map, get_or, drop, false, Option, None, Some, if◌then◌else◌}
 use Rattle.std.specs.Option.{option_map_or}
 use Rattle.edi_segments.specs.Text.{Content}
 use Rattle.edi_segments.specs.Reading.{content_of, segments_of}
@@ -47,6 +47,6 @@ elements_left elements =
     map (value_of elements.service false) (parts_of elements.service elements.service.component false part))
     (parts_of elements.service elements.service.element false text.now)) elements.rest []
 
--- the value as an array of that length, where it has that length
+-- the value as an array of that length, if it has that length
 abbrev pub fixed : ℕ → List ℕ → Option (List ℕ)
-fixed size value = cond (length value == size) (Some value) None
+fixed size value = if length value == size then Some value else None

@@ -1,6 +1,6 @@
 -- Segments written under the default service characters: releases before service characters alone, no empty components
 -- or elements at an end, no line breaks.
-use Rattle.std.specs.Prelude.{◌≡◌, ℕ, Bool, true, false, cond, ◌==◌, List, [], ◌∷◌, ◌++◌, length, take, codes, IsTrue}
+use Rattle.std.specs.Prelude.{◌≡◌, ℕ, Bool, true, false, ◌==◌, List, [], ◌∷◌, ◌++◌, length, take, codes, IsTrue, if◌then◌else◌}
 use Rattle.edi_segments.specs.Bytes.{colon, plus_sign, question_mark, apostrophe}
 use Rattle.std.specs.List.{list_all, flat_map}
 use Rattle.edi_segments.specs.Characters.{is_data_byte}
@@ -8,9 +8,9 @@ use Rattle.edi_segments.specs.Tokens.{is_service}
 use Rattle.edi_segments.specs.Advice.{default_service}
 use Rattle.edi_segments.specs.Text.{Content, IsTag}
 
--- the byte, behind the release character where it would serve otherwise
+-- the byte, behind the release character if it would serve otherwise
 abbrev pub spelled_byte : ℕ → List ℕ
-spelled_byte b = cond (is_service default_service b) (question_mark ∷ b ∷ []) (b ∷ [])
+spelled_byte b = if is_service default_service b then question_mark ∷ b ∷ [] else b ∷ []
 
 -- the spelling of a value
 abbrev pub spelling : List ℕ → List ℕ
@@ -27,13 +27,14 @@ is_empty_element values = list_all is_empty_value values
 -- the text of an element, without the empty components at its end
 abbrev pub composite : List (List ℕ) → List ℕ
 composite [] = []
-composite (value ∷ values) = spelling value ++ cond (list_all is_empty_value values) [] (colon ∷ composite values)
+composite (value ∷ values) = spelling value ++ (if list_all is_empty_value values then [] else colon ∷ composite values)
 
 -- the texts of elements, each behind a separator, without the empty ones at their end
 abbrev pub elements_text : List (List (List ℕ)) → List ℕ
 elements_text [] = []
 elements_text (element ∷ elements) =
-    cond (list_all is_empty_element (element ∷ elements)) [] (plus_sign ∷ composite element ++ elements_text elements)
+    if list_all is_empty_element (element ∷ elements) then []
+    else plus_sign ∷ composite element ++ elements_text elements
 
 abbrev pub segment_text : Content → List ℕ
 segment_text segment = segment.tag ++ elements_text segment.elements ++ apostrophe ∷ []
@@ -73,13 +74,13 @@ begun w tag = record { text = w.text ++ tag; kept = length (w.text ++ tag); is_o
 abbrev pub with_element : Writing → List (List ℕ) → Writing
 with_element w values = record {
   text = w.text ++ plus_sign ∷ composite values;
-  kept = cond (is_empty_element values) w.kept (length (w.text ++ plus_sign ∷ composite values));
+  kept = if is_empty_element values then w.kept else length (w.text ++ plus_sign ∷ composite values);
   is_open = w.is_open;
 }
 
 -- the end of the segment
-abbrev pub ended : Writing → Writing
-ended w = record {
+abbrev pub with_terminator : Writing → Writing
+with_terminator w = record {
   text = take w.kept w.text ++ apostrophe ∷ [];
   kept = length (take w.kept w.text ++ apostrophe ∷ []);
   is_open = false;
@@ -92,4 +93,4 @@ with_elements w (element ∷ elements) = with_elements (with_element w element) 
 
 -- a segment more
 abbrev pub with_segment : Writing → Content → Writing
-with_segment w segment = ended (with_elements (begun w segment.tag) segment.elements)
+with_segment w segment = with_terminator (with_elements (begun w segment.tag) segment.elements)

@@ -12,7 +12,7 @@ pub record Content : Type 0 where
   pub tag : List ℕ
   pub elements : List (List (List ℕ))
 
--- a segment with no tag and no element, where there is none
+-- a segment with no tag and no element, if there is none
 abbrev pub no_segment : Content
 no_segment = record { tag = []; elements = [] }
 
@@ -20,7 +20,7 @@ no_segment = record { tag = []; elements = [] }
 abbrev pub has_tag : List ℕ → Content → Bool
 has_tag tag segment = bytes_eq segment.tag tag
 
--- a value of a segment, its element and its component counted from one: empty where there is none
+-- a value of a segment, its element and its component counted from one: empty if there is none
 abbrev pub component_of : Content → ℕ → ℕ → List ℕ
 component_of segment element component = get_or (get_or segment.elements (element - 1) []) (component - 1) []
 
@@ -29,7 +29,7 @@ component_of segment element component = get_or (get_or segment.elements (elemen
 abbrev pub element_of : Content → ℕ → List (List ℕ)
 element_of segment element = get_or segment.elements (element - 1) ([] ∷ [])
 
--- Two segments are the same where tag and all components are equal: an element or a component that is missing equals
+-- Two segments are the same if tag and all components are equal: an element or a component that is missing equals
 -- one that is empty.
 pub record IsSameSegment (a b : Content) : Type 0 where
   pub tag : a.tag ≡ b.tag

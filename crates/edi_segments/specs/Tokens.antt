@@ -1,5 +1,5 @@
 -- What a byte is, by the service characters and whether the byte before it releases it.
-use Rattle.std.specs.Prelude.{ℕ, Bool, true, false, cond, not, ◌&&◌, ◌||◌, ◌==◌}
+use Rattle.std.specs.Prelude.{ℕ, Bool, true, false, not, ◌&&◌, ◌||◌, ◌==◌, if◌then◌else◌}
 use Rattle.edi_segments.specs.Characters.{is_data_byte, is_release}
 use Rattle.edi_segments.specs.declared.service.Service.{Service}
 use Rattle.edi_segments.specs.declared.token.Token.{Token}
@@ -17,13 +17,14 @@ abbrev pub may_be_released : Service → ℕ → Bool
 may_be_released s b = is_data_byte b || is_service s b
 
 unfoldable pub token_of : Service → Bool → ℕ → Token
-token_of s true b = cond (may_be_released s b) Data Invalid
+token_of s true b = if may_be_released s b then Data else Invalid
 token_of s false b =
-    cond (is_release s.release b) Release
-    (cond (b == s.component) Component
-    (cond (b == s.element) Element
-    (cond (b == s.terminator) Terminator
-    (cond (is_data_byte b) Data Invalid))))
+    if is_release s.release b then Release
+    else if b == s.component then Component
+    else if b == s.element then Element
+    else if b == s.terminator then Terminator
+    else if is_data_byte b then Data
+    else Invalid
 
 -- the byte behind this one is released
 abbrev pub releases : Token → Bool

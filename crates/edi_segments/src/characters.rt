@@ -22,7 +22,7 @@ pub fn is_break(byte: u8) -> bool
     byte == b'\r' || byte == b'\n'
 }
 
-/// The separators and the release character, where one is used, may be used together.
+/// The separators and the release character, if one is used, may be used together.
 pub(crate) fn are_service_characters(
     component: u8,
     element: u8,

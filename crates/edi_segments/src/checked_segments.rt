@@ -21,14 +21,14 @@ impl<'t, 'a> CheckedSegments<'t, 'a> {
         CheckedSegments { table, rest }
     }
 
-    /// The next segment. `None` where nothing is left, or what is left does not begin with a segment.
+    /// The next segment. `None` if nothing is left, or what is left does not begin with a segment.
     #[inline(always)]
     pub fn next_segment(&mut self) -> Option<Segment<'a>>
         ensures left { MatchOption result (checked_left self.old ≡ []) (λ segment. checked_left self.old
             ≡ content segment ∷ checked_left self.new) }
         ensures same { IfNone result (self.new ≡ self.old) }
 
-        // Nothing but segments is left where nothing but segments is left behind the first.
+        // Nothing but segments is left if nothing but segments is left behind the first.
         ensures all { IfSome result (λ segment. are_all self.old ≡ are_all self.new) }
     {
         let (segment, rest) = next_segment(self.table, self.rest)?;
@@ -50,7 +50,7 @@ impl<'t, 'a> CheckedSegments<'t, 'a> {
         are_segments(self.table.service(), self.rest)
     }
 
-    /// What is left, where that is nothing but segments.
+    /// What is left, if that is nothing but segments.
     pub fn accepted(&self) -> Segments<'a>
         requires { are_all self.now ≡ true }
         ensures { segments_left result ≡ checked_left self.now }

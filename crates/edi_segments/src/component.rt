@@ -86,7 +86,7 @@ impl<'a> Component<'a> {
         are_bytes(self.bytes(), other)
     }
 
-    /// The value is that of the other component, also where they are spelled in other ways.
+    /// The value is that of the other component, also if they are spelled in other ways.
     pub fn has_same_value(&self, other: &Component<'_>) -> bool
         ensures equal { IsTrue result ↔ (value self.now ≡ value other.now) }
         ensures test { result ≡ bytes_eq (value self.now) (value other.now) }
@@ -106,7 +106,7 @@ impl<'a> Component<'a> {
         true
     }
 
-    /// The value as an array, where it has exactly that many bytes.
+    /// The value as an array, if it has exactly that many bytes.
     pub fn fixed<const N: usize>(&self) -> Option<[u8; N]>
         ensures { result ≡ fixed N (value self.now) }
     {
@@ -122,7 +122,7 @@ impl<'a> Component<'a> {
         if len == N { Some(text) } else { None }
     }
 
-    /// Writes the value anew at the end, under the default service characters. Where memory is refused the vector is as
+    /// Writes the value anew at the end, under the default service characters. If memory is refused the vector is as
     /// it was.
     pub fn spell_into(&self, out: &mut Vec<u8>) -> Result<(), AllocError>
         ensures ok { OnOk result (out.new.items ≡ out.old.items ++ spelling (value self.now)) }
@@ -138,7 +138,7 @@ impl<'a> Component<'a> {
         Ok(())
     }
 
-    /// Writes the value at the end. Where memory is refused the vector is as it was.
+    /// Writes the value at the end. If memory is refused the vector is as it was.
     pub fn value_into(&self, out: &mut Vec<u8>) -> Result<(), AllocError>
         ensures ok { OnOk result (out.new.items ≡ out.old.items ++ value self.now) }
         ensures err { OnErr result (out.new.items ≡ out.old.items) }

@@ -15,7 +15,7 @@ pub struct Elements<'a> {
 }
 
 impl<'a> Elements<'a> {
-    /// The elements of a text that begins with an element separator, where there are any.
+    /// The elements of a text that begins with an element separator, if there are any.
     pub(crate) fn new(service: Service, text: &'a [u8]) -> Elements<'a>
         ensures { elements_left result ≡ drop 1 (elements_of service false text.now) }
     {

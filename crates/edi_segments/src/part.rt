@@ -67,7 +67,7 @@ fn len_of_others(service: Service, separator: u8, bytes: &[u8]) -> usize
     ensures passes { separator_of service separator false bytes.now ≡ option_map (λ n. result + n)
         (separator_of service separator false (drop result bytes.now)) }
 {
-    // Where there is no release character, the separator stands for it.
+    // If there is no release character, the separator stands for it.
     let release = service.release.unwrap_or(separator);
     for (i, byte) in bytes.iter().enumerate() {
         if *byte == separator {

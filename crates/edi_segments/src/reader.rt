@@ -13,7 +13,7 @@ use super::service::Service;
 use super::token::Token;
 use super::token_table::TokenTable;
 
-/// What stands behind a service string advice of that length and the line breaks after it: the whole text, where there
+/// What stands behind a service string advice of that length and the line breaks after it: the whole text, if there
 /// is none.
 pub(crate) fn behind_advice<'a>(text: &'a [u8], start: usize) -> &'a [u8]
     requires within { start ≤ length text.now }
@@ -113,7 +113,7 @@ fn is_tag(bytes: &[u8]) -> bool
     bytes.iter().all(|byte| is_tag_byte(*byte))
 }
 
-/// The elements begin with an element separator, where there are any.
+/// The elements begin with an element separator, if there are any.
 fn begins(service: Service, bytes: &[u8]) -> bool
     ensures { result ≡ begins_elements service bytes.now }
 {
@@ -123,7 +123,7 @@ fn begins(service: Service, bytes: &[u8]) -> bool
     }
 }
 
-/// How many bytes stand before the first terminator that is not released. `None` where there is no terminator, or an
+/// How many bytes stand before the first terminator that is not released. `None` if there is no terminator, or an
 /// invalid byte stands before it.
 #[inline(always)]
 fn end(table: &TokenTable, bytes: &[u8]) -> Option<usize>

@@ -18,8 +18,8 @@ pub struct SegmentCheck<'a> {
 }
 
 impl<'a> SegmentCheck<'a> {
-    /// Reads an interchange's text as far as its service string advice, where it has one. Answers
-    /// `SyntaxFault::Service` where the advice is bad, and nothing else.
+    /// Reads an interchange's text as far as its service string advice, if it has one. Answers
+    /// `SyntaxFault::Service` if the advice is bad, and nothing else.
     pub fn of(text: &'a [u8]) -> Result<SegmentCheck<'a>, SyntaxFault>
         ensures ok { IfOk result (λ check. (has_bad_advice text.now ≡ false)
             × (segments_to_check check ≡ segments_in text.now)
@@ -32,7 +32,7 @@ impl<'a> SegmentCheck<'a> {
         ensures fewer { IfOk result (λ check. length (segments_to_check check)
             ≤ length text.now) }
 
-        // Where there is nothing but segments, they are those of the grammar.
+        // If there is nothing but segments, they are those of the grammar.
         ensures spelled { IfOk result (λ check. are_all_segments check ≡ true
             → InterchangeText (segments_to_check check) text.now) }
     {

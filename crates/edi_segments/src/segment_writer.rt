@@ -2,7 +2,7 @@ ghost use Rattle.std.specs.Prelude.{◌≡◌, ◌≤◌, ℕ, List, length, map
 ghost use Rattle.std.specs.List.{list_all};
 ghost use Rattle.edi_segments.specs.Characters.{is_data_byte};
 ghost use Rattle.edi_segments.specs.Segment.{value};
-ghost use Rattle.edi_segments.specs.Spelling.{Writing, IsSegmentTag, nothing_written, begun, with_element, ended};
+ghost use Rattle.edi_segments.specs.Spelling.{Writing, IsSegmentTag, nothing_written, begun, with_element, with_terminator};
 
 use super::component::Component;
 use super::spell::Spell;
@@ -11,7 +11,7 @@ use std::alloc::{AllocError, Global};
 use std::marker::Model;
 
 /// Writes segments under the default service characters: releases before service characters alone, no empty components
-/// or elements at an end, no line breaks. Where memory is refused, what is written is as it was.
+/// or elements at an end, no line breaks. If memory is refused, what is written is as it was.
 #[derive(Drop)]
 pub struct SegmentWriter {
     text: Vec<u8>,
@@ -92,7 +92,7 @@ impl SegmentWriter {
     /// Ends the segment.
     pub fn end(&mut self) -> Result<(), AllocError>
         requires { self.old.is_open ≡ true }
-        ensures ok { OnOk result (self.new ≡ ended self.old) }
+        ensures ok { OnOk result (self.new ≡ with_terminator self.old) }
         ensures err { OnErr result (self.new ≡ self.old) }
     {
         let kept = self.kept;

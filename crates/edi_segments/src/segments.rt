@@ -20,8 +20,8 @@ pub struct Segments<'a> {
 impl<'a> Segments<'a> {
     ghost use Rattle.edi_segments.specs.Segment.{segments_left};
 
-    /// The segments of an interchange's text, behind its service string advice where it has one. Answers
-    /// `SyntaxFault::Service` where the advice is bad, and else `SyntaxFault::Segment` where what follows is not a list
+    /// The segments of an interchange's text, behind its service string advice if it has one. Answers
+    /// `SyntaxFault::Service` if the advice is bad, and else `SyntaxFault::Segment` if what follows is not a list
     /// of segments, each with its terminator.
     pub fn read(text: &'a [u8]) -> Result<Segments<'a>, SyntaxFault>
         ensures ok { IfOk result (λ found. (read_fault text.now ≡ None)

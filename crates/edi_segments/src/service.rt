@@ -12,7 +12,7 @@ pub struct Service {
     pub component: u8,
     /// It stands before each element.
     pub element: u8,
-    /// It makes the next byte ordinary, where one is used.
+    /// It makes the next byte ordinary, if one is used.
     pub release: Option<u8>,
     /// It ends a segment.
     pub terminator: u8,
@@ -32,7 +32,7 @@ impl Service {
     };
 
     /// The service characters of a text, and how long its service string advice is: nine bytes or none. Answers
-    /// `SyntaxFault::Service` where the advice is cut short or names characters that may not be used, and nothing else.
+    /// `SyntaxFault::Service` if the advice is cut short or names characters that may not be used, and nothing else.
     pub fn read(text: &[u8]) -> Result<(Service, usize), SyntaxFault>
         ensures ok { IfOk result (λ found. (has_bad_advice text.now ≡ false)
             × (found.0 ≡ service_at text.now) × (found.1 ≡ advice_len text.now)) }

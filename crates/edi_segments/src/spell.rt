@@ -15,7 +15,7 @@ pub(crate) trait Spell {
     fn is_empty_value(&self) -> bool
         ensures { result ≡ is_empty_value (bytes_of self.now) };
 
-    /// Writes the value at the end, under the default service characters. Where memory is refused the vector is as it
+    /// Writes the value at the end, under the default service characters. If memory is refused the vector is as it
     /// was.
     fn spell(&self, out: &mut Vec<u8>) -> Result<(), AllocError>
         ensures ok { OnOk result (out.new.items ≡ out.old.items ++ spelling (bytes_of self.now)) }

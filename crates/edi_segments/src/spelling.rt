@@ -1,4 +1,4 @@
-ghost use Rattle.std.specs.Prelude.{◌≡◌, ◌++◌, ◌∷◌, ℕ, List, [], OnOk, OnErr, map, cond, take, drop};
+ghost use Rattle.std.specs.Prelude.{◌≡◌, ◌++◌, ◌∷◌, ℕ, List, [], OnOk, OnErr, map, take, drop, if◌then◌else◌};
 ghost use Rattle.std.specs.List.{list_all};
 ghost use Rattle.edi_segments.specs.Tokens.{is_service};
 ghost use Rattle.edi_segments.specs.Advice.{default_service};
@@ -7,7 +7,7 @@ ghost use Rattle.edi_segments.specs.Spelling.{spelled_byte, spelling, is_empty_v
 use super::spell::Spell;
 use std::alloc::AllocError;
 
-/// Writes the value at the end, under the default service characters. Where memory is refused the vector is as it was.
+/// Writes the value at the end, under the default service characters. If memory is refused the vector is as it was.
 pub fn write_component(value: &[u8], out: &mut Vec<u8>) -> Result<(), AllocError>
     requires { IsWritable value.now }
     ensures ok { OnOk result (out.new.items ≡ out.old.items ++ spelling value.now) }
@@ -31,7 +31,7 @@ pub(crate) fn write_value(value: &[u8], out: &mut Vec<u8>) -> Result<(), AllocEr
     Ok(())
 }
 
-/// Writes the byte, behind the release character where it would serve otherwise.
+/// Writes the byte, behind the release character if it would serve otherwise.
 pub(crate) fn write_byte(byte: u8, out: &mut Vec<u8>) -> Result<(), AllocError>
     ensures ok { OnOk result (out.new.items ≡ out.old.items ++ spelled_byte byte) }
     ensures err { OnErr result (out.new.items ≡ out.old.items) }
@@ -69,10 +69,10 @@ pub(crate) fn write_composite<V: Spell>(values: &[V], out: &mut Vec<u8>) -> Resu
     Ok(())
 }
 
-/// Writes a value, and a separator behind it where it is not the last.
+/// Writes a value, and a separator behind it if it is not the last.
 fn write_part<V: Spell>(value: &V, is_last: bool, out: &mut Vec<u8>) -> Result<(), AllocError>
     ensures ok { OnOk result (out.new.items ≡ out.old.items ++ (spelling (V.bytes_of value.now)
-        ++ cond is_last [] (58 ∷ []))) }
+        ++ (if is_last then [] else 58 ∷ []))) }
     ensures err { OnErr result (out.new.items ≡ out.old.items) }
 {
     let start = out.len();

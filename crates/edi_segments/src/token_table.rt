@@ -9,7 +9,7 @@ use super::service::Service;
 use super::token::Token;
 use super::value_end::ValueEnd;
 
-/// What each byte is where it is not released, looked up and not worked out anew at each place of a text.
+/// What each byte is if it is not released, looked up and not worked out anew at each place of a text.
 #[derive(Clone, Copy)]
 pub(crate) struct TokenTable {
     service: Service,
@@ -36,7 +36,7 @@ impl TokenTable {
         self.service
     }
 
-    /// What the byte is, where it is not released.
+    /// What the byte is, if it is not released.
     #[inline(always)]
     pub(crate) fn token(&self, byte: u8) -> Token
         ensures { result ≡ token_of self.now.service false byte }
@@ -51,7 +51,7 @@ impl TokenTable {
         self.service.token(true, byte)
     }
 
-    /// How many bytes at the front may be passed over where the end of the segment is sought: none of them ends it,
+    /// How many bytes at the front may be passed over when the end of the segment is sought: none of them ends it,
     /// releases another or is invalid.
     #[inline(always)]
     pub(crate) fn len_of_inside(&self, bytes: &[u8]) -> usize
@@ -93,7 +93,7 @@ impl TokenTable {
         at
     }
 
-    /// Where the value at the front ends. `None` where nothing ends it before an invalid byte.
+    /// Where the value at the front ends. `None` if nothing ends it before an invalid byte.
     #[inline(always)]
     pub(crate) fn value_end(&self, bytes: &[u8]) -> Option<ValueEnd>
         ensures { MatchOption result (end_of self.now.service false bytes.now

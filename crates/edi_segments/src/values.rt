@@ -1,7 +1,7 @@
 ghost use Rattle.std.specs.Prelude.{◌≡◌, ◌∷◌, ◌+◌, ◌<◌, ◌^◌, length, true};
 ghost use Rattle.std.specs.Iterator.{YieldsFirstBy, item_count};
 ghost use Rattle.edi_segments.specs.Reading.{are_segments, segments_of};
-ghost use Rattle.edi_segments.specs.Placed.{goes_on, placed, values_in};
+ghost use Rattle.edi_segments.specs.Placed.{goes_on, placed_content, values_in};
 
 use super::component::Component;
 use super::placed_value::PlacedValue;
@@ -77,7 +77,7 @@ impl<'t, 'a> Iterator for Values<'t, 'a> {
 
     ghost use Rattle.edi_segments.specs.Values.{values_left};
 
-    ghost next_gives = { YieldsFirstBy placed values_left };
+    ghost next_gives = { YieldsFirstBy placed_content values_left };
 
     ghost remaining = { item_count values_left };
 

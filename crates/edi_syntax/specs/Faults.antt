@@ -1,6 +1,6 @@
 -- Which faults apply to a text, each by its own definition over the segments of the whole text, and the first that
 -- does.
-use Rattle.std.specs.Prelude.{ℕ, Bool, false, cond, not, ◌==◌, nat_lt, List, [], ◌∷◌, ◌++◌, length, codes, Option, Some}
+use Rattle.std.specs.Prelude.{ℕ, Bool, false, not, ◌==◌, nat_lt, List, [], ◌∷◌, ◌++◌, length, codes, Option, Some, if◌then◌else◌}
 use Rattle.edi_segments.specs.Interchange.{most_bytes}
 use Rattle.std.specs.Option.{is_none}
 use Rattle.std.specs.List.{list_all, list_any, find}
@@ -78,4 +78,4 @@ body_fault_of segments = find (applies_to segments) body_faults
 
 -- the first of what is no segment, envelope and header
 abbrev pub segments_fault : Bool → List Content → Option SyntaxFault
-segments_fault are_all segments = cond are_all (header_fault_of segments) (Some Segment)
+segments_fault are_all segments = if are_all then header_fault_of segments else Some Segment

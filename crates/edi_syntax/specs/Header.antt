@@ -1,5 +1,5 @@
 -- The first segment of an interchange, UNB, by its data elements (ISO 9735).
-use Rattle.std.specs.Prelude.{ℕ, Bool, cond, not, ◌&&◌, ◌||◌, ◌==◌, List, ◌++◌, length, codes, Option, None}
+use Rattle.std.specs.Prelude.{ℕ, Bool, not, ◌&&◌, ◌||◌, ◌==◌, List, ◌++◌, length, codes, Option, None, if◌then◌else◌}
 use Rattle.std.specs.Option.{option_and_then}
 use Rattle.std.specs.List.{list_all}
 use Rattle.std.specs.Str.{bytes_eq}
@@ -45,9 +45,9 @@ control_number header = option_and_then as_control_number (number_of 14 (control
 -- the moment of six and four digits, in 2000 to 2099
 abbrev pub preparation : Content → Option CivilMoment
 preparation header =
-    cond (length (preparation_date header) == 6 && length (preparation_time header) == 4)
-    (moment_of (codes "20" ++ preparation_date header ++ preparation_time header))
-    None
+    if length (preparation_date header) == 6 && length (preparation_time header) == 4
+    then moment_of (codes "20" ++ preparation_date header ++ preparation_time header)
+    else None
 
 -- each value of the element can be printed
 abbrev pub is_printable_element : Content → ℕ → Bool

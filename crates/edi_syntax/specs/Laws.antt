@@ -31,7 +31,7 @@ MessagesStand =
     × ((messages : List Message) → AreMessages segments messages →
     (are_messages false segments ≡ true) × (messages_in segments ≡ messages))
 
--- Neither `Service` nor `Segment` applies to a text just where it is a text of the grammar, and the segments are those
+-- Neither `Service` nor `Segment` applies to a text exactly if it is a text of the grammar, and the segments are those
 -- that it is a text of.
 abbrev pub ReadsTheGrammar : Type 0
 ReadsTheGrammar =

@@ -1,5 +1,5 @@
 -- The messages of an interchange: what stands from a UNH to a UNT (ISO 9735).
-use Rattle.std.specs.Prelude.{ℕ, ◌+◌, Bool, true, false, cond, not, ◌&&◌, ◌==◌, nat_le, List, [], ◌∷◌, length, codes}
+use Rattle.std.specs.Prelude.{ℕ, ◌+◌, Bool, true, false, not, ◌&&◌, ◌==◌, nat_le, List, [], ◌∷◌, length, codes, if◌then◌else◌}
 use Rattle.std.specs.Str.{bytes_eq}
 use Rattle.std.specs.List.{list_all}
 use Rattle.edi_segments.specs.Characters.{is_printable}
@@ -27,12 +27,12 @@ is_inner segment =
 -- the segments before the first UNT
 abbrev pub before_trailer : List Content → List Content
 before_trailer [] = []
-before_trailer (segment ∷ segments) = cond (ends_message segment) [] (segment ∷ before_trailer segments)
+before_trailer (segment ∷ segments) = if ends_message segment then [] else segment ∷ before_trailer segments
 
 -- the first UNT
 abbrev pub trailer_in : List Content → Content
 trailer_in [] = no_segment
-trailer_in (segment ∷ segments) = cond (ends_message segment) segment (trailer_in segments)
+trailer_in (segment ∷ segments) = if ends_message segment then segment else trailer_in segments
 
 -- the message that the header begins before these segments
 abbrev pub message_from : Content → List Content → Message
@@ -42,7 +42,7 @@ message_from header behind = record { header = header; segments = before_trailer
 abbrev pub messages_in : List Content → List Message
 messages_in [] = []
 messages_in (segment ∷ segments) =
-    cond (begins_message segment) (message_from segment segments ∷ messages_in segments) (messages_in segments)
+    if begins_message segment then message_from segment segments ∷ messages_in segments else messages_in segments
 
 -- a message of which only header and trailer are looked at
 abbrev pub message_of_ends : Content → Content → Message
@@ -83,6 +83,6 @@ is_referenced message =
 abbrev pub are_messages : Bool → List Content → Bool
 are_messages begun [] = false
 are_messages false (segment ∷ segments) =
-    cond (begins_message segment) (are_messages true segments) (has_tag (codes "UNZ") segment && length segments == 0)
+    if begins_message segment then are_messages true segments else has_tag (codes "UNZ") segment && length segments == 0
 are_messages true (segment ∷ segments) =
-    cond (ends_message segment) (are_messages false segments) (is_inner segment && are_messages true segments)
+    if ends_message segment then are_messages false segments else is_inner segment && are_messages true segments

@@ -1,5 +1,5 @@
 -- Numbers as digits.
-use Rattle.std.specs.Prelude.{ℕ, Bool, cond, ◌&&◌, ◌==◌, nat_le, List, length, Option, None, Some, false}
+use Rattle.std.specs.Prelude.{ℕ, Bool, ◌&&◌, ◌==◌, nat_le, List, length, Option, None, Some, false, if◌then◌else◌}
 use Rattle.std.specs.Option.{option_map_or}
 use Rattle.std.specs.List.{list_all}
 use Rattle.std.specs.Str.Parse.{digits_value}
@@ -8,8 +8,9 @@ use Rattle.edi_segments.specs.Characters.{is_digit}
 -- the number that one to `limit` digits write
 abbrev pub number_of : ℕ → List ℕ → Option ℕ
 number_of limit value =
-    cond (nat_le 1 (length value) && nat_le (length value) limit && list_all is_digit value)
-    (Some (digits_value 10 value)) None
+    if nat_le 1 (length value) && nat_le (length value) limit && list_all is_digit value
+    then Some (digits_value 10 value)
+    else None
 
 -- the value is one to six digits with this number
 abbrev pub is_count : List ℕ → ℕ → Bool
@@ -17,4 +18,4 @@ is_count value number = option_map_or (λ n. n == number) (number_of 6 value) fa
 
 -- a number from 1 to 999,999,999
 abbrev pub as_control_number : ℕ → Option ℕ
-as_control_number number = cond (nat_le 1 number && nat_le number 999999999) (Some number) None
+as_control_number number = if nat_le 1 number && nat_le number 999999999 then Some number else None

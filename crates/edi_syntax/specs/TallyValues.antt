@@ -1,15 +1,16 @@
 -- What the messages of an interchange come to, as a function of its segments.
-use Rattle.std.specs.Prelude.{cond, List, length, false, Option, None, Some}
+use Rattle.std.specs.Prelude.{List, length, false, Option, None, Some, if◌then◌else◌}
 use Rattle.std.specs.List.{list_all}
 use Rattle.edi_segments.specs.Text.{Content}
 use Rattle.edi_syntax.specs.Messages.{messages_in, are_messages, is_counted, is_referenced}
 use Rattle.edi_syntax.specs.declared.tally.Tally.{Tally}
 
--- whether the messages are counted and referenced, and how many they are, where there are messages alone and a UNZ
+-- whether the messages are counted and referenced, and how many they are, if there are messages alone and a UNZ
 abbrev pub tally_in : List Content → Option Tally
 tally_in segments =
-    cond (are_messages false segments) (Some (record {
+    if are_messages false segments then Some (record {
       are_counted = list_all is_counted (messages_in segments);
       are_referenced = list_all is_referenced (messages_in segments);
       messages = length (messages_in segments);
-    })) None
+    })
+    else None

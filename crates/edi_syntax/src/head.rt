@@ -38,7 +38,7 @@ impl<'a> Head<'a> {
     ghost use Rattle.edi_syntax.specs.Envelopes.{envelope_segments};
 
     /// Reads the text of an interchange as far as its header: the first of faults 1 to 8 that applies to the whole
-    /// text, or the head where none does.
+    /// text, or the head if none does.
     pub fn open(text: &'a [u8]) -> Result<Head<'a>, SyntaxFault>
         ensures ok { IfOk result (λ head. (head_fault_of text.now ≡ None)
             × (head_segments head ≡ segments_in text.now)) }
@@ -84,7 +84,7 @@ impl<'a> Head<'a> {
     }
 
     /// Reads what the header announces: the first of faults 9 to 15 that applies to the whole text, or the envelope
-    /// where none does.
+    /// if none does.
     pub fn body(self) -> Result<Envelope<'a>, SyntaxFault>
         ensures ok { IfOk result (λ envelope. (body_fault_of (head_segments self.entry) ≡ None)
             × (envelope_segments envelope ≡ head_segments self.entry)) }

@@ -22,7 +22,7 @@ pub struct MessageEnd<'t, 'a> {
     pub(crate) rest: CheckedSegments<'t, 'a>,
 }
 
-/// The end of the message that the segments are behind the header of. `None` where something stands before it that may
+/// The end of the message that the segments are behind the header of. `None` if something stands before it that may
 /// not stand in a message.
 pub(crate) fn message_end<'t, 'a>(behind: CheckedSegments<'t, 'a>) -> Option<MessageEnd<'t, 'a>>
     requires { length (checked_left behind) ≤ most_bytes }

@@ -7,7 +7,7 @@ use super::envelope::Envelope;
 use super::head::Head;
 use edi_segments::SyntaxFault;
 
-/// Reads the text of an interchange: the first fault that applies to the whole text, or the envelope where none does.
+/// Reads the text of an interchange: the first fault that applies to the whole text, or the envelope if none does.
 pub fn open_envelope<'a>(text: &'a [u8]) -> Result<Envelope<'a>, SyntaxFault>
     ensures ok { IfOk result (λ envelope. (fault_of text.now ≡ None)
         × (envelope_segments envelope ≡ segments_in text.now)) }

@@ -13,15 +13,15 @@ use edi_segments::{CheckedSegments, Segment, Segments};
 /// What one look at the segments of an interchange finds.
 #[derive(Clone, Copy)]
 pub(crate) struct Survey<'a> {
-    /// The last segment, or the header where there is no other.
+    /// The last segment, or the header if there is no other.
     pub(crate) trailer: Segment<'a>,
     /// A segment is of a functional group.
     pub(crate) has_group: bool,
-    /// What the messages come to, where there are messages alone and a UNZ behind them.
+    /// What the messages come to, if there are messages alone and a UNZ behind them.
     pub(crate) tally: Option<Tally>,
 }
 
-/// What the header and the segments behind it come to. `None` where not all of them are segments.
+/// What the header and the segments behind it come to. `None` if not all of them are segments.
 pub(crate) fn look_through<'a>(
     header: Segment<'a>,
     rest: CheckedSegments<'_, 'a>,
@@ -55,7 +55,7 @@ pub(crate) fn look_through<'a>(
     }
 }
 
-/// The last segment, or the header where there is no other, and whether one of them is of a functional group.
+/// The last segment, or the header if there is no other, and whether one of them is of a functional group.
 fn ends<'a>(header: Segment<'a>, rest: Segments<'a>) -> (Segment<'a>, bool)
     ensures last { content result.0 ≡ last_of (content header.entry) (segments_left rest.entry) }
     ensures group { result.1 ≡ list_any is_of_group (content header.entry

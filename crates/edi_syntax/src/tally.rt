@@ -22,7 +22,7 @@ pub struct Tally {
     pub(crate) messages: u64,
 }
 
-/// What the messages come to. `None` where there is anything but messages, and a UNZ behind them.
+/// What the messages come to. `None` if there is anything but messages, and a UNZ behind them.
 pub(crate) fn tally_of<'t, 'a>(
     header: Segment<'a>,
     segments: CheckedSegments<'t, 'a>,

@@ -9,8 +9,8 @@ use office_stream::Port;
 use std::alloc::Global;
 use std::io::{Read, Write};
 
-/// Runs the program on its words, of which the first is its name, and answers its exit status: 0 where all was done, 1
-/// where something was refused or is not found, 2 for another command line, and 3 where a store, a file or a socket
+/// Runs the program on its words, of which the first is its name, and answers its exit status: 0 if all was done, 1
+/// if something was refused or is not found, 2 for another command line, and 3 if a store, a file or a socket
 /// failed. The worst of them counts.
 pub(crate) fn run<R: Read, W: Write, E: Write>(
     rt: &HostRuntime,

@@ -7,7 +7,7 @@ use office_tables::TableFault;
 use std::alloc::AllocError;
 use std::io::Write;
 
-/// `report DB KIND [KEY]`: prints a report, or `none` where there is nothing to tell.
+/// `report DB KIND [KEY]`: prints a report, or `none` if there is nothing to tell.
 pub(crate) fn report<W: Write, E: Write>(
     rt: &HostRuntime,
     store: &str,

@@ -17,7 +17,7 @@ pub(crate) const COMMAND_LINE: u8 = 2;
 /// A store, a file or a socket failed.
 pub(crate) const FAILED: u8 = 3;
 
-/// Tells a text of a fault, and gives its status. Where telling fails, the status alone is left to tell.
+/// Tells a text of a fault, and gives its status. If telling fails, the status alone is left to tell.
 pub(crate) fn tell<E: Write>(errors: &mut Port<E>, text: &str, status: u8) -> u8 {
     let _ = errors.write_all(text.as_bytes());
     status

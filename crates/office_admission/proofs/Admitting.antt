@@ -28,21 +28,21 @@ use Rattle.edi_syntax.specs.declared.head.Head.{Head}
 use Rattle.office_setup.specs.declared.account.Account.{Account}
 use Rattle.office_setup.specs.Parties.{Parties, partner_from, partner_kinds}
 use Rattle.office_admission.specs.Outcomes.{IsOpened}
-use Rattle.office_admission.specs.Admission.{admission, admitted, addressed, sender_of, number_in}
+use Rattle.office_admission.specs.Admission.{admission, by_header, by_recipient, sender_of, number_in}
 use Rattle.office_replies.specs.Contents.{GivesOrNotNow, content_of, answer_with}
 use Rattle.office_replies.specs.Kinds as kinds
 use Rattle.office_admission.specs.Refusals.{error_of, refusal_of, refusal_to, plain_refusal, rejection, HasNoContrl, RefusedSurely}
 
 pub syntax_refused : (P : Parties) (text : List ℕ) (fault : SyntaxFault) → fault_of text ≡ Some fault → admission P text ≡ Err (Syntax fault)
-syntax_refused P text fault e = ap (admitted P (header_of (segments_in text))) e
+syntax_refused P text fault e = ap (by_header P (header_of (segments_in text))) e
 
 pub stranger_refused : (P : Parties) (text : List ℕ) → fault_of text ≡ None → sender_of P (header_of (segments_in text)) ≡ None → admission P text ≡ Err UnknownSender
-stranger_refused P text e none = ap (admitted P (header_of (segments_in text))) e ∙ ap (addressed P (header_of (segments_in text))) none
+stranger_refused P text e none = ap (by_header P (header_of (segments_in text))) e ∙ ap (by_recipient P (header_of (segments_in text))) none
 
 pub stray_refused : (P : Parties) (text : List ℕ) (partner : ℕ) → fault_of text ≡ None → sender_of P (header_of (segments_in text)) ≡ Some partner →
     bytes_eq (recipient (header_of (segments_in text)) 1) P.terminal ≡ false → admission P text ≡ Err WrongRecipient
 stray_refused P text partner e some other =
-    ap (admitted P (header_of (segments_in text))) e ∙ ap (addressed P (header_of (segments_in text))) some
+    ap (by_header P (header_of (segments_in text))) e ∙ ap (by_recipient P (header_of (segments_in text))) some
     ∙ ap (λ ours. cond ours (Ok (partner, number_in (header_of (segments_in text)))) (Err WrongRecipient)) other
 
 pub sender_is : (P : Parties) (text : List ℕ) (segments : List Content) (code : List ℕ) (found : Option ℕ) → segments ≡ segments_in text → code ≡ sender (header_of segments) 1 →
@@ -90,5 +90,5 @@ body_fault_is text head found opened is = whole_fault text (head_segments head) 
 pub text_admitted : (P : Parties) (text : List ℕ) (partner : ℕ) → fault_of text ≡ None → sender_of P (header_of (segments_in text)) ≡ Some partner →
     bytes_eq (recipient (header_of (segments_in text)) 1) P.terminal ≡ true → admission P text ≡ Ok (partner, number_in (header_of (segments_in text)))
 text_admitted P text partner e some ours =
-    ap (admitted P (header_of (segments_in text))) e ∙ ap (addressed P (header_of (segments_in text))) some
+    ap (by_header P (header_of (segments_in text))) e ∙ ap (by_recipient P (header_of (segments_in text))) some
     ∙ ap (λ same. cond same (Ok (partner, number_in (header_of (segments_in text)))) (Err WrongRecipient)) ours

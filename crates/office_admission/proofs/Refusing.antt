@@ -19,7 +19,7 @@ use Rattle.office_replies.specs.declared.response.Response.{Response}
 use Rattle.office_replies.specs.declared.response.Response.TheVariants as response
 use Rattle.office_replies.specs.declared.worst.Worst.TheVariants as worst
 use Rattle.office_setup.specs.Parties.{Parties, partner_from}
-use Rattle.office_admission.specs.Admission.{admission, admitted, addressed, sender_of, number_in}
+use Rattle.office_admission.specs.Admission.{admission, by_header, by_recipient, sender_of, number_in}
 use Rattle.office_replies.specs.Contents.{GivesOrNotNow, content_of, answer_with}
 use Rattle.office_replies.specs.Kinds as kinds
 use Rattle.office_admission.specs.Refusals.{error_of, refusal_of, refusal_to, plain_refusal, rejection, HasNoContrl, RefusedSurely}

@@ -1,5 +1,5 @@
 -- Which texts the office takes.
-use Rattle.std.specs.Prelude.{ℕ, List, ◌==◌, Bool, false, cond, Option, None, Some, Result, Ok, Err}
+use Rattle.std.specs.Prelude.{ℕ, List, ◌==◌, Bool, false, Option, None, Some, Result, Ok, Err, if◌then◌else◌}
 use Rattle.std.specs.Option.{unwrap_or}
 use Rattle.std.specs.Str.{bytes_eq}
 use Rattle.edi_segments.specs.Text.{Content}
@@ -16,22 +16,22 @@ use Rattle.office_setup.specs.Parties.{Parties, partner_from}
 abbrev pub sender_of : Parties → Content → Option ℕ
 sender_of parties header = partner_from 1 (sender header 1) parties.partners
 
--- what the control reference writes. Where a text has no fault it is from 1 to 999,999,999.
+-- what the control reference writes. If a text has no fault it is from 1 to 999,999,999.
 abbrev pub number_in : Content → ℕ
 number_in header = unwrap_or (control_number header) 0
 
-abbrev pub addressed : Parties → Content → Option ℕ → Result (ℕ × ℕ) Fault
-addressed parties header None = Err UnknownSender
-addressed parties header (Some partner) =
-    cond (bytes_eq (recipient header 1) parties.terminal) (Ok (partner, number_in header)) (Err WrongRecipient)
+abbrev pub by_recipient : Parties → Content → Option ℕ → Result (ℕ × ℕ) Fault
+by_recipient parties header None = Err UnknownSender
+by_recipient parties header (Some partner) =
+    if bytes_eq (recipient header 1) parties.terminal then Ok (partner, number_in header) else Err WrongRecipient
 
-abbrev pub admitted : Parties → Content → Option SyntaxFault → Result (ℕ × ℕ) Fault
-admitted parties header (Some fault) = Err (Syntax fault)
-admitted parties header None = addressed parties header (sender_of parties header)
+abbrev pub by_header : Parties → Content → Option SyntaxFault → Result (ℕ × ℕ) Fault
+by_header parties header (Some fault) = Err (Syntax fault)
+by_header parties header None = by_recipient parties header (sender_of parties header)
 
 -- Admitted: the partner and the number of a text, or the first refusal: its syntax fault, UnknownSender, WrongRecipient
 abbrev pub admission : Parties → List ℕ → Result (ℕ × ℕ) Fault
-admission parties text = admitted parties (header_of (segments_in text)) (fault_of text)
+admission parties text = by_header parties (header_of (segments_in text)) (fault_of text)
 
 -- the text was admitted, and for this partner
 abbrev pub is_for : ℕ → Result (ℕ × ℕ) Fault → Bool

@@ -7,12 +7,13 @@ use Rattle.office_setup.specs.Parties.{Parties}
 use Rattle.office_admission.specs.Admission.{admission}
 
 -- a text that is admitted, as a delivery of its partner under its number; the others add nothing
-abbrev pub added : List ℕ → Result (ℕ × ℕ) Fault → List Delivery → List Delivery
-added text (Ok found) later = delivery found.0 found.1 text ∷ later
-added text (Err fault) later = later
+abbrev pub with_delivery : List ℕ → Result (ℕ × ℕ) Fault → List Delivery → List Delivery
+with_delivery text (Ok found) later = delivery found.0 found.1 text ∷ later
+with_delivery text (Err fault) later = later
 
 -- what was delivered, each text without the CR and LF at both ends
 abbrev pub deliveries_of : Parties → List (List ℕ) → List Delivery
 deliveries_of parties [] = []
 deliveries_of parties (delivered ∷ later) =
-    added (interchange_of delivered) (admission parties (interchange_of delivered)) (deliveries_of parties later)
+    with_delivery (interchange_of delivered) (admission parties (interchange_of delivered))
+    (deliveries_of parties later)

@@ -19,7 +19,7 @@ use Rattle.office_replies.specs.declared.worst.Worst.TheVariants as worst
 use Rattle.office_setup.specs.Parties.{Parties}
 use Rattle.office_admission.specs.Admission.{admission, sender_of}
 
--- the error code (0085) of the CONTRL that a refusal carries, where it carries one
+-- the error code (0085) of the CONTRL that a refusal carries, if it carries one
 abbrev pub error_of : Fault → Option ℕ
 error_of (Syntax fault) = interchange_error fault
 error_of UnknownSender = None

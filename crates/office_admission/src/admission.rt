@@ -86,7 +86,7 @@ fn admit_from<'a>(setup: &Setup, index: usize, head: Head<'a>) -> Result<Admitte
     }
     Ok(Admitted {
         partner: index as u16 + 1,
-        kind: setup.partners[index].kind,
+        kind: setup.partners.as_slice()[index].kind,
         envelope,
     })
 }

@@ -1,4 +1,4 @@
-ghost use Rattle.std.specs.Prelude.{◌≡◌, ◌<◌, ◌≤◌, ◌+◌, ◌↔◌, ℕ, IsTrue, IfOk, Some, map, length, slice_get, string_bytes};
+ghost use Rattle.std.specs.Prelude.{◌≡◌, ◌<◌, ◌≤◌, ◌+◌, ◌↔◌, ℕ, IsTrue, IfOk, true, Some, map, length, slice_get, string_bytes};
 ghost use Rattle.std.specs.List.{list_all};
 ghost use Rattle.office_setup.specs.Given.{is_party_code, AreDistinct};
 ghost use Rattle.office_setup.specs.Setups.{account_contents};
@@ -9,7 +9,7 @@ ghost use Rattle.office_checks.specs.declared.partner_row.PartnerRow.{PartnerRow
 
 use crate::partner_row::PartnerRow;
 use crate::texts::are_same;
-use office_setup::{Account, MOST_PARTNERS, is_party_code};
+use office_setup::{Account, Accounts, MOST_PARTNERS, is_party_code};
 use std::alloc::{AllocError, Global};
 
 /// Whether these are 1 to 999 accounts, numbered 1, 2, .. as they stand, with codes of partners, no two alike, and next
@@ -90,7 +90,15 @@ fn has_code(partners: &[PartnerRow], code: &str) -> bool
 pub(crate) fn accounts_of(
     alloc: Global,
     partners: Vec<PartnerRow>,
-) -> Result<Vec<Account>, AllocError>
+) -> Result<Accounts, AllocError>
+    requires { list_all (λ (row : PartnerRow). is_party_code (string_bytes row.code)) partners.items ≡ true }
+    ensures { IfOk result (λ accounts. account_contents accounts.items ≡ accounts_in partners.items) }
+{
+    let list = list_of(alloc, partners)?;
+    Accounts::of(alloc, list)
+}
+
+fn list_of(alloc: Global, partners: Vec<PartnerRow>) -> Result<Vec<Account>, AllocError>
     ensures { IfOk result (λ accounts. account_contents accounts.items ≡ accounts_in partners.items) }
 {
     let mut accounts = Vec::with_capacity(alloc, partners.len())?;

@@ -15,7 +15,7 @@ use std::alloc::Global;
 use terminal_core::{Listing, Place, RestoreFault, Terminal, Visit};
 use yard_core::{Block, Plan};
 
-/// The set-up and the terminal of an office, whose rows these are. Unsound where they are those of no office, and
+/// The set-up and the terminal of an office, whose rows these are. Unsound if they are those of no office, and
 /// Memory. What was handed in is given up.
 pub fn restore(alloc: Global, tables: OpenedTables) -> Result<(Setup, Terminal), RestoreFault>
     ensures ok { IfOk result (λ p. IsOffice (opened_rows tables) (setup_content p.0) p.1) }

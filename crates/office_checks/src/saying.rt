@@ -20,7 +20,7 @@ const VERSION: usize = 7;
 
 const VISITS: usize = 8;
 
-/// What settings say. Unsound where they are those of no set-up, and Memory.
+/// What settings say. Unsound if they are those of no set-up, and Memory.
 pub(crate) fn read_settings(alloc: Global, settings: &[Setting]) -> Result<Settings, RestoreFault>
     ensures ok { IfOk result (λ said. AreSettings (map setting_content settings.now) (set_up_with said)) }
     ensures refused { IfErr result (RefusesSettings (map setting_content settings.now)) }

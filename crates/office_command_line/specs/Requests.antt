@@ -1,5 +1,5 @@
 -- What the words of a command line ask for.
-use Rattle.std.specs.Prelude.{◌≡◌, ℕ, Bool, true, false, cond, ◌&&◌, nat_le, List, [], length, Option, None, Some, codes}
+use Rattle.std.specs.Prelude.{◌≡◌, ℕ, Bool, true, false, ◌&&◌, nat_le, List, [], length, Option, None, Some, codes, if◌then◌else◌}
 use Rattle.std.specs.Option.{option_map, option_and_then}
 use Rattle.std.specs.List.{list_all}
 use Rattle.std.specs.Char.{is_ascii_digit}
@@ -24,12 +24,12 @@ pub data Asked : Type 0 where
   report : Text → ReportKind → Option Text → Asked
   demo : Asked
 
-abbrev pub asked : Request → Asked
-asked (request.Init store partners blocks) = init store.now partners.now blocks.now
-asked (request.Deliver store file) = deliver store.now file.now
-asked (request.Serve store port count) = serve store.now port count
-asked (request.Report store kind key) = report store.now kind (option_map (λ text. text.now) key)
-asked request.Demo = demo
+abbrev pub request_asked : Request → Asked
+request_asked (request.Init store partners blocks) = init store.now partners.now blocks.now
+request_asked (request.Deliver store file) = deliver store.now file.now
+request_asked (request.Serve store port count) = serve store.now port count
+request_asked (request.Report store kind key) = report store.now kind (option_map (λ text. text.now) key)
+request_asked request.Demo = demo
 
 -- ---- numbers
 
@@ -39,23 +39,24 @@ is_number text = nat_le 1 (length text) && nat_le (length text) 9 && list_all is
 
 -- and the number that they write
 abbrev pub number_said : List ℕ → Option ℕ
-number_said text = cond (is_number text) (Some (digits_value 10 text)) None
+number_said text = if is_number text then Some (digits_value 10 text) else None
 
 -- the same from 1 to the greatest
 abbrev pub number_upto : ℕ → List ℕ → Option ℕ
 number_upto greatest text =
-    option_and_then (λ (n : ℕ). cond (nat_le 1 n && nat_le n greatest) (Some n) None) (number_said text)
+    option_and_then (λ (n : ℕ). if nat_le 1 n && nat_le n greatest then Some n else None) (number_said text)
 
 -- ---- reports
 
 abbrev pub kind_said : Text → Option ReportKind
 kind_said word =
-    cond (bytes_eq word (codes "yard")) (Some Yard)
-    (cond (bytes_eq word (codes "yardcsv")) (Some YardTable)
-    (cond (bytes_eq word (codes "visits")) (Some Visits)
-    (cond (bytes_eq word (codes "list")) (Some VesselList)
-    (cond (bytes_eq word (codes "ticket")) (Some Ticket)
-    (cond (bytes_eq word (codes "reply")) (Some Reply) None)))))
+    if bytes_eq word (codes "yard") then Some Yard
+    else if bytes_eq word (codes "yardcsv") then Some YardTable
+    else if bytes_eq word (codes "visits") then Some Visits
+    else if bytes_eq word (codes "list") then Some VesselList
+    else if bytes_eq word (codes "ticket") then Some Ticket
+    else if bytes_eq word (codes "reply") then Some Reply
+    else None
 
 -- the yard alone is reported on without a key
 abbrev pub wants_key : ReportKind → Bool
@@ -91,10 +92,10 @@ serve_asked rows =
     (option_and_then (number_upto 65535) (first_of (codes "PORT") rows)))
     (first_of (codes "DB") rows)
 
--- the key is there where it is wanted, and nowhere else
+-- the key is there if it is wanted, and nowhere else
 abbrev pub report_with : Text → ReportKind → Option Text → Option Asked
-report_with store kind None = cond (wants_key kind) None (Some (report store kind None))
-report_with store kind (Some key) = cond (wants_key kind) (Some (report store kind (Some key))) None
+report_with store kind None = if wants_key kind then None else Some (report store kind None)
+report_with store kind (Some key) = if wants_key kind then Some (report store kind (Some key)) else None
 
 abbrev pub report_asked : List Row → Option Asked
 report_asked rows =
@@ -106,10 +107,12 @@ report_asked rows =
 -- what a subcommand and its words ask for
 abbrev pub asked_by : Text → List Row → Option Asked
 asked_by name rows =
-    cond (bytes_eq name (codes "init")) (init_asked rows)
-    (cond (bytes_eq name (codes "deliver")) (deliver_asked rows)
-    (cond (bytes_eq name (codes "serve")) (serve_asked rows)
-    (cond (bytes_eq name (codes "report")) (report_asked rows) (cond (bytes_eq name (codes "demo")) (Some demo) None))))
+    if bytes_eq name (codes "init") then init_asked rows
+    else if bytes_eq name (codes "deliver") then deliver_asked rows
+    else if bytes_eq name (codes "serve") then serve_asked rows
+    else if bytes_eq name (codes "report") then report_asked rows
+    else if bytes_eq name (codes "demo") then Some demo
+    else None
 
 -- what the subcommand that was met asks for
 abbrev pub met_asks : Option (Text × List Row) → Option Asked
@@ -118,9 +121,9 @@ met_asks met = option_and_then (λ (m : Text × List Row). asked_by m.0 m.1) met
 -- how a subcommand is called
 abbrev pub usage_line : Text → Text
 usage_line name =
-    cond (bytes_eq name (codes "serve")) (codes "usage: office serve DB PORT COUNT\n")
-    (cond (bytes_eq name (codes "report")) (codes "usage: office report DB KIND [KEY]\n")
-    (codes "usage: office COMMAND\n"))
+    if bytes_eq name (codes "serve") then codes "usage: office serve DB PORT COUNT\n"
+    else if bytes_eq name (codes "report") then codes "usage: office report DB KIND [KEY]\n"
+    else codes "usage: office COMMAND\n"
 
 -- how the subcommand is called that was met
 abbrev pub usage_of : Option (Text × List Row) → Text

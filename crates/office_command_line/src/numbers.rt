@@ -3,7 +3,7 @@ ghost use Rattle.std.specs.List.{list_all};
 ghost use Rattle.std.specs.Char.{is_ascii_digit};
 ghost use Rattle.office_command_line.specs.Requests.{is_number, number_said, number_upto};
 
-/// The number that 1 to 9 digits write, where it is from 1 to the greatest.
+/// The number that 1 to 9 digits write, if it is from 1 to the greatest.
 pub(crate) fn number_upto(greatest: u32, text: &str) -> Option<u32>
     ensures { result ≡ number_upto greatest text.now }
 {

@@ -26,11 +26,11 @@ fault_text (Stream Read) = codes "cannot read\n"
 fault_text (Stream Turns) = codes "turns\n"
 fault_text (Stream Write) = []
 
--- The text is what was told, where telling it has not failed.
+-- The text is what was told, if telling it has not failed.
 abbrev pub Tells : (failed : Bool) (told told' : Option (List ℕ)) → List ℕ → Type 0
 Tells failed told told' text = failed ≡ false → Appends told told' text
 
--- The demonstration ends with the status of its stream, neither port having failed, and tells nothing, or with 3 where
+-- The demonstration ends with the status of its stream, neither port having failed, and tells nothing, or with 3 if
 -- it was left before the end, and tells why.
 abbrev pub DemoEnds : PortBytes → PortFailures → (tells : List ℕ → Type 0) → ℕ → Type 0
 DemoEnds ports failures tells status =

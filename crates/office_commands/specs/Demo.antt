@@ -100,7 +100,7 @@ port_failures read_failed read_failed' write_failed write_failed' =
       write_after = write_failed';
     }
 
--- a fault of the reader or the writer comes only where it has failed and the other has not, and any other only where
+-- a fault of the reader or the writer comes only if it has failed and the other has not, and any other only if
 -- neither has
 abbrev pub IsOfPorts : PortFailures → DemoFault → Type 0
 IsOfPorts ports (Store fault) =

@@ -9,8 +9,8 @@ use office_stream::Port;
 use std::alloc::Global;
 use std::io::{Read, Write};
 
-/// `demo`: delivers the interchanges of a reader over tables in memory, and answers the exit status: 0 where each was
-/// taken, repeated or waits, 1 where one was refused, and 3 where the desk did not open, reading or writing failed, or
+/// `demo`: delivers the interchanges of a reader over tables in memory, and answers the exit status: 0 if each was
+/// taken, repeated or waits, 1 if one was refused, and 3 if the desk did not open, reading or writing failed, or
 /// one could not be answered now. `errors` takes what is told of a fault.
 pub fn demonstrate<R: Read, W: Write, E: Write>(
     alloc: Global,
@@ -33,7 +33,7 @@ pub fn demonstrate<R: Read, W: Write, E: Write>(
     }
 }
 
-/// Tells a text. Where that fails, the exit status alone is left to tell.
+/// Tells a text. If that fails, the exit status alone is left to tell.
 fn tell<E: Write>(errors: &mut Port<E>, text: &str)
     ensures { Tells errors.new.failed (E.contents errors.old.inner) (E.contents errors.new.inner) text.now }
 {

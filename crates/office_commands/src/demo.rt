@@ -32,7 +32,7 @@ pub fn run_demo<R: Read, W: Write>(
     ensures failed { IfErr result (IsOfPorts (port_failures reader.old.failed reader.new.failed
         writer.old.failed writer.new.failed)) }
 
-    // No more reads are made than turns, and where the stream is left for their number, as many, of which the last had
+    // No more reads are made than turns, and if the stream is left for their number, as many, of which the last had
     // not found the end.
     ensures reads { reader.new.reads ≤ reader.old.reads + demo_turns }
     ensures turns { IfErr result (λ fault. fault ≡ DemoFault.Stream StreamFault.Turns →

@@ -4,7 +4,7 @@ ghost use Rattle.office_setup.specs.Setups.{setup_content, account_contents};
 ghost use Rattle.office_commands.specs.Demo.{IsDemo, demo_codes, demo_content, demo_partners};
 
 use edi_messages::{CodeTable, PartnerKind};
-use office_setup::{Account, MOST_VISITS, Setup};
+use office_setup::{Account, Accounts, MOST_VISITS, Setup};
 use std::alloc::{AllocError, Global};
 use yard_core::Block;
 
@@ -38,7 +38,14 @@ fn with_codes(alloc: Global, table: CodeTable) -> Result<Setup, AllocError>
     })
 }
 
-fn demo_partners(alloc: Global) -> Result<Vec<Account>, AllocError>
+fn demo_partners(alloc: Global) -> Result<Accounts, AllocError>
+    ensures { IfOk result (λ accounts. account_contents accounts.items ≡ demo_partners) }
+{
+    let list = demo_list(alloc)?;
+    Accounts::of(alloc, list)
+}
+
+fn demo_list(alloc: Global) -> Result<Vec<Account>, AllocError>
     ensures { IfOk result (λ accounts. account_contents accounts.items ≡ demo_partners) }
 {
     let mut accounts = Vec::new(alloc);

@@ -23,7 +23,7 @@ use std::alloc::{AllocError, Global};
 use terminal_core::Terminal;
 
 /// Takes a partner's next interchange, and then each text that becomes next by it, as far as the tables keep one.
-/// It writes nothing. Where it fails, the terminal may hold part of the run, and is to be given up.
+/// It writes nothing. If it fails, the terminal may hold part of the run, and is to be given up.
 pub fn take_run<S: Alter>(
     alloc: Global,
     conn: &mut Connection<S>,

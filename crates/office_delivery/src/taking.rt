@@ -12,7 +12,7 @@ use office_taking::take;
 use std::alloc::{AllocError, Global};
 use terminal_core::Terminal;
 
-/// Takes a partner's interchange under a number. Where memory is refused, the terminal may hold part of it, and is to
+/// Takes a partner's interchange under a number. If memory is refused, the terminal may hold part of it, and is to
 /// be given up.
 pub(crate) fn take_admitted(
     alloc: Global,
@@ -36,7 +36,7 @@ pub(crate) fn take_admitted(
 }
 
 /// Takes the text that is kept under a partner's number. One that is not admitted for that partner changes nothing, and
-/// its reply tells of no message. Where memory is refused, the terminal may hold part of it, and is to be given up.
+/// its reply tells of no message. If memory is refused, the terminal may hold part of it, and is to be given up.
 pub(crate) fn take_text(
     alloc: Global,
     setup: &Setup,

@@ -51,7 +51,7 @@ answer_to parties taken opening ds delivered =
     answer_at parties taken opening (deliveries_of parties ds) (interchange_of delivered)
     (admission parties (interchange_of delivered))
 
--- from that opening state, after those deliveries, the response is the answer to the next, or NotNow where that may be
+-- from that opening state, after those deliveries, the response is the answer to the next, or NotNow if that may be
 abbrev pub AnswersNext : {S : Type 0} → Taking S → Parties → S → List (List ℕ) → List ℕ → Response → Type 0
 AnswersNext taken parties opening ds delivered response.NotNow = MayBeNotNow parties (interchange_of delivered)
 AnswersNext taken parties opening ds delivered given = content_of given ≡ answer_to parties taken opening ds delivered

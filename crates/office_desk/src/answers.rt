@@ -11,7 +11,7 @@ use office_tables::Kept;
 use partner_core::{Standing, judge};
 use std::alloc::{AllocError, Global};
 
-/// The answer to a text under a number that is used, where the partner's next number is that one.
+/// The answer to a text under a number that is used, if the partner's next number is that one.
 pub(crate) fn answer_used(
     alloc: Global,
     kept: Kept,

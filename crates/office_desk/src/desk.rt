@@ -24,7 +24,7 @@ use std::alloc::Global;
 pub struct Desk<S: Alter> {
     conn: Connection<S>,
     setup: Setup,
-    // What the rows say; none where it has to be loaded again.
+    // What the rows say; none if it has to be loaded again.
     beside: Option<Beside>,
     ghost idle: { conn.in_transaction ≡ false },
     ghost given: { IsGiven (setup_content setup) },
@@ -71,7 +71,7 @@ impl<S: Alter + Drop> Desk<S> {
     ghost use Rattle.office_desk.specs.Offices.{OpensOffice};
 
     /// The desk of a store that holds an office: its set-up, its terminal and its partners' numbers are those that the
-    /// tables hold. Where it is refused, the connection is given up.
+    /// tables hold. If it is refused, the connection is given up.
     pub fn open(alloc: Global, conn: Connection<S>) -> Result<Desk<S>, TableFault>
         requires idle { conn.in_transaction ≡ false }
         ensures opens { IfOk result
@@ -193,7 +193,8 @@ impl<S: Alter + Drop> Deliver for Desk<S> {
         };
         let number = admitted.envelope.head().number();
         let setup = &self.setup;
-        let code = setup.partners[admitted.partner as usize - 1].code.as_str();
+        let account = &setup.partners.as_slice()[admitted.partner as usize - 1];
+        let code = account.code.as_str();
         let taken = take_in(
             alloc,
             &mut self.conn,

@@ -29,7 +29,7 @@ pub struct Found {
     pub there: Beside,
 }
 
-/// Looks up a partner's number, and takes out what stands beside the tables: loaded, where there is none. It changes no
+/// Looks up a partner's number, and takes out what stands beside the tables: loaded, if there is none. It changes no
 /// row.
 pub(crate) fn look<S: Alter>(
     alloc: Global,

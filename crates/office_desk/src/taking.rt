@@ -28,7 +28,7 @@ use partner_core::LAST_NUMBER;
 use sqlite::{Alter, Connection};
 use std::alloc::Global;
 
-/// Answers a partner's text by what is kept, and keeps and takes it where it is new.
+/// Answers a partner's text by what is kept, and keeps and takes it if it is new.
 pub(crate) fn take_in<S: Alter>(
     alloc: Global,
     conn: &mut Connection<S>,
@@ -85,7 +85,7 @@ pub(crate) fn take_in<S: Alter>(
     }
 }
 
-/// Keeps a text under a number that is not used, and takes it where it is next. A run that fails leaves nothing beside
+/// Keeps a text under a number that is not used, and takes it if it is next. A run that fails leaves nothing beside
 /// the tables, so that what it did there is loaded again.
 fn take_new<S: Alter>(
     alloc: Global,

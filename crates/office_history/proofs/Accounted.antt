@@ -22,7 +22,7 @@ use Rattle.partner_core.specs.Deliveries.{Delivery}
 use Rattle.partner_core.specs.Numbered.{with_number}
 use Rattle.partner_core.specs.Order.{state, state_after, order, text_under}
 use Rattle.yard_core.specs.declared.placement.Placement.{Placement}
-use Rattle.yard_core.specs.Decisions.{Refusal, removed, shifted}
+use Rattle.yard_core.specs.Decisions.{Refusal, yard_without, yard_with_move}
 use Rattle.yard_core.specs.YardMap.{YardMap}
 use Rattle.terminal_core.specs.declared.departure.Departure.{Departure}
 use Rattle.terminal_core.specs.declared.line_state.LineState.{LineState}
@@ -37,7 +37,7 @@ use Rattle.terminal_core.specs.declared.way.Way.{Way}
 use Rattle.terminal_core.specs.declared.way.Way.TheVariants.{Gate, Ship}
 use Rattle.terminal_core.specs.Rows.{VisitContent}
 use Rattle.terminal_core.specs.State.{TerminalState, LineContent, line_of, is_in, is_open_visit}
-use Rattle.terminal_core.specs.Step.{Stepped, refused, step, settled, is_full, visit_of, entered, entered_at, closed, departed, departed_at, departure_by, moved_at, listed_at, then_line_done_at, by_line, by_state}
+use Rattle.terminal_core.specs.Step.{Stepped, with_refusal, step, yard_with_entry, is_full, visit_of, after_entry, entered_at, closed_visit, after_departure, departed_at, departure_by, moved_at, listed_at, then_line_done_at, by_line, by_state}
 use Rattle.terminal_core.proofs.Changing.{either}
 use Rattle.terminal_core.proofs.Indexed.{mapped_at}
 use Rattle.terminal_core.proofs.Numbered.{contained, found_at}
@@ -66,9 +66,9 @@ module _ (count : ℕ) where
     | inr same ↦ subst (HasAccounts count) same (record { came = has; left = tt })
   ]
 
-  enters_keeps : (state : TerminalState) (way : Way) (source : Source) (entry : EntryContent) → source.partner ≤ count → AreAccounted state → Keeps (entered state way source entry)
+  enters_keeps : (state : TerminalState) (way : Way) (source : Source) (entry : EntryContent) → source.partner ≤ count → AreAccounted state → Keeps (after_entry state way source entry)
   enters_keeps state way source entry has are =
-      either Keeps (is_full state) (refused state VisitLimit) (entered_at state way source entry (settled state.yard entry)) are (entered_keeps state way source entry (settled state.yard entry) has are)
+      either Keeps (is_full state) (with_refusal state VisitLimit) (entered_at state way source entry (yard_with_entry state.yard entry)) are (entered_keeps state way source entry (yard_with_entry state.yard entry) has are)
 
   closed_has : (departure : Departure) (v : VisitContent) (is : Bool) → departure.source.partner ≤ count → HasAccounts count v → HasAccounts count (cond is (record v { departure = Some departure }) v)
   closed_has departure v true has old = record { came = old.came; left = has }
@@ -77,11 +77,11 @@ module _ (count : ℕ) where
   departed_keeps : (state : TerminalState) (b : BoxNumber) (departure : Departure) (r : Result (YardMap × Placement) Refusal) → departure.source.partner ≤ count → AreAccounted state → Keeps (departed_at state b departure r)
   departed_keeps state b departure (Err refusal) has are = are
   departed_keeps state b departure (Ok (y, s)) has are = λ visit inside.
-      let row = mapped_at (closed departure b) state.visits inside.0 visit (found_at (map (closed departure b) state.visits) visit inside) in
+      let row = mapped_at (closed_visit departure b) state.visits inside.0 visit (found_at (map (closed_visit departure b) state.visits) visit inside) in
       subst (HasAccounts count) row.2 (closed_has departure row.0 (is_open_visit b row.0) has (are row.0 (contained state.visits inside.0 row.0 row.1)))
 
-  departs_keeps : (state : TerminalState) (way : Way) (source : Source) (b : BoxNumber) (moment : CivilMoment) → source.partner ≤ count → AreAccounted state → Keeps (departed state way source b moment)
-  departs_keeps state way source b moment has are = departed_keeps state b (departure_by way source moment) (removed state.yard b) has are
+  departs_keeps : (state : TerminalState) (way : Way) (source : Source) (b : BoxNumber) (moment : CivilMoment) → source.partner ≤ count → AreAccounted state → Keeps (after_departure state way source b moment)
+  departs_keeps state way source b moment has are = departed_keeps state b (departure_by way source moment) (yard_without state.yard b) has are
 
   moved_keeps : (state : TerminalState) (b : BoxNumber) (slot : Slot) (r : Result YardMap Refusal) → AreAccounted state → Keeps (moved_at state b slot r)
   moved_keeps state b slot (Ok y) are = are
@@ -106,17 +106,17 @@ module _ (count : ℕ) where
   line_keeps state call side b (Some line) after are then = state_keeps state call side b line after line.state are then
 
   step_keeps : (state : TerminalState) (source : Source) (order : OrderContent) → source.partner ≤ count → AreAccounted state → Keeps (step state source order)
-  step_keeps state source (gate_in entry) has are = either Keeps (is_in state entry.number) (refused state AlreadyIn) (entered state Gate source entry) are (enters_keeps state Gate source entry has are)
+  step_keeps state source (gate_in entry) has are = either Keeps (is_in state entry.number) (with_refusal state AlreadyIn) (after_entry state Gate source entry) are (enters_keeps state Gate source entry has are)
   step_keeps state source (gate_out b moment) has are = departs_keeps state Gate source b moment has are
-  step_keeps state source (move b slot) has are = moved_keeps state b slot (shifted state.yard b slot) are
+  step_keeps state source (move b slot) has are = moved_keeps state b slot (yard_with_move state.yard b slot) are
   step_keeps state source (list_discharge call b) has are = listed_keeps state call Discharge b [] (line_of state call Discharge b) are
   step_keeps state source (list_load call b port) has are = listed_keeps state call Load b port (line_of state call Load b) are
   step_keeps state source (discharge call entry) has are =
-      either Keeps (is_in state entry.number) (refused state AlreadyIn) (by_line state call Discharge entry.number (line_of state call Discharge entry.number) (entered state Ship source entry)) are
-      (line_keeps state call Discharge entry.number (line_of state call Discharge entry.number) (entered state Ship source entry) are (enters_keeps state Ship source entry has are))
+      either Keeps (is_in state entry.number) (with_refusal state AlreadyIn) (by_line state call Discharge entry.number (line_of state call Discharge entry.number) (after_entry state Ship source entry)) are
+      (line_keeps state call Discharge entry.number (line_of state call Discharge entry.number) (after_entry state Ship source entry) are (enters_keeps state Ship source entry has are))
   step_keeps state source (load call b moment) has are =
-      either Keeps (is_in state b) (by_line state call Load b (line_of state call Load b) (departed state Ship source b moment)) (refused state NotIn)
-      (line_keeps state call Load b (line_of state call Load b) (departed state Ship source b moment) are (departs_keeps state Ship source b moment has are)) are
+      either Keeps (is_in state b) (by_line state call Load b (line_of state call Load b) (after_departure state Ship source b moment)) (with_refusal state NotIn)
+      (line_keeps state call Load b (line_of state call Load b) (after_departure state Ship source b moment) are (departs_keeps state Ship source b moment has are)) are
 
   -- ---- an interchange
 

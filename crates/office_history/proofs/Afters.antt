@@ -23,8 +23,8 @@ use Rattle.partner_core.proofs.Answering.{answer-kept}
 use Rattle.terminal_core.specs.Changes.{rows_of}
 use Rattle.terminal_core.proofs.Keeping.{empty_whole}
 use Rattle.terminal_core.proofs.Forming.{empty_formed}
-use Rattle.office_admission.specs.Admission.{admission, admitted}
-use Rattle.office_admission.specs.Deliveries.{added, deliveries_of}
+use Rattle.office_admission.specs.Admission.{admission, by_header}
+use Rattle.office_admission.specs.Deliveries.{with_delivery, deliveries_of}
 use Rattle.office_replies.specs.declared.fault.Fault.{Fault}
 use Rattle.office_setup.specs.Parties.{Parties}
 use Rattle.office_setup.specs.Setups.{SetupContent}
@@ -43,25 +43,25 @@ use Rattle.office_history.proofs.Runs.{RunLeaves, run_leaves}
 
 -- ---- one delivery more
 
-added_on : (text : List ℕ) (place : Result (ℕ × ℕ) Fault) (later more : List Delivery) → added text place (later ++ more) ≡ added text place later ++ more
+added_on : (text : List ℕ) (place : Result (ℕ × ℕ) Fault) (later more : List Delivery) → with_delivery text place (later ++ more) ≡ with_delivery text place later ++ more
 added_on text (Ok place) later more = refl
 added_on text (Err fault) later more = refl
 
 pub deliveries_more : (P : Parties) (ds : List (List ℕ)) (delivered : List ℕ)
-    → deliveries_of P (ds ++ delivered ∷ []) ≡ deliveries_of P ds ++ added (interchange_of delivered) (admission P (interchange_of delivered)) []
+    → deliveries_of P (ds ++ delivered ∷ []) ≡ deliveries_of P ds ++ with_delivery (interchange_of delivered) (admission P (interchange_of delivered)) []
 deliveries_more P [] delivered = refl
 deliveries_more P (first ∷ ds) delivered =
-    ap (added (interchange_of first) (admission P (interchange_of first))) (deliveries_more P ds delivered)
+    ap (with_delivery (interchange_of first) (admission P (interchange_of first))) (deliveries_more P ds delivered)
     ∙ added_on (interchange_of first) (admission P (interchange_of first)) (deliveries_of P ds) _
 
 pub admitted_more : (content : SetupContent) (ds : List (List ℕ)) (delivered : List ℕ) (p k : ℕ) → admission (parties_in content) (interchange_of delivered) ≡ Ok (p, k)
     → delivered_to content (ds ++ delivered ∷ []) ≡ delivered_to content ds ++ delivery p k (interchange_of delivered) ∷ []
-admitted_more content ds delivered p k is = deliveries_more (parties_in content) ds delivered ∙ ap (λ place. delivered_to content ds ++ added (interchange_of delivered) place []) is
+admitted_more content ds delivered p k is = deliveries_more (parties_in content) ds delivered ∙ ap (λ place. delivered_to content ds ++ with_delivery (interchange_of delivered) place []) is
 
 pub refused_more : (content : SetupContent) (ds : List (List ℕ)) (delivered : List ℕ) (fault : Fault) → admission (parties_in content) (interchange_of delivered) ≡ Err fault
     → delivered_to content (ds ++ delivered ∷ []) ≡ delivered_to content ds
 refused_more content ds delivered fault is =
-    deliveries_more (parties_in content) ds delivered ∙ ap (λ place. delivered_to content ds ++ added (interchange_of delivered) place []) is ∙ append-nil (delivered_to content ds)
+    deliveries_more (parties_in content) ds delivered ∙ ap (λ place. delivered_to content ds ++ with_delivery (interchange_of delivered) place []) is ∙ append-nil (delivered_to content ds)
 
 -- ---- the rows after deliveries of partners
 
@@ -359,6 +359,6 @@ answered content D p k text rows are one = answer-kept interchange_taken (openin
 
 -- ---- what is admitted has a number
 
-faultless : (found : Option SyntaxFault) (P : Parties) (text : List ℕ) (p k : ℕ) → admitted P (header_of (segments_in text)) found ≡ Ok (p, k) → found ≡ None
+faultless : (found : Option SyntaxFault) (P : Parties) (text : List ℕ) (p k : ℕ) → by_header P (header_of (segments_in text)) found ≡ Ok (p, k) → found ≡ None
 faultless None P text p k e = refl
 faultless (Some fault) P text p k e = cc

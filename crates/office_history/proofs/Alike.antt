@@ -15,7 +15,7 @@ use Rattle.edi_messages.specs.Codes.{code_text, table_texts, meanings, order_mea
 use Rattle.edi_messages.specs.Faults.{beginning, document_name, order_kind_of, call_in, applies, message_faults}
 use Rattle.edi_messages.specs.Types.{message_type_of}
 use Rattle.edi_messages.specs.Purposes.{purpose_with}
-use Rattle.edi_messages.specs.Message.{message_of, judged, reading}
+use Rattle.edi_messages.specs.Message.{message_of, judged_message, reading}
 use Rattle.edi_messages.specs.declared.code_table.CodeTable.{CodeTable}
 use Rattle.edi_messages.specs.declared.codes.Codes.{Codes}
 use Rattle.edi_messages.specs.declared.message_fault.MessageFault.{MessageFault}
@@ -39,7 +39,7 @@ use Rattle.office_admission.specs.Admission.{admission, is_for}
 use Rattle.office_replies.specs.Messages.{ReportContent}
 use Rattle.office_setup.specs.Given.{IsGiven}
 use Rattle.office_setup.specs.Setups.{SetupContent}
-use Rattle.office_taking.specs.Taking.{MachineState, verdict_on, reported, before_message, messages_taken, codes_for, source_in, nothing_taken, reply_to, taken_at, taken_of, interchange_taken}
+use Rattle.office_taking.specs.Taking.{MachineState, verdict_on, report_on, before_message, messages_taken, codes_for, source_in, nothing_taken, reply_to, taken_at, taken_of, interchange_taken}
 use Rattle.office_rows.specs.Rows.{Rows}
 use Rattle.office_rows.specs.Opened.{OpenedRows, Shows}
 use Rattle.office_rows.specs.Office.{IsOffice}
@@ -105,7 +105,7 @@ module _ (t u : CodeTable) (same : SameTexts t u) (kind : PartnerKind) where
 
   reading_same : (opened : CivilMoment) (message : Message) → reading one opened message ≡ reading two opened message
   reading_same opened message i =
-      judged (find (λ f. applies_same message f i) message_faults)
+      judged_message (find (λ f. applies_same message f i) message_faults)
       (option_map_or (λ purpose. Ok (message_of purpose opened message)) (option_and_then (λ kind. purpose_with kind (call_in message)) (kind_same message i)) (Err fault.Code))
 
   -- ---- an interchange
@@ -113,8 +113,8 @@ module _ (t u : CodeTable) (same : SameTexts t u) (kind : PartnerKind) where
   messages_same : (terminal : TerminalState) (source : Source) (opened : CivilMoment) (messages : List Message) → messages_taken terminal one source opened messages ≡ messages_taken terminal two source opened messages
   messages_same terminal source opened [] = refl
   messages_same terminal source opened (message ∷ messages) =
-      ap (λ read. before_message (messages_taken (verdict_on terminal source read).0 one source opened messages) (reported message (verdict_on terminal source read).1)) (reading_same opened message)
-      ∙ ap (λ rest. before_message rest (reported message (verdict_on terminal source (reading two opened message)).1)) (messages_same (verdict_on terminal source (reading two opened message)).0 source opened messages)
+      ap (λ read. before_message (messages_taken (verdict_on terminal source read).0 one source opened messages) (report_on message (verdict_on terminal source read).1)) (reading_same opened message)
+      ∙ ap (λ rest. before_message rest (report_on message (verdict_on terminal source (reading two opened message)).1)) (messages_same (verdict_on terminal source (reading two opened message)).0 source opened messages)
 
 -- machines that are one but for the memory of their codes
 pub record IsLike (a b : MachineState) : Type 0 where

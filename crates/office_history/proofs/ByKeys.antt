@@ -22,7 +22,7 @@ use Rattle.terminal_core.specs.declared.side.Side.{Side}
 use Rattle.terminal_core.specs.declared.side.Side.TheVariants.{Load, Discharge}
 use Rattle.terminal_core.specs.Rows.{ChangeContent, visit_opened, visit_closed, placed_at, moved_to, removed_from, listed_on, line_done}
 use Rattle.terminal_core.specs.State.{LineContent, LineKey, Lines, line_key, side_code}
-use Rattle.terminal_core.specs.Changes.{Standing, standing_in, standing_elsewhere, TerminalRows, with_line_done, changed, all_changed, IsApplicable, AreApplicable}
+use Rattle.terminal_core.specs.Changes.{Standing, standing_in, standing_elsewhere, TerminalRows, with_line_done, rows_with, all_changed, IsApplicable, AreApplicable}
 use Rattle.terminal_core.proofs.Boxes.{same_bytes}
 use Rattle.office_rows.specs.Rows.{PlaceContent, ListingContent, Rows}
 use Rattle.office_rows.specs.Effects.{stands_for, is_line, with_change}
@@ -386,7 +386,7 @@ with_line lines key o line e = ap (with_line_done lines key) e
 abbrev by_key : TerminalRows → List PlaceContent → List ListingContent → TerminalRows
 by_key terminal places lines = record terminal { places = standing_by places; lines = lines_by lines }
 
-change_agrees : (rows : Rows) (change : ChangeContent) → ArePlacedOnce rows.places → AreListedOnce rows.lines → IsApplicable (terminal_rows rows) change → AreRowsByKey (with_change change rows) (changed (terminal_rows rows) change)
+change_agrees : (rows : Rows) (change : ChangeContent) → ArePlacedOnce rows.places → AreListedOnce rows.lines → IsApplicable (terminal_rows rows) change → AreRowsByKey (with_change change rows) (rows_with (terminal_rows rows) change)
 change_agrees rows (visit_opened visit) placed listed fits = record { same = refl; placed_once = placed; listed_once = listed }
 change_agrees rows (visit_closed number departure) placed listed fits = record { same = refl; placed_once = placed; listed_once = listed }
 change_agrees rows (placed_at container visit slot) placed listed fits = record {
@@ -433,9 +433,9 @@ change_agrees rows (line_done call side container) placed listed fits = record {
 pub changes_agree : (changes : List ChangeContent) (rows : Rows) (terminal : TerminalRows) → AreRowsByKey rows terminal → AreApplicable terminal changes → AreRowsByKey (with_changes changes rows) (all_changed terminal changes)
 changes_agree [] rows terminal are fits = are
 changes_agree (change ∷ changes) rows terminal are fits =
-    changes_agree changes (with_change change rows) (changed terminal change) (first terminal are.same are fits.0) fits.1
+    changes_agree changes (with_change change rows) (rows_with terminal change) (first terminal are.same are fits.0) fits.1
   where
-    first : (t : TerminalRows) → terminal_rows rows ≡ t → AreRowsByKey rows t → IsApplicable t change → AreRowsByKey (with_change change rows) (changed t change)
+    first : (t : TerminalRows) → terminal_rows rows ≡ t → AreRowsByKey rows t → IsApplicable t change → AreRowsByKey (with_change change rows) (rows_with t change)
     first t same it fits =
         let own = change_agrees rows change it.placed_once it.listed_once (subst (λ r. IsApplicable r change) (sym same) fits) in
-        record { same = own.same ∙ ap (λ r. changed r change) same; placed_once = own.placed_once; listed_once = own.listed_once }
+        record { same = own.same ∙ ap (λ r. rows_with r change) same; placed_once = own.placed_once; listed_once = own.listed_once }

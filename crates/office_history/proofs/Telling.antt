@@ -17,8 +17,8 @@ use Rattle.partner_core.specs.Answers.{answer_by, Taken}
 use Rattle.partner_core.specs.Standings.{standing_of, is_same_text}
 use Rattle.partner_core.specs.declared.standing.Standing.{Standing}
 use Rattle.partner_core.specs.declared.standing.Standing.TheVariants.{Known, Other, Early, Next}
-use Rattle.office_admission.specs.Admission.{admission, admitted, addressed, sender_of, number_in}
-use Rattle.office_admission.specs.Deliveries.{added, deliveries_of}
+use Rattle.office_admission.specs.Admission.{admission, by_header, by_recipient, sender_of, number_in}
+use Rattle.office_admission.specs.Deliveries.{with_delivery, deliveries_of}
 use Rattle.office_replies.specs.declared.fault.Fault.{Fault}
 use Rattle.office_replies.specs.declared.fault.Fault.TheVariants.{WrongRecipient}
 use Rattle.office_setup.specs.Parties.{Parties, partner_from}
@@ -49,7 +49,7 @@ abbrev IsWithin : ℕ → ℕ → ℕ → Type 0
 IsWithin count p k = (1 ≤ p) × (p ≤ count) × (1 ≤ k) × (k ≤ 999999999)
 
 addressed_within : (P : Parties) (text : List ℕ) (found : Option ℕ) (is : Bool) (p k : ℕ) → fault_of text ≡ None → sender_of P (header_of (segments_in text)) ≡ found
-    → bytes_eq (recipient (header_of (segments_in text)) 1) P.terminal ≡ is → addressed P (header_of (segments_in text)) found ≡ Ok (p, k) → IsWithin (length P.partners) p k
+    → bytes_eq (recipient (header_of (segments_in text)) 1) P.terminal ≡ is → by_recipient P (header_of (segments_in text)) found ≡ Ok (p, k) → IsWithin (length P.partners) p k
 addressed_within P text None is p k faultless sender to e = cc
 addressed_within P text (Some partner) is p k faultless sender to e = at is to
   where
@@ -68,7 +68,7 @@ addressed_within P text (Some partner) is p k faultless sender to e = at is to
         sym (ap (λ b. cond b (Ok (partner, number_in (header_of (segments_in text)))) (Err WrongRecipient)) to) ∙ e in
         cc
 
-admitted_within : (P : Parties) (text : List ℕ) (fault : Option SyntaxFault) (p k : ℕ) → fault_of text ≡ fault → admitted P (header_of (segments_in text)) fault ≡ Ok (p, k) → IsWithin (length P.partners) p k
+admitted_within : (P : Parties) (text : List ℕ) (fault : Option SyntaxFault) (p k : ℕ) → fault_of text ≡ fault → by_header P (header_of (segments_in text)) fault ≡ Ok (p, k) → IsWithin (length P.partners) p k
 admitted_within P text (Some fault) p k is e = cc
 admitted_within P text None p k is e = addressed_within P text (sender_of P (header_of (segments_in text))) (bytes_eq (recipient (header_of (segments_in text)) 1) P.terminal) p k is refl refl e
 
@@ -77,7 +77,7 @@ within P text p k e = admitted_within P text (fault_of text) p k refl e
 
 -- ---- what was delivered
 
-first_of : (P : Parties) (text : List ℕ) (found : Result (ℕ × ℕ) Fault) (later : List Delivery) (p k : ℕ) (t : List ℕ) → admission P text ≡ found → first_text (added text found later) p k ≡ Some t
+first_of : (P : Parties) (text : List ℕ) (found : Result (ℕ × ℕ) Fault) (later : List Delivery) (p k : ℕ) (t : List ℕ) → admission P text ≡ found → first_text (with_delivery text found later) p k ≡ Some t
     → (first_text later p k ≡ Some t → IsWithin (length P.partners) p k) → IsWithin (length P.partners) p k
 first_of P text (Err fault) later p k t is e rest = rest e
 first_of P text (Ok place) later p k t is e rest = at ((place.0 == p) && (place.1 == k)) refl

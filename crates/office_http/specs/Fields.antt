@@ -1,5 +1,5 @@
 -- What the fields of a request say of its body (RFC 9110, section 8.6, and our own).
-use Rattle.std.specs.Prelude.{ℕ, cond, nat_le, List, [], ◌∷◌, map, codes, Option, None, Some, Result, Ok, Err}
+use Rattle.std.specs.Prelude.{ℕ, nat_le, List, [], ◌∷◌, map, codes, Option, None, Some, Result, Ok, Err, if◌then◌else◌}
 use Rattle.edi_segments.specs.Interchange.{most_bytes}
 use Rattle.std.specs.List.{filter}
 use Rattle.std.specs.Str.{str_eq_ignore_ascii_case}
@@ -14,7 +14,7 @@ values_of name fields = map (λ field. field.1) (filter (λ field. str_eq_ignore
 -- a body has at most 1,048,576 bytes
 abbrev pub in_limit : Option ℕ → Result ℕ Refusal
 in_limit None = Err BadRequest
-in_limit (Some size) = cond (nat_le size most_bytes) (Ok size) (Err TooLong)
+in_limit (Some size) = if nat_le size most_bytes then Ok size else Err TooLong
 
 -- the length that 1 to 19 digits say, by the values of Transfer-Encoding and of Content-Length
 abbrev pub said_length : List (List ℕ) → List (List ℕ) → Result ℕ Refusal

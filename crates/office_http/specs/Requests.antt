@@ -3,10 +3,10 @@ use Rattle.std.specs.Prelude.{◌≡◌, ◌≢◌, ℕ, ◌<◌, ◌≤◌, ◌
 use Rattle.std.specs.Option.{option_and_then}
 use Rattle.httparse.specs.Grammar.{RequestHead}
 use Rattle.httparse.specs.Spans.{name_and_value}
-use Rattle.office_queries.specs.Keys.{Asked, asked, query_of}
+use Rattle.office_queries.specs.Keys.{Asked, query_asked, query_of}
 use Rattle.office_queries.specs.declared.report_kind.ReportKind.{ReportKind}
 use Rattle.office_http.specs.Heads.{IsHead, HasNoHead}
-use Rattle.office_http.specs.Routes.{directed, path_of, key_in}
+use Rattle.office_http.specs.Routes.{endpoint_of, path_of, key_in}
 use Rattle.office_http.specs.Fields.{body_length}
 use Rattle.office_http.specs.declared.endpoint.Endpoint.{Endpoint}
 use Rattle.office_http.specs.declared.endpoint.Endpoint.TheVariants as endpoint
@@ -24,7 +24,7 @@ IsDelivery text (Refused refusal) = ⊥
 -- it asks for that report
 abbrev pub IsReport : ReportKind → Asked → Request → Type 0
 IsReport kind what (Delivery body) = ⊥
-IsReport kind what (Report of query) = (of ≡ kind) × (asked query ≡ what)
+IsReport kind what (Report of query) = (of ≡ kind) × (query_asked query ≡ what)
 IsReport kind what (Refused refusal) = ⊥
 
 -- a report whose key asks for something, or nothing is found
@@ -49,7 +49,7 @@ AsksAt (Ok (endpoint.Report kind)) head rest request =
 -- behind a head that can be read; memory may be wanting from there on
 abbrev pub AsksWith : RequestHead → List ℕ → Request → Type 0
 AsksWith head rest request =
-    (request ≡ Refused NotNow) ⊎ AsksAt (directed head.method (path_of head.target)) head rest request
+    (request ≡ Refused NotNow) ⊎ AsksAt (endpoint_of head.method (path_of head.target)) head rest request
 
 -- The shortest front of the stream that is a head, of at most 8,192 bytes and 64 fields, decides together with what
 -- stands behind it.
@@ -66,7 +66,7 @@ IsSameRequest (Delivery body) (Delivery other) = body.items ≡ other.items
 IsSameRequest (Delivery body) (Report kind query) = ⊥
 IsSameRequest (Delivery body) (Refused refusal) = ⊥
 IsSameRequest (Report kind query) (Delivery body) = ⊥
-IsSameRequest (Report kind query) (Report of other) = (kind ≡ of) × (asked query ≡ asked other)
+IsSameRequest (Report kind query) (Report of other) = (kind ≡ of) × (query_asked query ≡ query_asked other)
 IsSameRequest (Report kind query) (Refused refusal) = ⊥
 IsSameRequest (Refused refusal) (Delivery body) = ⊥
 IsSameRequest (Refused refusal) (Report kind query) = ⊥

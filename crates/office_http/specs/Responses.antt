@@ -27,15 +27,15 @@ close_lines = field_line (codes "Connection") (codes "close") ++ codes "\r\n"
 
 -- the lines before a body of that size; a method that is allowed in place of the request's is told
 unfoldable pub response_head : ℕ → ContentType → Option (List ℕ) → ℕ → List ℕ
-response_head status kind allowed size =
+response_head status kind allowed_method size =
     status_line status
     ++ (field_line (codes "Content-Type") (media_type kind)
     ++ (field_line (codes "Content-Length") (decimal size)
-    ++ (allow_line allowed
+    ++ (allow_line allowed_method
     ++ close_lines)))
 
 unfoldable pub response_bytes : ℕ → ContentType → Option (List ℕ) → List ℕ → List ℕ
-response_bytes status kind allowed body = response_head status kind allowed (length body) ++ body
+response_bytes status kind allowed_method body = response_head status kind allowed_method (length body) ++ body
 
 -- ---- refusals
 
@@ -57,14 +57,14 @@ refusal_body NoLength = codes "{\"answer\":\"length\"}"
 refusal_body TooLong = codes "{\"answer\":\"too long\"}"
 refusal_body NotNow = codes "{\"answer\":\"not now\"}"
 
-abbrev pub allowed : Refusal → Option (List ℕ)
-allowed OnlyGet = Some (codes "GET")
-allowed OnlyPost = Some (codes "POST")
-allowed BadRequest = None
-allowed NotFound = None
-allowed NoLength = None
-allowed TooLong = None
-allowed NotNow = None
+abbrev pub allowed_method : Refusal → Option (List ℕ)
+allowed_method OnlyGet = Some (codes "GET")
+allowed_method OnlyPost = Some (codes "POST")
+allowed_method BadRequest = None
+allowed_method NotFound = None
+allowed_method NoLength = None
+allowed_method TooLong = None
+allowed_method NotNow = None
 
 abbrev pub refusal_bytes : Refusal → List ℕ
-refusal_bytes refusal = response_bytes (refusal_status refusal) Json (allowed refusal) (refusal_body refusal)
+refusal_bytes refusal = response_bytes (refusal_status refusal) Json (allowed_method refusal) (refusal_body refusal)

@@ -1,5 +1,5 @@
 -- Where the paths lead (our own).
-use Rattle.std.specs.Prelude.{ℕ, cond, ◌==◌, List, [], codes, Option, None, Some, option_map, Result, Ok, Err, nat_eq, length, drop}
+use Rattle.std.specs.Prelude.{ℕ, ◌==◌, List, [], codes, Option, None, Some, option_map, Result, Ok, Err, nat_eq, length, drop, if◌then◌else◌}
 use Rattle.edi_segments.specs.Bytes.{question_mark}
 use Rattle.std.specs.Str.{bytes_eq}
 use Rattle.std.specs.List.{before_first, starts_with}
@@ -56,11 +56,11 @@ other_method (endpoint.Report kind) = OnlyGet
 
 abbrev pub by_method : List ℕ → Option Endpoint → Result Endpoint Refusal
 by_method method None = Err NotFound
-by_method method (Some to) = cond (bytes_eq method (method_of to)) (Ok to) (Err (other_method to))
+by_method method (Some to) = if bytes_eq method (method_of to) then Ok to else Err (other_method to)
 
 -- where a request goes to, or why it is refused
-abbrev pub directed : List ℕ → List ℕ → Result Endpoint Refusal
-directed method path = by_method method (endpoint_at path)
+abbrev pub endpoint_of : List ℕ → List ℕ → Result Endpoint Refusal
+endpoint_of method path = by_method method (endpoint_at path)
 
 -- ---- keys
 
@@ -75,4 +75,4 @@ front_of kind.Reply = codes "/replies/"
 
 -- the key of a report in its path: what stands behind that
 abbrev pub key_in : ReportKind → List ℕ → Option (List ℕ)
-key_in kind path = cond (starts_with nat_eq path (front_of kind)) (Some (drop (length (front_of kind)) path)) None
+key_in kind path = if starts_with nat_eq path (front_of kind) then Some (drop (length (front_of kind)) path) else None

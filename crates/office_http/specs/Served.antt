@@ -36,8 +36,8 @@ report_bytes kind (Some text) = response_bytes 200 (content_of kind) None text
 abbrev pub answer_bytes : Response → List ℕ
 answer_bytes response = response_bytes (status_of response) Json None (body_of response)
 
--- What is done at a request, and the bytes that answer it. A refusal doesn't touch the office. A report leaves it where
--- it stood, also where it can't be given now.
+-- What is done at a request, and the bytes that answer it. A refusal doesn't touch the office. A report leaves it if
+-- it stood, also if it can't be given now.
 abbrev pub Does : {D : Type 0} → (List (List ℕ) → D → Type 0) → (List (List ℕ) → List ℕ → Response → Type 0)
     → (D → Query → Option (List ℕ) → Type 0) → List (List ℕ) → Request → D → D → List ℕ → Type 0
 Does stands answers tells ds (Delivery body) old new bytes =

@@ -1,5 +1,5 @@
 ghost use Rattle.std.specs.Prelude.{◌≡◌, option_map};
-ghost use Rattle.office_http.specs.Responses.{allowed, refusal_body, refusal_status};
+ghost use Rattle.office_http.specs.Responses.{allowed_method, refusal_body, refusal_status};
 
 use http::{Method, StatusCode};
 
@@ -53,7 +53,7 @@ impl Refusal {
 
     /// The method that is allowed in place of the request's.
     pub(crate) fn allowed(self) -> Option<Method>
-        ensures { result ≡ allowed self }
+        ensures { result ≡ allowed_method self }
     {
         match self {
             Refusal::OnlyGet => Some(Method::GET),

@@ -1,5 +1,5 @@
 ghost use Rattle.std.specs.Prelude.{◌≡◌, ◌⊎◌, IfOk, option_map, Err};
-ghost use Rattle.office_http.specs.Routes.{directed, endpoint_at, endpoints, front_of, key_in, other_method, path_of};
+ghost use Rattle.office_http.specs.Routes.{endpoint_of, endpoint_at, endpoints, front_of, key_in, other_method, path_of};
 ghost use Rattle.office_http.specs.declared.refusal.Refusal.TheVariants.{NotNow};
 
 use crate::endpoint::Endpoint;
@@ -10,7 +10,7 @@ use std::alloc::Global;
 
 /// Where a request goes to, or why it is refused.
 pub(crate) fn direct(alloc: Global, method: &[u8], path: &str) -> Result<Endpoint, Refusal>
-    ensures { (result ≡ Err NotNow) ⊎ (result ≡ directed method.now path.now) }
+    ensures { (result ≡ Err NotNow) ⊎ (result ≡ endpoint_of method.now path.now) }
 {
     let Ok(router) = router(alloc) else {
         return Err(Refusal::NotNow);

@@ -12,7 +12,7 @@ const TURN: u64 = 10;
 /// How many seconds a read may take once the response is written.
 const PARTING: u64 = 1;
 
-/// A connection that gives up where a read or write takes too long, and a minute after it was accepted.
+/// A connection that gives up if a read or write takes too long, and a minute after it was accepted.
 #[derive(Drop)]
 pub(crate) struct TimedStream<'a, C: Clock> {
     stream: &'a TcpStream,

@@ -20,7 +20,7 @@ abbrev pub Decodes : {A X : Type 0} → (A → X → Type 0) → (A → Type 0) 
 Decodes says is_said given (Ok read) = says given read
 Decodes says is_said given (Err fault) = Fails is_said given fault
 
--- the same, where of what is read the content counts
+-- the same, if of what is read the content counts
 abbrev pub Reads : {A X C : Type 0} → (X → C) → (A → C → Type 0) → A → Result X TableFault → Type 0
 Reads content Says = Decodes (λ given read. Says given (content read)) (Said Says)
 

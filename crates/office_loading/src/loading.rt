@@ -16,7 +16,7 @@ use terminal_core::{RestoreFault, Terminal};
 
 /// The office that the tables hold: its set-up and its terminal. It changes nothing.
 ///
-/// Version where no setting names this version; Damaged where the rows are those of no office; Store and Memory say
+/// Version if no setting names this version; Damaged if the rows are those of no office; Store and Memory say
 /// nothing of the rows.
 pub fn load<S: Alter>(
     alloc: Global,

@@ -14,7 +14,7 @@ use office_tables::TableFault;
 use sqlite::{Alter, Connection};
 use std::alloc::Global;
 
-/// The rows of the seven tables, where they are of this version; the settings come first.
+/// The rows of the seven tables, if they are of this version; the settings come first.
 pub(crate) fn read_tables<S: Alter>(
     alloc: Global,
     conn: &mut Connection<S>,

@@ -14,7 +14,7 @@ pub(crate) trait Record: Sized + Drop {
     // the columns say something
     ghost is_said: { Columns → Type 0 };
 
-    /// Reads a row: Damaged where no record has its columns.
+    /// Reads a row: Damaged if no record has its columns.
     fn read(row: &Row) -> Result<Self, TableFault>
         ensures { Decodes says is_said row.now result };
 }

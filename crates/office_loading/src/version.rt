@@ -17,7 +17,7 @@ use sqlite::types::ValueRef;
 use sqlite::{Alter, Connection, Row};
 use std::alloc::Global;
 
-/// All settings, by their names, where they say that the tables are of this version.
+/// All settings, by their names, if they say that the tables are of this version.
 pub(crate) fn read_settings<S: Alter>(
     alloc: Global,
     conn: &mut Connection<S>,

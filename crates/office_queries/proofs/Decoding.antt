@@ -1,6 +1,6 @@
 -- Bytes that are decoded, and those that are left.
 use Rattle.std.proofs.Common.{◌≡◌, ℕ, List, [], ◌∷◌, ◌++◌, Option, None, Some, option_map, append_assoc, append-nil, refl, sym, ap, ◌∙◌}
-use Rattle.office_queries.specs.Escapes.{decoded, onto}
+use Rattle.office_queries.specs.Escapes.{decoded_part, onto}
 
 -- bytes, and what is decoded behind them
 abbrev pub behind : List ℕ → Option (List ℕ) → Option (List ℕ)
@@ -14,12 +14,12 @@ one_before : (front : List ℕ) (byte : ℕ) (left : Option (List ℕ)) → behi
 one_before front byte None = refl
 one_before front byte (Some more) = ap Some (sym (append_assoc front (byte ∷ []) more))
 
-pub one_more : (text front rest rest' : List ℕ) (byte : ℕ) → decoded text ≡ behind front (decoded rest) → decoded rest ≡ onto (decoded rest') byte →
-    decoded text ≡ behind (front ++ byte ∷ []) (decoded rest')
-one_more text front rest rest' byte before is = before ∙ ap (behind front) is ∙ one_before front byte (decoded rest')
+pub one_more : (text front rest rest' : List ℕ) (byte : ℕ) → decoded_part text ≡ behind front (decoded_part rest) → decoded_part rest ≡ onto (decoded_part rest') byte →
+    decoded_part text ≡ behind (front ++ byte ∷ []) (decoded_part rest')
+one_more text front rest rest' byte before is = before ∙ ap (behind front) is ∙ one_before front byte (decoded_part rest')
 
-pub none_left : (text front rest : List ℕ) → decoded text ≡ behind front (decoded rest) → decoded rest ≡ None → None ≡ decoded text
+pub none_left : (text front rest : List ℕ) → decoded_part text ≡ behind front (decoded_part rest) → decoded_part rest ≡ None → None ≡ decoded_part text
 none_left text front rest before is = sym (before ∙ ap (behind front) is)
 
-pub all_decoded : (text front rest : List ℕ) → decoded text ≡ behind front (decoded rest) → rest ≡ [] → Some front ≡ decoded text
-all_decoded text front rest before is = sym (before ∙ ap (λ (r : List ℕ). behind front (decoded r)) is ∙ ap Some (append-nil front))
+pub all_decoded : (text front rest : List ℕ) → decoded_part text ≡ behind front (decoded_part rest) → rest ≡ [] → Some front ≡ decoded_part text
+all_decoded text front rest before is = sym (before ∙ ap (λ (r : List ℕ). behind front (decoded_part r)) is ∙ ap Some (append-nil front))

@@ -1,13 +1,13 @@
 -- What the parts of a path stand for (RFC 3986, section 2.1).
-use Rattle.std.specs.Prelude.{ℕ, ◌+◌, ◌*◌, cond, ◌&&◌, ◌==◌, nat_lt, List, [], ◌∷◌, Option, None, Some, option_map}
+use Rattle.std.specs.Prelude.{ℕ, ◌+◌, ◌*◌, ◌&&◌, ◌==◌, nat_lt, List, [], ◌∷◌, Option, None, Some, option_map, if◌then◌else◌}
 use Rattle.std.specs.Option.{option_and_then}
 use Rattle.std.specs.Char.{digit_value}
 
 -- the byte that two hexadecimal digits write
 abbrev pub byte_of : ℕ → ℕ → Option ℕ
 byte_of high low =
-    cond (nat_lt (digit_value high) 16 && nat_lt (digit_value low) 16)
-    (Some (digit_value high * 16 + digit_value low)) None
+    if nat_lt (digit_value high) 16 && nat_lt (digit_value low) 16 then Some (digit_value high * 16 + digit_value low)
+    else None
 
 -- a byte, and the bytes behind it
 abbrev pub onto : Option (List ℕ) → ℕ → Option (List ℕ)
@@ -15,9 +15,9 @@ onto behind byte = option_map (λ bytes. byte ∷ bytes) behind
 
 -- The bytes that a text stands for: `%` (37) and two hexadecimal digits stand for a byte, and another `%` can't be
 -- read. Every other byte stands for itself.
-abbrev pub decoded : List ℕ → Option (List ℕ)
-decoded [] = Some []
-decoded (a ∷ []) = cond (a == 37) None (Some (a ∷ []))
-decoded (a ∷ b ∷ []) = cond (a == 37) None (onto (decoded (b ∷ [])) a)
-decoded (a ∷ b ∷ c ∷ rest) =
-    cond (a == 37) (option_and_then (onto (decoded rest)) (byte_of b c)) (onto (decoded (b ∷ c ∷ rest)) a)
+abbrev pub decoded_part : List ℕ → Option (List ℕ)
+decoded_part [] = Some []
+decoded_part (a ∷ []) = if a == 37 then None else Some (a ∷ [])
+decoded_part (a ∷ b ∷ []) = if a == 37 then None else onto (decoded_part (b ∷ [])) a
+decoded_part (a ∷ b ∷ c ∷ rest) =
+    if a == 37 then option_and_then (onto (decoded_part rest)) (byte_of b c) else onto (decoded_part (b ∷ c ∷ rest)) a

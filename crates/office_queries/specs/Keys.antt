@@ -1,5 +1,5 @@
 -- The keys by which reports are asked for.
-use Rattle.std.specs.Prelude.{ℕ, cond, ◌==◌, List, [], ◌∷◌, length, codes, Option, None, Some, option_map, string_bytes, Result, Ok, Err}
+use Rattle.std.specs.Prelude.{ℕ, ◌==◌, List, [], ◌∷◌, length, codes, Option, None, Some, option_map, string_bytes, Result, Ok, Err, if◌then◌else◌}
 use Rattle.std.specs.Option.{option_and_then}
 use Rattle.std.specs.List.{slice_split}
 use Rattle.std.specs.Str.{bytes_eq}
@@ -10,7 +10,7 @@ use Rattle.edi_messages.specs.Texts.{is_name}
 use Rattle.edi_syntax.specs.Numbers.{number_of, as_control_number}
 use Rattle.terminal_core.specs.declared.side.Side.{Side}
 use Rattle.terminal_core.specs.declared.side.Side.TheVariants.{Load, Discharge}
-use Rattle.office_queries.specs.Escapes.{decoded}
+use Rattle.office_queries.specs.Escapes.{decoded_part}
 use Rattle.office_queries.specs.declared.query.Query.{Query}
 use Rattle.office_queries.specs.declared.query.Query.TheVariants as query
 use Rattle.office_queries.specs.declared.report_kind.ReportKind.{ReportKind}
@@ -23,13 +23,13 @@ pub data Asked : Type 0 where
   list : List ℕ → List ℕ → Side → Asked
   ticket reply : List ℕ → ℕ → Asked
 
-abbrev pub asked : Query → Asked
-asked query.Yard = yard
-asked query.YardTable = yard_table
-asked (query.Visits number) = visits number
-asked (query.List call side) = list (string_bytes call.vessel) (string_bytes call.voyage) side
-asked (query.Ticket partner number) = ticket (string_bytes partner) number
-asked (query.Reply partner number) = reply (string_bytes partner) number
+abbrev pub query_asked : Query → Asked
+query_asked query.Yard = yard
+query_asked query.YardTable = yard_table
+query_asked (query.Visits number) = visits number
+query_asked (query.List call side) = list (string_bytes call.vessel) (string_bytes call.voyage) side
+query_asked (query.Ticket partner number) = ticket (string_bytes partner) number
+query_asked (query.Reply partner number) = reply (string_bytes partner) number
 
 -- ---- the parts of a key
 
@@ -55,11 +55,11 @@ three (a ∷ b ∷ []) = None
 three (a ∷ b ∷ c ∷ []) = Some (a, b, c)
 three (a ∷ b ∷ c ∷ d ∷ others) = None
 
--- ---- what a part names, where it can be read
+-- ---- what a part names, if it can be read
 
 -- a vessel, a voyage or a partner: 1 to 35 bytes from space to tilde
 abbrev pub name_of : List ℕ → Option (List ℕ)
-name_of bytes = cond (is_name bytes) (Some bytes) None
+name_of bytes = if is_name bytes then Some bytes else None
 
 -- a control reference from 1 to 999,999,999, in 1 to 14 digits
 abbrev pub control_number_of : List ℕ → Option ℕ
@@ -67,29 +67,31 @@ control_number_of bytes = option_and_then as_control_number (number_of 14 bytes)
 
 abbrev pub side_of : List ℕ → Option Side
 side_of bytes =
-    cond (bytes_eq bytes (codes "load")) (Some Load) (cond (bytes_eq bytes (codes "discharge")) (Some Discharge) None)
+    if bytes_eq bytes (codes "load") then Some Load
+    else if bytes_eq bytes (codes "discharge") then Some Discharge
+    else None
 
 abbrev pub if_ok : Result BoxNumber NumberFault → Option BoxNumber
 if_ok (Ok number) = Some number
 if_ok (Err fault) = None
 
 abbrev pub name_in : List ℕ → Option (List ℕ)
-name_in part = option_and_then name_of (decoded part)
+name_in part = option_and_then name_of (decoded_part part)
 
 abbrev pub number_in : List ℕ → Option ℕ
-number_in part = option_and_then control_number_of (decoded part)
+number_in part = option_and_then control_number_of (decoded_part part)
 
 abbrev pub side_in : List ℕ → Option Side
-side_in part = option_and_then side_of (decoded part)
+side_in part = option_and_then side_of (decoded_part part)
 
 abbrev pub box_in : List ℕ → Option BoxNumber
-box_in part = option_and_then (λ bytes. if_ok (box_of bytes)) (decoded part)
+box_in part = option_and_then (λ bytes. if_ok (box_of bytes)) (decoded_part part)
 
 -- ---- what a key asks for
 
 -- the empty key
 abbrev pub if_empty : List ℕ → Asked → Option Asked
-if_empty key what = cond (length key == 0) (Some what) None
+if_empty key what = if length key == 0 then Some what else None
 
 -- VESSEL/VOYAGE/SIDE
 abbrev pub list_in : List ℕ × List ℕ × List ℕ → Option Asked

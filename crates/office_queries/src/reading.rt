@@ -1,5 +1,5 @@
 ghost use Rattle.std.specs.Prelude.{◌≡◌, IfOk, option_map, string_bytes};
-ghost use Rattle.office_queries.specs.Keys.{asked, if_empty, interchange_of, list_in, query_of};
+ghost use Rattle.office_queries.specs.Keys.{query_asked, if_empty, interchange_of, list_in, query_of};
 ghost use Rattle.office_queries.specs.declared.report_kind.ReportKind.TheVariants as kind;
 
 use crate::parts::{one_part, three_parts, two_parts};
@@ -13,7 +13,7 @@ use std::alloc::{AllocError, Global};
 /// `PARTNER/NUMBER` for a ticket and for a reply. In each part `%` and two hexadecimal digits stand for a byte. None:
 /// the key can't be read, or nothing can be found under it.
 pub fn read_query(alloc: Global, kind: ReportKind, key: &str) -> Result<Option<Query>, AllocError>
-    ensures { IfOk result (λ query. option_map asked query ≡ query_of kind key.now) }
+    ensures { IfOk result (λ query. option_map query_asked query ≡ query_of kind key.now) }
 {
     match kind {
         ReportKind::Yard => Ok(if_empty(key, Query::Yard)),
@@ -35,13 +35,13 @@ pub fn read_query(alloc: Global, kind: ReportKind, key: &str) -> Result<Option<Q
 }
 
 fn if_empty(key: &str, query: Query) -> Option<Query>
-    ensures { option_map asked result ≡ if_empty key.now (asked query) }
+    ensures { option_map query_asked result ≡ if_empty key.now (query_asked query) }
 {
     if key.is_empty() { Some(query) } else { None }
 }
 
 fn read_visits(alloc: Global, key: &str) -> Result<Option<Query>, AllocError>
-    ensures { IfOk result (λ query. option_map asked query ≡ query_of kind.Visits key.now) }
+    ensures { IfOk result (λ query. option_map query_asked query ≡ query_of kind.Visits key.now) }
 {
     let Some(part) = one_part(key) else {
         return Ok(None);
@@ -58,7 +58,7 @@ fn read_list(
     voyage: &str,
     side: &str,
 ) -> Result<Option<Query>, AllocError>
-    ensures { IfOk result (λ query. option_map asked query ≡ list_in (vessel.now, voyage.now, side.now)) }
+    ensures { IfOk result (λ query. option_map query_asked query ≡ list_in (vessel.now, voyage.now, side.now)) }
 {
     let Some(vessel) = read_name(alloc, vessel)? else {
         return Ok(None);

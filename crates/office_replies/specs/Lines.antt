@@ -13,22 +13,22 @@ use Rattle.office_replies.specs.Members.{done_members, settled_members, refused_
 use Rattle.office_replies.specs.declared.line_report.LineReport.{LineReport}
 
 -- bytes as text, each as the character of its number: ASCII stays as it is
-abbrev pub written : List ℕ → List ℕ
-written bytes = encode_utf8_all bytes
+abbrev pub written_line : List ℕ → List ℕ
+written_line bytes = encode_utf8_all bytes
 
 abbrev pub refusal_members : Option (List ℕ) → ℕ → Reason → Members
-refusal_members name line (Buried blocker) = buried_members name line (written blocker)
+refusal_members name line (Buried blocker) = buried_members name line (written_line blocker)
 refusal_members name line reason = refused_members name line (reason_name reason)
 
 abbrev pub outcome_members : Option (List ℕ) → ℕ → Outcome → Members
-outcome_members name line (Done slot) = done_members name line (written (slot_text slot))
+outcome_members name line (Done slot) = done_members name line (written_line (slot_text slot))
 outcome_members name line Gone = settled_members name line (codes "gone")
 outcome_members name line Listed = settled_members name line (codes "listed")
 outcome_members name line (Refused reason) = refusal_members name line reason
 
 -- a line, counted from 1 in its message
 abbrev pub line_data : ℕ → LineReport → Data
-line_data line report = object (outcome_members (option_map written report.number) line report.outcome)
+line_data line report = object (outcome_members (option_map written_line report.number) line report.outcome)
 
 -- lines, counted on from a number
 abbrev pub lines_from : ℕ → List LineReport → List Data

@@ -12,7 +12,7 @@ text_member key text rest = member key (string text) rest
 abbrev pub name_text : Option (Bor (String Global)) → Option (List ℕ)
 name_text name = option_map (λ n. string_bytes n.now) name
 
--- the container, where its number is known, and then the line's number
+-- the container, if its number is known, and then the line's number
 abbrev pub box_and_line : Option (List ℕ) → ℕ → Members → Members
 box_and_line None line rest = member (codes "line") (number (unsigned line)) rest
 box_and_line (Some name) line rest =

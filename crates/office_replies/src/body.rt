@@ -20,7 +20,7 @@ pub fn answered(
     ensures bytes { IfOk result (λ s.
         string_bytes s ≡ answer_text answer.now number partner.now reply.now) }
 
-    // Where the reply is the JSON of a value, the whole is the JSON of the answer.
+    // If the reply is the JSON of a value, the whole is the JSON of the answer.
     ensures json { IfOk result (λ s. (d : Data) → reply.now ≡ compact_text d →
         string_bytes s ≡ compact_text (answer_data answer.now number partner.now d)) }
 {

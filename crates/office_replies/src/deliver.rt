@@ -7,7 +7,7 @@ use std::alloc::Global;
 
 /// What interchanges are delivered to.
 pub trait Deliver: Drop {
-    /// What it keeps its records in has told the truth so far. Where it has not, nothing is said of the answers, and it
+    /// What it keeps its records in has told the truth so far. If it has not, nothing is said of the answers, and it
     /// stays so.
     ghost clean: { Self → Type 0 };
 

@@ -5,7 +5,7 @@ ghost use Rattle.serde_json.specs.Data.{object};
 ghost use Rattle.office_replies.specs.Members.{name_text, done_members, settled_members};
 ghost use Rattle.office_replies.specs.Members.{refused_members, buried_members};
 ghost use Rattle.office_replies.specs.Names.{reason_name};
-ghost use Rattle.office_replies.specs.Lines.{line_data, refusal_members, written};
+ghost use Rattle.office_replies.specs.Lines.{line_data, refusal_members, written_line};
 
 use crate::names::reason_name;
 use crate::text::text_of;
@@ -58,7 +58,7 @@ fn refusal(
 }
 
 fn number_text(alloc: Global, number: Option<BoxNumber>) -> Result<Option<String>, AllocError>
-    ensures { IfOk result (λ text. option_map string_bytes text ≡ option_map written number) }
+    ensures { IfOk result (λ text. option_map string_bytes text ≡ option_map written_line number) }
 {
     match number {
         Some(number) => Ok(Some(text_of(alloc, &number.text())?)),

@@ -2,7 +2,7 @@ use crate::fault::Fault;
 use crate::refusal::refusal_body;
 use crate::worst::Worst;
 
-/// The answer to a delivery, with its body where that is built for it.
+/// The answer to a delivery, with its body if that is built for it.
 #[derive(Debug, Drop)]
 pub enum Response {
     /// It was taken now; the body has the reply that is kept for it.

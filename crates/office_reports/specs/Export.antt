@@ -38,8 +38,8 @@ pub record IsYardExport (state : TerminalState) (text : List ℕ) : Type 0 where
 -- ---- the writer
 
 -- what a writer over memory has been given
-abbrev pub written : Writer (Vec ℕ Global) → List ℕ
-written writer = (writer_under writer).items ++ writer_pending writer
+abbrev pub written_rows : Writer (Vec ℕ Global) → List ℕ
+written_rows writer = (writer_under writer).items ++ writer_pending writer
 
 -- a writer with the crate's defaults, at the start of a record
 pub record IsBetweenRecords (writer : Writer (Vec ℕ Global)) : Type 0 where
@@ -50,4 +50,4 @@ pub record IsBetweenRecords (writer : Writer (Vec ℕ Global)) : Type 0 where
 -- it has been given these bytes, and stands at the start of a record
 pub record HasGiven (writer : Writer (Vec ℕ Global)) (bytes : List ℕ) : Type 0 where
   pub between : IsBetweenRecords writer
-  pub text : written writer ≡ bytes
+  pub text : written_rows writer ≡ bytes

@@ -31,7 +31,7 @@ abbrev pub state_name : LineState → List ℕ
 state_name Done = codes "DONE"
 state_name Pending = codes "OPEN"
 
--- the port, where it is not empty
+-- the port, if it is not empty
 abbrev pub port_words : List ℕ → List (List ℕ)
 port_words [] = []
 port_words (b ∷ bs) = (b ∷ bs) ∷ []
@@ -56,7 +56,7 @@ list_end list = line
 abbrev pub list_text : CallContent → Side → List (List ℕ × LineContent) → List ℕ
 list_text call side list = list_head call side ++ flat_map list_line list ++ list_end list
 
--- nothing where there is no line
+-- nothing if there is no line
 abbrev pub list_found : CallContent → Side → List (List ℕ × LineContent) → Option (List ℕ)
 list_found call side [] = None
 list_found call side (entry ∷ list) = Some (list_text call side (entry ∷ list))

@@ -18,7 +18,7 @@ abbrev pub way_name : Way → List ℕ
 way_name Gate = codes "GATE"
 way_name Ship = codes "SHIP"
 
--- the code of the partner with a number, from 1, and nothing where none has it
+-- the code of the partner with a number, from 1, and nothing if none has it
 abbrev pub code_of : SetupContent → ℕ → List ℕ
 code_of setup zero = []
 code_of setup (suc place) = slice_index_or (map (λ partner. partner.0) setup.partners) place []
@@ -35,7 +35,7 @@ arrival_words setup visit =
     ∷ phrase (passage_words setup visit.arrival.way visit.arrival.source visit.arrival.moment)
     ∷ slot_name visit.arrival.slot ∷ []
 
--- BOOKING B, where there is one
+-- BOOKING B, if there is one
 abbrev pub booking_words : List ℕ → List (List ℕ)
 booking_words [] = []
 booking_words (b ∷ bs) = codes "BOOKING" ∷ (b ∷ bs) ∷ []

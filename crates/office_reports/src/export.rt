@@ -1,7 +1,7 @@
 ghost use Rattle.std.specs.Prelude.{◌≡◌, ◌++◌, IfOk, OnOk, string_bytes};
 ghost use Rattle.std.specs.List.{flat_map};
 ghost use Rattle.std.specs.Map.{values_of};
-ghost use Rattle.office_reports.specs.Export.{IsYardExport, IsBetweenRecords, HasGiven, written};
+ghost use Rattle.office_reports.specs.Export.{IsYardExport, IsBetweenRecords, HasGiven, written_rows};
 ghost use Rattle.office_reports.specs.Export.{header_record, export_text, standing_record, load_field};
 
 use crate::standing::Standing;
@@ -44,7 +44,7 @@ fn write_standings(
 ) -> Result<(), Error>
     requires { IsBetweenRecords writer.old }
     ensures { OnOk result
-        (HasGiven writer.new (written writer.old ++ flat_map standing_record (values_of yard.now.entries))) }
+        (HasGiven writer.new (written_rows writer.old ++ flat_map standing_record (values_of yard.now.entries))) }
 {
     for (_, standing) in yard {
         write_standing(writer, standing)?;
@@ -54,7 +54,7 @@ fn write_standings(
 
 fn write_standing(writer: &mut Writer<Vec<u8>>, standing: &Standing) -> Result<(), Error>
     requires { IsBetweenRecords writer.old }
-    ensures { OnOk result (HasGiven writer.new (written writer.old ++ standing_record standing.now)) }
+    ensures { OnOk result (HasGiven writer.new (written_rows writer.old ++ standing_record standing.now)) }
 {
     let slot = standing.slot.text();
     let number = standing.container.text();

@@ -16,8 +16,8 @@ use std::collections::BTreeMap;
 use terminal_core::{LineState, Listing, Side, Terminal};
 
 /// A call's list, by the containers' numbers: `LOAD LIST VESSEL VOYAGE` or `DISCHARGE LIST VESSEL VOYAGE`, a line
-/// `BOX OPEN` or `BOX DONE` for each with the port behind it where there is one, and `a OPEN b DONE`. Each line ends
-/// with LF. `None` where the list has no line.
+/// `BOX OPEN` or `BOX DONE` for each with the port behind it if there is one, and `a OPEN b DONE`. Each line ends
+/// with LF. `None` if the list has no line.
 pub fn list_report(
     alloc: Global,
     terminal: &Terminal,

@@ -11,7 +11,7 @@ use terminal_core::{Source, Terminal, Visit};
 
 /// What an interchange that was taken did: `TICKET PARTNER NUMBER`, by visit number a line `IN BOX SIZE FULL SLOT
 /// MOMENT` for each visit that it opened, then a line `OUT BOX SIZE FULL MOMENT` for each that it closed, and `NOTHING`
-/// where it did neither. Each line ends with LF. `code` is the code of the partner, who is counted from 1.
+/// if it did neither. Each line ends with LF. `code` is the code of the partner, who is counted from 1.
 pub fn ticket(
     alloc: Global,
     terminal: &Terminal,
@@ -116,7 +116,7 @@ fn push_exits(
     Ok(())
 }
 
-/// Nothing where the container did not leave by this interchange.
+/// Nothing if the container did not leave by this interchange.
 fn push_exit(
     alloc: Global,
     text: &mut String,

@@ -15,9 +15,9 @@ use std::alloc::{AllocError, Global};
 use terminal_core::{Departure, Source, Terminal, Visit, Way};
 
 /// The visits of a container, by their numbers: `VISITS BOX`, and for each a line
-/// `N SIZE FULL IN GATE PARTNER NUMBER MOMENT SLOT` with the slot of entry, then ` BOOKING B` where it has one, then
+/// `N SIZE FULL IN GATE PARTNER NUMBER MOMENT SLOT` with the slot of entry, then ` BOOKING B` if it has one, then
 /// ` OUT -` or ` OUT GATE PARTNER NUMBER MOMENT DAYS d`, d being the days from the date of entry to that of exit. Each
-/// line ends with LF. `None` where it has no visit.
+/// line ends with LF. `None` if it has no visit.
 pub fn visit_report(
     alloc: Global,
     setup: &Setup,
@@ -170,7 +170,7 @@ fn way_name(way: Way) -> &'static str
     }
 }
 
-/// The code of a partner, and nothing where there is none with this number.
+/// The code of a partner, and nothing if there is none with this number.
 fn code_of(setup: &Setup, partner: u16) -> &str
     ensures { result.now ≡ code_of (setup_content setup.now) partner }
 {

@@ -1,5 +1,5 @@
 -- What the calls that write make of the rows.
-use Rattle.std.specs.Prelude.{ℕ, ◌+◌, ◌==◌, ◌&&◌, not, cond, Bool, List, [], ◌∷◌, ◌++◌, map, filter}
+use Rattle.std.specs.Prelude.{ℕ, ◌+◌, ◌==◌, ◌&&◌, not, Bool, List, [], ◌∷◌, ◌++◌, map, filter, if◌then◌else◌}
 use Rattle.std.specs.Str.{bytes_eq}
 use Rattle.box6346.specs.declared.box_number.BoxNumber.{BoxNumber}
 use Rattle.edi_messages.specs.declared.partner_kind.PartnerKind.{PartnerKind}
@@ -29,13 +29,15 @@ abbrev pub with_reply : ℕ → ℕ → List ℕ → Rows → Rows
 with_reply partner number reply rows =
     record rows {
       interchanges = map
-          (λ (i : Interchange). cond (is_pair partner number i) (record i { reply = reply }) i) rows.interchanges;
+          (λ (i : Interchange). if is_pair partner number i then record i { reply = reply } else i) rows.interchanges;
     }
 
 -- the next number of the partner is this one
 abbrev pub with_next : ℕ → ℕ → Rows → Rows
 with_next partner next rows =
-    record rows { partners = map (λ (p : Partner). cond (p.id == partner) (record p { next = next }) p) rows.partners }
+    record rows {
+      partners = map (λ (p : Partner). if p.id == partner then record p { next = next } else p) rows.partners;
+    }
 
 -- the interchange is taken: it has its reply, and the partner's next number follows it
 abbrev pub with_taken : ℕ → ℕ → List ℕ → Rows → Rows
@@ -68,7 +70,7 @@ with_change (placed_at container visit slot) rows =
 with_change (moved_to container slot) rows =
     record rows {
       places = map
-          (λ (p : PlaceContent). cond (stands_for container p) (record p { slot = slot }) p) rows.places;
+          (λ (p : PlaceContent). if stands_for container p then record p { slot = slot } else p) rows.places;
     }
 with_change (removed_from container) rows =
     record rows { places = filter (λ p. not (stands_for container p)) rows.places }
@@ -80,5 +82,5 @@ with_change (listed_on call side container port) rows =
 with_change (line_done call side container) rows =
     record rows {
       lines = map
-          (λ (l : ListingContent). cond (is_line call side container l) (record l { state = Done }) l) rows.lines;
+          (λ (l : ListingContent). if is_line call side container l then record l { state = Done } else l) rows.lines;
     }

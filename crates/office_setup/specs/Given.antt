@@ -1,22 +1,13 @@
 -- Which set-ups the set-up files can give.
-use Rattle.std.specs.Prelude.{◌≡◌, ℕ, ◌≤◌, Bool, ◌&&◌, ◌||◌, ◌==◌, nat_le, List, length, slice_get, Some, None, All, IsTrue}
-use Rattle.std.specs.Char.{is_ascii_uppercase, is_ascii_lowercase, is_ascii_digit}
-use Rattle.std.specs.List.{list_all}
+use Rattle.std.specs.Prelude.{◌≡◌, ℕ, ◌≤◌, List, length, slice_get, Some, None, All, IsTrue}
 use Rattle.std.specs.List.Sorted.{IsNonDecreasingBy}
 use Rattle.edi_messages.specs.CodeText.{table_fault}
 use Rattle.edi_messages.specs.Codes.{table_texts}
 use Rattle.edi_messages.specs.declared.partner_kind.PartnerKind.{PartnerKind}
 use Rattle.yard_core.specs.declared.block.Block.{Block}
 use Rattle.yard_core.specs.Plan.{IsPlan}
+pub use Rattle.office_setup.specs.PartyCodes.{is_party_byte, is_party_code}
 use Rattle.office_setup.specs.Setups.{SetupContent}
-
--- a letter, a digit, a hyphen, a dot or an underscore
-abbrev pub is_party_byte : ℕ → Bool
-is_party_byte c = is_ascii_uppercase c || is_ascii_lowercase c || is_ascii_digit c || c == 45 || c == 46 || c == 95
-
--- the code of a terminal or of a partner: 1 to 35 of them
-abbrev pub is_party_code : List ℕ → Bool
-is_party_code code = nat_le 1 (length code) && nat_le (length code) 35 && list_all is_party_byte code
 
 -- no two partners have one code
 abbrev pub AreDistinct : List (List ℕ × PartnerKind) → Type 0

@@ -1,3 +1,5 @@
 pub mod Parties
+pub mod PartyCodes
+pub mod Accounts
 pub mod Setups
 pub mod Given

@@ -1,8 +1,6 @@
 -- The terminal and its partners.
-use Rattle.std.specs.Prelude.{ℕ, ◌+◌, List, [], ◌∷◌, map, cond, string_bytes, Option, None, Some}
-use Rattle.std.specs.Str.{bytes_eq}
-use Rattle.edi_messages.specs.declared.partner_kind.PartnerKind.{PartnerKind}
-use Rattle.office_setup.specs.declared.account.Account.{Account}
+use Rattle.std.specs.Prelude.{ℕ, List, string_bytes}
+pub use Rattle.office_setup.specs.Accounts.{partner_codes, partner_kinds, partner_from}
 use Rattle.office_setup.specs.declared.setup.Setup.{Setup}
 
 -- the terminal's own code, and those of the partners that have an account
@@ -10,20 +8,6 @@ pub record Parties : Type 0 where
   pub terminal : List ℕ
   pub partners : List (List ℕ)
 
--- the codes of accounts
-abbrev pub partner_codes : List Account → List (List ℕ)
-partner_codes accounts = map (λ account. string_bytes account.code) accounts
-
--- what each of them is
-abbrev pub partner_kinds : List Account → List PartnerKind
-partner_kinds accounts = map (λ account. account.kind) accounts
-
 -- those that a set-up names
 abbrev pub parties_of : Setup → Parties
 parties_of setup = record { terminal = string_bytes setup.terminal; partners = partner_codes setup.partners.items }
-
--- the number of the first partner with a code, where partners are counted from a number on
-abbrev pub partner_from : ℕ → List ℕ → List (List ℕ) → Option ℕ
-partner_from number code [] = None
-partner_from number code (partner ∷ partners) =
-    cond (bytes_eq code partner) (Some number) (partner_from (number + 1) code partners)

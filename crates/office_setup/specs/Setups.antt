@@ -1,14 +1,10 @@
 -- What a set-up says, whatever memory holds it.
-use Rattle.std.specs.Prelude.{ℕ, List, map, string_bytes}
+use Rattle.std.specs.Prelude.{ℕ, List, string_bytes}
 use Rattle.edi_messages.specs.declared.code_table.CodeTable.{CodeTable}
 use Rattle.edi_messages.specs.declared.partner_kind.PartnerKind.{PartnerKind}
 use Rattle.yard_core.specs.declared.block.Block.{Block}
-use Rattle.office_setup.specs.declared.account.Account.{Account}
+pub use Rattle.office_setup.specs.Accounts.{account_contents}
 use Rattle.office_setup.specs.declared.setup.Setup.{Setup}
-
--- the code of a partner, and what it is
-abbrev pub account_contents : List Account → List (List ℕ × PartnerKind)
-account_contents accounts = map (λ account. (string_bytes account.code, account.kind)) accounts
 
 -- the terminal's code, the codes of document names, the partners, the blocks, and how many visits may be recorded
 pub record SetupContent : Type 0 where

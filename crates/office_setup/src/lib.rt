@@ -2,11 +2,13 @@
 #![tactic(auto)]
 
 mod account;
+mod accounts;
 mod limits;
 mod party_codes;
 mod setup;
 
 pub use account::Account;
+pub use accounts::Accounts;
 pub use limits::{MOST_PARTNERS, MOST_VISITS};
 pub use party_codes::is_party_code;
 pub use setup::Setup;

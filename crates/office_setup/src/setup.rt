@@ -2,9 +2,8 @@ ghost use Rattle.std.specs.Prelude.{◌≡◌, ◌<◌, ◌≤◌, ◌+◌, IfOk
 ghost use Rattle.std.specs.Option.{option_map};
 ghost use Rattle.edi_segments.specs.Segment.{value};
 ghost use Rattle.office_setup.specs.Parties.{partner_from, partner_codes};
-ghost use Rattle.office_setup.specs.Setups.{account_contents};
 
-use crate::account::Account;
+use crate::accounts::Accounts;
 use edi_messages::CodeTable;
 use edi_segments::Component;
 use std::alloc::{AllocError, Global};
@@ -18,7 +17,7 @@ pub struct Setup {
     /// The codes of document names (1001).
     pub codes: CodeTable,
     /// The partners, numbered from 1.
-    pub partners: Vec<Account>,
+    pub partners: Accounts,
     /// The blocks of the yard.
     pub blocks: Vec<Block>,
     /// How many visits the terminal may record.
@@ -33,7 +32,7 @@ impl Setup {
         ensures { IfOk result (λ copy. setup_content copy ≡ setup_content self.now) }
     {
         let terminal = String::from_str(alloc, self.terminal.as_str())?;
-        let partners = copies(alloc, &self.partners)?;
+        let partners = self.partners.copy(alloc)?;
         let blocks = self.blocks.as_slice().to_vec(alloc)?;
         Ok(Setup {
             terminal,
@@ -50,14 +49,7 @@ impl Setup {
         ensures number { option_map (λ index. index + 1) result
             ≡ partner_from 1 (value code.entry) (partner_codes self.now.partners.items) }
     {
-        let mut index = 0;
-        for account in &self.partners {
-            if code.equals(account.code.as_bytes()) {
-                return Some(index);
-            }
-            index += 1;
-        }
-        None
+        self.partners.index_of(code)
     }
 
     /// The number of the first partner with a code, from 1.
@@ -65,26 +57,9 @@ impl Setup {
         requires { length self.now.partners.items ≤ 999 }
         ensures { result ≡ partner_from 1 code.now (partner_codes self.now.partners.items) }
     {
-        let mut partner = 1;
-        for account in &self.partners {
-            if code == account.code.as_str() {
-                return Some(partner);
-            }
-            partner += 1;
+        match self.partners.index_called(code) {
+            Some(index) => Some(index as u16 + 1),
+            None => None,
         }
-        None
     }
-}
-
-/// Equal accounts.
-fn copies(alloc: Global, accounts: &[Account]) -> Result<Vec<Account>, AllocError>
-    ensures { IfOk result (λ copies. account_contents copies.items ≡ account_contents accounts.now) }
-{
-    let mut copies = Vec::new(alloc);
-    for account in accounts {
-        let code = String::from_str(alloc, account.code.as_str())?;
-        let kind = account.kind;
-        copies.push(Account { code, kind })?;
-    }
-    Ok(copies)
 }

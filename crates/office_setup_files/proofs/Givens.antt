@@ -38,7 +38,7 @@ each_partner entry partner said = by_code (is_party_code entry.0) (kind_said ent
       let name : entry.0 ≡ partner.0 = ap (λ (p : List ℕ × PartnerKind). p.0) same in
       (ap is_party_code (sym name) ∙ is, name)
 
-all_coded : (entries : List (List ℕ × List ℕ)) (partners : List (List ℕ × PartnerKind)) → map partner_said entries ≡ map Some partners → All (λ (partner : List ℕ × PartnerKind). IsTrue (is_party_code partner.0)) partners
+pub all_coded : (entries : List (List ℕ × List ℕ)) (partners : List (List ℕ × PartnerKind)) → map partner_said entries ≡ map Some partners → All (λ (partner : List ℕ × PartnerKind). IsTrue (is_party_code partner.0)) partners
 all_coded [] [] said = All-nil _
 all_coded [] (p ∷ partners) said = absurd (cc)
 all_coded (e ∷ entries) [] said = absurd (cc)

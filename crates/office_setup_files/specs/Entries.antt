@@ -1,5 +1,5 @@
 -- What the records of the set-up files hold.
-use Rattle.std.specs.Prelude.{◌≡◌, ℕ, Bool, true, false, cond, ◌&&◌, ◌||◌, ◌==◌, nat_le, List, [], ◌∷◌, length, Option, None, Some, codes, All}
+use Rattle.std.specs.Prelude.{◌≡◌, ℕ, Bool, true, false, ◌&&◌, ◌||◌, ◌==◌, nat_le, List, [], ◌∷◌, length, Option, None, Some, codes, All, if◌then◌else◌}
 use Rattle.std.specs.Option.{option_and_then, option_map_or}
 use Rattle.std.specs.List.{filter_map, list_all}
 use Rattle.std.specs.Char.{is_ascii_digit}
@@ -25,7 +25,7 @@ Named = Text × Text
 abbrev pub AreRows : Text → List Record → Type 0
 AreRows file rows = AreRecords default_config state.StartRecord (strip_bom file) rows
 
--- a field of a record, empty where there is none
+-- a field of a record, empty if there is none
 abbrev pub field : ℕ → Record → Text
 field index row = option_map_or (λ (text : Text). text) (field_at row index) []
 
@@ -77,7 +77,7 @@ entry_content entry = (entry.name.now, entry.value.now)
 
 -- those of a record whose first field is this word
 abbrev pub entry_of : Text → Record → Option (Named)
-entry_of what row = cond (bytes_eq (field 0 row) what) (Some (field 1 row, field 2 row)) None
+entry_of what row = if bytes_eq (field 0 row) what then Some (field 1 row, field 2 row) else None
 
 -- all whose first field is this word, in the order of the file; a header begins with none of the four
 abbrev pub section : Text → List Record → List Named
@@ -91,8 +91,8 @@ is_number text = nat_le 1 (length text) && nat_le (length text) 9 && list_all is
 
 -- and the number that they write
 abbrev pub number_said : Text → Option ℕ
-number_said text = cond (is_number text) (Some (digits_value 10 text)) None
+number_said text = if is_number text then Some (digits_value 10 text) else None
 
--- the same, where it isn't above the greatest
+-- the same, if it isn't above the greatest
 abbrev pub count_said : ℕ → Text → Option ℕ
-count_said greatest text = option_and_then (λ (n : ℕ). cond (nat_le n greatest) (Some n) None) (number_said text)
+count_said greatest text = option_and_then (λ (n : ℕ). if nat_le n greatest then Some n else None) (number_said text)

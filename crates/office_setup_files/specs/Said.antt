@@ -1,5 +1,5 @@
 -- What a terminal's files say of its set-up, and why they may say none.
-use Rattle.std.specs.Prelude.{◌≡◌, ℕ, Bool, true, cond, not, ◌&&◌, ◌||◌, nat_le, List, [], ◌∷◌, length, map, drop, Option, None, Some, codes, ◌≤◌}
+use Rattle.std.specs.Prelude.{◌≡◌, ℕ, Bool, true, not, ◌&&◌, ◌||◌, nat_le, List, [], ◌∷◌, length, map, drop, Option, None, Some, codes, ◌≤◌, if◌then◌else◌}
 use Rattle.std.specs.Option.{option_map, option_map_or, option_and_then}
 use Rattle.std.specs.List.{find, list_all, list_any}
 use Rattle.std.specs.List.Sorted.{IsNonDecreasingBy, IsPermutation}
@@ -28,20 +28,22 @@ names_of entries = map (λ (entry : Named). entry.0) entries
 
 abbrev pub terminal_said : List Named → Option (Text)
 terminal_said [] = None
-terminal_said (entry ∷ []) = cond (is_party_code entry.0 && bytes_eq entry.1 []) (Some entry.0) None
+terminal_said (entry ∷ []) = if is_party_code entry.0 && bytes_eq entry.1 [] then Some entry.0 else None
 terminal_said (entry ∷ second ∷ others) = None
 
 -- ---- the partners: 1 to 999, each with a code of its own and a kind
 
 abbrev pub kind_said : Text → Option PartnerKind
 kind_said word =
-    cond (bytes_eq word (codes "gate")) (Some Gate)
-    (cond (bytes_eq word (codes "line")) (Some Line)
-    (cond (bytes_eq word (codes "quay")) (Some Quay) (cond (bytes_eq word (codes "yard")) (Some Yard) None)))
+    if bytes_eq word (codes "gate") then Some Gate
+    else if bytes_eq word (codes "line") then Some Line
+    else if bytes_eq word (codes "quay") then Some Quay else if bytes_eq word (codes "yard") then Some Yard
+    else None
 
 abbrev pub partner_said : Named → Option (Text × PartnerKind)
-partner_said entry = cond (is_party_code entry.0)
-    (option_map (λ (kind : PartnerKind). (entry.0, kind)) (kind_said entry.1)) None
+partner_said entry =
+    if is_party_code entry.0 then option_map (λ (kind : PartnerKind). (entry.0, kind)) (kind_said entry.1)
+    else None
 
 pub record ArePartners (entries : List Named) (partners : List (Text × PartnerKind)) : Type 0 where
   pub counted : (1 ≤ length entries) × (length entries ≤ 999)
@@ -85,11 +87,11 @@ pub record AreCodes (entries : List Named) : Type 0 where
 
 abbrev pub limit_in : Option ℕ → Option ℕ
 limit_in None = None
-limit_in (Some number) = cond (nat_le 1 number) (Some number) None
+limit_in (Some number) = if nat_le 1 number then Some number else None
 
 abbrev pub limit_said : List Named → Option ℕ
 limit_said [] = Some 999999999
-limit_said (entry ∷ []) = cond (bytes_eq entry.0 (codes "visits")) (limit_in (number_said entry.1)) None
+limit_said (entry ∷ []) = if bytes_eq entry.0 (codes "visits") then limit_in (number_said entry.1) else None
 limit_said (entry ∷ second ∷ others) = None
 
 -- ---- the blocks: a letter and three numbers, none above the most that a block may have

@@ -20,7 +20,7 @@ use crate::setup_fault::SetupFault;
 use crate::terminal::{limit_of, terminal_of};
 use csv::{ByteRecord, StringRecord};
 use edi_messages::CodeTable;
-use office_setup::{Account, Setup};
+use office_setup::{Accounts, Setup};
 use std::alloc::{AllocError, Global};
 use yard_core::Block;
 
@@ -110,14 +110,17 @@ fn terminal_in(alloc: Global, rows: &[StringRecord]) -> Result<Option<String>, A
     }
 }
 
-fn partners_in(alloc: Global, rows: &[StringRecord]) -> Result<Option<Vec<Account>>, AllocError>
+fn partners_in(alloc: Global, rows: &[StringRecord]) -> Result<Option<Accounts>, AllocError>
     ensures { IfOk result (λ answer. MatchOption answer
         (AreNoPartners (section (codes "partner") (map fields_of rows.now)))
         (λ accounts. ArePartners (section (codes "partner") (map fields_of rows.now))
         (account_contents accounts.items))) }
 {
     let entries = section(alloc, rows, "partner")?;
-    partners_of(alloc, &entries)
+    match partners_of(alloc, &entries)? {
+        Some(list) => Ok(Some(Accounts::of(alloc, list)?)),
+        None => Ok(None),
+    }
 }
 
 fn codes_in(alloc: Global, rows: &[StringRecord]) -> Result<Option<CodeTable>, AllocError>

@@ -5,7 +5,7 @@ ghost use Rattle.office_setup_files.specs.Entries.{field};
 
 use csv::StringRecord;
 
-/// A field of a record, empty where there is none.
+/// A field of a record, empty if there is none.
 pub(crate) fn field(row: &StringRecord, index: usize) -> &str
     ensures { result.now ≡ field index (fields_of row.now) }
 {

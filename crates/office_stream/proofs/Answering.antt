@@ -4,7 +4,7 @@ use Rattle.office_replies.specs.declared.response.Response.{Response}
 use Rattle.office_replies.specs.declared.worst.Worst.{Worst}
 use Rattle.office_replies.specs.declared.worst.Worst.TheVariants.{Fine, Refused, NotNow}
 use Rattle.office_replies.specs.Responses.{worst_of, worse_of}
-use Rattle.office_replies.specs.Delivering.{Delivers, answered, AnswersEach, deliveries}
+use Rattle.office_replies.specs.Delivering.{Delivers, with_answered, AnswersEach, deliveries}
 use Rattle.office_stream.specs.Lines.{worst_of_all}
 use Rattle.office_stream.specs.Streams.{Answered}
 
@@ -12,12 +12,12 @@ module _ {D : Type 0} (stands : List (List ℕ) → D → Type 0) (answers : Lis
   one_more : (ds texts : List (List ℕ)) (responses : List Response) (text : List ℕ) (response : Response) → AnswersEach answers ds texts responses →
       answers (deliveries ds texts responses) text response →
       AnswersEach answers ds (texts ++ text ∷ []) (responses ++ response ∷ [])
-      × (deliveries ds (texts ++ text ∷ []) (responses ++ response ∷ []) ≡ answered (deliveries ds texts responses) text response)
+      × (deliveries ds (texts ++ text ∷ []) (responses ++ response ∷ []) ≡ with_answered (deliveries ds texts responses) text response)
   one_more ds [] [] text response each next = ((next, tt), refl)
   one_more ds [] (other ∷ responses) text response each next = absurd each
   one_more ds (other ∷ texts) [] text response each next = absurd each
   one_more ds (first ∷ texts) (answer ∷ responses) text response each next =
-      let behind = one_more (answered ds first answer) texts responses text response each.1 next in
+      let behind = one_more (with_answered ds first answer) texts responses text response each.1 next in
       ((each.0, behind.0), behind.1)
 
   pub answered_more : (ds texts : List (List ℕ)) (responses : List Response) (old new : D) (text : List ℕ) (response : Response) →
@@ -38,7 +38,7 @@ module _ {D : Type 0} (stands : List (List ℕ) → D → Type 0) (answers : Lis
   both_each ds [] more (response ∷ responses) others each then = absurd each
   both_each ds (text ∷ texts) more [] others each then = absurd each
   both_each ds (text ∷ texts) more (response ∷ responses) others each then =
-      let behind = both_each (answered ds text response) texts more responses others each.1 then in
+      let behind = both_each (with_answered ds text response) texts more responses others each.1 then in
       ((each.0, behind.0), behind.1)
 
   pub answered_both : (ds texts more : List (List ℕ)) (responses others : List Response) (old new : D) → Answered stands answers ds texts responses old →

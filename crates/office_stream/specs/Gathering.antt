@@ -7,6 +7,6 @@ use Rattle.office_stream.specs.declared.gathered.Gathered.{Gathered}
 abbrev pub held_back : {W : Type 0} → Gathered W → List ℕ
 held_back g = drop g.passed g.held.items
 
--- the bytes that were passed on, where they are known, and behind them those that are held back
-abbrev pub gathered : {W : Type 0} → (W → Option (List ℕ)) → Gathered W → Option (List ℕ)
-gathered contents g = append_known (contents g.inner) (held_back g)
+-- the bytes that were passed on, if they are known, and behind them those that are held back
+abbrev pub gathered_bytes : {W : Type 0} → (W → Option (List ℕ)) → Gathered W → Option (List ℕ)
+gathered_bytes contents g = append_known (contents g.inner) (held_back g)

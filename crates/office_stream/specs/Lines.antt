@@ -45,7 +45,7 @@ end_worst Whole = Fine
 end_worst Open = Refused
 end_worst (Cut fault) = fault_worst fault
 
--- the worst of the answers, Fine where there is none
+-- the worst of the answers, Fine if there is none
 abbrev pub worst_of_all : List Response → Worst
 worst_of_all [] = Fine
 worst_of_all (response ∷ responses) = worse_of (worst_of response) (worst_of_all responses)

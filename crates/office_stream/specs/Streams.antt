@@ -24,7 +24,7 @@ IsCutBy fault rest = (front behind : List ℕ) × Faults front fault × (rest �
 abbrev pub GoesOnAnyhow : List ℕ → Type 0
 GoesOnAnyhow rest = Unit {0}
 
--- How a stream ends, by what is left over. Where memory is wanting it has no fault before an interchange would end.
+-- How a stream ends, by what is left over. If memory is wanting it has no fault before an interchange would end.
 abbrev pub EndsAs : StreamEnd → List ℕ → Type 0
 EndsAs Whole rest = rest ≡ []
 EndsAs Open rest = IsPending rest × (rest ≢ [])

@@ -8,7 +8,7 @@ use std::io::{Result, Write};
 /// How many bytes are held back at most.
 const ROOM: usize = 4096;
 
-/// A writer that holds back what is written, and passes it on at once where it is flushed or full. So a text that is
+/// A writer that holds back what is written, and passes it on at once when it is flushed or full. So a text that is
 /// written in parts goes out in one write. It takes no memory.
 #[derive(Drop)]
 pub struct Gathered<W> {
@@ -21,7 +21,7 @@ pub struct Gathered<W> {
 impl<W: Write> Gathered<W> {
     ghost use Rattle.std.specs.Prelude.{◌≡◌, ◌+◌, [], length, OnOk};
     ghost use Rattle.std.specs.Io.KnownBytes.{Appends, Keeps};
-    ghost use Rattle.office_stream.specs.Gathering.{held_back, gathered};
+    ghost use Rattle.office_stream.specs.Gathering.{held_back, gathered_bytes};
 
     /// Nothing is held back.
     pub fn new(inner: W) -> Gathered<W>
@@ -37,7 +37,7 @@ impl<W: Write> Gathered<W> {
 
     /// Writes what is held back. After an error the rest is still held back.
     fn pass_on(&mut self) -> Result<()>
-        ensures bytes { Keeps (gathered W.contents self.old) (gathered W.contents self.new) }
+        ensures bytes { Keeps (gathered_bytes W.contents self.old) (gathered_bytes W.contents self.new) }
         ensures empty { OnOk result (self.new.held.items ≡ []) }
     {
         let (count, written) = write_whole(&mut self.inner, &self.held.as_slice()[self.passed..]);
@@ -58,7 +58,7 @@ impl<W: Write> Gathered<W> {
     fn hold(&mut self, bytes: &[u8])
         requires { array_vec_len self.old.held + length bytes.now ≤ 4096 }
         ensures inner { self.new.inner ≡ self.old.inner }
-        ensures bytes { Appends (gathered W.contents self.old) (gathered W.contents self.new) bytes.now }
+        ensures bytes { Appends (gathered_bytes W.contents self.old) (gathered_bytes W.contents self.new) bytes.now }
     {
         let Ok(()) = self.held.try_extend_from_slice(bytes) else {
             unreachable!()
@@ -70,13 +70,14 @@ impl<W: Write> Write for Gathered<W> {
     ghost use Rattle.std.specs.Prelude.{◌≡◌, ◌+◌, [], length, Ok, OnOk};
     ghost use Rattle.std.specs.Io.{WritesAtMost};
     ghost use Rattle.std.specs.Io.KnownBytes.{Keeps, WriteAppends};
-    ghost use Rattle.office_stream.specs.Gathering.{held_back, gathered};
+    ghost use Rattle.office_stream.specs.Gathering.{held_back, gathered_bytes};
 
-    ghost contents = { gathered W.contents };
+    ghost contents = { gathered_bytes W.contents };
 
     fn write(&mut self, buf: &[u8]) -> Result<usize>
         ensures bound { WritesAtMost result buf.now }
-        ensures bytes { WriteAppends (gathered W.contents self.old) (gathered W.contents self.new) result buf.now }
+        ensures bytes { WriteAppends (gathered_bytes W.contents self.old) (gathered_bytes W.contents self.new)
+            result buf.now }
         ensures gathers { array_vec_len self.old.held + length buf.now ≤ 4096
             → (result ≡ Ok (length buf.now)) × (self.new.inner ≡ self.old.inner) }
     {
@@ -91,7 +92,7 @@ impl<W: Write> Write for Gathered<W> {
     }
 
     fn flush(&mut self) -> Result<()>
-        ensures bytes { Keeps (gathered W.contents self.old) (gathered W.contents self.new) }
+        ensures bytes { Keeps (gathered_bytes W.contents self.old) (gathered_bytes W.contents self.new) }
         ensures empty { OnOk result (held_back self.new ≡ []) }
     {
         self.pass_on()?;

@@ -18,7 +18,7 @@ use std::alloc::Global;
 use std::io::{self, Read, Write};
 
 /// Delivers each interchange of what a reader gives, in order, and writes the body of its answer and LF, and flushes
-/// them, as soon as it is answered. Where the stream ends within an interchange, or can't be cut further, a last line
+/// them, as soon as it is answered. If the stream ends within an interchange, or can't be cut further, a last line
 /// says so. Answers the worst of the answers: a cut counts as a refusal, and a cut for want of memory as NotNow. After
 /// so many reads without the end it answers Turns.
 pub fn run_stream<R: Read, W: Write, D: Deliver>(
@@ -56,8 +56,8 @@ pub fn run_stream<R: Read, W: Write, D: Deliver>(
     // No more reads are made than turns.
     ensures reads { reader.new.reads ≤ reader.old.reads + turns }
 
-    // A fault of the reader or the writer is answered only where it has failed and the other has not, and Turns only
-    // where neither has, so many reads were made, and the last of them had not found the end. At Ok neither has failed.
+    // A fault of the reader or the writer is answered only if it has failed and the other has not, and Turns only
+    // if neither has, so many reads were made, and the last of them had not found the end. At Ok neither has failed.
     ensures failed { IfErr result (λ fault. MatchFault fault
         ((reader.new.failed ≡ true) × (writer.new.failed ≡ writer.old.failed))
         ((writer.new.failed ≡ true) × (reader.new.failed ≡ reader.old.failed))

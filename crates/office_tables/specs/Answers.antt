@@ -13,7 +13,7 @@ abbrev pub RepliesAs : {A : Type 0} → Option (String A) → List ℕ → Type 
 RepliesAs None text = text ≡ []
 RepliesAs (Some reply) text = (text ≡ string_bytes reply) × (text ≢ [])
 
--- the interchange of the pair, or none where there is none
+-- the interchange of the pair, or none if there is none
 abbrev pub IsKept : ℕ → ℕ → Rows → Option Kept → Type 0
 IsKept partner number rows None = pair_of partner number rows ≡ []
 IsKept partner number rows (Some kept) =

@@ -51,6 +51,6 @@ fn write_opening<S: Alter>(tx: &mut Transaction<'_, S>, setup: &Setup) -> Result
 {
     create_tables(tx)?;
     insert_settings(tx, setup)?;
-    insert_partners(tx, &setup.partners)?;
+    insert_partners(tx, setup.partners.as_slice())?;
     insert_blocks(tx, &setup.blocks)
 }

@@ -27,7 +27,7 @@ use Rattle.terminal_core.specs.Forms.{IsSource, IsWellFormed}
 use Rattle.terminal_core.specs.State.{TerminalState, IsWhole}
 use Rattle.terminal_core.proofs.Forming.{formed_step}
 use Rattle.office_setup.specs.Parties.{Parties}
-use Rattle.office_admission.specs.Admission.{admission, admitted, is_for}
+use Rattle.office_admission.specs.Admission.{admission, by_header, is_for}
 use Rattle.office_taking.specs.Taking.{MachineState, line_taken, lines_taken, verdict_on, messages_taken, codes_for, source_in, nothing_taken, taken_at, taken_of, interchange_taken}
 use Rattle.office_taking.proofs.Turning.{line_leads, verdict_leads}
 
@@ -78,7 +78,7 @@ number_within text none =
     unwrapped (control_number header) (has_number text none) (control_in_range header)
 
 -- what is admitted has no fault
-faultless : (parties : Parties) (header : Content) (o : Option SyntaxFault) (partner : ℕ) → is_for partner (admitted parties header o) ≡ true → o ≡ None
+faultless : (parties : Parties) (header : Content) (o : Option SyntaxFault) (partner : ℕ) → is_for partner (by_header parties header o) ≡ true → o ≡ None
 faultless parties header None partner e = refl
 faultless parties header (Some fault) partner e = cc
 

@@ -1,5 +1,5 @@
 -- What taking an interchange does to the terminal, and what is replied.
-use Rattle.std.specs.Prelude.{ℕ, cond, List, [], ◌∷◌, ◌++◌, map, Option, None, Some, Result, Ok, Err, encode_utf8_all}
+use Rattle.std.specs.Prelude.{ℕ, List, [], ◌∷◌, ◌++◌, map, Option, None, Some, Result, Ok, Err, encode_utf8_all, if◌then◌else◌}
 use Rattle.std.specs.Option.{unwrap_or}
 use Rattle.box6346.specs.declared.box_number.BoxNumber.{BoxNumber}
 use Rattle.edi_moments.specs.Moments.{CivilMoment}
@@ -122,8 +122,8 @@ abbrev pub verdict_changes : TerminalState → Source → Result MessageContent 
 verdict_changes state source (Ok content) = lines_changes state source content.lines
 verdict_changes state source (Err fault) = []
 
-abbrev pub reported : Message → VerdictContent → ReportContent
-reported message verdict = record { reference = encode_utf8_all (message_reference message); verdict = verdict }
+abbrev pub report_on : Message → VerdictContent → ReportContent
+report_on message verdict = record { reference = encode_utf8_all (message_reference message); verdict = verdict }
 
 -- ---- an interchange
 
@@ -137,7 +137,7 @@ messages_taken state codes source opened [] = (state, [])
 messages_taken state codes source opened (message ∷ messages) =
     before_message (messages_taken
     (verdict_on state source (reading codes opened message)).0 codes source opened messages)
-    (reported message (verdict_on state source (reading codes opened message)).1)
+    (report_on message (verdict_on state source (reading codes opened message)).1)
 
 abbrev pub messages_changes : TerminalState → Codes → Source → CivilMoment → List Message → List ChangeContent
 messages_changes state codes source opened [] = []
@@ -171,7 +171,7 @@ codes_for machine kind = record { kind = kind; table = machine.codes }
 abbrev pub source_in : ℕ → Content → Source
 source_in partner header = record { partner = partner; number = unwrap_or (control_number header) 0 }
 
--- where the header has a moment
+-- if the header has a moment
 abbrev pub taken_at : MachineState → ℕ → PartnerKind → List Content → Option CivilMoment → MachineState × List ℕ
 taken_at machine partner kind segments None = nothing_taken machine
 taken_at machine partner kind segments (Some opened) =
@@ -187,9 +187,9 @@ taken_of machine partner segments (Some kind) =
 -- Take: the interchange of a partner, counted from 1. A text that is not admitted for that partner changes nothing.
 abbrev pub interchange_taken : MachineState → ℕ → List ℕ → MachineState × List ℕ
 interchange_taken machine partner text =
-    cond (is_for partner (admission machine.parties text))
-    (taken_of machine partner (segments_in text) (with_number machine.kinds partner))
-    (nothing_taken machine)
+    if is_for partner (admission machine.parties text)
+    then taken_of machine partner (segments_in text) (with_number machine.kinds partner)
+    else nothing_taken machine
 
 -- ---- its changes
 
@@ -207,5 +207,6 @@ changes_of machine partner segments (Some kind) =
 -- what taking the interchange changes of the terminal's rows, order by order
 abbrev pub interchange_changes : MachineState → ℕ → List ℕ → List ChangeContent
 interchange_changes machine partner text =
-    cond (is_for partner (admission machine.parties text))
-    (changes_of machine partner (segments_in text) (with_number machine.kinds partner)) []
+    if is_for partner (admission machine.parties text)
+    then changes_of machine partner (segments_in text) (with_number machine.kinds partner)
+    else []

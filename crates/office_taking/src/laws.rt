@@ -27,7 +27,7 @@ pub fn cascade_changes_turn_rows()
     ensures { CascadeChangesTurnRows }
 {}
 
-/// Each change of interchanges that are taken in turn finds the row that it needs, or none where it adds one.
+/// Each change of interchanges that are taken in turn finds the row that it needs, or none if it adds one.
 pub fn cascade_changes_are_applicable()
     ensures { CascadeChangesAreApplicable }
 {}

@@ -16,7 +16,7 @@ use std::alloc::{AllocError, Global};
 use terminal_core::{Change, Source, Terminal};
 
 /// Takes an interchange that is admitted: its messages in order, and their lines in order. Appends what that changes of
-/// the terminal's rows, and answers the reply. Where memory is refused, terminal and changes may hold part of it, and
+/// the terminal's rows, and answers the reply. If memory is refused, terminal and changes may hold part of it, and
 /// are to be given up.
 pub fn take(
     alloc: Global,

@@ -20,7 +20,7 @@ ghost use Rattle.partner_core.specs.Cascade.{TakesNone, TakesOneMore};
 
 use crate::Machine;
 
-/// Two texts are the same where they have the same bytes.
+/// Two texts are the same if they have the same bytes.
 pub fn same_text()
     ensures { (s t : List ℕ) → IsTrue (is_same_text s t) ↔ (s ≡ t) }
 {}
@@ -72,7 +72,7 @@ pub fn once_each()
         filter (is_of p) (order ds) ≡ numbers_above p 0 (run ds p) }
 {}
 
-/// A number has a reply exactly where it is within the run.
+/// A number has a reply exactly if it is within the run.
 pub fn replied<M: Machine>()
     ensures { (opening : M) (ds : List Delivery) (p k : ℕ) →
         IsSome (reply_of M.taken opening ds p k) ↔ ((1 ≤ k) × (k ≤ run ds p)) }
@@ -90,12 +90,12 @@ pub fn stands_as_kept<M: Machine>()
     ensures { StandsAsKept M.taken }
 {}
 
-/// What is kept stays right where a delivery adds nothing.
+/// What is kept stays right if a delivery adds nothing.
 pub fn keeps_on<M: Machine>()
     ensures { KeepsOn M.taken }
 {}
 
-/// What is kept with one text more is right where the delivery adds its text.
+/// What is kept with one text more is right if the delivery adds its text.
 pub fn keeps_one_more<M: Machine>()
     ensures { KeepsOneMore M.taken }
 {}

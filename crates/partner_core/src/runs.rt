@@ -12,7 +12,7 @@ use std::alloc::{AllocError, Global};
 /// What is kept of each partner, and a machine that takes each partner's unbroken run of texts, once
 /// each, in number order, as each becomes next.
 ///
-/// A value stands at a list of deliveries, from an opening state on, where its texts, replies, next
+/// A value stands at a list of deliveries, from an opening state on, if its texts, replies, next
 /// numbers and machine are those of the definitions over that list (`specs/Runs.antt`).
 #[derive(Drop)]
 pub struct Runs<M> {

@@ -15,7 +15,7 @@ use Rattle.edi_messages.specs.Purposes.{CallContent}
 use Rattle.edi_messages.specs.Orders.{EntryContent, OrderContent, gate_in, gate_out, move, list_discharge, list_load, discharge, load}
 use Rattle.yard_core.specs.declared.block.Block.{Block}
 use Rattle.yard_core.specs.YardMap.{Boxes, YardMap, yard_map, placement}
-use Rattle.yard_core.specs.Decisions.{Refusal, present, removed, removed_at, shifted, shifted_at, unless_buried, with_misfit, with_slot as with_first_slot, misfit_of, first_fit, every_slot, blocker_of}
+use Rattle.yard_core.specs.Decisions.{Refusal, present, yard_without, removed_at, yard_with_move, shifted_at, unless_buried, with_misfit, with_slot as with_first_slot, misfit_of, first_fit, every_slot, blocker_of}
 use Rattle.yard_core.specs.declared.placement.Placement.{Placement}
 use Rattle.terminal_core.specs.declared.departure.Departure.{Departure}
 use Rattle.terminal_core.specs.declared.line_state.LineState.{LineState}
@@ -30,8 +30,8 @@ use Rattle.terminal_core.specs.declared.way.Way.{Way}
 use Rattle.terminal_core.specs.declared.way.Way.TheVariants.{Gate, Ship}
 use Rattle.terminal_core.specs.Rows.{VisitContent, ChangeContent, line_done}
 use Rattle.terminal_core.specs.State.{TerminalState, LineContent, Lines, line_key, line_of, is_in, is_open_visit, open_visit, AreNumbered, IsWhole}
-use Rattle.terminal_core.specs.Step.{Stepped, refused, step, settled, settled_in, with_slot, is_full, visit_of, entered, entered_at, closed, close_visit, number_of_visit, departed, departed_at, departure_by, moved_at, listed_at, then_line_done_at, by_line, by_state}
-use Rattle.terminal_core.specs.Changes.{Standing, TerminalRows, standing_in, standing_of, rows_of, closed_as, standing_elsewhere, with_line_done, changed, all_changed}
+use Rattle.terminal_core.specs.Step.{Stepped, with_refusal, step, yard_with_entry, settled_in, with_slot, is_full, visit_of, after_entry, entered_at, closed_visit, close_visit, number_of_visit, after_departure, departed_at, departure_by, moved_at, listed_at, then_line_done_at, by_line, by_state}
+use Rattle.terminal_core.specs.Changes.{Standing, TerminalRows, standing_in, standing_of, rows_of, closed_as, standing_elsewhere, with_line_done, rows_with, all_changed}
 use Rattle.terminal_core.proofs.Boxes.{same_bytes, in_placed_map, in_removed_map}
 use Rattle.terminal_core.proofs.Open.{and_true, closed_open, find_last, find_new}
 use Rattle.terminal_core.proofs.Counted.{found_is}
@@ -138,32 +138,32 @@ numbered_from p first (v ∷ visits) w are e =
 
 -- none is the container's and open, and none has the number
 neither : (departure : Departure) (b : BoxNumber) (number first : ℕ) (visits : List VisitContent) → AreNumbered first visits → number < first → length (filter (is_open_visit b) visits) ≡ 0
-    → map (closed_as number departure) visits ≡ map (closed departure b) visits
+    → map (closed_as number departure) visits ≡ map (closed_visit departure b) visits
 neither departure b number first [] are low none = refl
 neither departure b number first (v ∷ visits) are low none =
-    elim (is_open_visit b v) as (λ t. is_open_visit b v ≡ t → map (closed_as number departure) (v ∷ visits) ≡ map (closed departure b) (v ∷ visits)) [
+    elim (is_open_visit b v) as (λ t. is_open_visit b v ≡ t → map (closed_as number departure) (v ∷ visits) ≡ map (closed_visit departure b) (v ∷ visits)) [
       | true ↦ λ is. let more : length (filter (is_open_visit b) (v ∷ visits)) ≡ length (filter (is_open_visit b) visits) + 1 = count_keeps (is_open_visit b) v visits is in absurd (omega arith)
       | false ↦ λ isnt.
           let less : length (filter (is_open_visit b) (v ∷ visits)) ≡ length (filter (is_open_visit b) visits) = count_skips (is_open_visit b) v visits isnt in
           let other : (v.number == number) ≡ false = ne_eqb v.number number (λ e. let n : v.number ≡ first = are.0 in absurd (omega arith)) in
-          let head_ : closed_as number departure v ≡ closed departure b v =
+          let head_ : closed_as number departure v ≡ closed_visit departure b v =
           ap (λ t. cond t (record v { departure = Some departure }) v) other ∙ sym (ap (λ t. cond t (record v { departure = Some departure }) v) isnt) in
           λ i. head_ i ∷ neither departure b number (first + 1) visits are.1 (omega arith) (omega arith) i
     ] refl
 
 -- the container's open visit is the one of its number
 closed_by_number : (departure : Departure) (b : BoxNumber) (first : ℕ) (visits : List VisitContent) (w : VisitContent) → AreNumbered first visits → length (filter (is_open_visit b) visits) ≤ 1
-    → find (is_open_visit b) visits ≡ Some w → map (closed_as w.number departure) visits ≡ map (closed departure b) visits
+    → find (is_open_visit b) visits ≡ Some w → map (closed_as w.number departure) visits ≡ map (closed_visit departure b) visits
 closed_by_number departure b first [] w are one e = refl
 closed_by_number departure b first (v ∷ visits) w are one e =
-    elim (is_open_visit b v) as (λ t. is_open_visit b v ≡ t → map (closed_as w.number departure) (v ∷ visits) ≡ map (closed departure b) (v ∷ visits)) [
+    elim (is_open_visit b v) as (λ t. is_open_visit b v ≡ t → map (closed_as w.number departure) (v ∷ visits) ≡ map (closed_visit departure b) (v ∷ visits)) [
       | true ↦ λ is.
           let met : Some v ≡ Some w = sym (find_meets (is_open_visit b) v visits is) ∙ e in
           let it : v ≡ w = cc in
           let number : v.number ≡ w.number = ap (λ (u : VisitContent). u.number) it in
           let at : v.number ≡ first = are.0 in
           let more : length (filter (is_open_visit b) (v ∷ visits)) ≡ length (filter (is_open_visit b) visits) + 1 = count_keeps (is_open_visit b) v visits is in
-          let head_ : closed_as w.number departure v ≡ closed departure b v =
+          let head_ : closed_as w.number departure v ≡ closed_visit departure b v =
           ap (λ n. cond (v.number == n) (record v { departure = Some departure }) v) (sym number) ∙ ap (λ t. cond t (record v { departure = Some departure }) v) (eq-eqb v.number v.number refl)
           ∙ sym (ap (λ t. cond t (record v { departure = Some departure }) v) is) in
           λ i. head_ i ∷ neither departure b w.number (first + 1) visits are.1 (omega arith) (omega arith) i
@@ -172,7 +172,7 @@ closed_by_number departure b first (v ∷ visits) w are one e =
           let rest : find (is_open_visit b) visits ≡ Some w = sym (find_skips (is_open_visit b) v visits isnt) ∙ e in
           let far : first + 1 ≤ w.number = numbered_from (is_open_visit b) (first + 1) visits w are.1 rest in
           let other : (v.number == w.number) ≡ false = ne_eqb v.number w.number (λ same_. let n : v.number ≡ first = are.0 in absurd (omega arith)) in
-          let head_ : closed_as w.number departure v ≡ closed departure b v =
+          let head_ : closed_as w.number departure v ≡ closed_visit departure b v =
           ap (λ t. cond t (record v { departure = Some departure }) v) other ∙ sym (ap (λ t. cond t (record v { departure = Some departure }) v) isnt) in
           λ i. head_ i ∷ closed_by_number departure b (first + 1) visits w are.1 (omega arith) rest i
     ] refl
@@ -189,14 +189,14 @@ either_number false false u v o a e same_ rest = rest
 
 -- another container's open visit stays
 other_number : (departure : Departure) (b q : BoxNumber) (visits : List VisitContent) → bytes_eq b q ≡ false
-    → number_of_visit (find (is_open_visit q) (map (closed departure b) visits)) ≡ number_of_visit (find (is_open_visit q) visits)
+    → number_of_visit (find (is_open_visit q) (map (closed_visit departure b) visits)) ≡ number_of_visit (find (is_open_visit q) visits)
 other_number departure b q [] e = refl
 other_number departure b q (v ∷ visits) e =
-    either_number (is_open_visit q (closed departure b v)) (is_open_visit q v) (closed departure b v) v (find (is_open_visit q) (map (closed departure b) visits)) (find (is_open_visit q) visits)
+    either_number (is_open_visit q (closed_visit departure b v)) (is_open_visit q v) (closed_visit departure b v) v (find (is_open_visit q) (map (closed_visit departure b) visits)) (find (is_open_visit q) visits)
     (closed_open departure b q v ∙ ap (λ t. is_open_visit q v && not t) e ∙ and_true _) (kept_number departure v (is_open_visit b v)) (other_number departure b q visits e)
 
 went_place : (state : TerminalState) (departure : Departure) (b q : BoxNumber) (is : Bool) → bytes_eq b q ≡ is
-    → cond is None (standing_of state q) ≡ placed_by (find (is_open_visit q) (map (closed departure b) state.visits)) (cond is None (finite_map.get state.yard.boxes q))
+    → cond is None (standing_of state q) ≡ placed_by (find (is_open_visit q) (map (closed_visit departure b) state.visits)) (cond is None (finite_map.get state.yard.boxes q))
 went_place state departure b q true e = refl
 went_place state departure b q false e =
     sym (ap (λ n. option_map (λ s. standing_in n s.slot) (finite_map.get state.yard.boxes q)) (other_number departure b q state.visits e))
@@ -219,7 +219,7 @@ pub either : {A : Type 0} (P : A → Type 0) (v : Bool) (a b : A) → P a → P 
 either P true a b one other = one
 either P false a b one other = other
 
-turned_entered_at : (state : TerminalState) (way : Way) (source : Source) (entry : EntryContent) (r : Result (YardMap × Slot) Refusal) → IsWhole state → settled state.yard entry ≡ r → Turns state (entered_at state way source entry r)
+turned_entered_at : (state : TerminalState) (way : Way) (source : Source) (entry : EntryContent) (r : Result (YardMap × Slot) Refusal) → IsWhole state → yard_with_entry state.yard entry ≡ r → Turns state (entered_at state way source entry r)
 turned_entered_at state way source entry (Err f) whole e = refl
 turned_entered_at state way source entry (Ok (y, slot)) whole e =
     let v : VisitContent = visit_of state way source entry slot in
@@ -229,15 +229,15 @@ turned_entered_at state way source entry (Ok (y, slot)) whole e =
     λ q. came_place state y v s q (bytes_eq entry.number q) whole came refl refl ∙ ap (placed_by (find (is_open_visit q) (state.visits ++ v ∷ []))) (sym (in_placed_map state.yard.boxes y.boxes entry.number q s came.boxes)) in
     λ i. record { visits = state.visits ++ v ∷ []; places = λ q. places q i; lines = state.lines }
 
-pub turned_entered : (state : TerminalState) (way : Way) (source : Source) (entry : EntryContent) → IsWhole state → Turns state (entered state way source entry)
+pub turned_entered : (state : TerminalState) (way : Way) (source : Source) (entry : EntryContent) → IsWhole state → Turns state (after_entry state way source entry)
 turned_entered state way source entry whole =
-    either (Turns state) (is_full state) (refused state VisitLimit) (entered_at state way source entry (settled state.yard entry)) refl (turned_entered_at state way source entry (settled state.yard entry) whole refl)
+    either (Turns state) (is_full state) (with_refusal state VisitLimit) (entered_at state way source entry (yard_with_entry state.yard entry)) refl (turned_entered_at state way source entry (yard_with_entry state.yard entry) whole refl)
 
 pub found : {A : Type 0} (o : Option A) → is_some o ≡ true → (x : A) × (o ≡ Some x)
 found None e = cc
 found (Some x) e = (x, refl)
 
-turned_departed_at : (state : TerminalState) (b : BoxNumber) (departure : Departure) (r : Result (YardMap × Placement) Refusal) → IsWhole state → removed state.yard b ≡ r → Turns state (departed_at state b departure r)
+turned_departed_at : (state : TerminalState) (b : BoxNumber) (departure : Departure) (r : Result (YardMap × Placement) Refusal) → IsWhole state → yard_without state.yard b ≡ r → Turns state (departed_at state b departure r)
 turned_departed_at state b departure (Err f) whole e = refl
 turned_departed_at state b departure (Ok (y, s)) whole e =
     let went = goes (finite_map.get state.yard.boxes b) state.yard y b s e in
@@ -248,10 +248,10 @@ turned_departed_at state b departure (Ok (y, s)) whole e =
     λ q. went_place state departure b q (bytes_eq b q) refl ∙ ap (placed_by (find (is_open_visit q) (close_visit state b departure))) (sym (in_removed_map state.yard.boxes y.boxes b q went.1)) in
     λ i. record { visits = visits i; places = λ q. places q i; lines = state.lines }
 
-pub turned_departed : (state : TerminalState) (way : Way) (source : Source) (b : BoxNumber) (moment : CivilMoment) → IsWhole state → Turns state (departed state way source b moment)
-turned_departed state way source b moment whole = turned_departed_at state b (departure_by way source moment) (removed state.yard b) whole refl
+pub turned_departed : (state : TerminalState) (way : Way) (source : Source) (b : BoxNumber) (moment : CivilMoment) → IsWhole state → Turns state (after_departure state way source b moment)
+turned_departed state way source b moment whole = turned_departed_at state b (departure_by way source moment) (yard_without state.yard b) whole refl
 
-turned_moved_at : (state : TerminalState) (b : BoxNumber) (slot : Slot) (r : Result YardMap Refusal) → shifted state.yard b slot ≡ r → Turns state (moved_at state b slot r)
+turned_moved_at : (state : TerminalState) (b : BoxNumber) (slot : Slot) (r : Result YardMap Refusal) → yard_with_move state.yard b slot ≡ r → Turns state (moved_at state b slot r)
 turned_moved_at state b slot (Err f) e = refl
 turned_moved_at state b slot (Ok y) e =
     let is = shifts (finite_map.get state.yard.boxes b) state.yard y b slot e in
@@ -265,9 +265,9 @@ turned_listed state call side b port None = refl
 
 -- ---- steps with a line
 
-one_after : (rows : TerminalRows) (changes : List ChangeContent) (change : ChangeContent) → all_changed rows (changes ++ change ∷ []) ≡ changed (all_changed rows changes) change
+one_after : (rows : TerminalRows) (changes : List ChangeContent) (change : ChangeContent) → all_changed rows (changes ++ change ∷ []) ≡ rows_with (all_changed rows changes) change
 one_after rows [] change = refl
-one_after rows (c ∷ changes) change = one_after (changed rows c) changes change
+one_after rows (c ∷ changes) change = one_after (rows_with rows c) changes change
 
 -- the lines stay
 abbrev pub KeepsLines : TerminalState → Stepped → Type 0
@@ -285,7 +285,7 @@ turned_done : (state : TerminalState) (call : CallContent) (side : Side) (b : Bo
     → all_changed (rows_of state) (after.changes ++ line_done call side b ∷ []) ≡ rows_of (record (after.state) { lines = finite_map.insert after.state.lines (line_key call side b) (record line { state = LineIsDone }) })
 turned_done state call side b line after turned keeps there =
     let still : line_of after.state call side b ≡ Some line = ap (λ (l : Lines). finite_map.get l (line_key call side b)) keeps ∙ there in
-    one_after (rows_of state) after.changes (line_done call side b) ∙ ap (λ rows. changed rows (line_done call side b)) turned
+    one_after (rows_of state) after.changes (line_done call side b) ∙ ap (λ rows. rows_with rows (line_done call side b)) turned
     ∙ ap (λ o. record (rows_of after.state) { lines = with_line_done after.state.lines (line_key call side b) o }) still
 
 turned_then : (state : TerminalState) (call : CallContent) (side : Side) (b : BoxNumber) (line : LineContent) (after : Stepped) (o : Outcome) → Turns state after → KeepsLines state after → line_of state call side b ≡ Some line
@@ -308,16 +308,16 @@ turned_by_line state call side b (Some line) after turned keeps there = turned_b
 -- ---- orders
 
 pub turned_step : (state : TerminalState) (source : Source) (order : OrderContent) → IsWhole state → Turns state (step state source order)
-turned_step state source (gate_in entry) whole = either (Turns state) (is_in state entry.number) (refused state AlreadyIn) (entered state Gate source entry) refl (turned_entered state Gate source entry whole)
+turned_step state source (gate_in entry) whole = either (Turns state) (is_in state entry.number) (with_refusal state AlreadyIn) (after_entry state Gate source entry) refl (turned_entered state Gate source entry whole)
 turned_step state source (gate_out b moment) whole = turned_departed state Gate source b moment whole
-turned_step state source (move b slot) whole = turned_moved_at state b slot (shifted state.yard b slot) refl
+turned_step state source (move b slot) whole = turned_moved_at state b slot (yard_with_move state.yard b slot) refl
 turned_step state source (list_discharge call b) whole = turned_listed state call Discharge b [] (line_of state call Discharge b)
 turned_step state source (list_load call b port) whole = turned_listed state call Load b port (line_of state call Load b)
 turned_step state source (discharge call entry) whole =
-    either (Turns state) (is_in state entry.number) (refused state AlreadyIn) (by_line state call Discharge entry.number (line_of state call Discharge entry.number) (entered state Ship source entry)) refl
-    (turned_by_line state call Discharge entry.number (line_of state call Discharge entry.number) (entered state Ship source entry) (turned_entered state Ship source entry whole)
-    (either (KeepsLines state) (is_full state) (refused state VisitLimit) (entered_at state Ship source entry (settled state.yard entry)) refl (entered_keeps state Ship source entry (settled state.yard entry))) refl)
+    either (Turns state) (is_in state entry.number) (with_refusal state AlreadyIn) (by_line state call Discharge entry.number (line_of state call Discharge entry.number) (after_entry state Ship source entry)) refl
+    (turned_by_line state call Discharge entry.number (line_of state call Discharge entry.number) (after_entry state Ship source entry) (turned_entered state Ship source entry whole)
+    (either (KeepsLines state) (is_full state) (with_refusal state VisitLimit) (entered_at state Ship source entry (yard_with_entry state.yard entry)) refl (entered_keeps state Ship source entry (yard_with_entry state.yard entry))) refl)
 turned_step state source (load call b moment) whole =
-    either (Turns state) (is_in state b) (by_line state call Load b (line_of state call Load b) (departed state Ship source b moment)) (refused state NotIn)
-    (turned_by_line state call Load b (line_of state call Load b) (departed state Ship source b moment) (turned_departed state Ship source b moment whole)
-    (departed_keeps state b (departure_by Ship source moment) (removed state.yard b)) refl) refl
+    either (Turns state) (is_in state b) (by_line state call Load b (line_of state call Load b) (after_departure state Ship source b moment)) (with_refusal state NotIn)
+    (turned_by_line state call Load b (line_of state call Load b) (after_departure state Ship source b moment) (turned_departed state Ship source b moment whole)
+    (departed_keeps state b (departure_by Ship source moment) (yard_without state.yard b)) refl) refl

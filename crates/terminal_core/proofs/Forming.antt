@@ -21,7 +21,7 @@ use Rattle.yard_core.specs.declared.placement.Placement.{Placement}
 use Rattle.yard_core.specs.Plan.{IsPlan}
 use Rattle.yard_core.specs.YardMap.{Boxes, YardMap, placement}
 use Rattle.yard_core.specs.FitsAndFree.{IsOpen}
-use Rattle.yard_core.specs.Decisions.{Refusal, misfit_of, removed, shifted}
+use Rattle.yard_core.specs.Decisions.{Refusal, misfit_of, yard_without, yard_with_move}
 use Rattle.yard_core.proofs.Exact.{numbered}
 use Rattle.yard_core.proofs.Fitting.{Judges, misfit_judges}
 use Rattle.terminal_core.specs.declared.departure.Departure.{Departure}
@@ -37,7 +37,7 @@ use Rattle.terminal_core.specs.declared.way.Way.{Way}
 use Rattle.terminal_core.specs.declared.way.Way.TheVariants.{Gate, Ship}
 use Rattle.terminal_core.specs.Rows.{VisitContent}
 use Rattle.terminal_core.specs.State.{TerminalState, LineContent, Lines, line_key, line_of, is_in, is_open_visit, empty_state, IsWhole}
-use Rattle.terminal_core.specs.Step.{Stepped, refused, step, settled, is_full, visit_of, entered, entered_at, closed, departed, departed_at, departure_by, moved_at, listed_at, then_line_done_at, by_line, by_state}
+use Rattle.terminal_core.specs.Step.{Stepped, with_refusal, step, yard_with_entry, is_full, visit_of, after_entry, entered_at, closed_visit, after_departure, departed_at, departure_by, moved_at, listed_at, then_line_done_at, by_line, by_state}
 use Rattle.terminal_core.specs.Forms.{IsSource, IsFormedDeparture, IsFormedVisit, IsFormedLine, IsWellFormed}
 use Rattle.terminal_core.proofs.Boxes.{in_placed_map, in_removed_map}
 use Rattle.terminal_core.proofs.Lined.{order, keys_total, same_key}
@@ -81,7 +81,7 @@ empty_formed yard limit none = record {
 abbrev Forms : Stepped → Type 0
 Forms after = IsWellFormed after.state
 
-formed_entered_at : (state : TerminalState) (way : Way) (source : Source) (entry : EntryContent) (r : Result (YardMap × Slot) Refusal) → IsWhole state → IsWellFormed state → IsSource source → IsFormedEntry entry → settled state.yard entry ≡ r
+formed_entered_at : (state : TerminalState) (way : Way) (source : Source) (entry : EntryContent) (r : Result (YardMap × Slot) Refusal) → IsWhole state → IsWellFormed state → IsSource source → IsFormedEntry entry → yard_with_entry state.yard entry ≡ r
     → Forms (entered_at state way source entry r)
 formed_entered_at state way source entry (Err f) whole formed from its e = formed
 formed_entered_at state way source entry (Ok (y, slot)) whole formed from its e =
@@ -97,30 +97,30 @@ formed_entered_at state way source entry (Ok (y, slot)) whole formed from its e 
       slots = λ q t at. placed_case state.yard.boxes s t q (bytes_eq entry.number q) (formed.slots q) slot_named (sym (in_placed_map state.yard.boxes y.boxes entry.number q s came.boxes) ∙ at);
     }
 
-formed_entered : (state : TerminalState) (way : Way) (source : Source) (entry : EntryContent) → IsWhole state → IsWellFormed state → IsSource source → IsFormedEntry entry → Forms (entered state way source entry)
+formed_entered : (state : TerminalState) (way : Way) (source : Source) (entry : EntryContent) → IsWhole state → IsWellFormed state → IsSource source → IsFormedEntry entry → Forms (after_entry state way source entry)
 formed_entered state way source entry whole formed from its =
-    either Forms (is_full state) (refused state VisitLimit) (entered_at state way source entry (settled state.yard entry)) formed (formed_entered_at state way source entry (settled state.yard entry) whole formed from its refl)
+    either Forms (is_full state) (with_refusal state VisitLimit) (entered_at state way source entry (yard_with_entry state.yard entry)) formed (formed_entered_at state way source entry (yard_with_entry state.yard entry) whole formed from its refl)
 
 closed_case : (departure : Departure) (v : VisitContent) (is : Bool) → IsFormedVisit v → IsFormedDeparture departure → IsFormedVisit (cond is (record v { departure = Some departure }) v)
 closed_case departure v true old new = record { container = old.container; size_type = old.size_type; booking = old.booking; source = old.source; moment = old.moment; slot = old.slot; exit = new }
 closed_case departure v false old new = old
 
-formed_departed_at : (state : TerminalState) (b : BoxNumber) (departure : Departure) (r : Result (YardMap × Placement) Refusal) → IsWellFormed state → IsFormedDeparture departure → removed state.yard b ≡ r → Forms (departed_at state b departure r)
+formed_departed_at : (state : TerminalState) (b : BoxNumber) (departure : Departure) (r : Result (YardMap × Placement) Refusal) → IsWellFormed state → IsFormedDeparture departure → yard_without state.yard b ≡ r → Forms (departed_at state b departure r)
 formed_departed_at state b departure (Err f) formed its e = formed
 formed_departed_at state b departure (Ok (y, s)) formed its e =
     let went = goes (finite_map.get state.yard.boxes b) state.yard y b s e in
     record {
       visits = λ visit inside. (let V : VisitContent → Type 0 = IsFormedVisit in
-          let row = mapped_at (closed departure b) state.visits inside.0 visit (found_at (map (closed departure b) state.visits) visit inside) in
+          let row = mapped_at (closed_visit departure b) state.visits inside.0 visit (found_at (map (closed_visit departure b) state.visits) visit inside) in
           subst V row.2 (closed_case departure row.0 (is_open_visit b row.0) (formed.visits row.0 (contained state.visits inside.0 row.0 row.1)) its));
       lines = formed.lines;
       slots = λ q t at. removed_case state.yard.boxes t q (bytes_eq b q) (formed.slots q) (sym (in_removed_map state.yard.boxes y.boxes b q went.1) ∙ at);
     }
 
-formed_departed : (state : TerminalState) (way : Way) (source : Source) (b : BoxNumber) (moment : CivilMoment) → IsWellFormed state → IsFormedDeparture (departure_by way source moment) → Forms (departed state way source b moment)
-formed_departed state way source b moment formed its = formed_departed_at state b (departure_by way source moment) (removed state.yard b) formed its refl
+formed_departed : (state : TerminalState) (way : Way) (source : Source) (b : BoxNumber) (moment : CivilMoment) → IsWellFormed state → IsFormedDeparture (departure_by way source moment) → Forms (after_departure state way source b moment)
+formed_departed state way source b moment formed its = formed_departed_at state b (departure_by way source moment) (yard_without state.yard b) formed its refl
 
-formed_moved_at : (state : TerminalState) (b : BoxNumber) (slot : Slot) (r : Result YardMap Refusal) → IsWhole state → IsWellFormed state → shifted state.yard b slot ≡ r → Forms (moved_at state b slot r)
+formed_moved_at : (state : TerminalState) (b : BoxNumber) (slot : Slot) (r : Result YardMap Refusal) → IsWhole state → IsWellFormed state → yard_with_move state.yard b slot ≡ r → Forms (moved_at state b slot r)
 formed_moved_at state b slot (Err f) whole formed e = formed
 formed_moved_at state b slot (Ok y) whole formed e =
     let is = shifts (finite_map.get state.yard.boxes b) state.yard y b slot e in
@@ -184,14 +184,14 @@ discharge_formed call b its = record { call_formed = its.call_formed; container_
 
 pub formed_step : (state : TerminalState) (source : Source) (order : OrderContent) → IsWhole state → IsWellFormed state → IsSource source → IsFormedOrder order → Forms (step state source order)
 formed_step state source (gate_in entry) whole formed from its =
-    either Forms (is_in state entry.number) (refused state AlreadyIn) (entered state Gate source entry) formed (formed_entered state Gate source entry whole formed from its)
+    either Forms (is_in state entry.number) (with_refusal state AlreadyIn) (after_entry state Gate source entry) formed (formed_entered state Gate source entry whole formed from its)
 formed_step state source (gate_out b moment) whole formed from its = formed_departed state Gate source b moment formed (record { source = from; moment = its })
-formed_step state source (move b slot) whole formed from its = formed_moved_at state b slot (shifted state.yard b slot) whole formed refl
+formed_step state source (move b slot) whole formed from its = formed_moved_at state b slot (yard_with_move state.yard b slot) whole formed refl
 formed_step state source (list_discharge call b) whole formed from its = formed_listed state call Discharge b [] (line_of state call Discharge b) formed (discharge_formed call b its)
 formed_step state source (list_load call b port) whole formed from its = formed_listed state call Load b port (line_of state call Load b) formed (listing_formed call b port its)
 formed_step state source (discharge call entry) whole formed from its =
-    either Forms (is_in state entry.number) (refused state AlreadyIn) (by_line state call Discharge entry.number (line_of state call Discharge entry.number) (entered state Ship source entry)) formed
-    (formed_by_line state call Discharge entry.number (line_of state call Discharge entry.number) (entered state Ship source entry) formed (formed_entered state Ship source entry whole formed from its) refl)
+    either Forms (is_in state entry.number) (with_refusal state AlreadyIn) (by_line state call Discharge entry.number (line_of state call Discharge entry.number) (after_entry state Ship source entry)) formed
+    (formed_by_line state call Discharge entry.number (line_of state call Discharge entry.number) (after_entry state Ship source entry) formed (formed_entered state Ship source entry whole formed from its) refl)
 formed_step state source (load call b moment) whole formed from its =
-    either Forms (is_in state b) (by_line state call Load b (line_of state call Load b) (departed state Ship source b moment)) (refused state NotIn)
-    (formed_by_line state call Load b (line_of state call Load b) (departed state Ship source b moment) formed (formed_departed state Ship source b moment formed (record { source = from; moment = its })) refl) formed
+    either Forms (is_in state b) (by_line state call Load b (line_of state call Load b) (after_departure state Ship source b moment)) (with_refusal state NotIn)
+    (formed_by_line state call Load b (line_of state call Load b) (after_departure state Ship source b moment) formed (formed_departed state Ship source b moment formed (record { source = from; moment = its })) refl) formed

@@ -14,7 +14,7 @@ use Rattle.terminal_core.specs.declared.departure.Departure.{Departure}
 use Rattle.terminal_core.specs.declared.visit.Visit.{Visit}
 use Rattle.terminal_core.specs.Rows.{VisitContent, visit_content}
 use Rattle.terminal_core.specs.State.{is_open_visit}
-use Rattle.terminal_core.specs.Step.{closed, number_of_visit}
+use Rattle.terminal_core.specs.Step.{closed_visit, number_of_visit}
 use Rattle.terminal_core.specs.Calls.{HasOneVisit}
 use Rattle.terminal_core.specs.Index.{AreIndexed}
 use Rattle.terminal_core.proofs.Boxes.{same_bytes, same_self}
@@ -89,11 +89,11 @@ less_case visits b q v old k true are e at open_ = let bad : false ≡ true = (a
 less_case visits b q v old k false are e at open_ = are q k v at (and_parts (is_open_visit q v) true open_).0
 
 pub less_indexed : (departure : Departure) (b : BoxNumber) (visits after : List VisitContent) (old new : List (BoxNumber × ℕ)) → AreIndexed visits old
-    → ((q : BoxNumber) → lookup (bytes_eq q) new ≡ cond (bytes_eq b q) None (lookup (bytes_eq q) old)) → after ≡ map (closed departure b) visits → AreIndexed after new
+    → ((q : BoxNumber) → lookup (bytes_eq q) new ≡ cond (bytes_eq b q) None (lookup (bytes_eq q) old)) → after ≡ map (closed_visit departure b) visits → AreIndexed after new
 less_indexed departure b visits after old new are takes shut =
     let P : List VisitContent → Type 0 = λ v. AreIndexed v new in
     subst P (sym shut) (λ q k w at open_.
-    let row = mapped_at (closed departure b) visits k w at in
+    let row = mapped_at (closed_visit departure b) visits k w at in
     takes q ∙ less_case visits b q row.0 old k (bytes_eq b q) are refl row.1 (sym (closed_open departure b q row.0) ∙ ap (is_open_visit q) row.2 ∙ open_))
 
 -- ---- found
@@ -122,7 +122,7 @@ kept_at container rows entries place are has told =
 -- the row that the index tells is closed
 pub shut_rows : (container : BoxNumber) (departure : Departure) (rows : List Visit) (place : ℕ) (read shut : Visit) → HasOneVisit container (map visit_content rows) → IsKept container rows place → read ≡ get_or rows place read
     → visit_content shut ≡ record (visit_content read) { departure = Some departure }
-    → (map visit_content (slice_set rows place shut) ≡ map (closed departure container) (map visit_content rows)) × (read.number ≡ number_of_visit (find (is_open_visit container) (map visit_content rows)))
+    → (map visit_content (slice_set rows place shut) ≡ map (closed_visit departure container) (map visit_content rows)) × (read.number ≡ number_of_visit (find (is_open_visit container) (map visit_content rows)))
 shut_rows container departure rows place read shut has kept is shuts =
     let there : slice_get rows place ≡ Some read = slice_get-get_or rows place read (slice_get_within rows place kept.row kept.at) ∙ ap Some (sym is) in
     let same : kept.row ≡ read = same_Some kept.row read (sym kept.at ∙ there) in

@@ -12,7 +12,7 @@ use Rattle.edi_messages.specs.Orders.{EntryContent, OrderContent, gate_in, gate_
 use Rattle.yard_core.specs.declared.block.Block.{Block}
 use Rattle.yard_core.specs.declared.placement.Placement.{Placement}
 use Rattle.yard_core.specs.Calls.{Places}
-use Rattle.yard_core.specs.Decisions.{Refusal, present, misfit_of, first_fit, blocker_of, unless_buried, with_misfit, with_slot as with_first_slot, removed, removed_at, shifted, shifted_at}
+use Rattle.yard_core.specs.Decisions.{Refusal, present, misfit_of, first_fit, blocker_of, unless_buried, with_misfit, with_slot as with_first_slot, yard_without, removed_at, yard_with_move, shifted_at}
 use Rattle.yard_core.specs.FitsAndFree.{Fits, IsFree, IsOpen}
 use Rattle.yard_core.specs.Plan.{IsPlan}
 use Rattle.yard_core.specs.SoundYard.{IsSound}
@@ -33,7 +33,7 @@ use Rattle.terminal_core.specs.declared.source.Source.{Source}
 use Rattle.terminal_core.specs.declared.way.Way.{Way}
 use Rattle.terminal_core.specs.declared.way.Way.TheVariants.{Gate, Ship}
 use Rattle.terminal_core.specs.State.{TerminalState, LineContent, line_of, is_in, empty_state, IsWhole}
-use Rattle.terminal_core.specs.Step.{Stepped, refused, step, settled, settled_in, with_slot, is_full, visit_of, entered, entered_at, departed, departed_at, departure_by, moved_at, listed_at, then_line_done_at, by_line, by_state}
+use Rattle.terminal_core.specs.Step.{Stepped, with_refusal, step, yard_with_entry, settled_in, with_slot, is_full, visit_of, after_entry, entered_at, after_departure, departed_at, departure_by, moved_at, listed_at, then_line_done_at, by_line, by_state}
 use Rattle.terminal_core.proofs.Changing.{Comes, comes, goes, shifts, either}
 use Rattle.terminal_core.proofs.Counting.{none_there}
 use Rattle.terminal_core.proofs.Whole.{whole_empty, whole_listed, whole_entered, whole_departed, whole_moved}
@@ -119,7 +119,7 @@ Keeps after = IsWhole after.state
 room_left : (limit n : ℕ) → nat_le limit n ≡ false → n < limit
 room_left limit n e = grind (arith, le-leb)
 
-whole_entered_at : (state : TerminalState) (way : Way) (source : Source) (entry : EntryContent) (r : Result (YardMap × Slot) Refusal) → IsWhole state → length state.visits < state.limit → settled state.yard entry ≡ r
+whole_entered_at : (state : TerminalState) (way : Way) (source : Source) (entry : EntryContent) (r : Result (YardMap × Slot) Refusal) → IsWhole state → length state.visits < state.limit → yard_with_entry state.yard entry ≡ r
     → Keeps (entered_at state way source entry r)
 whole_entered_at state way source entry (Err f) whole room e = whole
 whole_entered_at state way source entry (Ok (y, slot)) whole room e =
@@ -128,15 +128,15 @@ whole_entered_at state way source entry (Ok (y, slot)) whole room e =
     let places : Places state.yard y entry.number s = came_places state.yard y entry.number s whole.sound (comes state.yard y entry entry.slot slot e) plan in
     whole_entered state y (visit_of state way source entry slot) s whole places (sound_with state.yard y (finite_map.insert state.yard.boxes entry.number s) places.fits plan places.boxes) refl refl refl room
 
-full_or : (state : TerminalState) (full : Bool) (other : Stepped) → IsWhole state → (full ≡ false → Keeps other) → Keeps (cond full (refused state VisitLimit) other)
+full_or : (state : TerminalState) (full : Bool) (other : Stepped) → IsWhole state → (full ≡ false → Keeps other) → Keeps (cond full (with_refusal state VisitLimit) other)
 full_or state true other whole then = whole
 full_or state false other whole then = then refl
 
-whole_enters : (state : TerminalState) (way : Way) (source : Source) (entry : EntryContent) → IsWhole state → Keeps (entered state way source entry)
+whole_enters : (state : TerminalState) (way : Way) (source : Source) (entry : EntryContent) → IsWhole state → Keeps (after_entry state way source entry)
 whole_enters state way source entry whole =
-    full_or state (is_full state) (entered_at state way source entry (settled state.yard entry)) whole (λ room. whole_entered_at state way source entry (settled state.yard entry) whole (room_left state.limit (length state.visits) room) refl)
+    full_or state (is_full state) (entered_at state way source entry (yard_with_entry state.yard entry)) whole (λ room. whole_entered_at state way source entry (yard_with_entry state.yard entry) whole (room_left state.limit (length state.visits) room) refl)
 
-whole_departed_at : (state : TerminalState) (b : BoxNumber) (departure : Departure) (r : Result (YardMap × Placement) Refusal) → IsWhole state → removed state.yard b ≡ r → Keeps (departed_at state b departure r)
+whole_departed_at : (state : TerminalState) (b : BoxNumber) (departure : Departure) (r : Result (YardMap × Placement) Refusal) → IsWhole state → yard_without state.yard b ≡ r → Keeps (departed_at state b departure r)
 whole_departed_at state b departure (Err f) whole e = whole
 whole_departed_at state b departure (Ok (y, s)) whole e =
     let went = goes (finite_map.get state.yard.boxes b) state.yard y b s e in
@@ -144,10 +144,10 @@ whole_departed_at state b departure (Ok (y, s)) whole e =
     let sound = sound_without state.yard b s whole.plan whole.sound went.0 free.0 in
     whole_departed state y b departure s whole (record { stood = went.0; free = free.0; plan = free.1; boxes = went.1 }) (sound_with state.yard y (finite_map.remove state.yard.boxes b) sound free.1 went.1)
 
-whole_departs : (state : TerminalState) (way : Way) (source : Source) (b : BoxNumber) (moment : CivilMoment) → IsWhole state → Keeps (departed state way source b moment)
-whole_departs state way source b moment whole = whole_departed_at state b (departure_by way source moment) (removed state.yard b) whole refl
+whole_departs : (state : TerminalState) (way : Way) (source : Source) (b : BoxNumber) (moment : CivilMoment) → IsWhole state → Keeps (after_departure state way source b moment)
+whole_departs state way source b moment whole = whole_departed_at state b (departure_by way source moment) (yard_without state.yard b) whole refl
 
-whole_moved_at : (state : TerminalState) (b : BoxNumber) (slot : Slot) (r : Result YardMap Refusal) → IsWhole state → shifted state.yard b slot ≡ r → Keeps (moved_at state b slot r)
+whole_moved_at : (state : TerminalState) (b : BoxNumber) (slot : Slot) (r : Result YardMap Refusal) → IsWhole state → yard_with_move state.yard b slot ≡ r → Keeps (moved_at state b slot r)
 whole_moved_at state b slot (Err f) whole e = whole
 whole_moved_at state b slot (Ok y) whole e =
     let is = shifts (finite_map.get state.yard.boxes b) state.yard y b slot e in
@@ -182,14 +182,14 @@ whole_by_line state call side b (Some line) after whole then = whole_by_state st
 -- ---- orders
 
 pub whole_step : (state : TerminalState) (source : Source) (order : OrderContent) → IsWhole state → Keeps (step state source order)
-whole_step state source (gate_in entry) whole = either Keeps (is_in state entry.number) (refused state AlreadyIn) (entered state Gate source entry) whole (whole_enters state Gate source entry whole)
+whole_step state source (gate_in entry) whole = either Keeps (is_in state entry.number) (with_refusal state AlreadyIn) (after_entry state Gate source entry) whole (whole_enters state Gate source entry whole)
 whole_step state source (gate_out b moment) whole = whole_departs state Gate source b moment whole
-whole_step state source (move b slot) whole = whole_moved_at state b slot (shifted state.yard b slot) whole refl
+whole_step state source (move b slot) whole = whole_moved_at state b slot (yard_with_move state.yard b slot) whole refl
 whole_step state source (list_discharge call b) whole = whole_listed_at state call Discharge b [] (line_of state call Discharge b) whole
 whole_step state source (list_load call b port) whole = whole_listed_at state call Load b port (line_of state call Load b) whole
 whole_step state source (discharge call entry) whole =
-    either Keeps (is_in state entry.number) (refused state AlreadyIn) (by_line state call Discharge entry.number (line_of state call Discharge entry.number) (entered state Ship source entry)) whole
-    (whole_by_line state call Discharge entry.number (line_of state call Discharge entry.number) (entered state Ship source entry) whole (whole_enters state Ship source entry whole))
+    either Keeps (is_in state entry.number) (with_refusal state AlreadyIn) (by_line state call Discharge entry.number (line_of state call Discharge entry.number) (after_entry state Ship source entry)) whole
+    (whole_by_line state call Discharge entry.number (line_of state call Discharge entry.number) (after_entry state Ship source entry) whole (whole_enters state Ship source entry whole))
 whole_step state source (load call b moment) whole =
-    either Keeps (is_in state b) (by_line state call Load b (line_of state call Load b) (departed state Ship source b moment)) (refused state NotIn)
-    (whole_by_line state call Load b (line_of state call Load b) (departed state Ship source b moment) whole (whole_departs state Ship source b moment whole)) whole
+    either Keeps (is_in state b) (by_line state call Load b (line_of state call Load b) (after_departure state Ship source b moment)) (with_refusal state NotIn)
+    (whole_by_line state call Load b (line_of state call Load b) (after_departure state Ship source b moment) whole (whole_departs state Ship source b moment whole)) whole

@@ -14,7 +14,7 @@ use Rattle.yard_core.specs.YardMap.{YardMap, placement}
 use Rattle.terminal_core.specs.declared.departure.Departure.{Departure}
 use Rattle.terminal_core.specs.Rows.{VisitContent}
 use Rattle.terminal_core.specs.State.{TerminalState, is_in, open_visit, is_open_visit, IsAsLong, IsWhole}
-use Rattle.terminal_core.specs.Step.{closed}
+use Rattle.terminal_core.specs.Step.{closed_visit}
 use Rattle.terminal_core.proofs.Boxes.{same_bytes, in_placed_map, in_removed_map}
 use Rattle.terminal_core.proofs.Open.{closed_open, and_true, find_last, find_new}
 
@@ -52,10 +52,10 @@ either_size false false u v o a e same_ rest = rest
 
 -- another container's open visit stays
 other_size : (departure : Departure) (b q : BoxNumber) (visits : List VisitContent) → bytes_eq b q ≡ false
-    → option_map (λ w. w.size_type) (find (is_open_visit q) (map (closed departure b) visits)) ≡ option_map (λ w. w.size_type) (find (is_open_visit q) visits)
+    → option_map (λ w. w.size_type) (find (is_open_visit q) (map (closed_visit departure b) visits)) ≡ option_map (λ w. w.size_type) (find (is_open_visit q) visits)
 other_size departure b q [] e = refl
 other_size departure b q (v ∷ visits) e =
-    either_size (is_open_visit q (closed departure b v)) (is_open_visit q v) (closed departure b v) v (find (is_open_visit q) (map (closed departure b) visits)) (find (is_open_visit q) visits)
+    either_size (is_open_visit q (closed_visit departure b v)) (is_open_visit q v) (closed_visit departure b v) v (find (is_open_visit q) (map (closed_visit departure b) visits)) (find (is_open_visit q) visits)
     (closed_open departure b q v ∙ ap (λ t. is_open_visit q v && not t) e ∙ and_true _) (kept_size departure v (is_open_visit b v)) (other_size departure b q visits e)
 
 sized : (o : Option VisitContent) (size : SizeType) → Some size ≡ option_map (λ w. w.size_type) o → (v : VisitContent) × (o ≡ Some v) × (size ≡ v.size_type)
@@ -63,14 +63,14 @@ sized None size e = absurd (cc)
 sized (Some v) size e = (v, refl, same_Some size v.size_type e)
 
 departed_case : (state : TerminalState) (departure : Departure) (b q : BoxNumber) (t : Placement) (w : VisitContent) (is : Bool) → IsWhole state → bytes_eq b q ≡ is
-    → cond is None (finite_map.get state.yard.boxes q) ≡ Some t → find (is_open_visit q) (map (closed departure b) state.visits) ≡ Some w → t.length ≡ length_of w.size_type
+    → cond is None (finite_map.get state.yard.boxes q) ≡ Some t → find (is_open_visit q) (map (closed_visit departure b) state.visits) ≡ Some w → t.length ≡ length_of w.size_type
 departed_case state departure b q t w true whole e at open_ = absurd (none-some t at)
 departed_case state departure b q t w false whole e at open_ =
     let v = sized (open_visit state q) w.size_type (ap (option_map (λ u. u.size_type)) (sym open_) ∙ other_size departure b q state.visits e) in
     whole.as_long q t v.0 at v.1 ∙ ap length_of (sym v.2)
 
 pub long_departed : (state : TerminalState) (y : YardMap) (b : BoxNumber) (departure : Departure) → IsWhole state → y.boxes ≡ finite_map.remove state.yard.boxes b
-    → (q : BoxNumber) → IsAsLong (record state { yard = y; visits = map (closed departure b) state.visits }) q
+    → (q : BoxNumber) → IsAsLong (record state { yard = y; visits = map (closed_visit departure b) state.visits }) q
 long_departed state y b departure whole boxes q t w at open_ =
     departed_case state departure b q t w (bytes_eq b q) whole refl (sym (in_removed_map state.yard.boxes y.boxes b q boxes) ∙ at) open_
 

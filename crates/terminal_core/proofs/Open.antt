@@ -7,7 +7,7 @@ use Rattle.box6346.specs.declared.box_number.BoxNumber.{BoxNumber}
 use Rattle.terminal_core.specs.declared.departure.Departure.{Departure}
 use Rattle.terminal_core.specs.Rows.{VisitContent}
 use Rattle.terminal_core.specs.State.{is_open_visit, AreNumbered}
-use Rattle.terminal_core.specs.Step.{closed}
+use Rattle.terminal_core.specs.Step.{closed_visit}
 use Rattle.terminal_core.proofs.Boxes.{same_bytes, bytes_turned}
 
 -- ---- truth values
@@ -137,7 +137,7 @@ closed_by departure b q visit false e =
       | false ↦ λ other. sym (and_true (is_open_visit q visit))
     ] refl
 
-pub closed_open : (departure : Departure) (b q : BoxNumber) (visit : VisitContent) → is_open_visit q (closed departure b visit) ≡ (is_open_visit q visit && not (bytes_eq b q))
+pub closed_open : (departure : Departure) (b q : BoxNumber) (visit : VisitContent) → is_open_visit q (closed_visit departure b visit) ≡ (is_open_visit q visit && not (bytes_eq b q))
 closed_open departure b q visit = closed_by departure b q visit (is_open_visit b visit) refl
 
 -- ---- numbers
@@ -150,6 +150,6 @@ kept_number : (departure : Departure) (visit : VisitContent) (is : Bool) → (co
 kept_number departure visit true = refl
 kept_number departure visit false = refl
 
-pub numbered_closed : (departure : Departure) (b : BoxNumber) (first : ℕ) (visits : List VisitContent) → AreNumbered first visits → AreNumbered first (map (closed departure b) visits)
+pub numbered_closed : (departure : Departure) (b : BoxNumber) (first : ℕ) (visits : List VisitContent) → AreNumbered first visits → AreNumbered first (map (closed_visit departure b) visits)
 numbered_closed departure b first [] are = tt
 numbered_closed departure b first (v ∷ visits) are = (kept_number departure v (is_open_visit b v) ∙ are.0, numbered_closed departure b (first + 1) visits are.1)

@@ -6,7 +6,7 @@ use Rattle.box6346.specs.declared.slot.Slot.{Slot}
 use Rattle.edi_messages.specs.Orders.{EntryContent}
 use Rattle.yard_core.specs.YardMap.{YardMap, placement}
 use Rattle.yard_core.specs.Calls.{Places, PlacesFirst, RefusesPlace, RefusesFirst}
-use Rattle.yard_core.specs.Decisions.{placed, placed_first}
+use Rattle.yard_core.specs.Decisions.{yard_with, placed_first}
 use Rattle.yard_core.specs.Exact.{IsYard}
 use Rattle.yard_core.specs.declared.yard_fault.YardFault.{YardFault}
 use Rattle.yard_core.proofs.Exact.{place_is_decided_lem, place_first_is_decided_lem}
@@ -17,7 +17,7 @@ use Rattle.terminal_core.specs.Calls.{IsReasonFor, Settles, Unsettled}
 pub settled_there : (y new : YardMap) (entry : EntryContent) (length : Length) (slot : Slot) → IsYard y → length ≡ length_of entry.size_type → entry.slot ≡ Some slot
     → Places y new entry.number (placement length slot) → Settles y new entry slot
 settled_there y new entry length slot yard long named places = record {
-  settled = ap (settled_in y entry) named ∙ ap (λ l. with_slot slot (placed y entry.number l slot)) (sym long) ∙ ap (with_slot slot) ((place_is_decided_lem y entry.number length slot yard).0 new places);
+  settled = ap (settled_in y entry) named ∙ ap (λ l. with_slot slot (yard_with y entry.number l slot)) (sym long) ∙ ap (with_slot slot) ((place_is_decided_lem y entry.number length slot yard).0 new places);
   places = let P : Length → Type 0 = λ l. Places y new entry.number (placement l slot) in subst P long places;
 }
 
@@ -25,7 +25,7 @@ pub unsettled_there : (y : YardMap) (entry : EntryContent) (length : Length) (sl
     → RefusesPlace y entry.number (placement length slot) f → IsReasonFor f reason → Unsettled y entry reason
 unsettled_there y entry length slot f reason yard long named refuses is = record {
   refusal = is.refusal;
-  settled = ap (settled_in y entry) named ∙ ap (λ l. with_slot slot (placed y entry.number l slot)) (sym long) ∙ ap (with_slot slot) ((place_is_decided_lem y entry.number length slot yard).1 is.refusal (let P : YardFault → Type 0 = RefusesPlace y entry.number (placement length slot) in subst P is.fault_is refuses));
+  settled = ap (settled_in y entry) named ∙ ap (λ l. with_slot slot (yard_with y entry.number l slot)) (sym long) ∙ ap (with_slot slot) ((place_is_decided_lem y entry.number length slot yard).1 is.refusal (let P : YardFault → Type 0 = RefusesPlace y entry.number (placement length slot) in subst P is.fault_is refuses));
   reason = is.reason_is;
 }
 

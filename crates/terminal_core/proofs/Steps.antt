@@ -28,17 +28,17 @@ use Rattle.terminal_core.specs.declared.way.Way.{Way}
 use Rattle.terminal_core.specs.declared.way.Way.TheVariants.{Ship}
 use Rattle.terminal_core.specs.Rows.{VisitContent, ChangeContent, visit_opened, visit_closed, placed_at, moved_to, removed_from, line_done}
 use Rattle.terminal_core.specs.State.{TerminalState, LineContent, Lines, is_in, line_key, line_of, IsWhole, open_visit}
-use Rattle.terminal_core.specs.Step.{Stepped, stepped, refused, is_full, entered, entered_at, visit_of, settled, departed, departed_at, departure_by, close_visit, number_of_visit, moved, moved_at, with_line, step_discharge, step_load, then_line_done, then_line_done_at, by_line, by_state}
+use Rattle.terminal_core.specs.Step.{Stepped, step_with, with_refusal, is_full, after_entry, entered_at, visit_of, yard_with_entry, after_departure, departed_at, departure_by, close_visit, number_of_visit, after_move, moved_at, with_line, step_discharge, step_load, then_line_done, then_line_done_at, by_line, by_state}
 use Rattle.terminal_core.specs.Calls.{Follows, IsReasonFor, Settles, Unsettled, is_refused}
 
 pub follows : (a b : Stepped) (now : TerminalState) (answer : Outcome) (old new : List ChangeContent) → a ≡ b → Follows b now answer old new → Follows a now answer old new
 follows a b now answer old new e f = record { state = f.state ∙ sym (ap (λ s. s.state) e); outcome = f.outcome ∙ sym (ap (λ s. s.outcome) e); changes = f.changes ∙ sym (ap (λ s. old ++ s.changes) e) }
 
-pub nothing_done : (state : TerminalState) (reason : Reason) (changes : List ChangeContent) → Follows (refused state reason) state (Refused reason) changes changes
+pub nothing_done : (state : TerminalState) (reason : Reason) (changes : List ChangeContent) → Follows (with_refusal state reason) state (Refused reason) changes changes
 nothing_done state reason changes = record { state = refl; outcome = refl; changes = sym (append-nil changes) }
 
 -- the yard stayed
-yard_stays : (state : TerminalState) (y : YardMap) (reason : Reason) (changes : List ChangeContent) → y ≡ state.yard → Follows (refused state reason) (record state { yard = y }) (Refused reason) changes changes
+yard_stays : (state : TerminalState) (y : YardMap) (reason : Reason) (changes : List ChangeContent) → y ≡ state.yard → Follows (with_refusal state reason) (record state { yard = y }) (Refused reason) changes changes
 yard_stays state y reason changes e = record { state = ap (λ (v : YardMap). record state { yard = v }) e; outcome = refl; changes = sym (append-nil changes) }
 
 -- ---- coming
@@ -50,28 +50,28 @@ full : (state : TerminalState) → state.limit ≤ length state.visits → is_fu
 full state none = le-leb state.limit (length state.visits) none
 
 pub refused_full : (state : TerminalState) (way : Way) (source : Source) (entry : EntryContent) (changes : List ChangeContent) → state.limit ≤ length state.visits
-    → Follows (entered state way source entry) state (Refused VisitLimit) changes changes
+    → Follows (after_entry state way source entry) state (Refused VisitLimit) changes changes
 refused_full state way source entry changes none =
-    follows (entered state way source entry) (refused state VisitLimit) state _ changes changes (ap (λ v. cond v (refused state VisitLimit) (entered_at state way source entry (settled state.yard entry))) (full state none)) (nothing_done state VisitLimit changes)
+    follows (after_entry state way source entry) (with_refusal state VisitLimit) state _ changes changes (ap (λ v. cond v (with_refusal state VisitLimit) (entered_at state way source entry (yard_with_entry state.yard entry))) (full state none)) (nothing_done state VisitLimit changes)
 
-entered_is : (state : TerminalState) (way : Way) (source : Source) (entry : EntryContent) (r : Result (YardMap × Slot) Refusal) → length state.visits < state.limit → settled state.yard entry ≡ r
-    → entered state way source entry ≡ entered_at state way source entry r
+entered_is : (state : TerminalState) (way : Way) (source : Source) (entry : EntryContent) (r : Result (YardMap × Slot) Refusal) → length state.visits < state.limit → yard_with_entry state.yard entry ≡ r
+    → after_entry state way source entry ≡ entered_at state way source entry r
 entered_is state way source entry r room e =
-    ap (λ v. cond v (refused state VisitLimit) (entered_at state way source entry (settled state.yard entry))) (not_full state room) ∙ ap (entered_at state way source entry) e
+    ap (λ v. cond v (with_refusal state VisitLimit) (entered_at state way source entry (yard_with_entry state.yard entry))) (not_full state room) ∙ ap (entered_at state way source entry) e
 
 pub has_entered : (state : TerminalState) (way : Way) (source : Source) (entry : EntryContent) (y : YardMap) (slot : Slot) (visits : List VisitContent) (old new : List ChangeContent)
     → length state.visits < state.limit → Settles state.yard y entry slot → visits ≡ state.visits ++ visit_of state way source entry slot ∷ []
     → new ≡ old ++ visit_opened (visit_of state way source entry slot) ∷ placed_at entry.number (length state.visits + 1) slot ∷ []
-    → Follows (entered state way source entry) (record state { yard = y; visits = visits }) (Done slot) old new
+    → Follows (after_entry state way source entry) (record state { yard = y; visits = visits }) (Done slot) old new
 has_entered state way source entry y slot visits old new room settles opened made =
-    follows (entered state way source entry) (entered_at state way source entry (Ok (y, slot))) _ _ old new (entered_is state way source entry (Ok (y, slot)) room settles.settled)
+    follows (after_entry state way source entry) (entered_at state way source entry (Ok (y, slot))) _ _ old new (entered_is state way source entry (Ok (y, slot)) room settles.settled)
     (record { state = ap (λ (v : List VisitContent). record state { yard = y; visits = v }) opened; outcome = refl; changes = made })
 
 pub has_not_entered : (state : TerminalState) (way : Way) (source : Source) (entry : EntryContent) (reason : Reason) (changes : List ChangeContent)
-    → length state.visits < state.limit → Unsettled state.yard entry reason → Follows (entered state way source entry) state (Refused reason) changes changes
+    → length state.visits < state.limit → Unsettled state.yard entry reason → Follows (after_entry state way source entry) state (Refused reason) changes changes
 has_not_entered state way source entry reason changes room unsettled =
-    follows (entered state way source entry) (refused state reason) _ _ changes changes
-    (entered_is state way source entry (Err unsettled.refusal) room unsettled.settled ∙ ap (refused state) (sym unsettled.reason)) (nothing_done state reason changes)
+    follows (after_entry state way source entry) (with_refusal state reason) _ _ changes changes
+    (entered_is state way source entry (Err unsettled.refusal) room unsettled.settled ∙ ap (with_refusal state) (sym unsettled.reason)) (nothing_done state reason changes)
 
 -- ---- going
 
@@ -81,9 +81,9 @@ yard_of state whole = (whole.plan, whole.sound)
 pub has_departed : (state : TerminalState) (way : Way) (source : Source) (b : BoxNumber) (moment : CivilMoment) (y : YardMap) (s : Placement) (visits : List VisitContent) (number : ℕ) (old new : List ChangeContent)
     → IsWhole state → Removes state.yard y b s → visits ≡ close_visit state b (departure_by way source moment) → number ≡ number_of_visit (open_visit state b)
     → new ≡ old ++ removed_from b ∷ visit_closed number (departure_by way source moment) ∷ []
-    → Follows (departed state way source b moment) (record state { yard = y; visits = visits }) Gone old new
+    → Follows (after_departure state way source b moment) (record state { yard = y; visits = visits }) Gone old new
 has_departed state way source b moment y s visits number old new whole removes shut is made =
-    follows (departed state way source b moment) (departed_at state b (departure_by way source moment) (Ok (y, s))) _ _ old new
+    follows (after_departure state way source b moment) (departed_at state b (departure_by way source moment) (Ok (y, s))) _ _ old new
     (ap (departed_at state b (departure_by way source moment)) ((remove_is_decided_lem state.yard b (yard_of state whole)).0 y s removes))
     (record {
       state = ap (λ (v : List VisitContent). record state { yard = y; visits = v }) shut;
@@ -92,24 +92,24 @@ has_departed state way source b moment y s visits number old new whole removes s
     })
 
 pub has_not_departed : (state : TerminalState) (way : Way) (source : Source) (b : BoxNumber) (moment : CivilMoment) (f : YardFault) (reason : Reason) (y : YardMap) (changes : List ChangeContent)
-    → IsWhole state → RefusesRemove state.yard b f → IsReasonFor f reason → y ≡ state.yard → Follows (departed state way source b moment) (record state { yard = y }) (Refused reason) changes changes
+    → IsWhole state → RefusesRemove state.yard b f → IsReasonFor f reason → y ≡ state.yard → Follows (after_departure state way source b moment) (record state { yard = y }) (Refused reason) changes changes
 has_not_departed state way source b moment f reason y changes whole refuses is stays =
-    follows (departed state way source b moment) (refused state reason) _ _ changes changes
-    (ap (departed_at state b (departure_by way source moment)) ((remove_is_decided_lem state.yard b (yard_of state whole)).1 is.refusal (let P : YardFault → Type 0 = RefusesRemove state.yard b in subst P is.fault_is refuses)) ∙ ap (refused state) (sym is.reason_is)) (yard_stays state y reason changes stays)
+    follows (after_departure state way source b moment) (with_refusal state reason) _ _ changes changes
+    (ap (departed_at state b (departure_by way source moment)) ((remove_is_decided_lem state.yard b (yard_of state whole)).1 is.refusal (let P : YardFault → Type 0 = RefusesRemove state.yard b in subst P is.fault_is refuses)) ∙ ap (with_refusal state) (sym is.reason_is)) (yard_stays state y reason changes stays)
 
 -- ---- moving
 
 pub has_moved : (state : TerminalState) (b : BoxNumber) (slot : Slot) (y : YardMap) (s : Placement) (old new : List ChangeContent)
-    → IsWhole state → Shifts state.yard y b s slot → new ≡ old ++ moved_to b slot ∷ [] → Follows (moved state b slot) (record state { yard = y }) (Done slot) old new
+    → IsWhole state → Shifts state.yard y b s slot → new ≡ old ++ moved_to b slot ∷ [] → Follows (after_move state b slot) (record state { yard = y }) (Done slot) old new
 has_moved state b slot y s old new whole shifts made =
-    follows (moved state b slot) (moved_at state b slot (Ok y)) _ _ old new (ap (moved_at state b slot) ((shift_is_decided_lem state.yard b slot (yard_of state whole)).0 y s shifts))
+    follows (after_move state b slot) (moved_at state b slot (Ok y)) _ _ old new (ap (moved_at state b slot) ((shift_is_decided_lem state.yard b slot (yard_of state whole)).0 y s shifts))
     (record { state = refl; outcome = refl; changes = made })
 
 pub has_not_moved : (state : TerminalState) (b : BoxNumber) (slot : Slot) (f : YardFault) (reason : Reason) (y : YardMap) (changes : List ChangeContent)
-    → IsWhole state → RefusesShift state.yard b slot f → IsReasonFor f reason → y ≡ state.yard → Follows (moved state b slot) (record state { yard = y }) (Refused reason) changes changes
+    → IsWhole state → RefusesShift state.yard b slot f → IsReasonFor f reason → y ≡ state.yard → Follows (after_move state b slot) (record state { yard = y }) (Refused reason) changes changes
 has_not_moved state b slot f reason y changes whole refuses is stays =
-    follows (moved state b slot) (refused state reason) _ _ changes changes
-    (ap (moved_at state b slot) ((shift_is_decided_lem state.yard b slot (yard_of state whole)).1 is.refusal (let P : YardFault → Type 0 = RefusesShift state.yard b slot in subst P is.fault_is refuses)) ∙ ap (refused state) (sym is.reason_is)) (yard_stays state y reason changes stays)
+    follows (after_move state b slot) (with_refusal state reason) _ _ changes changes
+    (ap (moved_at state b slot) ((shift_is_decided_lem state.yard b slot (yard_of state whole)).1 is.refusal (let P : YardFault → Type 0 = RefusesShift state.yard b slot in subst P is.fault_is refuses)) ∙ ap (with_refusal state) (sym is.reason_is)) (yard_stays state y reason changes stays)
 
 -- ---- lines
 
@@ -131,7 +131,7 @@ not_carried call side b line after Listed e = cc
 not_carried call side b line after (Refused reason) e = refl
 
 carried : (call : CallContent) (side : Side) (b : BoxNumber) (line : LineContent) (after : Stepped) (o : Outcome) → is_refused o ≡ false
-    → then_line_done_at call side b line after o ≡ stepped (with_line after.state call side b (record line { state = LineIsDone })) after.outcome (after.changes ++ line_done call side b ∷ [])
+    → then_line_done_at call side b line after o ≡ step_with (with_line after.state call side b (record line { state = LineIsDone })) after.outcome (after.changes ++ line_done call side b ∷ [])
 carried call side b line after (Done slot) e = refl
 carried call side b line after Gone e = refl
 carried call side b line after Listed e = refl
@@ -153,7 +153,7 @@ pub line_closed : (state : TerminalState) (call : CallContent) (side : Side) (b 
     → now ≡ with_line mid call side b (record line { state = LineIsDone }) → new ≡ between ++ line_done call side b ∷ []
     → Follows (by_line state call side b (line_of state call side b) after) now answer old new
 line_closed state call side b line after mid now answer old between new there open_ follows_ carried_ is made =
-    follows (by_line state call side b (line_of state call side b) after) (stepped (with_line after.state call side b (record line { state = LineIsDone })) after.outcome (after.changes ++ line_done call side b ∷ [])) now answer old new
+    follows (by_line state call side b (line_of state call side b) after) (step_with (with_line after.state call side b (record line { state = LineIsDone })) after.outcome (after.changes ++ line_done call side b ∷ [])) now answer old new
     (by_pending state call side b line after there open_ ∙ carried call side b line after after.outcome (ap is_refused (sym follows_.outcome) ∙ carried_))
     (record {
       state = is ∙ ap (λ (s : TerminalState). with_line s call side b (record line { state = LineIsDone })) follows_.state;
@@ -162,15 +162,15 @@ line_closed state call side b line after mid now answer old between new there op
     })
 
 pub came_off : (state : TerminalState) (source : Source) (call : CallContent) (entry : EntryContent) (now : TerminalState) (answer : Outcome) (old new : List ChangeContent)
-    → is_in state entry.number ≡ false → Follows (by_line state call Discharge entry.number (line_of state call Discharge entry.number) (entered state Ship source entry)) now answer old new
+    → is_in state entry.number ≡ false → Follows (by_line state call Discharge entry.number (line_of state call Discharge entry.number) (after_entry state Ship source entry)) now answer old new
     → Follows (step_discharge state source call entry) now answer old new
 came_off state source call entry now answer old new out follows_ =
-    follows (step_discharge state source call entry) (by_line state call Discharge entry.number (line_of state call Discharge entry.number) (entered state Ship source entry)) now answer old new
-    (ap (λ v. cond v (refused state AlreadyIn) (by_line state call Discharge entry.number (line_of state call Discharge entry.number) (entered state Ship source entry))) out) follows_
+    follows (step_discharge state source call entry) (by_line state call Discharge entry.number (line_of state call Discharge entry.number) (after_entry state Ship source entry)) now answer old new
+    (ap (λ v. cond v (with_refusal state AlreadyIn) (by_line state call Discharge entry.number (line_of state call Discharge entry.number) (after_entry state Ship source entry))) out) follows_
 
 pub went_on : (state : TerminalState) (source : Source) (call : CallContent) (b : BoxNumber) (moment : CivilMoment) (now : TerminalState) (answer : Outcome) (old new : List ChangeContent)
-    → is_in state b ≡ true → Follows (by_line state call Load b (line_of state call Load b) (departed state Ship source b moment)) now answer old new
+    → is_in state b ≡ true → Follows (by_line state call Load b (line_of state call Load b) (after_departure state Ship source b moment)) now answer old new
     → Follows (step_load state source call b moment) now answer old new
 went_on state source call b moment now answer old new in_ follows_ =
-    follows (step_load state source call b moment) (by_line state call Load b (line_of state call Load b) (departed state Ship source b moment)) now answer old new
-    (ap (λ v. cond v (by_line state call Load b (line_of state call Load b) (departed state Ship source b moment)) (refused state NotIn)) in_) follows_
+    follows (step_load state source call b moment) (by_line state call Load b (line_of state call Load b) (after_departure state Ship source b moment)) now answer old new
+    (ap (λ v. cond v (by_line state call Load b (line_of state call Load b) (after_departure state Ship source b moment)) (with_refusal state NotIn)) in_) follows_

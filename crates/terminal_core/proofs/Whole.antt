@@ -15,7 +15,7 @@ use Rattle.yard_core.specs.Calls.{Places, Removes, Shifts}
 use Rattle.terminal_core.specs.declared.departure.Departure.{Departure}
 use Rattle.terminal_core.specs.Rows.{VisitContent}
 use Rattle.terminal_core.specs.State.{TerminalState, Lines, is_in, open_visit, is_open_visit, IsWhole}
-use Rattle.terminal_core.specs.Step.{closed}
+use Rattle.terminal_core.specs.Step.{closed_visit}
 use Rattle.std.proofs.lemmas.Option.{none-some}
 use Rattle.box6346.specs.SizeCode.{length_of}
 use Rattle.terminal_core.proofs.Lengths.{long_entered, long_departed, long_moved}
@@ -86,20 +86,20 @@ whole_entered state y visit s whole places sound number still long room =
 -- ---- going
 
 pub whole_departed : (state : TerminalState) (y : YardMap) (b : BoxNumber) (departure : Departure) (s : Placement) → IsWhole state → Removes state.yard y b s → IsSound y.plan (finite_map.get y.boxes)
-    → IsWhole (record state { yard = y; visits = map (closed departure b) state.visits })
+    → IsWhole (record state { yard = y; visits = map (closed_visit departure b) state.visits })
 whole_departed state y b departure s whole removes sound = record {
   plan = let P : List Block → Type 0 = IsPlan in subst P (sym removes.plan) whole.plan;
   sound = sound;
   numbered = numbered_closed departure b 1 state.visits whole.numbered;
-  within = let same : length (map (closed departure b) state.visits) ≡ length state.visits = length-map state.visits (closed departure b) in let few : length state.visits ≤ state.limit = whole.within in omega arith;
+  within = let same : length (map (closed_visit departure b) state.visits) ≡ length state.visits = length-map state.visits (closed_visit departure b) in let few : length state.visits ≤ state.limit = whole.within in omega arith;
   one_visit = λ q.
-      let fewer : length (filter (is_open_visit q) (map (closed departure b) state.visits)) ≤ length (filter (is_open_visit q) state.visits) =
-      count_mapped (is_open_visit q) (is_open_visit q) (closed departure b) (not (bytes_eq b q)) (closed_open departure b q) state.visits in
+      let fewer : length (filter (is_open_visit q) (map (closed_visit departure b) state.visits)) ≤ length (filter (is_open_visit q) state.visits) =
+      count_mapped (is_open_visit q) (is_open_visit q) (closed_visit departure b) (not (bytes_eq b q)) (closed_open departure b q) state.visits in
       let few : length (filter (is_open_visit q) state.visits) ≤ 1 = whole.one_visit q in
       omega arith;
   here = λ q.
       ap (λ (boxes : Boxes). is_some (finite_map.get boxes q)) removes.boxes ∙ in_removed state.yard.boxes b q ∙ ap (λ v. v && not (bytes_eq b q)) (whole.here q)
-      ∙ sym (find_mapped (is_open_visit q) (is_open_visit q) (closed departure b) (not (bytes_eq b q)) (closed_open departure b q) state.visits);
+      ∙ sym (find_mapped (is_open_visit q) (is_open_visit q) (closed_visit departure b) (not (bytes_eq b q)) (closed_open departure b q) state.visits);
   as_long = long_departed state y b departure whole removes.boxes;
 }
 

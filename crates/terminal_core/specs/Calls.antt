@@ -15,7 +15,7 @@ use Rattle.terminal_core.specs.declared.outcome.Outcome.TheVariants.{Done, Gone,
 use Rattle.terminal_core.specs.declared.reason.Reason.{Reason}
 use Rattle.terminal_core.specs.Rows.{VisitContent, ChangeContent}
 use Rattle.terminal_core.specs.State.{TerminalState, is_open_visit}
-use Rattle.terminal_core.specs.Step.{Stepped, settled, reason_of}
+use Rattle.terminal_core.specs.Step.{Stepped, yard_with_entry, reason_of}
 
 -- the state, the answer and the changes that were added are those of a step
 pub record Follows (step : Stepped) (now : TerminalState) (answer : Outcome)
@@ -32,13 +32,13 @@ pub record IsReasonFor (fault : YardFault) (reason : Reason) : Type 0 where
 
 -- the container of an entry was placed
 pub record Settles (old new : YardMap) (entry : EntryContent) (slot : Slot) : Type 0 where
-  pub settled : settled old entry ≡ Ok (new, slot)
+  pub settled : yard_with_entry old entry ≡ Ok (new, slot)
   pub places : Places old new entry.number (placement (length_of entry.size_type) slot)
 
 -- the container of an entry was not placed
 pub record Unsettled (old : YardMap) (entry : EntryContent) (given : Reason) : Type 0 where
   pub refusal : Refusal
-  pub settled : settled old entry ≡ Err refusal
+  pub settled : yard_with_entry old entry ≡ Err refusal
   pub reason : given ≡ reason_of refusal
 
 -- the container has one open visit

@@ -1,5 +1,5 @@
 -- The rows of a terminal's three lists, and what a change does to them.
-use Rattle.std.specs.Prelude.{◌≡◌, ◌≢◌, ℕ, ◌+◌, Bool, true, cond, ◌==◌, List, [], ◌∷◌, ◌++◌, length, map, filter, Option, None, Some, is_some, ◌↔◌}
+use Rattle.std.specs.Prelude.{◌≡◌, ◌≢◌, ℕ, ◌+◌, Bool, true, ◌==◌, List, [], ◌∷◌, ◌++◌, length, map, filter, Option, None, Some, is_some, ◌↔◌, if◌then◌else◌}
 use Rattle.std.specs.Option.{option_map}
 use Rattle.std.specs.Str.{bytes_eq}
 use Rattle.std.specs.Map.{update}
@@ -42,7 +42,7 @@ rows_of state = record { visits = state.visits; places = standing_of state; line
 
 -- the visit of that number gets the departure, and no other
 abbrev pub closed_as : ℕ → Departure → VisitContent → VisitContent
-closed_as number departure visit = cond (visit.number == number) (record visit { departure = Some departure }) visit
+closed_as number departure visit = if visit.number == number then record visit { departure = Some departure } else visit
 
 abbrev pub standing_elsewhere : Slot → Standing → Standing
 standing_elsewhere slot place = record place { slot = slot }
@@ -52,23 +52,23 @@ with_line_done lines key None = lines
 with_line_done lines key (Some line) = finite_map.insert lines key (record line { state = LineIsDone })
 
 -- the rows after a change
-abbrev pub changed : TerminalRows → ChangeContent → TerminalRows
-changed rows (visit_opened visit) = record rows { visits = rows.visits ++ visit ∷ [] }
-changed rows (visit_closed number departure) = record rows { visits = map (closed_as number departure) rows.visits }
-changed rows (placed_at container visit slot) =
+abbrev pub rows_with : TerminalRows → ChangeContent → TerminalRows
+rows_with rows (visit_opened visit) = record rows { visits = rows.visits ++ visit ∷ [] }
+rows_with rows (visit_closed number departure) = record rows { visits = map (closed_as number departure) rows.visits }
+rows_with rows (placed_at container visit slot) =
     record rows { places = update bytes_eq rows.places container (Some (standing_in visit slot)) }
-changed rows (moved_to container slot) =
+rows_with rows (moved_to container slot) =
     record rows {
       places = update bytes_eq rows.places container
           (option_map (standing_elsewhere slot) (rows.places container));
     }
-changed rows (removed_from container) = record rows { places = update bytes_eq rows.places container None }
-changed rows (listed_on call side container port) =
+rows_with rows (removed_from container) = record rows { places = update bytes_eq rows.places container None }
+rows_with rows (listed_on call side container port) =
     record rows {
       lines = finite_map.insert rows.lines (line_key call side container)
           (record { port = port; state = Pending });
     }
-changed rows (line_done call side container) =
+rows_with rows (line_done call side container) =
     record rows {
       lines = with_line_done rows.lines (line_key call side container)
           (finite_map.get rows.lines (line_key call side container));
@@ -77,7 +77,7 @@ changed rows (line_done call side container) =
 -- the rows after changes, one after another
 abbrev pub all_changed : TerminalRows → List ChangeContent → TerminalRows
 all_changed rows [] = rows
-all_changed rows (change ∷ changes) = all_changed (changed rows change) changes
+all_changed rows (change ∷ changes) = all_changed (rows_with rows change) changes
 
 -- ---- what a change finds
 
@@ -129,7 +129,7 @@ IsApplicable rows (line_done call side container) = IsPendingLine (line_key call
 -- each is applicable at its turn
 abbrev pub AreApplicable : TerminalRows → List ChangeContent → Type 0
 AreApplicable rows [] = Unit {0}
-AreApplicable rows (change ∷ changes) = IsApplicable rows change × AreApplicable (changed rows change) changes
+AreApplicable rows (change ∷ changes) = IsApplicable rows change × AreApplicable (rows_with rows change) changes
 
 -- ---- the laws
 

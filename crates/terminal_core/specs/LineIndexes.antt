@@ -1,5 +1,5 @@
 -- Where the lines of the vessels' lists are found: what the code relies on, and no caller has to read.
-use Rattle.std.specs.Prelude.{◌≡◌, ℕ, Bool, cond, ◌&&◌, ◌==◌, List, Option, None, Some, string_bytes, slice_get}
+use Rattle.std.specs.Prelude.{◌≡◌, ℕ, Bool, ◌&&◌, ◌==◌, List, Option, None, Some, string_bytes, slice_get, if◌then◌else◌}
 use Rattle.std.specs.Str.{bytes_eq}
 use Rattle.std.specs.Map.{lookup}
 use Rattle.std.specs.HashMap.{HashMap}
@@ -55,8 +55,8 @@ abbrev pub NotesIndex : AllIndexes → AllIndexes → CallContent → Side → B
 NotesIndex old new call side container row_index =
     (other_call : Call) (other_side : Side) (other : BoxNumber)
     → index_in new (call_content other_call) other_side other
-    ≡ cond (is_same_line call side container other_call other_side other) (Some row_index)
-    (index_in old (call_content other_call) other_side other)
+    ≡ (if is_same_line call side container other_call other_side other then Some row_index
+    else index_in old (call_content other_call) other_side other)
 
 -- each line is said to stand where it stands
 abbrev pub AreNoted : List Listing → AllIndexes → Type 0

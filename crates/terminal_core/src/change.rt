@@ -29,7 +29,7 @@ pub enum Change {
     Removed {
         container: BoxNumber,
     },
-    /// A line of a call's list was opened. The port of discharge is empty where none is given, and on a discharge list.
+    /// A line of a call's list was opened. The port of discharge is empty if none is given, and on a discharge list.
     Listed {
         call: Call,
         side: Side,

@@ -12,7 +12,7 @@ pub struct Listing {
     pub side: Side,
     /// The container's number (ISO 6346).
     pub container: BoxNumber,
-    /// The port of discharge of a container to be loaded, empty where none was given.
+    /// The port of discharge of a container to be loaded, empty if none was given.
     pub port: String,
     /// Whether it was loaded, or discharged.
     pub state: LineState,

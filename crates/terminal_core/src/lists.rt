@@ -53,7 +53,7 @@ impl Lists {
         }
     }
 
-    /// The lists of rows: Unsound where a line stands twice, and Memory.
+    /// The lists of rows: Unsound if a line stands twice, and Memory.
     pub(crate) fn restore(alloc: Global, rows: Vec<Listing>) -> Result<Lists, RestoreFault>
         ensures { MatchResult result (λ l. AreOnce rows.items × (l ≡ lines_of rows.items)) (RefusesLines rows.items) }
     {
@@ -125,7 +125,7 @@ impl Lists {
     }
 }
 
-/// Where each line stands: Unsound where one stands twice, and Memory.
+/// Where each line stands: Unsound if one stands twice, and Memory.
 fn noted_lines(alloc: Global, rows: &[Listing]) -> Result<LineIndexes, RestoreFault>
     ensures { MatchResult result (λ indexes. AreOnce rows.now × AreNoted rows.now indexes) (RefusesLines rows.now) }
 {

@@ -18,7 +18,7 @@ use box6346::Length;
 use std::alloc::{AllocError, Global};
 use yard_core::{Plan, Yard, YardFault};
 
-/// The yard of a plan, visits and places: Unsound where the visits are not numbered within the limit, or the places are
+/// The yard of a plan, visits and places: Unsound if the visits are not numbered within the limit, or the places are
 /// not those of the open visits in a sound yard.
 pub(crate) fn restored_yard(
     alloc: Global,

@@ -1,6 +1,6 @@
 ghost use Rattle.std.specs.Prelude.{◌≡◌, ◌+◌, ◌<◌, ◌≤◌, [], ◌∷◌, ◌++◌, vec_len, vec_capacity};
 
-/// Appends a row where there is room for it.
+/// Appends a row if there is room for it.
 pub(crate) fn append<T: Drop>(rows: &mut Vec<T>, row: T)
     requires { vec_len rows.old < vec_capacity rows.old }
     ensures rows { rows.new.items ≡ rows.old.items ++ row ∷ [] }

@@ -46,7 +46,7 @@ fn refusal(fault: YardFault) -> Result<Reason, AllocError>
     }
 }
 
-/// Such a fault as a reason, where the call that it answers takes no memory.
+/// Such a fault as a reason, if the call that it answers takes no memory.
 pub(crate) fn reason_of(fault: YardFault) -> Reason
     requires { fault ≢ YardFault.Memory }
     ensures { IsReasonFor fault result }

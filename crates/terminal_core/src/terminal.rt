@@ -4,7 +4,7 @@ ghost use Rattle.std.specs.Option.{option_map};
 ghost use Rattle.edi_messages.specs.Owned.{call_content, entry_content, order_content};
 ghost use Rattle.terminal_core.specs.Rows.{visit_content, change_content, line_done};
 ghost use Rattle.terminal_core.specs.State.{LineContent, TerminalState, empty_state, is_in, line_of, IsWhole};
-ghost use Rattle.terminal_core.specs.Step.{entered, departed, moved, listed, step, step_gate_in, step_discharge, step_load, with_line};
+ghost use Rattle.terminal_core.specs.Step.{after_entry, after_departure, after_move, after_listing, step, step_gate_in, step_discharge, step_load, with_line};
 ghost use Rattle.terminal_core.specs.Calls.{Follows, IsPlanned, is_refused};
 ghost use Rattle.terminal_core.specs.Listings.{lines_of};
 ghost use Rattle.terminal_core.specs.Restoring.{AreOnce, AreRowsOf, RefusesRows};
@@ -73,7 +73,7 @@ impl Terminal {
     }
 
     /// The terminal whose visits, places and lines these rows are, in any order of the places and of the lines. Unsound
-    /// where they are the rows of no whole state, and Memory. What was handed in is given up.
+    /// if they are the rows of no whole state, and Memory. What was handed in is given up.
     pub fn restore(
         alloc: Global,
         plan: Plan,
@@ -137,7 +137,7 @@ impl Terminal {
     }
 
     /// Carries an order out, or refuses it: the first reason that applies. What it added, altered or removed is
-    /// appended to the changes. Where memory is refused, the terminal and the changes stay as they were.
+    /// appended to the changes. If memory is refused, the terminal and the changes stay as they were.
     pub fn step(
         &mut self,
         alloc: Global,
@@ -304,7 +304,7 @@ impl Terminal {
     ) -> Result<Outcome, AllocError>
         requires { vec_len changes.old + 1 ≤ vec_capacity changes.old }
         ensures ok { IfOk result
-            (λ outcome. Follows (listed self.old (call_content call.now) side container port.now) self.new
+            (λ outcome. Follows (after_listing self.old (call_content call.now) side container port.now) self.new
             outcome (map change_content changes.old.items) (map change_content changes.new.items)) }
         ensures err { OnErr result (self.new ≡ self.old) }
         ensures kept { OnErr result (changes.new.items ≡ changes.old.items) }
@@ -376,7 +376,7 @@ impl Terminal {
     ) -> Result<Outcome, AllocError>
         requires { vec_len changes.old + 2 ≤ vec_capacity changes.old }
         ensures ok { IfOk result
-            (λ outcome. Follows (entered self.old way source (entry_content entry.now)) self.new outcome
+            (λ outcome. Follows (after_entry self.old way source (entry_content entry.now)) self.new outcome
             (map change_content changes.old.items) (map change_content changes.new.items)) }
         ensures err { OnErr result (self.new ≡ self.old) }
         ensures kept { OnErr result (changes.new.items ≡ changes.old.items) }
@@ -431,7 +431,7 @@ impl Terminal {
         changes: &mut Vec<Change>,
     ) -> Outcome
         requires { vec_len changes.old + 2 ≤ vec_capacity changes.old }
-        ensures step { Follows (departed self.old way source container moment) self.new result
+        ensures step { Follows (after_departure self.old way source container moment) self.new result
             (map change_content changes.old.items) (map change_content changes.new.items) }
         ensures len { vec_len changes.new ≤ vec_len changes.old + 2 }
         ensures capacity { vec_capacity changes.old ≤ vec_capacity changes.new }
@@ -452,7 +452,7 @@ impl Terminal {
     /// The container goes to another slot: NotIn, Buried, or why it does not fit there.
     fn shift(&mut self, container: BoxNumber, slot: Slot, changes: &mut Vec<Change>) -> Outcome
         requires { vec_len changes.old + 1 ≤ vec_capacity changes.old }
-        ensures step { Follows (moved self.old container slot) self.new result
+        ensures step { Follows (after_move self.old container slot) self.new result
             (map change_content changes.old.items) (map change_content changes.new.items) }
         ensures planned { IsPlanned self.new.yard.plan result }
     {

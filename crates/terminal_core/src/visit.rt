@@ -13,7 +13,7 @@ pub struct Visit {
     pub size_type: SizeType,
     /// Whether it is full.
     pub is_laden: bool,
-    /// The booking, empty where none was given.
+    /// The booking, empty if none was given.
     pub booking: String,
     /// How and when it came, and where it was placed.
     pub arrival: Arrival,

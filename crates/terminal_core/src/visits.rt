@@ -3,7 +3,7 @@ ghost use Rattle.box6346.specs.declared.box_number.BoxNumber.{BoxNumber};
 ghost use Rattle.edi_messages.specs.Owned.{entry_content};
 ghost use Rattle.terminal_core.specs.Rows.{visit_content, change_content, visit_closed};
 ghost use Rattle.terminal_core.specs.State.{is_open_visit};
-ghost use Rattle.terminal_core.specs.Step.{closed, number_of_visit, opened_by, departure_by};
+ghost use Rattle.terminal_core.specs.Step.{closed_visit, number_of_visit, opened_by, departure_by};
 ghost use Rattle.terminal_core.specs.Calls.{HasOneVisit};
 ghost use Rattle.terminal_core.specs.Index.{AreIndexed, HasRoom};
 
@@ -99,7 +99,7 @@ impl Visits {
         Ok(())
     }
 
-    /// Adds a container's visit where it has none that is open.
+    /// Adds a container's visit if it has none that is open.
     pub(crate) fn open(&mut self, visit: Visit)
         requires room { HasRoom self.old }
         requires stays { visit.departure ≡ None }
@@ -121,7 +121,8 @@ impl Visits {
         moment: Moment,
     ) -> u32
         requires { HasOneVisit container self.old.visits }
-        ensures closed { self.new.visits ≡ map (closed (departure_by way source moment) container) self.old.visits }
+        ensures closed { self.new.visits
+            ≡ map (closed_visit (departure_by way source moment) container) self.old.visits }
         ensures number { result ≡ number_of_visit (find (is_open_visit container) self.old.visits) }
     {
         let Some(row_index) = self.open_indexes.remove(&container.text()) else {

@@ -15,7 +15,7 @@ use Rattle.yard_core.specs.SoundYard.{IsSound}
 use Rattle.yard_core.specs.FitsAndFree.{Fits, Misfits, IsOpen, IsAbove, IsFree}
 use Rattle.yard_core.specs.FirstFit.{IsBefore, IsFirstFit, FitsNowhere}
 use Rattle.yard_core.specs.Calls.{Places, PlacesFirst, Removes, Shifts, RefusesPlace, RefusesFirst, RefusesRemove, RefusesShift}
-use Rattle.yard_core.specs.Decisions.{Refusal, fault_of, present as Present, absent as Absent, buried as Buried, no_slot as NoSlot, slot_kind as SlotKind, taken as Taken, on_air as OnAir, no_room as NoRoom, misfit_of, blocker_of, first_fit, every_slot, placed, placed_first, removed, shifted, with_misfit, with_slot, unless_buried, removed_at, shifted_at}
+use Rattle.yard_core.specs.Decisions.{Refusal, fault_of, present as Present, absent as Absent, buried as Buried, no_slot as NoSlot, slot_kind as SlotKind, taken as Taken, on_air as OnAir, no_room as NoRoom, misfit_of, blocker_of, first_fit, every_slot, yard_with, placed_first, yard_without, yard_with_move, with_misfit, with_slot, unless_buried, removed_at, shifted_at}
 use Rattle.yard_core.specs.Exact.{IsYard, PlaceIsDecided, PlaceFirstIsDecided, RemoveIsDecided, ShiftIsDecided}
 use Rattle.std.proofs.lemmas.Bool.{and_parts, leb-true}
 use Rattle.std.proofs.lemmas.Option.{same_Some, slice_get_within, get_or_from_slice_get}
@@ -142,15 +142,15 @@ present_is (Some s) h = refl
 same_yard : (old new : YardMap) (boxes : Boxes) → new.plan ≡ old.plan → new.boxes ≡ boxes → yard_map old.plan boxes ≡ new
 same_yard old new boxes plan is = rw (sym plan, sym is) refl
 
-place_present : (y : YardMap) (b : Box) (length : Length) (slot : Slot) → IsSome (finite_map.get y.boxes b) → placed y b length slot ≡ Err Present
+place_present : (y : YardMap) (b : Box) (length : Length) (slot : Slot) → IsSome (finite_map.get y.boxes b) → yard_with y b length slot ≡ Err Present
 place_present y b length slot h = rw (present_is (finite_map.get y.boxes b) h) refl
 
 place_misfit : (y : YardMap) (b : Box) (length : Length) (slot : Slot) (f : Refusal) → finite_map.get y.boxes b ≡ None → Misfits y.plan (finite_map.get y.boxes) (placement length slot) (fault_of f) →
-    placed y b length slot ≡ Err f
+    yard_with y b length slot ≡ Err f
 place_misfit y b length slot f absent misfits =
     rw (absent_is (finite_map.get y.boxes b) absent, misfits_decided y.plan y.boxes (placement length slot) f misfits) refl
 
-place_refused : (y : YardMap) (b : Box) (length : Length) (slot : Slot) (f : Refusal) → RefusesPlace y b (placement length slot) (fault_of f) → placed y b length slot ≡ Err f
+place_refused : (y : YardMap) (b : Box) (length : Length) (slot : Slot) (f : Refusal) → RefusesPlace y b (placement length slot) (fault_of f) → yard_with y b length slot ≡ Err f
 place_refused y b length slot Present h = place_present y b length slot h
 place_refused y b length slot Absent h = absurd h.1
 place_refused y b length slot (Buried q) h = absurd h.1
@@ -198,7 +198,7 @@ buried_judged : (plan : List Block) (boxes : Boxes) (a b : Box) (length : Length
 buried_judged plan boxes a b length slot None valid sound at blocks upon = absurd (blocks b upon)
 buried_judged plan boxes a b length slot (Some c) valid sound at blocks upon = ap Some (on_one plan (finite_map.get boxes) valid sound a c b length slot at blocks upon)
 
-remove_refused : (y : YardMap) (b : Box) (f : Refusal) → IsYard y → RefusesRemove y b (fault_of f) → removed y b ≡ Err f
+remove_refused : (y : YardMap) (b : Box) (f : Refusal) → IsYard y → RefusesRemove y b (fault_of f) → yard_without y b ≡ Err f
 remove_refused y b Absent is h = rw h refl
 remove_refused y b (Buried q) is (s, at, upon) =
     rw (at, buried_judged y.plan y.boxes b q s.length s.slot (blocker_of y.boxes s) is.0 is.1 at (blocker_tells y.boxes s.length s.slot) upon) refl
@@ -221,11 +221,11 @@ gone : (boxes : Boxes) (b : Box) → finite_map.get (finite_map.remove boxes b) 
 gone boxes b = (Drops-remove boxes b).gone
 
 shift_misfit : (y : YardMap) (b : Box) (slot : Slot) (f : Refusal) (s : Placement) → finite_map.get y.boxes b ≡ Some s → IsFree (finite_map.get y.boxes) s →
-    Misfits y.plan (finite_map.get (finite_map.remove y.boxes b)) (placement s.length slot) (fault_of f) → shifted y b slot ≡ Err f
+    Misfits y.plan (finite_map.get (finite_map.remove y.boxes b)) (placement s.length slot) (fault_of f) → yard_with_move y b slot ≡ Err f
 shift_misfit y b slot f s at free misfits =
     rw (at, free_judged y.boxes s (blocker_of y.boxes s) (blocker_tells y.boxes s.length s.slot) free, misfits_decided y.plan (finite_map.remove y.boxes b) (placement s.length slot) f misfits) refl
 
-shift_refused : (y : YardMap) (b : Box) (slot : Slot) (f : Refusal) → IsYard y → RefusesShift y b slot (fault_of f) → shifted y b slot ≡ Err f
+shift_refused : (y : YardMap) (b : Box) (slot : Slot) (f : Refusal) → IsYard y → RefusesShift y b slot (fault_of f) → yard_with_move y b slot ≡ Err f
 shift_refused y b slot Absent is h = rw h refl
 shift_refused y b slot (Buried q) is (s, at, upon) =
     rw (at, buried_judged y.plan y.boxes b q s.length s.slot (blocker_of y.boxes s) is.0 is.1 at (blocker_tells y.boxes s.length s.slot) upon) refl

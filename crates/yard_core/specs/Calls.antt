@@ -10,7 +10,7 @@ use Rattle.yard_core.specs.YardMap.{Box, YardMap, placement}
 use Rattle.yard_core.specs.FitsAndFree.{Fits, Misfits, IsAbove, IsFree}
 use Rattle.yard_core.specs.FirstFit.{IsFirstFit, FitsNowhere}
 
--- one box more, where it fits
+-- one box more, if it fits
 pub record Places (old new : YardMap) (b : Box) (s : Placement) : Type 0 where
   pub absent : map.get old.boxes b ≡ None
   pub fits : Fits old.plan old.boxes b s
@@ -49,7 +49,7 @@ RefusesRemove y b (Buried blocker) =
     (s : Placement) × (map.get y.boxes b ≡ Some s) × IsAbove (map.get y.boxes) s blocker
 RefusesRemove y b f = ⊥
 
--- a free box in another slot, where it fits the yard without it
+-- a free box in another slot, if it fits the yard without it
 pub record Shifts (old new : YardMap) (b : Box) (s : Placement) (slot : Slot) : Type 0 where
   pub stood : map.get old.boxes b ≡ Some s
   pub free : IsFree (map.get old.boxes) s

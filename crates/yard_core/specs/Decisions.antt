@@ -1,6 +1,6 @@
 -- What the calls on a yard answer, as functions of the map: a plain search over all its boxes. The calls themselves are
 -- told by relations; laws tie both together.
-use Rattle.std.specs.Prelude.{ℕ, ◌+◌, ◌-◌, ◌*◌, ◌%◌, Bool, true, false, cond, not, ◌&&◌, ◌||◌, ◌==◌, nat_le, nat_lt, List, [], ◌∷◌, map, flat_map, Option, None, Some, is_some, is_none, Result, Ok, Err, find}
+use Rattle.std.specs.Prelude.{ℕ, ◌+◌, ◌-◌, ◌*◌, ◌%◌, Bool, true, false, not, ◌&&◌, ◌||◌, ◌==◌, nat_le, nat_lt, List, [], ◌∷◌, map, flat_map, Option, None, Some, is_some, is_none, Result, Ok, Err, find, if◌then◌else◌}
 use Rattle.box6346.specs.Characters.{capital_a}
 use Rattle.std.specs.List.{list_any, range_with_len}
 use Rattle.std.specs.Option.{option_map, option_map_or}
@@ -112,10 +112,11 @@ is_carried boxes length slot = slot.tier == 1 || is_supported boxes length slot
 -- why a container does not fit there, if it does not: the first reason
 unfoldable pub misfit_of : List Block → Boxes → Placement → Option Refusal
 misfit_of plan boxes s =
-    cond (not (in_plan plan s.slot)) (Some no_slot)
-    (cond (not (is_kind s.length s.slot)) (Some slot_kind)
-    (cond (is_taken boxes s) (Some taken)
-    (cond (is_carried boxes s.length s.slot) None (Some on_air))))
+    if not (in_plan plan s.slot) then Some no_slot
+    else if not (is_kind s.length s.slot) then Some slot_kind
+    else if is_taken boxes s then Some taken
+    else if is_carried boxes s.length s.slot then None
+    else Some on_air
 
 -- the first that is there
 abbrev pub first_there : List (Option Box) → Option Box
@@ -154,11 +155,11 @@ with_misfit (Some refusal) y = Err refusal
 with_misfit None y = Ok y
 
 -- one container more, in a named slot
-abbrev pub placed : YardMap → Box → Length → Slot → Result YardMap Refusal
-placed y b length slot =
-    cond (is_some (finite_map.get y.boxes b)) (Err present)
-    (with_misfit (misfit_of y.plan y.boxes (placement length slot))
-    (yard_map y.plan (finite_map.insert y.boxes b (placement length slot))))
+abbrev pub yard_with : YardMap → Box → Length → Slot → Result YardMap Refusal
+yard_with y b length slot =
+    if is_some (finite_map.get y.boxes b) then Err present
+    else with_misfit (misfit_of y.plan y.boxes (placement length slot))
+    (yard_map y.plan (finite_map.insert y.boxes b (placement length slot)))
 
 abbrev pub with_slot : Option Slot → YardMap → Box → Length → Result (YardMap × Slot) Refusal
 with_slot None y b length = Err no_room
@@ -167,7 +168,7 @@ with_slot (Some slot) y b length = Ok (yard_map y.plan (finite_map.insert y.boxe
 -- one container more, in the first slot that fits
 abbrev pub placed_first : YardMap → Box → Length → Result (YardMap × Slot) Refusal
 placed_first y b length =
-    cond (is_some (finite_map.get y.boxes b)) (Err present) (with_slot (first_fit y.plan y.boxes length) y b length)
+    if is_some (finite_map.get y.boxes b) then Err present else with_slot (first_fit y.plan y.boxes length) y b length
 
 abbrev pub unless_buried : {A : Type 0} → Option Box → Result A Refusal → Result A Refusal
 unless_buried None answer = answer
@@ -178,8 +179,8 @@ removed_at None y b = Err absent
 removed_at (Some s) y b = unless_buried (blocker_of y.boxes s) (Ok (yard_map y.plan (finite_map.remove y.boxes b), s))
 
 -- one container less
-abbrev pub removed : YardMap → Box → Result (YardMap × Placement) Refusal
-removed y b = removed_at (finite_map.get y.boxes b) y b
+abbrev pub yard_without : YardMap → Box → Result (YardMap × Placement) Refusal
+yard_without y b = removed_at (finite_map.get y.boxes b) y b
 
 abbrev pub shifted_at : Option Placement → YardMap → Box → Slot → Result YardMap Refusal
 shifted_at None y b slot = Err absent
@@ -189,5 +190,5 @@ shifted_at (Some s) y b slot =
     (yard_map y.plan (finite_map.insert y.boxes b (placement s.length slot))))
 
 -- a container in another slot, which has to fit the yard without it
-abbrev pub shifted : YardMap → Box → Slot → Result YardMap Refusal
-shifted y b slot = shifted_at (finite_map.get y.boxes b) y b slot
+abbrev pub yard_with_move : YardMap → Box → Slot → Result YardMap Refusal
+yard_with_move y b slot = shifted_at (finite_map.get y.boxes b) y b slot

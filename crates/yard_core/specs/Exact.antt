@@ -8,7 +8,7 @@ use Rattle.yard_core.specs.Plan.{IsPlan}
 use Rattle.yard_core.specs.YardMap.{Box, YardMap, placement}
 use Rattle.yard_core.specs.SoundYard.{IsSound}
 use Rattle.yard_core.specs.Calls.{Places, PlacesFirst, Removes, Shifts, RefusesPlace, RefusesFirst, RefusesRemove, RefusesShift}
-use Rattle.yard_core.specs.Decisions.{Refusal, fault_of, placed, placed_first, removed, shifted}
+use Rattle.yard_core.specs.Decisions.{Refusal, fault_of, yard_with, placed_first, yard_without, yard_with_move}
 
 -- a sound yard over a plan
 abbrev pub IsYard : YardMap → Type 0
@@ -17,8 +17,8 @@ IsYard y = IsPlan y.plan × IsSound y.plan (map.get y.boxes)
 abbrev pub PlaceIsDecided : Type 0
 PlaceIsDecided =
     (y : YardMap) (b : Box) (length : Length) (slot : Slot) → IsYard y
-    → ((new : YardMap) → Places y new b (placement length slot) → placed y b length slot ≡ Ok new)
-    × ((r : Refusal) → RefusesPlace y b (placement length slot) (fault_of r) → placed y b length slot ≡ Err r)
+    → ((new : YardMap) → Places y new b (placement length slot) → yard_with y b length slot ≡ Ok new)
+    × ((r : Refusal) → RefusesPlace y b (placement length slot) (fault_of r) → yard_with y b length slot ≡ Err r)
 
 abbrev pub PlaceFirstIsDecided : Type 0
 PlaceFirstIsDecided =
@@ -29,11 +29,11 @@ PlaceFirstIsDecided =
 abbrev pub RemoveIsDecided : Type 0
 RemoveIsDecided =
     (y : YardMap) (b : Box) → IsYard y
-    → ((new : YardMap) (s : Placement) → Removes y new b s → removed y b ≡ Ok (new, s))
-    × ((r : Refusal) → RefusesRemove y b (fault_of r) → removed y b ≡ Err r)
+    → ((new : YardMap) (s : Placement) → Removes y new b s → yard_without y b ≡ Ok (new, s))
+    × ((r : Refusal) → RefusesRemove y b (fault_of r) → yard_without y b ≡ Err r)
 
 abbrev pub ShiftIsDecided : Type 0
 ShiftIsDecided =
     (y : YardMap) (b : Box) (slot : Slot) → IsYard y
-    → ((new : YardMap) (s : Placement) → Shifts y new b s slot → shifted y b slot ≡ Ok new)
-    × ((r : Refusal) → RefusesShift y b slot (fault_of r) → shifted y b slot ≡ Err r)
+    → ((new : YardMap) (s : Placement) → Shifts y new b s slot → yard_with_move y b slot ≡ Ok new)
+    × ((r : Refusal) → RefusesShift y b slot (fault_of r) → yard_with_move y b slot ≡ Err r)

@@ -1,4 +1,4 @@
--- The first slot that fits, where none is named.
+-- The first slot that fits, if none is named.
 use Rattle.std.specs.Prelude.{◌≡◌, ◌<◌, List, ◌⊎◌}
 use Rattle.box6346.specs.declared.length.Length.{Length}
 use Rattle.box6346.specs.declared.slot.Slot.{Slot}

@@ -14,7 +14,7 @@ use Rattle.yard_core.specs.FitsAndFree.{Fits, Misfits, IsAbove}
 use Rattle.yard_core.specs.FirstFit.{IsFirstFit}
 use Rattle.yard_core.specs.Calls.{Places, PlacesFirst, Removes, Shifts, RefusesPlace, RefusesFirst, RefusesRemove, RefusesShift}
 
--- a box does not fit where a reason applies
+-- a box does not fit if a reason applies
 abbrev pub MisfitsDoNotFit : Type 0
 MisfitsDoNotFit = (plan : List Block) (boxes : Boxes) (b : Box) (s : Placement) (f : YardFault) → IsPlan plan →
     map.get boxes b ≡ None → Misfits plan (map.get boxes) s f → ¬ Fits plan boxes b s

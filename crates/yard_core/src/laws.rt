@@ -2,7 +2,7 @@
 
 ghost use Rattle.yard_core.specs.Laws.{MisfitsDoNotFit, FreeBoxFitsAtHome, OneBlocker, OneFirstFit, PlaceHasOneAnswer, PlaceFirstHasOneAnswer, RemoveHasOneAnswer, ShiftHasOneAnswer};
 
-/// Where NoSlot, SlotKind, Taken or OnAir applies, the container does not fit.
+/// If NoSlot, SlotKind, Taken or OnAir applies, the container does not fit.
 pub fn misfits_do_not_fit()
     ensures { MisfitsDoNotFit }
 {}
@@ -22,12 +22,12 @@ pub fn one_first_fit()
     ensures { OneFirstFit }
 {}
 
-/// No two answers of `place` hold of one yard, but for Memory where the container fits.
+/// No two answers of `place` hold of one yard, but for Memory if the container fits.
 pub fn place_has_one_answer()
     ensures { PlaceHasOneAnswer }
 {}
 
-/// No two answers of `place_first` hold of one yard, but for Memory where the container fits.
+/// No two answers of `place_first` hold of one yard, but for Memory if the container fits.
 pub fn place_first_has_one_answer()
     ensures { PlaceFirstHasOneAnswer }
 {}

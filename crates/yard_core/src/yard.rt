@@ -73,7 +73,7 @@ impl Yard {
         }
     }
 
-    /// Puts a container that is not in the yard into a slot where it fits: Present, NoSlot, SlotKind, Taken,
+    /// Puts a container that is not in the yard into a slot if it fits: Present, NoSlot, SlotKind, Taken,
     /// OnAir or Memory.
     pub fn place(&mut self, number: BoxNumber, length: Length, slot: Slot) -> Result<(), YardFault>
         ensures answer { MatchResult result (λ _. Places self.old self.new number (placement length slot))
@@ -185,7 +185,7 @@ impl Yard {
         misfit(&self.plan, &self.columns, &self.placements, placement)
     }
 
-    /// Adds a container where it fits.
+    /// Adds a container if it fits.
     fn put(&mut self, number: BoxNumber, placement: Placement) -> Result<(), YardFault>
         requires absent { finite_map.get self.old.boxes number ≡ None }
         requires fits { IsOpen self.old.plan (finite_map.get self.old.boxes) placement }

@@ -1,5 +1,5 @@
 use Rattle.std.proofs.Common.{List, ℕ, ap, sym, ◌∙◌}
-use Rattle.office_queries.specs.Escapes.{decoded}
+use Rattle.office_queries.specs.Escapes.{decoded_part}
 use Rattle.office_queries.proofs.Decoding.{behind, one_more}
 use Rattle.office_queries.proofs.escapes.decode.Goals as goal
 
@@ -7,4 +7,4 @@ pub bytes-preserved : goal.bytes-preserved
 bytes-preserved c =
     let front = c.bytes.bytes.items in
     let more = one_more c.args.part.now front c.bytes.rest.now c.in-Some.behind.now c.in-Some.byte c.bytes.invariant c.in-Some.ensures.0 in
-    more ∙ ap (λ (items : List ℕ). behind items (decoded c.in-Some.behind.now)) (sym c.in_ok-push.ensures.items)
+    more ∙ ap (λ (items : List ℕ). behind items (decoded_part c.in-Some.behind.now)) (sym c.in_ok-push.ensures.items)

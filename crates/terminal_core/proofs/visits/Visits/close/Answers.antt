@@ -4,7 +4,7 @@ use Rattle.std.specs.Str.{bytes_eq}
 use Rattle.std.specs.Map.{lookup}
 use Rattle.std.proofs.lemmas.Option.{none-some, slice_get_within}
 use Rattle.terminal_core.specs.Rows.{VisitContent, visit_content}
-use Rattle.terminal_core.specs.Step.{departure_by, closed, number_of_visit}
+use Rattle.terminal_core.specs.Step.{departure_by, closed_visit, number_of_visit}
 use Rattle.terminal_core.specs.State.{is_open_visit}
 use Rattle.terminal_core.specs.Calls.{HasOneVisit}
 use Rattle.std.specs.Prelude.{find}
@@ -51,7 +51,7 @@ returns-clause-closed c =
     let kept = kept_at c.args.container c.self.inside.rows.items c.self.inside.open_indexes.entries c.in-Some.row_index c.self.invariant has told in
     let d = departure_by c.args.way c.args.source c.args.moment in
     let shut = shut_rows c.args.container d c.self.inside.rows.items c.in-Some.row_index c.index_mut-visit.result.now (record (c.index_mut-visit.result.now) { departure = Some d }) has kept c.index_mut-visit.ensures.value refl in
-    shut.0 ∙ ap (λ (b : VisitBook). map (closed d c.args.container) b.visits) c.self.view_is
+    shut.0 ∙ ap (λ (b : VisitBook). map (closed_visit d c.args.container) b.visits) c.self.view_is
 
 pub returns-clause-number : goal.returns-clause-number
 returns-clause-number c =
