@@ -1,2 +1,3 @@
 mod DemoGiven
 mod Leaving
+mod OpenedLemmas

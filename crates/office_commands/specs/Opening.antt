@@ -1,11 +1,26 @@
--- How the office opens over tables in memory.
-use Rattle.std.specs.Prelude.{[]}
-use Rattle.sqlite.specs.Steps.{over_memory}
+-- How the office opens: over tables in memory, and over files.
+use Rattle.std.specs.Prelude.{◌≡◌, ℕ, List, []}
+use Rattle.sqlite_disk.specs.declared.Disk.{Ghosts}
+use Rattle.sqlite_catalog.specs.Listing.{Lists}
+use Rattle.sqlite_trees.specs.Objects.{catalog_tree}
 use Rattle.sqlite_trees.specs.declared.memory.MemStore.{MemStore}
+use Rattle.sqlite.specs.Effect.{Database}
+use Rattle.sqlite.specs.Files.{HoldsDatabase, file_state, over_files}
+use Rattle.sqlite.specs.Held.{Held}
+use Rattle.sqlite.specs.Recovery.{Image}
+use Rattle.sqlite.specs.Schema.{Schema}
+use Rattle.sqlite.specs.Steps.{over_memory}
+use Rattle.sqlite.specs.Tree.{Trees}
+use Rattle.sqlite.specs.declared.FileStore.{FileStore}
 use Rattle.office_setup.specs.Setups.{SetupContent, setup_content}
+use Rattle.office_rows.specs.Tables.{office_schema}
 use Rattle.office_history.specs.After.{SaysSame}
+use Rattle.office_desk.specs.Crashes.{IsAfter}
 use Rattle.office_desk.specs.Desks.{DeskStands}
+use Rattle.office_desk.specs.Offices.{OpensOffice}
 use Rattle.office_desk.specs.declared.desk.Desk.{Desk}
+
+-- ---- over tables in memory
 
 -- a desk over tables in memory
 abbrev pub MemoryDesk : Type 0
@@ -15,3 +30,29 @@ MemoryDesk = Desk MemStore over_memory
 pub record OpensEmpty (content : SetupContent) (desk : MemoryDesk) : Type 0 where
   pub says : SaysSame (setup_content desk.setup) content
   pub stands : DeskStands over_memory desk [] desk
+
+-- ---- over files
+
+-- the files hold this database, and it lists the office's tables and nothing else
+pub record HoldsTables (image : Image) (db : Trees) : Type 0 where
+  pub held : ∥ HoldsDatabase image db ∥₁
+  pub lists : Lists (db catalog_tree) office_schema
+
+-- the files hold a database with the rows after those deliveries
+pub record HoldsAfter (image : Image) (content : SetupContent) (ds : List (List ℕ)) : Type 0 where
+  pub db : Trees
+  pub held : ∥ HoldsDatabase image db ∥₁
+  pub after : IsAfter content ds db
+
+module _ {D : Type 0} {g : Ghosts D} where
+  -- a connection shows the database that the files held, with the tables that it lists
+  abbrev pub ShowsHeld : Image → Held (FileStore D g) → Type 0
+  ShowsHeld image conn =
+      (db : Trees) (schema : Schema) → ∥ HoldsDatabase image db ∥₁ → Lists (db catalog_tree) schema →
+      (file_state conn).committed ≡ record { schema = schema; trees = db }
+
+  -- a desk that was opened over a connection which shows this database of the office's tables
+  pub record OpensOver (db : Trees) (desk : Desk (FileStore D g) over_files) : Type 0 where
+    pub was : Held (FileStore D g)
+    pub shows : (file_state was).committed ≡ record { schema = office_schema; trees = db }
+    pub office : OpensOffice over_files (file_state was) desk

@@ -6,7 +6,7 @@ use Rattle.sqlite.specs.State.{State, Shows}
 use Rattle.sqlite.specs.Tree.{Trees}
 use Rattle.office_rows.specs.Rows.{Rows}
 use Rattle.office_rows.specs.Steps.{Steps}
-use Rattle.office_rows.proofs.StepLemmas.{steps_then, steps_same}
+use Rattle.office_rows.proofs.StepLemmas.{steps_then, steps_same, stores}
 use Rattle.office_delivery.specs.Writing.{Commits, IsWhole}
 
 -- each of a list, one after the other
@@ -23,7 +23,7 @@ steps_more content one before after item old mid new is first second =
     (steps_then (in_turn one (map content before)) (one (content item)) old mid new first second)
 
 pub whole : (change : Rows → Rows) (old begun last : State) (db : Trees) → begun.now ≡ old.committed → Steps change begun last → db ≡ last.now.trees → IsWhole change old db
-whole change old begun last db same steps is rows has = rw is (steps.rows rows (rw same has)).rows_are
+whole change old begun last db same steps is rows has = rw is (stores (change rows) last.now (steps.rows rows (rw same has)))
 
 -- the changes that a transaction made are committed as it ends
 pub committed : (change : Rows → Rows) (old begun last end : State) → begun.now ≡ old.committed → Steps change begun last →

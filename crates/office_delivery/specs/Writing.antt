@@ -3,7 +3,7 @@ use Rattle.std.specs.Prelude.{◌≡◌, IsTrue}
 use Rattle.sqlite.specs.State.{State}
 use Rattle.sqlite.specs.Tree.{Trees}
 use Rattle.office_rows.specs.Rows.{Rows}
-use Rattle.office_rows.specs.Stored.{HasRows, AreRows}
+use Rattle.office_rows.specs.Stored.{HasRows, StoresRows}
 
 -- the change is committed: the rows are these, and a crash leaves these alone
 pub record Commits (change : Rows → Rows) (old new : State) : Type 0 where
@@ -19,4 +19,4 @@ pub record IsUndone (old new : State) : Type 0 where
 
 -- these are the rows after the change, whole
 abbrev pub IsWhole : (Rows → Rows) → State → Trees → Type 0
-IsWhole change old db = (rows : Rows) → HasRows rows old.committed → AreRows (change rows) db
+IsWhole change old db = (rows : Rows) → HasRows rows old.committed → StoresRows (change rows) db

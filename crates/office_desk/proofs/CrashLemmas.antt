@@ -9,8 +9,9 @@ use Rattle.office_replies.specs.declared.response.Response.{Response}
 use Rattle.office_replies.specs.declared.response.Response.TheVariants as response
 use Rattle.office_rows.specs.Rows.{Rows}
 use Rattle.office_rows.specs.Effects.{with_kept}
-use Rattle.office_rows.specs.Stored.{AreRows, HasRows}
+use Rattle.office_rows.specs.Stored.{HasRows, StoresRows}
 use Rattle.office_rows.specs.Tables.{office_schema}
+use Rattle.office_rows.proofs.StepLemmas.{stores}
 use Rattle.office_setup.specs.Given.{IsGiven}
 use Rattle.office_setup.specs.Setups.{SetupContent}
 use Rattle.office_admission.specs.Admission.{admission}
@@ -78,10 +79,10 @@ module _ (content : SetupContent) (ds : List (List ℕ)) (delivered : List ℕ) 
       record { rows = is.rows; are = is.are; after = (used_adds content ds is.rows delivered partner number kept is.after is_for here).rows_are }
 
   pub early_after : (rows : Rows) (text : List ℕ) (partner number next : ℕ) (db : Trees) → AreAfter content ds rows → Comes content delivered text partner number → text_in rows partner number ≡ None →
-      next ≡ run (delivered_to content ds) partner + 1 → next < number → AreRows (with_kept partner number text rows) db → IsAfter content (ds ++ delivered ∷ []) db
+      next ≡ run (delivered_to content ds) partner + 1 → next < number → StoresRows (with_kept partner number text rows) db → IsAfter content (ds ++ delivered ∷ []) db
   early_after rows text partner number next db after comes free is later are = record {
     rows = with_kept partner number (interchange_of delivered) rows;
-    are = subst (λ t. AreRows (with_kept partner number t rows) db) comes.text_is are;
+    are = subst (λ t. StoresRows (with_kept partner number t rows) db) comes.text_is are;
     after = (early_adds content ds rows delivered partner number after comes.is_for free (omega (arith, is, later))).rows_are;
   }
 
@@ -95,7 +96,7 @@ module _ (content : SetupContent) (ds : List (List ℕ)) (delivered : List ℕ) 
       (subst (λ t. AreTakenFrom partner (texts_with rows partner number t) number (machine_with content now.terminal) done.taken done.new) comes.text_is done.are_taken) in
       record {
         rows = with_run partner number own done.taken rows;
-        are = subst (λ t. AreRows (with_run partner number t done.taken rows) db) comes.text_is done.are;
+        are = subst (λ t. StoresRows (with_run partner number t done.taken rows) db) comes.text_is done.are;
         after = (next_adds content ds rows delivered partner number done.taken done.new given after comes.is_for free (same ∙ is) here).rows_are;
       }
 
@@ -111,7 +112,7 @@ module _ (content : SetupContent) (ds : List (List ℕ)) (delivered : List ℕ) 
 
 -- a crash leaves what was committed
 pub committed_leaves : (content : SetupContent) (ds : List (List ℕ)) (s : State) (rows : Rows) → HasCommitted s → HasRows rows s.committed → AreAfter content ds rows → Leaves content ds s
-committed_leaves content ds s rows done has after db left = record { rows = rows; are = subst (AreRows rows) (sym (done.alone db left)) has.rows_are; after = after }
+committed_leaves content ds s rows done has after db left = record { rows = rows; are = subst (StoresRows rows) (sym (done.alone db left)) (stores rows s.committed has); after = after }
 
 -- while it is open, a crash leaves what was committed alone, so the rows that are held
 pub held_leaves : (content : SetupContent) (ds : List (List ℕ)) (s : State) (there : Option Beside) → IsTrue s.is_open → ((db : Trees) → s.may_leave db → db ≡ s.committed.trees) →

@@ -5,14 +5,14 @@ use Rattle.sqlite.specs.Tree.{Trees}
 use Rattle.office_replies.specs.declared.response.Response.{Response}
 use Rattle.office_replies.specs.declared.response.Response.TheVariants as response
 use Rattle.office_rows.specs.Rows.{Rows}
-use Rattle.office_rows.specs.Stored.{AreRows}
+use Rattle.office_rows.specs.Stored.{StoresRows}
 use Rattle.office_setup.specs.Setups.{SetupContent}
 use Rattle.office_history.specs.After.{AreAfter}
 
--- a store holds the rows after those deliveries
+-- a store holds the rows after those deliveries, in the tables that it lists
 pub record IsAfter (content : SetupContent) (ds : List (List ℕ)) (db : Trees) : Type 0 where
   pub rows : Rows
-  pub are : AreRows rows db
+  pub are : StoresRows rows db
   pub after : AreAfter content ds rows
 
 -- it is open, and a crash leaves what was committed alone

@@ -8,7 +8,7 @@ use Rattle.partner_core.specs.Answers.{Taken}
 use Rattle.office_replies.specs.Contents.{content_of}
 use Rattle.office_replies.specs.declared.response.Response.{Response}
 use Rattle.office_rows.specs.Rows.{Rows}
-use Rattle.office_rows.specs.Stored.{HasRows, AreRows}
+use Rattle.office_rows.specs.Stored.{HasRows, StoresRows}
 use Rattle.office_setup.specs.Setups.{SetupContent}
 use Rattle.office_setup.specs.declared.setup.Setup.{Setup}
 use Rattle.office_taking.specs.Taking.{MachineState, machine_of}
@@ -38,7 +38,7 @@ pub record IsRunDone (rows : Rows) (partner number : ℕ) (text : List ℕ) (old
   pub taken : List TakenContent
   pub new : MachineState
   pub are_taken : AreTakenFrom partner (texts_with rows partner number text) number old taken new
-  pub are : AreRows (with_run partner number text taken rows) db
+  pub are : StoresRows (with_run partner number text taken rows) db
 
 -- the database has the rows after the deliveries, and what stands beside it is at them
 pub record Holds (content : SetupContent) (ds : List (List ℕ)) (db : Database) (there : Option Beside) : Type 0 where

@@ -61,6 +61,7 @@ impl<S: Alter> Desk<S> {
 
 impl<S: Alter + Drop> Desk<S> {
     ghost use Rattle.sqlite.specs.Held.{state};
+    ghost use Rattle.sqlite.specs.State.{HasCleanDisk};
     ghost use Rattle.office_setup.specs.Setups.{SetupContent};
     ghost use Rattle.office_rows.specs.Rows.{Rows};
     ghost use Rattle.office_rows.specs.Stored.{HasRows};
@@ -80,6 +81,7 @@ impl<S: Alter + Drop> Desk<S> {
         ensures office { IfOk result
             (λ desk. IsSound S.Store desk → (state S.Store conn).committed.schema ≡ office_schema →
             OpensOffice S.Store (state S.Store conn) desk) }
+        ensures stays { IfOk result (λ desk. IsSound S.Store desk → HasCleanDisk (state S.Store conn)) }
     {
         let mut conn = conn;
         let is_idle = conn.is_autocommit();

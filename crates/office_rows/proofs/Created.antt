@@ -9,11 +9,32 @@ use Rattle.sqlite.specs.Command.TheVariants.{CreateTable}
 use Rattle.sqlite.specs.State.{State, Executes, Writes}
 use Rattle.sqlite.proofs.Callers.{runs_as}
 use Rattle.sqlite_catalog.specs.Change.{created, next_tree, KeepsRows}
-use Rattle.office_rows.specs.Tables.{partner, interchange, visit, place, listed, setting, block, schema_of, office_tables}
+use Rattle.sqlite_catalog.specs.Listing.{Lists}
+use Rattle.sqlite_trees.specs.Objects.{catalog_tree}
+use Rattle.office_rows.specs.Tables.{partner, interchange, visit, place, listed, setting, block, schema_of, office_schema, office_tables}
 use Rattle.office_rows.specs.Rows.{no_rows}
 use Rattle.office_rows.specs.Stored.{Holds, HasRows, HasEmpty}
 use Rattle.office_rows.proofs.Creating as texts
-use Rattle.office_rows.proofs.WriteLemmas.{went, same_value}
+use Rattle.office_rows.proofs.WriteLemmas.{listed_by, went, same_value}
+
+nothing_held : {A : Type 0} {table : Table} {values : A → Row} (stored : List Row) → stored ≡ [] → Holds table values [] stored
+nothing_held {A} {table} {values} stored none = rw none (record { shaped = (tt, tt); same = IsPermutation-refl [] })
+
+-- the seven tables, each empty, have no rows
+no_rows_held : (db : Database) → HasEmpty office_tables db → Lists (db.trees catalog_tree) office_schema → HasRows no_rows db
+no_rows_held db has lists = record {
+  schema = has.schema;
+  lists = lists;
+  rows_are = record {
+    partners = nothing_held (db.trees 0) has.empty.0;
+    interchanges = nothing_held (db.trees 2) has.empty.1.0;
+    visits = nothing_held (db.trees 4) has.empty.1.1.0;
+    places = nothing_held (db.trees 5) has.empty.1.1.1.0;
+    lines = nothing_held (db.trees 9) has.empty.1.1.1.1.0;
+    settings = nothing_held (db.trees 11) has.empty.1.1.1.1.1.0;
+    blocks = nothing_held (db.trees 13) has.empty.1.1.1.1.1.1.0;
+  };
+}
 
 module _ (old new : State) (count : ℕ) where
   pub created_partner : HasEmpty ([]) old.now → Executes texts.create_partner [] old new (Ok count) → HasEmpty (partner ∷ []) new.now
@@ -124,7 +145,7 @@ module _ (old new : State) (count : ℕ) where
         empty = ((ap (λ (d : Database). d.trees 0) now ∙ kept.0 ∙ has.empty.0, (ap (λ (d : Database). d.trees 2) now ∙ kept.1.0 ∙ has.empty.1.0, (ap (λ (d : Database). d.trees 4) now ∙ kept.1.1.0 ∙ has.empty.1.1.0, (ap (λ (d : Database). d.trees 5) now ∙ kept.1.1.1.0 ∙ has.empty.1.1.1.0, (ap (λ (d : Database). d.trees 9) now ∙ kept.1.1.1.1.0 ∙ has.empty.1.1.1.1.0, (ap (λ (d : Database). d.trees 11) now ∙ empty, tt)))))));
       }
 
-  pub created_block : HasEmpty (partner ∷ interchange ∷ visit ∷ place ∷ listed ∷ setting ∷ []) old.now → Executes texts.create_block [] old new (Ok count) → HasEmpty (partner ∷ interchange ∷ visit ∷ place ∷ listed ∷ setting ∷ block ∷ []) new.now
+  pub created_block : HasEmpty (partner ∷ interchange ∷ visit ∷ place ∷ listed ∷ setting ∷ []) old.now → Executes texts.create_block [] old new (Ok count) → HasRows no_rows new.now
   created_block has h =
       let w = subst (λ t. Writes old new None CreateTable t [] count) texts.create_block_is.1 (runs_as texts.create_block [] old new (schema_of (partner ∷ interchange ∷ visit ∷ place ∷ listed ∷ setting ∷ [])) has.schema CreateTable texts.create_block_is.0 texts.create_block_plain count h) in
       let all = went w.changed in
@@ -137,25 +158,5 @@ module _ (old new : State) (count : ℕ) where
       let now : new.now ≡ first.0 = ap (λ (p : Tally × Database). p.1) (same_value all.2) ∙ same_value (rw plain at first.2) in
       let kept : KeepsRows (schema_of (partner ∷ interchange ∷ visit ∷ place ∷ listed ∷ setting ∷ [])).tables old.now.trees first.0.trees = subst (λ s. KeepsRows s.tables old.now.trees first.0.trees) has.schema made.others in
       let empty : first.0.trees 13 ≡ [] = subst (λ s. first.0.trees (next_tree s) ≡ []) has.schema made.empty in
-      record {
-        schema = ap (λ (d : Database). d.schema) now ∙ schema;
-        empty = ((ap (λ (d : Database). d.trees 0) now ∙ kept.0 ∙ has.empty.0, (ap (λ (d : Database). d.trees 2) now ∙ kept.1.0 ∙ has.empty.1.0, (ap (λ (d : Database). d.trees 4) now ∙ kept.1.1.0 ∙ has.empty.1.1.0, (ap (λ (d : Database). d.trees 5) now ∙ kept.1.1.1.0 ∙ has.empty.1.1.1.0, (ap (λ (d : Database). d.trees 9) now ∙ kept.1.1.1.1.0 ∙ has.empty.1.1.1.1.0, (ap (λ (d : Database). d.trees 11) now ∙ kept.1.1.1.1.1.0 ∙ has.empty.1.1.1.1.1.0, (ap (λ (d : Database). d.trees 13) now ∙ empty, tt))))))));
-      }
-
-nothing_held : {A : Type 0} {table : Table} {values : A → Row} (stored : List Row) → stored ≡ [] → Holds table values [] stored
-nothing_held {A} {table} {values} stored none = rw none (record { shaped = (tt, tt); same = IsPermutation-refl [] })
-
--- the seven tables, each empty, have no rows
-pub no_rows_held : (db : Database) → HasEmpty office_tables db → HasRows no_rows db
-no_rows_held db has = record {
-  schema = has.schema;
-  rows_are = record {
-    partners = nothing_held (db.trees 0) has.empty.0;
-    interchanges = nothing_held (db.trees 2) has.empty.1.0;
-    visits = nothing_held (db.trees 4) has.empty.1.1.0;
-    places = nothing_held (db.trees 5) has.empty.1.1.1.0;
-    lines = nothing_held (db.trees 9) has.empty.1.1.1.1.0;
-    settings = nothing_held (db.trees 11) has.empty.1.1.1.1.1.0;
-    blocks = nothing_held (db.trees 13) has.empty.1.1.1.1.1.1.0;
-  };
-}
+      let is : new.now.schema ≡ office_schema = ap (λ (d : Database). d.schema) now ∙ schema in
+      no_rows_held new.now (record { schema = is; empty = ((ap (λ (d : Database). d.trees 0) now ∙ kept.0 ∙ has.empty.0, (ap (λ (d : Database). d.trees 2) now ∙ kept.1.0 ∙ has.empty.1.0, (ap (λ (d : Database). d.trees 4) now ∙ kept.1.1.0 ∙ has.empty.1.1.0, (ap (λ (d : Database). d.trees 5) now ∙ kept.1.1.1.0 ∙ has.empty.1.1.1.0, (ap (λ (d : Database). d.trees 9) now ∙ kept.1.1.1.1.0 ∙ has.empty.1.1.1.1.0, (ap (λ (d : Database). d.trees 11) now ∙ kept.1.1.1.1.1.0 ∙ has.empty.1.1.1.1.1.0, (ap (λ (d : Database). d.trees 13) now ∙ empty, tt)))))))) }) (listed_by new.now is w.sound)

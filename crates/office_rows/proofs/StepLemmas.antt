@@ -1,11 +1,15 @@
 -- Calls in a transaction, one after the other.
 use Rattle.std.proofs.Common.{◌≡◌, ◌⊎◌, inl, inr, IsTrue, Result, Ok, Err, true, OnOk, IfOk, refl, subst, ◌∙◌}
 use Rattle.sqlite.specs.State.{State, Shows, IsUnchanged, IsRolledBack, KeepsCommit, Survives}
-use Rattle.office_rows.specs.Stored.{HasRows}
+use Rattle.office_rows.specs.Stored.{HasRows, StoresRows}
 use Rattle.sqlite.proofs.StateLemmas.{survives_then}
 use Rattle.office_rows.specs.Rows.{Rows}
 use Rattle.sqlite.specs.Effect.{Database}
 use Rattle.office_rows.specs.Steps.{Steps, Turns}
+
+-- the trees of a database that has the rows store them
+pub stores : (rows : Rows) (db : Database) → HasRows rows db → StoresRows rows db.trees
+stores rows db has = record { schema = refl; lists = has.lists; rows_are = has.rows_are }
 
 -- a statement that was made inside goes on
 pub steps_on : (change : Rows → Rows) (old new : State) → Shows old new new.now old.committed true → ((rows : Rows) → HasRows rows old.now → HasRows (change rows) new.now) → Steps change old new

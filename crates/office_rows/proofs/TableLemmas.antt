@@ -16,6 +16,7 @@ module _ (rows : Rows) (old new : Database) (has : HasRows rows old) (gone : Lis
   pub only_partners : (now : List Partner) → Edits partner (edit_of old.trees partner gone rowids from sources) old new → Holds partner partner_values now (new.trees 0) → HasRows (record rows { partners = now }) new
   only_partners now it held = record {
     schema = it.schema;
+    lists = it.lists;
     rows_are = record {
       partners = held;
       interchanges = rw (it.applies.tables.1.0 (λ e. omega (arith, e))) has.rows_are.interchanges;
@@ -30,6 +31,7 @@ module _ (rows : Rows) (old new : Database) (has : HasRows rows old) (gone : Lis
   pub only_interchanges : (now : List Interchange) → Edits interchange (edit_of old.trees interchange gone rowids from sources) old new → Holds interchange interchange_values now (new.trees 2) → HasRows (record rows { interchanges = now }) new
   only_interchanges now it held = record {
     schema = it.schema;
+    lists = it.lists;
     rows_are = record {
       partners = rw (it.applies.tables.0 (λ e. omega (arith, e))) has.rows_are.partners;
       interchanges = held;
@@ -44,6 +46,7 @@ module _ (rows : Rows) (old new : Database) (has : HasRows rows old) (gone : Lis
   pub only_visits : (now : List VisitContent) → Edits visit (edit_of old.trees visit gone rowids from sources) old new → Holds visit visit_values now (new.trees 4) → HasRows (record rows { visits = now }) new
   only_visits now it held = record {
     schema = it.schema;
+    lists = it.lists;
     rows_are = record {
       partners = rw (it.applies.tables.0 (λ e. omega (arith, e))) has.rows_are.partners;
       interchanges = rw (it.applies.tables.1.0 (λ e. omega (arith, e))) has.rows_are.interchanges;
@@ -58,6 +61,7 @@ module _ (rows : Rows) (old new : Database) (has : HasRows rows old) (gone : Lis
   pub only_places : (now : List PlaceContent) → Edits place (edit_of old.trees place gone rowids from sources) old new → Holds place place_values now (new.trees 5) → HasRows (record rows { places = now }) new
   only_places now it held = record {
     schema = it.schema;
+    lists = it.lists;
     rows_are = record {
       partners = rw (it.applies.tables.0 (λ e. omega (arith, e))) has.rows_are.partners;
       interchanges = rw (it.applies.tables.1.0 (λ e. omega (arith, e))) has.rows_are.interchanges;
@@ -72,6 +76,7 @@ module _ (rows : Rows) (old new : Database) (has : HasRows rows old) (gone : Lis
   pub only_lines : (now : List ListingContent) → Edits listed (edit_of old.trees listed gone rowids from sources) old new → Holds listed line_values now (new.trees 9) → HasRows (record rows { lines = now }) new
   only_lines now it held = record {
     schema = it.schema;
+    lists = it.lists;
     rows_are = record {
       partners = rw (it.applies.tables.0 (λ e. omega (arith, e))) has.rows_are.partners;
       interchanges = rw (it.applies.tables.1.0 (λ e. omega (arith, e))) has.rows_are.interchanges;
@@ -86,6 +91,7 @@ module _ (rows : Rows) (old new : Database) (has : HasRows rows old) (gone : Lis
   pub only_settings : (now : List Setting) → Edits setting (edit_of old.trees setting gone rowids from sources) old new → Holds setting setting_values now (new.trees 11) → HasRows (record rows { settings = now }) new
   only_settings now it held = record {
     schema = it.schema;
+    lists = it.lists;
     rows_are = record {
       partners = rw (it.applies.tables.0 (λ e. omega (arith, e))) has.rows_are.partners;
       interchanges = rw (it.applies.tables.1.0 (λ e. omega (arith, e))) has.rows_are.interchanges;
@@ -100,6 +106,7 @@ module _ (rows : Rows) (old new : Database) (has : HasRows rows old) (gone : Lis
   pub only_blocks : (now : List Block) → Edits block (edit_of old.trees block gone rowids from sources) old new → Holds block block_values now (new.trees 13) → HasRows (record rows { blocks = now }) new
   only_blocks now it held = record {
     schema = it.schema;
+    lists = it.lists;
     rows_are = record {
       partners = rw (it.applies.tables.0 (λ e. omega (arith, e))) has.rows_are.partners;
       interchanges = rw (it.applies.tables.1.0 (λ e. omega (arith, e))) has.rows_are.interchanges;

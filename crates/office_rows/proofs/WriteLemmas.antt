@@ -37,7 +37,9 @@ use Rattle.sqlite_rules.specs.Calls.{ids_of}
 use Rattle.sqlite_rules.specs.declared.error.Rowids.TheVariants.{Chosen, Above, Given}
 use Rattle.sqlite_rules.specs.Edit.{Edit, edit_of, taken_by, Applies}
 use Rattle.sqlite_rules.specs.Action.{works, work_by, pairs, deed_for, Writes as Steps}
-use Rattle.sqlite.specs.Effect.{Database, value_rows}
+use Rattle.sqlite.specs.Effect.{Database, IsDatabase, value_rows}
+use Rattle.sqlite_trees.specs.Objects.{catalog_tree}
+use Rattle.sqlite_catalog.specs.Listing.{Lists}
 use Rattle.sqlite.specs.Rows.{Written, Task, stamped, CountsIn, count_of, higher, rowids_for, sequence, Gives}
 use Rattle.sqlite.specs.Does.{Tally, Does, OnRows, AtPlace}
 use Rattle.sqlite.specs.State.{State, mode_of, Writes}
@@ -145,7 +147,12 @@ KeepsOthers table old new = AllByRecursion (λ t. t.tree ≢ table.tree → new 
 
 pub record Edits (table : Table) (edit : Edit) (old new : Database) : Type 0 where
   pub schema : new.schema ≡ office_schema
+  pub lists : Lists (new.trees catalog_tree) office_schema
   pub applies : Applies office_schema Enforced old.trees edit new.trees
+
+-- a sound database of the office's tables lists them
+pub listed_by : (db : Database) → db.schema ≡ office_schema → IsDatabase db → Lists (db.trees catalog_tree) office_schema
+listed_by db is sound = subst (Lists (db.trees catalog_tree)) is sound.lists
 
 pub record Inserts (table : Table) (rows : List Row) (old new : Database) : Type 0 where
   pub edits : Edits table (edit_of old.trees table [] Chosen 0 rows) old new
@@ -186,7 +193,7 @@ module _ (old new : State) (has : old.now.schema ≡ office_schema) (at : ℕ) (
       one_step office_schema Enforced old.now.trees written.0 edit (no_works table.tree (taken_by old.now.trees edit) edit.news)
       (subst (λ r. Steps office_schema Enforced old.now.trees (edit_of old.now.trees table [] r 0 given.0) (Ok written.0)) chosen written.1) in
       let whole = subst (λ t. Applies office_schema Enforced old.now.trees edit t) (sym trees) step in
-      subst (λ rows. Inserts table rows old.now new.now) given.1.1 (record { edits = record { schema = ap (λ (d : Database). d.schema) now; applies = whole } })
+      subst (λ rows. Inserts table rows old.now new.now) given.1.1 (record { edits = record { schema = ap (λ (d : Database). d.schema) now; lists = listed_by new.now (ap (λ (d : Database). d.schema) now) w.sound; applies = whole } })
 
   pub updates : (tests shown : List Term) → ((trees : Trees) → overlay trees [] table.tree ≡ trees table.tree)
       → Writes old new None (Update at (record { lets = []; body = rows_of table.tree tests shown })) text params count → Updates table params tests shown old.now new.now
@@ -203,7 +210,7 @@ module _ (old new : State) (has : old.now.schema ≡ office_schema) (at : ℕ) (
       record {
         answer = given.0;
         answers = answer_is params tests table.tree shown old.now.trees given.0 (seen old.now.trees) (given.1.answer Null);
-        edits = record { schema = ap (λ (d : Database). d.schema) now; applies = subst (λ t. Applies office_schema Enforced old.now.trees edit t) (sym trees) step };
+        edits = record { schema = ap (λ (d : Database). d.schema) now; lists = listed_by new.now (ap (λ (d : Database). d.schema) now) w.sound; applies = subst (λ t. Applies office_schema Enforced old.now.trees edit t) (sym trees) step };
       }
 
   pub deletes : (tests shown : List Term) → ((trees : Trees) → overlay trees [] table.tree ≡ trees table.tree)
@@ -221,5 +228,5 @@ module _ (old new : State) (has : old.now.schema ≡ office_schema) (at : ℕ) (
       record {
         answer = given.0;
         answers = answer_is params tests table.tree shown old.now.trees given.0 (seen old.now.trees) (given.1.answer Null);
-        edits = record { schema = ap (λ (d : Database). d.schema) now; applies = subst (λ t. Applies office_schema Enforced old.now.trees edit t) (sym trees) step };
+        edits = record { schema = ap (λ (d : Database). d.schema) now; lists = listed_by new.now (ap (λ (d : Database). d.schema) now) w.sound; applies = subst (λ t. Applies office_schema Enforced old.now.trees edit t) (sym trees) step };
       }

@@ -1,5 +1,5 @@
 -- The rows of visits, places and lines by their keys, as the terminal's own rows.
-use Rattle.std.specs.Prelude.{ℕ, ◌≤◌, List, find, Option, count_by}
+use Rattle.std.specs.Prelude.{◌≤◌, List, find, Option, count_by}
 use Rattle.std.specs.Option.{option_map}
 use Rattle.std.specs.FinMap as finite_map
 use Rattle.box6346.specs.declared.box_number.BoxNumber.{BoxNumber}

@@ -2,7 +2,6 @@
 use Rattle.std.specs.Prelude.{◌≡◌, ℕ, ◌+◌, ◌-◌, ◌<◌, ◌≤◌, true, false, List, [], ◌∷◌, ◌++◌, length, map, Contains, Option, None, Some, codes, decimal}
 use Rattle.std.specs.List.{range_with_len}
 use Rattle.edi_messages.specs.declared.partner_kind.PartnerKind.{PartnerKind}
-use Rattle.edi_messages.specs.declared.code_table.CodeTable.{CodeTable}
 use Rattle.edi_messages.specs.Codes.{table_texts}
 use Rattle.terminal_core.specs.declared.departure.Departure.{Departure}
 use Rattle.terminal_core.specs.Rows.{VisitContent}
@@ -11,7 +10,7 @@ use Rattle.terminal_core.specs.Forms.{IsWellFormed}
 use Rattle.terminal_core.specs.State.{TerminalState, IsWhole}
 use Rattle.office_setup.specs.Setups.{SetupContent}
 use Rattle.office_setup.specs.Given.{IsGiven}
-use Rattle.office_rows.specs.Rows.{Partner, Setting, PlaceContent, ListingContent}
+use Rattle.office_rows.specs.Rows.{Partner, Setting}
 use Rattle.office_rows.specs.Opening.{setting}
 use Rattle.office_rows.specs.Opened.{Numbered, OpenedRows}
 use Rattle.office_rows.specs.ByKey.{standing_by, lines_by, ArePlacedOnce, AreListedOnce}

@@ -8,7 +8,9 @@ use Rattle.sqlite.specs.Tree.{Trees}
 use Rattle.sqlite.specs.Effect.{Database}
 use Rattle.sqlite_schema.specs.Names.{place_of}
 use Rattle.sqlite_trees.specs.declared.store.Shape.TheVariants as shape
+use Rattle.sqlite_trees.specs.Objects.{catalog_tree}
 use Rattle.sqlite_trees.specs.View.{IsShaped}
+use Rattle.sqlite_catalog.specs.Listing.{Lists}
 use Rattle.office_rows.specs.Tables.{partner, interchange, visit, place, listed, setting, block, schema_of, office_schema}
 use Rattle.office_rows.specs.Rows.{Rows}
 use Rattle.office_rows.specs.Values.{partner_values, interchange_values, visit_values, place_values, line_values, setting_values, block_values}
@@ -31,10 +33,15 @@ pub record AreRows (rows : Rows) (trees : Trees) : Type 0 where
   pub settings : Holds setting setting_values rows.settings (trees 11)
   pub blocks : Holds block block_values rows.blocks (trees 13)
 
--- the tables and nothing else, with these rows
+-- the tables and nothing else, as its trees list them too, with these rows
 pub record HasRows (rows : Rows) (db : Database) : Type 0 where
   pub schema : db.schema ≡ office_schema
+  pub lists : Lists (db.trees catalog_tree) office_schema
   pub rows_are : AreRows rows db.trees
+
+-- the trees are those of a database that has these rows
+abbrev pub StoresRows : Rows → Trees → Type 0
+StoresRows rows trees = HasRows rows (record { schema = office_schema; trees = trees })
 
 -- these tables and nothing else, each empty
 pub record HasEmpty (tables : List Table) (db : Database) : Type 0 where

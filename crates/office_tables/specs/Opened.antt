@@ -4,7 +4,7 @@ use Rattle.sqlite.specs.State.{State}
 use Rattle.sqlite.specs.Tree.{Trees}
 use Rattle.office_setup.specs.Setups.{SetupContent}
 use Rattle.office_rows.specs.Tables.{no_schema}
-use Rattle.office_rows.specs.Stored.{HasRows, AreRows}
+use Rattle.office_rows.specs.Stored.{HasRows, StoresRows}
 use Rattle.office_rows.specs.Opening.{opening_rows}
 
 -- an empty database has the rows of the set-up, committed, and a crash leaves these alone
@@ -16,4 +16,4 @@ pub record Opens (setup : SetupContent) (old new : State) : Type 0 where
 
 -- these are the rows of the set-up, whole
 abbrev pub IsOpening : SetupContent → State → Trees → Type 0
-IsOpening setup old db = old.committed.schema ≡ no_schema → AreRows (opening_rows setup) db
+IsOpening setup old db = old.committed.schema ≡ no_schema → StoresRows (opening_rows setup) db

@@ -1,7 +1,8 @@
 use Rattle.std.proofs.Common.{take}
 use Rattle.sqlite.specs.Held.{state}
 use Rattle.office_rows.specs.Tables.{office_tables}
-use Rattle.office_rows.specs.Stored.{HasEmpty}
+use Rattle.office_rows.specs.Rows.{no_rows}
+use Rattle.office_rows.specs.Stored.{HasEmpty, HasRows}
 use Rattle.office_rows.proofs.Created.{created_block}
 use Rattle.office_rows.proofs.StepLemmas.{turns_on}
 use Rattle.office_tables.proofs.creating.create_block.Goals as goal
@@ -11,4 +12,4 @@ returns-clause-made g c clean inside =
     let old = state g.S.Store c.args.tx.now.conn.now in
     let new = state g.S.Store c.execute.new.self.conn.now in
     let ran = c.in_ok-execute.ensures.runs clean inside in
-    turns_on (HasEmpty (take 6 office_tables)) (HasEmpty (take 7 office_tables)) old new ran.1 (λ has. created_block old new c.in_ok-execute.field-0 has ran.0)
+    turns_on (HasEmpty (take 6 office_tables)) (HasRows no_rows) old new ran.1 (λ has. created_block old new c.in_ok-execute.field-0 has ran.0)

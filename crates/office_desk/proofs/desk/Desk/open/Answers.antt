@@ -72,4 +72,5 @@ returns g c = record {
             (record { has = has; loads = loads; beside = tt });
         unchanged = still;
       };
+  stays = λ sound. c.load_beside.ensures.reads.clean (subst (λ k. HasCleanDisk (state g.S.Store k)) c.new.ensures.conn sound.0);
 }
