@@ -1,6 +1,6 @@
 //! The rows of a set-up, of interchanges and of changes.
 
-ghost use Rattle.std.specs.Prelude.{◌≡◌, ◌≤◌, IfOk, length};
+ghost use Rattle.std.specs.Prelude.{◌≡◌, ◌≤◌, IfOk, length, string_bytes};
 
 mod changes;
 mod delivering;
@@ -9,7 +9,7 @@ mod opening;
 
 use edi_messages::{CodeTable, PartnerKind};
 use office_loading::nexts;
-use office_setup::{Account, Setup};
+use office_setup::{Account, Accounts, Setup};
 use office_tables::{Kept, TableFault, create, keep, kept, mark_taken, next_of};
 use sqlite::{Alter, Connection, Error, MemStore};
 use std::alloc::{AllocError, Global};
@@ -24,7 +24,9 @@ const A: Block = Block {
     tiers: 3,
 };
 
-fn account(alloc: Global, code: &str, kind: PartnerKind) -> Result<Account, AllocError> {
+fn account(alloc: Global, code: &str, kind: PartnerKind) -> Result<Account, AllocError>
+    ensures { IfOk result (λ account. string_bytes account.code ≡ code.now) }
+{
     let code = String::from_str(alloc, code)?;
     Ok(Account { code, kind })
 }
@@ -35,7 +37,7 @@ fn setup(alloc: Global, codes: CodeTable) -> Result<Setup, AllocError>
     let terminal = String::from_str(alloc, "TERM1")?;
     let haulier = account(alloc, "HAULA", PartnerKind::Gate)?;
     let line = account(alloc, "LINEA", PartnerKind::Line)?;
-    let partners = vec![in alloc; haulier, line]?;
+    let partners = Accounts::of(alloc, vec![in alloc; haulier, line]?)?;
     let blocks = vec![in alloc; A]?;
     Ok(Setup {
         terminal,

@@ -24,7 +24,7 @@ fn assert_answers(
     setup: Setup,
     rows: &[(&[u8], &str)],
 ) -> Result<(), Fail> {
-    assert!(rt; setup.partners.len() <= 999);
+    assert!(rt; setup.partners.as_slice().len() <= 999);
     let mut desk = open_desk(alloc, &setup)?;
     for (delivered, expected) in rows {
         let response = desk.deliver(alloc, delivered);

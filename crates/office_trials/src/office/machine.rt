@@ -30,7 +30,7 @@ const TAKEN: &str =
 /// That of the demonstration: TERM1, where HAULA and HAULB are partners 1 and 2.
 fn machine(rt: &impl Abort, alloc: Global) -> Result<TerminalMachine, Fail> {
     let setup = demo_setup(alloc)?;
-    assert!(rt; setup.partners.len() <= 999);
+    assert!(rt; setup.partners.as_slice().len() <= 999);
     let plan = Plan::new(setup.blocks.as_slice()).expect(rt, "a plan");
     let terminal = Terminal::new(alloc, plan, setup.visit_limit)?;
     Ok(TerminalMachine::new(setup, terminal))

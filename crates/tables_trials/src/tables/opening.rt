@@ -59,7 +59,7 @@ fn filled(rt: &impl Abort, alloc: Global) -> Result<Connection<MemStore>, Fail> 
 
 fn assert_office(rt: &impl Abort, setup: &Setup, terminal: &Terminal) {
     assert!(rt; setup.terminal.as_str() == "TERM1");
-    assert!(rt; setup.partners.len() == 2);
+    assert!(rt; setup.partners.as_slice().len() == 2);
     assert!(rt; setup.visit_limit == 1000);
     assert!(rt; terminal.visits().len() == 2);
     let container = BoxNumber::parse(b"ABCU0000017").expect(rt, "a number");
