@@ -31,7 +31,7 @@ returns-clause-ok c = λ text opened some.
     let account = get_or there c.args.index c.index-accounts-index.result in
     let low = subst (λ (l : List Account). c.args.index < length l) same c.requires.index in
     let is : slice_get accounts c.args.index ≡ Some account =
-        ap (λ (l : List Account). slice_get l c.args.index) same ∙ slice_get-get_or there c.args.index c.index-accounts-index.result low in
+    ap (λ (l : List Account). slice_get l c.args.index) same ∙ slice_get-get_or there c.args.index c.index-accounts-index.result low in
     let ours = recipient_is P text (head_segments c.args.head) (value c.recipient.result) c.as_bytes.result.now true opened.segments c.recipient.ensures c.as_bytes.ensures.value (sym c.if-not-equals.false ∙ c.equals.ensures.test) in
     record {
       admits = text_admitted P text (c.args.index + 1) (body_fault_is text c.args.head None opened c.in-Ok.ensures.ok.0) some ours;
