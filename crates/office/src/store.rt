@@ -17,7 +17,7 @@ pub(crate) fn open_store(rt: &HostRuntime, path: &str) -> Result<Desk<Store>, Ta
 
 /// Makes the tables of a store with the rows of a set-up, wholly or not at all. A file that isn't there is made.
 pub(crate) fn make_store(rt: &HostRuntime, path: &str, setup: &Setup) -> Result<(), TableFault> {
-    if setup.partners.len() > MOST_PARTNERS {
+    if setup.partners.as_slice().len() > MOST_PARTNERS {
         return Err(TableFault::Store(NO_STORE));
     }
     let _conn = make_over(rt, path, Unknown, setup)?;
