@@ -84,9 +84,10 @@ fn admit_from<'a>(setup: &Setup, index: usize, head: Head<'a>) -> Result<Admitte
             head,
         });
     }
+    let accounts = setup.partners.as_slice();
     Ok(Admitted {
         partner: index as u16 + 1,
-        kind: setup.partners.as_slice()[index].kind,
+        kind: accounts[index].kind,
         envelope,
     })
 }

@@ -53,7 +53,7 @@ coded_row row = (string_bytes row.code, row.kind)
 abbrev IsCoded : List ℕ × PartnerKind → Type 0
 IsCoded account = IsTrue (is_party_code account.0)
 
-all_coded : (rows : List PartnerRow) → list_all (λ (row : PartnerRow). is_party_code (string_bytes row.code)) rows ≡ true → All IsCoded (accounts_in rows)
+pub all_coded : (rows : List PartnerRow) → list_all (λ (row : PartnerRow). is_party_code (string_bytes row.code)) rows ≡ true → All IsCoded (accounts_in rows)
 all_coded rows e = All-map IsCoded coded_row rows (AllPass-from_list_all (λ (row : PartnerRow). is_party_code (string_bytes row.code)) rows e)
 
 mapped : {A B : Type 0} (P : B → Type 0) (f : A → B) (xs : List A) → All P (map f xs) → All (λ x. P (f x)) xs

@@ -87,10 +87,7 @@ fn has_code(partners: &[PartnerRow], code: &str) -> bool
 }
 
 /// The accounts of a set-up.
-pub(crate) fn accounts_of(
-    alloc: Global,
-    partners: Vec<PartnerRow>,
-) -> Result<Accounts, AllocError>
+pub(crate) fn accounts_of(alloc: Global, partners: Vec<PartnerRow>) -> Result<Accounts, AllocError>
     requires { list_all (λ (row : PartnerRow). is_party_code (string_bytes row.code)) partners.items ≡ true }
     ensures { IfOk result (λ accounts. account_contents accounts.items ≡ accounts_in partners.items) }
 {

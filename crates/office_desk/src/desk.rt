@@ -193,8 +193,8 @@ impl<S: Alter + Drop> Deliver for Desk<S> {
         };
         let number = admitted.envelope.head().number();
         let setup = &self.setup;
-        let account = &setup.partners.as_slice()[admitted.partner as usize - 1];
-        let code = account.code.as_str();
+        let accounts = setup.partners.as_slice();
+        let code = accounts[admitted.partner as usize - 1].code.as_str();
         let taken = take_in(
             alloc,
             &mut self.conn,

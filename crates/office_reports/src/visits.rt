@@ -177,7 +177,8 @@ fn code_of(setup: &Setup, partner: u16) -> &str
     if partner == 0 {
         return "";
     }
-    match setup.partners.get(usize::from(partner) - 1) {
+    let accounts = setup.partners.as_slice();
+    match accounts.get(usize::from(partner) - 1) {
         Some(account) => account.code.as_str(),
         None => "",
     }

@@ -25,11 +25,12 @@ pub returns-clause-ok : goal.returns-clause-ok
 returns-clause-ok c = λ text opened some.
     let P = parties_of c.args.setup.now in
     let accounts = c.args.setup.now.partners.items in
-    let account = c.index.result.now in
+    let account = c.index-accounts-index.result in
+    let is = slice_get_read c.as_slice-accounts.result.now _ c.args.index account refl (subst (λ (l : List Account). c.args.index < length l) (sym c.as_slice-accounts.ensures) c.requires.index) c.index-accounts-index.is in
     let ours = recipient_is P text (head_segments c.args.head) (value c.recipient.result) c.as_bytes.result.now true opened.segments c.recipient.ensures c.as_bytes.ensures.value (sym c.if-not-equals.false ∙ c.equals.ensures.test) in
     record {
       admits = text_admitted P text (c.args.index + 1) (body_fault_is text c.args.head None opened c.in-Ok.ensures.ok.0) some ours;
-      kind = kind_there accounts c.args.index account (slice_get_read accounts _ c.args.index account refl c.requires.index c.index.ensures);
+      kind = kind_there accounts c.args.index account (ap (λ (l : List Account). slice_get l c.args.index) (sym c.as_slice-accounts.ensures) ∙ is);
       segments = c.in-Ok.ensures.ok.1 ∙ opened.segments;
       from_one = omega arith;
       known = omega (arith, c.requires.index);

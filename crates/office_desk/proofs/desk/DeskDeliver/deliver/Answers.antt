@@ -39,7 +39,7 @@ returns-in-Ok-taken-clause-delivers g c = λ sound opening ds stands.
     let admitted = c.in-Ok.admitted in
     let is = c.in-Ok.ensures.ok in
     let accounts = old.setup.partners.items in
-    let account = c.index.result.now in
+    let account = c.index-accounts.result in
     let code = c.as_str-code.ensures.value ∙ sym (code_at accounts admitted.partner account is.from_one (slice_get_read accounts _ (admitted.partner - 1) account refl (omega (arith, is.from_one, is.known)) c.index.ensures)) in
     taken_in g.S.Store (setup_content opening.setup) ds c.args.delivered.now text c.in-Ok-taken.response old _ admitted.partner c.number-number.result c.as_str-code.result.now
     c.interchange_text-text.ensures.exact stands refl
