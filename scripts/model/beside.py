@@ -5,7 +5,7 @@ import sys
 from collections import Counter
 from functools import partial
 
-from . import cases, damaged, stores, worked
+from . import cases, crowded, damaged, stores, worked
 from .days import stream
 from .messages import MESSAGE_FAULTS
 from .office import Office
@@ -113,6 +113,7 @@ def main():
     failed += cases.check(PROGRAM, with_stores=not demo_alone)
     if not demo_alone:
         damaged.try_all(beside)
+        crowded.try_all(beside)
     if len(sys.argv) == 1:
         stores.try_all(beside)
     failed += stores.told(beside)

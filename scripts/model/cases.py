@@ -68,7 +68,7 @@ def fed(path, pieces):
             [path, 'demo'], stdin=subprocess.PIPE, stdout=subprocess.PIPE, stderr=subprocess.PIPE) as process:
         for piece in pieces:
             os.write(process.stdin.fileno(), piece.encode('latin-1'))
-            while struct.unpack('i', fcntl.ioctl(process.stdin, termios.FIONREAD, bytes(4)))[0]:
+            while process.poll() is None and struct.unpack('i', fcntl.ioctl(process.stdin, termios.FIONREAD, bytes(4)))[0]:
                 time.sleep(0.0001)
         printed, told = process.communicate()
         return printed.decode('utf-8'), told.decode('utf-8'), process.returncode

@@ -8,7 +8,7 @@ import tempfile
 
 from .opened import fault_of_rows
 from .reports import text_of
-from .rows import tables_of
+from .rows import faults_of, tables_of
 from .setup import DEMO
 from .setups import files_of
 from .stores import Program
@@ -76,14 +76,14 @@ def with_schema(store, schema):
 
 # ---- what a store holds
 
-def tables_in(path):
-    """The rows of each table, by SQLite's own library; none of a file that is no database."""
+def read_by_sqlite(path):
+    """The rows of each table, and what SQLite's own library finds wrong; no rows of a file that is no database."""
     def read(store):
         store.text_factory = lambda text: text.decode('utf-8', 'surrogateescape')
         try:
-            return tables_of(store)
-        except sqlite3.DatabaseError:
-            return {}
+            return tables_of(store), faults_of(store)
+        except sqlite3.DatabaseError as fault:
+            return {}, [str(fault)]
     return with_store(path, read)
 
 
@@ -96,16 +96,19 @@ def yard_of(tables):
 
 def held(path):
     """What must stay: the rows; of a file that has no tables, its bytes."""
+    tables, _faults = read_by_sqlite(path)
     with open(path, 'rb') as file:
-        return tables_in(path) or file.read()
+        return tables or file.read()
 
 
 # ---- trials
 
 def try_one(beside, program, fault, change):
-    """Opens a changed store by a report and by a delivery."""
-    tables = tables_in(program.store)
-    beside.expect('changed stores, the model', change, None if fault == NOTHING else fault, fault_of_rows(tables))
+    """Opens a changed store by a report and by a delivery. The model knows what rows an office has, and leaves what a schema
+    allows to SQLite."""
+    tables, faults = read_by_sqlite(program.store)
+    judged = 'Store' if faults else fault_of_rows(tables) or NOTHING
+    beside.expect('changed stores, the model', change, fault, judged)
     before = held(program.store)
     if fault == NOTHING:
         reported, delivered, text = (yard_of(tables), '', 0), ('', '', 0), ''
