@@ -30,6 +30,8 @@ FILE = os.path.join(os.path.dirname(os.path.abspath(__file__)), 'cases.txt')
 SETUPS = {
     'one stack of two tiers': DEMO._replace(plan=[Block('A', bays=1, rows=1, tiers=2)]),
     'one visit': DEMO._replace(most_visits=1),
+    'two blocks, the second first': DEMO._replace(
+        plan=[Block('B', bays=4, rows=2, tiers=3), Block('A', bays=4, rows=2, tiers=3)]),
 }
 WORDS = ['set-up', 'stream', 'deliver', 'answer', 'status', 'cut', 'request', 'response']
 
