@@ -5,7 +5,7 @@ import sys
 from collections import Counter
 from functools import partial
 
-from . import cases, stores, worked
+from . import cases, crowded, damaged, stores, worked
 from .days import stream
 from .messages import MESSAGE_FAULTS
 from .office import Office
@@ -111,6 +111,9 @@ def main():
     over_store = (lambda row, setup, text: None) if demo_alone else partial(stores.over_store, beside)
     failed = worked.check(TOP, answered_by_program, over_store)
     failed += cases.check(PROGRAM, with_stores=not demo_alone)
+    if not demo_alone:
+        damaged.try_all(beside)
+        crowded.try_all(beside)
     if len(sys.argv) == 1:
         stores.try_all(beside)
     failed += stores.told(beside)

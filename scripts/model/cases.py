@@ -1,13 +1,20 @@
-"""The streams and deliveries of cases.txt, by the model and by the program: each is answered by the bytes that stand there.
+"""The streams, deliveries and requests of cases.txt, by the model and by the program: each is answered by the bytes that
+stand there.
 
 A stream goes through `office demo`, where it has that set-up, and through `office deliver` over a store. Texts that are
 delivered by themselves are bodies of requests to `office serve`; where a stream of them is cut into just these, it is
-answered by the same lines.
+answered by the same lines. Requests go to `office serve` in two pieces and, to a store of its own, byte by byte.
 """
+import fcntl
 import os
 import re
+import struct
+import subprocess
 import tempfile
+import termios
+import time
 from collections import namedtuple
+from functools import partial
 
 from .cuts import cut
 from .http import response
@@ -15,7 +22,7 @@ from .office import Office, json_text
 from .reports import text_of
 from .setup import DEMO
 from .setups import files_of
-from .stores import Program
+from .stores import Program, exchanged, in_bytes, in_two
 from .stream import answers, lines, status
 from .yard import Block
 
@@ -23,11 +30,14 @@ FILE = os.path.join(os.path.dirname(os.path.abspath(__file__)), 'cases.txt')
 SETUPS = {
     'one stack of two tiers': DEMO._replace(plan=[Block('A', bays=1, rows=1, tiers=2)]),
     'one visit': DEMO._replace(most_visits=1),
+    'two blocks, the second first': DEMO._replace(
+        plan=[Block('B', bays=4, rows=2, tiers=3), Block('A', bays=4, rows=2, tiers=3)]),
 }
-WORDS = ['set-up', 'stream', 'deliver', 'answer', 'status']
+WORDS = ['set-up', 'stream', 'deliver', 'answer', 'status', 'cut', 'request', 'response']
 
-# texts are those that are delivered by themselves, or there are none and the stream is a text; the status is the stream's
-Case = namedtuple('Case', 'name setup stream texts lines status')
+# texts are those that are delivered by themselves; requests are pairs of a request and its response; where there are none
+# of both, the stream is a text. The status is the stream's, which may be cut anywhere
+Case = namedtuple('Case', 'name setup stream texts lines status is_cut requests')
 
 
 def case_of(part):
@@ -35,19 +45,35 @@ def case_of(part):
     name, *rest = part.splitlines()
     said = [line.partition(' ')[::2] for line in rest if line and not line.startswith('#')]
     values = {word: [value for other, value in said if other == word] for word in WORDS}
-    setups, streams, texts, lines_said, statuses = (values[word] for word in WORDS)
-    is_whole = len(statuses) == 1 and not texts if streams else not statuses and 0 < len(texts) == len(lines_said)
-    if not is_whole or len(setups) > 1 or not {word for word, _value in said} <= set(WORDS):
+    setups, streams, texts, lines_said, statuses, cuts, requests, responses = (values[word] for word in WORDS)
+    kinds = [
+        len(streams) > 0 and len(statuses) == 1, 0 < len(texts) == len(lines_said), 0 < len(requests) == len(responses)]
+    others = len(statuses) - kinds[0], len(texts) * (not kinds[1]), len(responses) * (not kinds[2])
+    if kinds.count(True) != 1 or any(others) or len(setups) > 1 or not {word for word, _value in said} <= set(WORDS):
         raise ValueError('cases.txt: ' + name)
     return Case(
         name, SETUPS[setups[0]] if setups else DEMO, read(''.join(streams)), [read(text) for text in texts], lines_said,
-        int(statuses[0]) if statuses else None)
+        int(statuses[0]) if statuses else None, cuts == ['anywhere'],
+        [(read(request), read(wanted)) for request, wanted in zip(requests, responses)])
 
 
 def read(text):
     """The bytes that a line says."""
-    text = re.sub(r'\{(\d+) (.)\}', lambda found: found[2] * int(found[1]), text)
+    text = re.sub(r'\{(\d+) (?:(.)|\(([^)]*)\))\}', lambda found: (found[2] or found[3]) * int(found[1]), text)
+    text = re.sub(r'\\x([0-9a-f]{2})', lambda found: chr(int(found[1], 16)), text)
     return text.replace(r'\r', '\r').replace(r'\n', '\n')
+
+
+def fed(path, pieces):
+    """What `office demo` prints, tells and ends with, where each piece comes once the one before it was read."""
+    with subprocess.Popen(
+            [path, 'demo'], stdin=subprocess.PIPE, stdout=subprocess.PIPE, stderr=subprocess.PIPE) as process:
+        for piece in pieces:
+            os.write(process.stdin.fileno(), piece.encode('latin-1'))
+            while process.poll() is None and struct.unpack('i', fcntl.ioctl(process.stdin, termios.FIONREAD, bytes(4)))[0]:
+                time.sleep(0.0001)
+        printed, told = process.communicate()
+        return printed.decode('utf-8'), told.decode('utf-8'), process.returncode
 
 
 class Cases:
@@ -69,11 +95,20 @@ class Cases:
         self.expect(case.name, 'the model', wanted, (text_of(lines(given)), '', status(given)))
         if case.setup == DEMO:
             self.expect(case.name, 'demo', wanted, Program(self.path, '').run('demo', given=text))
+        if case.is_cut:
+            self.pieces(case, text, wanted)
         if self.with_stores:
             with tempfile.TemporaryDirectory(prefix='beside-') as folder:
                 program = Program(self.path, folder)
                 program.init(*files_of(case.setup))
                 self.expect(case.name, 'deliver', wanted, program.deliver(text))
+
+    def pieces(self, case, text, wanted):
+        """A stream in two pieces, cut at each place, and byte by byte."""
+        for place in range(1, len(text)):
+            got = fed(self.path, [text[:place], text[place:]])
+            self.expect(case.name, 'demo, cut at %d' % place, wanted, got)
+        self.expect(case.name, 'demo, byte by byte', wanted, fed(self.path, text))
 
     def deliveries(self, case):
         """Texts by themselves, one after the other; and as a stream, where it is cut into them."""
@@ -94,10 +129,25 @@ class Cases:
             wanted = response(office, request)
             self.expect(case.name, 'the model over HTTP', line, wanted.partition('\r\n\r\n')[2])
             requests.append((request, wanted))
+        self.served(case, requests, in_two)
+
+    def served(self, case, requests, pieces_of):
+        """Requests, each in its pieces, to a store of their own."""
         with tempfile.TemporaryDirectory(prefix='beside-') as folder:
             program = Program(self.path, folder)
             program.init(*files_of(case.setup))
-            program.serve(requests, lambda what, wanted, got: self.expect(case.name + ', ' + what, 'serve', wanted, got))
+            program.serve(
+                requests, lambda what, wanted, got: self.expect(case.name + ', ' + what, 'serve', wanted, got),
+                partial(exchanged, pieces_of=pieces_of))
+
+    def requests(self, case):
+        """Requests one after the other, and the response to each."""
+        office = Office(case.setup)
+        for request, wanted in case.requests:
+            self.expect('%s, %r' % (case.name, request[:300]), 'the model', wanted, response(office, request))
+        if self.with_stores:
+            for pieces_of in (in_two, in_bytes):
+                self.served(case, case.requests, pieces_of)
 
 
 def check(path, with_stores):
@@ -107,7 +157,9 @@ def check(path, with_stores):
     checked = Cases(path, with_stores)
     checked.expect('cases.txt', 'any case', True, bool(cases))
     for case in cases:
-        if case.texts:
+        if case.requests:
+            checked.requests(case)
+        elif case.texts:
             checked.deliveries(case)
         else:
             checked.stream(case, case.stream, (text_of(case.lines), '', case.status))

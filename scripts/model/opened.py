@@ -4,13 +4,25 @@ Each check is a predicate of all tables, which are dicts of lists of rows.
 """
 from .moments import moment_of
 from .names import length_of, number_fault, slot_of
+from .rows import COLUMNS
 from .setup import (
     BLOCKS_HEADER, CODE_NAMES, KINDS, MOST_VISITS, PARTNERS_HEADER, are_bad_blocks, are_bad_codes, are_bad_partners,
     is_bad_limit, is_bad_terminal)
 from .yard import Block, Place, cells, covered, is_carried, is_in_plan
 
 SETTINGS = {'version', 'terminal', 'visits', *CODE_NAMES}
+NUMBERS = {
+    'id', 'kind', 'next', 'partner', 'number', 'visit', 'laden', 'in_by', 'in_partner', 'in_number', 'out_by', 'out_partner',
+    'out_number', 'side', 'done', 'bays', 'lanes', 'tiers'}
 MOST_NUMBER = 999999999
+
+
+def are_readable(tables):
+    """Whole numbers and texts, each in its columns. The bodies of interchanges are not read."""
+    return all(
+        isinstance(value, int if column in NUMBERS else str)
+        for table, columns in COLUMNS.items() for row in tables[table] for column, value in zip(columns.split(), row)
+        if column != 'body')
 
 
 def is_setup(tables):
@@ -94,11 +106,13 @@ def are_places(tables):
 
 
 def fault_of_rows(tables):
-    """Store without settings; Version where it is another or none; Damaged where the rows are those of no office; else
-    None."""
-    if 'setting' not in tables:
+    """Store without a table or its columns; Version where it is another or none, which is before all tables but that of the
+    settings; Damaged where the rows are those of no office; else None."""
+    if not isinstance(tables.get('setting'), list):
         return 'Store'
     if dict(tables['setting']).get('version') != '1':
         return 'Version'
-    checks = is_setup, are_accounts, are_interchanges, are_visits, are_lines, are_places
+    if not all(isinstance(tables.get(table), list) for table in COLUMNS):
+        return 'Store'
+    checks = are_readable, is_setup, are_accounts, are_interchanges, are_visits, are_lines, are_places
     return None if all(check(tables) for check in checks) else 'Damaged'

@@ -60,9 +60,10 @@ class Program:
         """A report; the yard's have no key."""
         return self.run('report', self.store, kind, *([] if kind in ('yard', 'yardcsv') else [key]))
 
-    def serve(self, requests, expect):
+    def serve(self, requests, expect, exchange=None):
         """Sends each request on a connection of its own, and hands on the response that it should have beside the one
         that it has."""
+        exchange = exchange or exchanged
         with socket.socket() as free:
             free.bind(('127.0.0.1', 0))
             port = free.getsockname()[1]
@@ -71,7 +72,7 @@ class Program:
             try:
                 expect('listening', 'listening 127.0.0.1:%d\n' % port, process.stdout.readline())
                 for request, wanted in requests:
-                    expect(repr(request[:300]), wanted, exchanged(port, request))
+                    expect(repr(request[:300]), wanted, exchange(port, request))
                 expect('served', ('served %d\n' % len(requests), 0), (process.stdout.read(), process.wait(SECONDS)))
             except (OSError, subprocess.TimeoutExpired) as fault:
                 expect('a connection', 'an answer', repr(fault))
@@ -79,13 +80,23 @@ class Program:
                 process.kill()
 
 
-def exchanged(port, request):
-    """The response to a request, which is sent in two pieces, and then its end is told."""
+def in_two(request):
+    """Two pieces of a request."""
+    middle = len(request) % 61
+    return [request[:middle], request[middle:]]
+
+
+def in_bytes(request):
+    """The first 300 bytes of a request, each by itself, and the rest."""
+    return [*request[:300], request[300:]]
+
+
+def exchanged(port, request, pieces_of=in_two):
+    """The response to a request, which is sent in pieces, and then its end is told."""
     with socket.create_connection(('127.0.0.1', port), SECONDS) as connection:
         connection.setsockopt(socket.IPPROTO_TCP, socket.TCP_NODELAY, 1)
-        middle = len(request) % 61
-        connection.sendall(request[:middle].encode('latin-1'))
-        connection.sendall(request[middle:].encode('latin-1'))
+        for piece in pieces_of(request):
+            connection.sendall(piece.encode('latin-1'))
         connection.shutdown(socket.SHUT_WR)
         parts = []
         while not parts or parts[-1]:

@@ -1,5 +1,5 @@
 use edi_cutter::{CutFault, Cutter};
-use std::alloc::Global;
+use std::alloc::{AllocError, Global};
 use std::test::Fail;
 
 const FIRST: &[u8] =
@@ -82,68 +82,51 @@ fn cuts_two_interchanges_however_the_stream_is_cut(rt: HostRuntime) -> Result<()
     Ok(())
 }
 
+/// Two pieces, what feeding each comes to, and whether what is left of the first is known.
 #[test]
-fn a_fault_stands(rt: HostRuntime) -> Result<(), Fail> {
-    let mut cutter = Cutter::new(rt.alloc());
-    assert!(rt; cutter.at_rest());
-    assert!(rt; cutter.feed(b"AAAA") == Err(CutFault::Segment));
-    assert!(rt; cutter.feed(b"'") == Err(CutFault::Segment));
-    assert!(rt; cutter.interchange().is_empty());
-    let mut other = Cutter::new(rt.alloc());
-    assert!(rt; other.feed(b"\r\nUNA++.? ") == Ok(None));
-    assert!(rt; !other.at_rest());
-    assert!(rt; other.feed(b"'") == Err(CutFault::Service));
-    Ok(())
-}
-
-#[test]
-fn the_last_byte_that_may_stand_and_one_more(rt: HostRuntime) -> Result<(), Fail> {
-    let mut cutter = Cutter::new(rt.alloc());
-    assert!(rt; cutter.feed(b"FTX+") == Ok(None));
-    let thousand = [b'A'; 1024];
-    for _ in 0..1023 {
-        assert!(rt; cutter.feed(&thousand) == Ok(None));
+fn a_fault_stands(rt: HostRuntime) {
+    let rows: [(&[u8], Option<CutFault>, &[u8], CutFault); 4] = [
+        (b"AAAA", Some(CutFault::Segment), b"'", CutFault::Segment),
+        (
+            b"UNB+UNOA:3+HAULA\x01",
+            Some(CutFault::Segment),
+            b"'",
+            CutFault::Segment,
+        ),
+        (b"UNB+UNOA:3+HAULA", None, b"\x01", CutFault::Segment),
+        (b"\r\nUNA++.? ", None, b"'", CutFault::Service),
+    ];
+    for (first, stands, second, fault) in rows {
+        let mut cutter = Cutter::new(rt.alloc());
+        assert!(rt; cutter.at_rest());
+        assert!(rt; cutter.feed(first).err() == stands);
+        assert!(rt; stands.is_some() && cutter.interchange().is_empty() || !cutter.at_rest());
+        assert!(rt; cutter.feed(second) == Err(fault));
     }
-    assert!(rt; cutter.feed(&thousand[..1020]) == Ok(None));
-    assert!(rt; cutter.feed(b"'") == Err(CutFault::TooLong));
-    Ok(())
-}
-
-#[test]
-fn a_fault_behind_the_ninth_byte(rt: HostRuntime) -> Result<(), Fail> {
-    let mut cutter = Cutter::new(rt.alloc());
-    assert!(rt; cutter.feed(b"UNB+UNOA:3+HAULA\x01") == Err(CutFault::Segment));
-    let mut other = Cutter::new(rt.alloc());
-    assert!(rt; other.feed(b"UNB+UNOA:3+HAULA") == Ok(None));
-    assert!(rt; other.feed(b"\x01") == Err(CutFault::Segment));
-    Ok(())
 }
 
 /// Four bytes, so many `A`, and these.
-fn long_piece(alloc: Global, count: usize, behind: &[u8]) -> Result<Vec<u8>, Fail> {
-    let mut piece = Vec::new(alloc);
-    piece.extend_from_slice(b"FTX+")?;
+fn long_piece(alloc: Global, count: usize, behind: &[u8]) -> Result<Vec<u8>, AllocError> {
+    let mut piece = Vec::from_slice(alloc, b"FTX+")?;
     let value = vec![in alloc; b'A'; count]?;
     piece.extend_from_slice(&value)?;
     piece.extend_from_slice(behind)?;
     Ok(piece)
 }
 
+/// Pieces of one call each: a long interchange, the last byte that may stand, and one more.
 #[test]
-fn takes_a_long_piece_at_once(rt: HostRuntime) -> Result<(), Fail> {
-    let piece = long_piece(rt.alloc(), 10_000, b"'UNZ'")?;
-    let mut cutter = Cutter::new(rt.alloc());
-    assert!(rt; cutter.feed(&piece) == Ok(Some(10_009)));
-    assert_eq!(rt; cutter.interchange(), piece.as_slice());
-    Ok(())
-}
-
-#[test]
-fn a_piece_may_be_too_long(rt: HostRuntime) -> Result<(), Fail> {
-    for (count, expected) in [(1_048_572, Ok(None)), (1_048_573, Err(CutFault::TooLong))] {
-        let piece = long_piece(rt.alloc(), count, b"")?;
+fn a_piece_may_be_long(rt: HostRuntime) -> Result<(), Fail> {
+    for (count, behind, expected) in [
+        (10_000, b"'UNZ'".as_slice(), Ok(Some(10_009))),
+        (1_048_572, b"".as_slice(), Ok(None)),
+        (1_048_573, b"".as_slice(), Err(CutFault::TooLong)),
+    ] {
+        let piece = long_piece(rt.alloc(), count, behind)?;
         let mut cutter = Cutter::new(rt.alloc());
-        assert!(rt; cutter.feed(&piece) == expected);
+        let fed = cutter.feed(&piece);
+        assert!(rt; fed == expected);
+        assert!(rt; !matches!(fed, Ok(Some(_))) || cutter.interchange() == piece.as_slice());
     }
     Ok(())
 }

@@ -1,95 +1,50 @@
-//! Messages by their literal bytes, and the answers to them.
+//! Tables of codes, and how many lines a message may have. What messages say and how they are answered goes through the
+//! program: the model's cases.
 
-mod contrl;
-mod kinds;
-mod rows;
-mod shown;
 mod table;
 
-use edi_messages::{
-    CodeTable, Codes, Message, MessageFault, PartnerKind, Verdict, message_error, read_message,
-    write_contrl,
-};
+use edi_messages::{CodeTable, Codes, MessageFault, PartnerKind, read_message};
 use edi_syntax::open_envelope;
-use shown::shown;
-use std::alloc::Global;
-use std::process::Abort;
+use std::alloc::{AllocError, Global};
 use std::test::Fail;
 
-/// The agreed codes, as a partner may send them.
-fn codes(kind: PartnerKind) -> Result<Codes, Fail> {
-    let table = CodeTable::new([b"34", b"36", b"YMV", b"43", b"45", b"44", b"46"])
-        .ok()
-        .ok_or("codes")?;
-    Ok(Codes::for_kind(&table, kind))
-}
-
-/// The first message of an interchange from such a partner.
-fn first(
-    alloc: Global,
-    text: &[u8],
-    kind: PartnerKind,
-) -> Result<Result<Message, MessageFault>, Fail> {
-    let envelope = open_envelope(text)?;
-    let frame = envelope.frames().next().ok_or("frame")?;
-    Ok(read_message(alloc, &frame, envelope.head().moment(), &codes(kind)?))
-}
-
-/// The CONTRL to an interchange from such a partner.
-fn answer(alloc: Global, text: &[u8], kind: PartnerKind) -> Result<Vec<u8>, Fail> {
-    let envelope = open_envelope(text)?;
-    let codes = codes(kind)?;
-    let mut verdicts = Vec::new(alloc);
-    for frame in envelope.frames() {
-        let verdict = match read_message(alloc, &frame, envelope.head().moment(), &codes) {
-            Ok(_) => Verdict::Accepted,
-            Err(fault) => Verdict::Rejected(message_error(fault).ok_or("memory")?),
-        };
-        verdicts.push(verdict)?;
+/// A gate-in of that many containers, with the number of segments as the trailer has it.
+fn gate_in(alloc: Global, count: u32, segments: &[u8]) -> Result<Vec<u8>, AllocError> {
+    let mut text = Vec::from_slice(
+        alloc,
+        b"UNB+UNOA:3+A+B+240305:0910+1'UNH+1+CODECO:D:95B:UN'BGM+34'",
+    )?;
+    for _ in 0..count {
+        text.extend_from_slice(b"EQD+CN+ABCU0000017+22G1'")?;
     }
-    Ok(write_contrl(alloc, &envelope, &verdicts)?)
+    text.extend_from_slice(b"UNT+")?;
+    text.extend_from_slice(segments)?;
+    text.extend_from_slice(b"+1'UNZ+1+1'")?;
+    Ok(text)
 }
 
-/// The first message of an interchange that is one.
-fn first_message(alloc: Global, text: &[u8], kind: PartnerKind) -> Result<Message, Fail> {
-    Ok(first(alloc, text, kind)?.ok().ok_or("message")?)
+/// How many lines the first message has, or its fault.
+fn lines_of(alloc: Global, text: &[u8]) -> Option<Result<usize, MessageFault>> {
+    let envelope = open_envelope(text).ok()?;
+    let frame = envelope.frames().next()?;
+    let table = CodeTable::new([b"34", b"36", b"YMV", b"43", b"45", b"44", b"46"]).ok()?;
+    let codes = Codes::for_kind(&table, PartnerKind::Gate);
+    Some(
+        match read_message(alloc, &frame, envelope.head().moment(), &codes) {
+            Ok(message) => Ok(message.lines.len()),
+            Err(fault) => Err(fault),
+        },
+    )
 }
 
-/// Holds the first message to these words.
-fn assert_words(
-    rt: &impl Abort,
-    alloc: Global,
-    text: &[u8],
-    kind: PartnerKind,
-    words: &[u8],
-) -> Result<(), Fail> {
-    let message = first_message(alloc, text, kind)?;
-    let said = shown(alloc, &message)?;
-    assert_eq!(rt; said.as_slice(), words);
-    Ok(())
-}
-
-/// Holds the first message to this fault.
-fn assert_fault(
-    rt: &impl Abort,
-    alloc: Global,
-    text: &[u8],
-    kind: PartnerKind,
-    fault: MessageFault,
-) -> Result<(), Fail> {
-    assert_eq!(rt; first(alloc, text, kind)?.err(), Some(fault));
-    Ok(())
-}
-
-/// Holds the CONTRL to this text.
-fn assert_contrl(
-    rt: &impl Abort,
-    alloc: Global,
-    text: &[u8],
-    kind: PartnerKind,
-    contrl: &[u8],
-) -> Result<(), Fail> {
-    let answered = answer(alloc, text, kind)?;
-    assert_eq!(rt; answered.as_slice(), contrl);
+#[test]
+fn a_message_has_up_to_999_lines(rt: HostRuntime) -> Result<(), Fail> {
+    for (count, segments, expected) in [
+        (999, b"1002".as_slice(), Ok(999)),
+        (1_000, b"1003".as_slice(), Err(MessageFault::TooMany)),
+    ] {
+        let text = gate_in(rt.alloc(), count, segments)?;
+        assert!(rt; lines_of(rt.alloc(), &text) == Some(expected));
+    }
     Ok(())
 }

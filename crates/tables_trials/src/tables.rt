@@ -1,9 +1,8 @@
-//! The rows of a set-up, of interchanges and of changes.
+//! Calls of the tables without a program: interchanges that wait and are taken, an office that loads, a desk that is opened
+//! again. What rows a set-up and each change make, and which are damaged, `make beside` compares.
 
 ghost use Rattle.std.specs.Prelude.{◌≡◌, ◌≤◌, IfOk, length, string_bytes};
 
-mod changes;
-mod delivering;
 mod desk;
 mod opening;
 
@@ -11,7 +10,7 @@ use edi_messages::{CodeTable, PartnerKind};
 use office_loading::nexts;
 use office_setup::{Account, Accounts, Setup};
 use office_tables::{Kept, TableFault, create, keep, kept, mark_taken, next_of};
-use sqlite::{Alter, Connection, Error, MemStore};
+use sqlite::{Alter, Connection, MemStore};
 use std::alloc::{AllocError, Global};
 use std::process::Abort;
 use std::test::Fail;
@@ -58,57 +57,6 @@ fn made(rt: &impl Abort, alloc: Global) -> Result<Connection<MemStore>, Fail> {
     Ok(conn)
 }
 
-/// The first column of each row of an answer.
-fn assert_shows<S: Alter>(
-    rt: &impl Abort,
-    conn: &mut Connection<S>,
-    sql: &str,
-    expected: &[&str],
-) -> Result<(), Error> {
-    let rows = conn.query_all(sql, &[])?;
-    assert!(rt; rows.len() == expected.len());
-    for (row, text) in rows.iter().zip(expected) {
-        let shown: String = row.get(0)?;
-        assert!(rt; shown.as_str() == *text);
-    }
-    Ok(())
-}
-
-#[test]
-fn a_set_up_has_its_rows(rt: HostRuntime) -> Result<(), Fail> {
-    let mut conn = made(&rt, rt.alloc())?;
-    for (sql, expected) in [
-        (
-            "SELECT name || '=' || value FROM setting ORDER BY name",
-            [
-                "discharge-list=43",
-                "discharge-report=44",
-                "gate-in=34",
-                "gate-out=36",
-                "load-list=45",
-                "load-report=46",
-                "terminal=TERM1",
-                "version=1",
-                "visits=1000",
-                "yard-move=YMV",
-            ]
-            .as_slice(),
-        ),
-        (
-            "SELECT id || ' ' || code || ' ' || kind || ' ' || next FROM partner ORDER BY id",
-            &["1 HAULA 1 1", "2 LINEA 2 1"],
-        ),
-        (
-            "SELECT letter || ' ' || bays || ' ' || lanes || ' ' || tiers FROM block",
-            &["A 4 2 3"],
-        ),
-        ("SELECT box FROM place", &[]),
-    ] {
-        assert_shows(&rt, &mut conn, sql, expected)?;
-    }
-    Ok(())
-}
-
 /// Two interchanges are kept, and the first is taken.
 fn keep_two<S: Alter>(rt: &impl Abort, conn: &mut Connection<S>) -> Result<(), Fail> {
     assert!(rt; conn.is_autocommit());
@@ -127,27 +75,14 @@ fn is_kept(found: &Option<Kept>, text: &[u8], reply: Option<&str>) -> bool {
     }
 }
 
-/// That text is kept for the first partner, with that reply if it was taken.
-fn assert_kept<S: Alter>(
-    rt: &impl Abort,
-    conn: &mut Connection<S>,
-    number: u32,
-    text: &[u8],
-    reply: Option<&str>,
-) -> Result<(), TableFault> {
-    let found = kept(conn, 1, number)?;
-    assert!(rt; is_kept(&found, text, reply));
-    Ok(())
-}
-
-#[test]
-fn an_interchange_waits_until_it_is_taken(rt: HostRuntime) -> Result<(), Fail> {
-    let mut conn = made(&rt, rt.alloc())?;
-    keep_two(&rt, &mut conn)?;
-    assert_kept(&rt, &mut conn, 1, b"first", Some("done"))?;
-    assert_kept(&rt, &mut conn, 2, b"early", None)?;
-    let none = kept(&mut conn, 2, 1)?;
-    assert!(&rt; none.is_none());
+/// What is kept of those two, and nothing of the second partner.
+fn assert_kept<S: Alter>(rt: &impl Abort, conn: &mut Connection<S>) -> Result<(), TableFault> {
+    let first = kept(conn, 1, 1)?;
+    assert!(rt; is_kept(&first, b"first", Some("done")));
+    let early = kept(conn, 1, 2)?;
+    assert!(rt; is_kept(&early, b"early", None));
+    let none = kept(conn, 2, 1)?;
+    assert!(rt; none.is_none());
     Ok(())
 }
 
@@ -166,10 +101,11 @@ fn assert_nexts<S: Alter>(
 }
 
 #[test]
-fn one_that_is_taken_makes_the_one_behind_it_next(rt: HostRuntime) -> Result<(), Fail> {
+fn an_interchange_waits_until_it_is_taken(rt: HostRuntime) -> Result<(), Fail> {
     let mut conn = made(&rt, rt.alloc())?;
     assert_nexts(&rt, rt.alloc(), &mut conn, [1, 1])?;
     keep_two(&rt, &mut conn)?;
     assert_nexts(&rt, rt.alloc(), &mut conn, [2, 1])?;
+    assert_kept(&rt, &mut conn)?;
     Ok(())
 }

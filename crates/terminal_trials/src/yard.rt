@@ -1,12 +1,11 @@
-//! Calls on a yard by the worked rows of the terminal's rules, a block filled to the last slot, and a plain
-//! list of boxes beside the columns.
+//! A block that is filled to the last slot, and the faults of a plan. Calls on a crowded yard go through the program, beside
+//! a plain list: `scripts/model/crowded.py`, and the model's cases.
 
-mod beside;
-mod rows;
-
+use box6346::Length::{Forty, Twenty};
 use box6346::{BoxNumber, Slot, check_digit};
 use std::process::Abort;
-use yard_core::{Block, Plan};
+use std::test::Fail;
+use yard_core::{Block, Plan, PlanFault, Yard, YardFault};
 
 /// The box of owner ABC with this serial number.
 fn number(rt: &impl Abort, serial: u32) -> BoxNumber {
@@ -29,17 +28,87 @@ fn number(rt: &impl Abort, serial: u32) -> BoxNumber {
     BoxNumber::parse(&[a, b, c, u, d, e, f, g, h, i, last]).expect(rt, "a number")
 }
 
-fn slot(rt: &impl Abort, name: &str) -> Slot {
-    Slot::parse(name.as_bytes()).expect(rt, "a slot's name")
-}
-
-fn plan(rt: &impl Abort, blocks: &[Block]) -> Plan {
-    Plan::new(blocks).expect(rt, "a plan")
-}
-
 const A: Block = Block {
     letter: b'A',
     bays: 4,
     rows: 2,
     tiers: 3,
 };
+
+/// As large as a block may be.
+const LARGEST: Block = Block {
+    letter: b'K',
+    bays: 40,
+    rows: 12,
+    tiers: 6,
+};
+
+/// Whether that is the slot of the largest block that comes behind so many others, by tier, bay and row.
+fn is_next(got: Result<Slot, YardFault>, serial: u32) -> bool {
+    match got {
+        Ok(slot) => {
+            slot.tier as u32 == (serial / 480).saturating_add(1)
+                && slot.bay as u32 == (serial % 480 / 12).saturating_mul(2).saturating_add(1)
+                && slot.row as u32 == (serial % 12).saturating_add(1)
+        }
+        Err(_) => false,
+    }
+}
+
+#[test]
+fn a_block_is_filled_to_the_last_slot(rt: HostRuntime) -> Result<(), Fail> {
+    let plan = Plan::new(&[LARGEST]).expect(&rt, "a plan");
+    let mut yard = Yard::new(rt.alloc(), plan)?;
+    for serial in 0..2880u32 {
+        let got = yard.place_first(number(&rt, serial), Twenty);
+        assert!(rt; is_next(got, serial), "{serial}");
+    }
+    let more = number(&rt, 2880);
+    assert!(rt; yard.place_first(more, Twenty) == Err(YardFault::NoRoom));
+    assert!(rt; yard.place_first(more, Forty) == Err(YardFault::NoRoom));
+    Ok(())
+}
+
+const SMALL: Block = Block {
+    letter: b'a',
+    bays: 4,
+    rows: 2,
+    tiers: 0,
+};
+
+const HIGH: Block = Block {
+    letter: b'A',
+    bays: 4,
+    rows: 2,
+    tiers: 7,
+};
+
+const LONG: Block = Block {
+    letter: b'A',
+    bays: 41,
+    rows: 2,
+    tiers: 3,
+};
+
+const NARROW: Block = Block {
+    letter: b'A',
+    bays: 4,
+    rows: 0,
+    tiers: 3,
+};
+
+#[test]
+fn a_plan_names_its_first_fault(rt: HostRuntime) {
+    let rows: [(&[Block], PlanFault); 7] = [
+        (&[], PlanFault::Blocks),
+        (&[A; 21], PlanFault::Blocks),
+        (&[A, A, SMALL], PlanFault::Letter),
+        (&[HIGH, A], PlanFault::Twice),
+        (&[HIGH], PlanFault::Size),
+        (&[LONG], PlanFault::Size),
+        (&[NARROW], PlanFault::Size),
+    ];
+    for (blocks, fault) in rows {
+        assert!(rt; Plan::new(blocks).err() == Some(fault));
+    }
+}

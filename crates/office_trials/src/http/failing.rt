@@ -1,7 +1,6 @@
 //! A connection that fails.
 
-use super::assert_served;
-use super::rows::{NONE, WAITS};
+use super::{ASKED, NONE, POSTED, WAITS, assert_served};
 use crate::office::failing_reader::FailingReader;
 use crate::office::failing_writer::FailingWriter;
 use crate::office::pieces::Pieces;
@@ -11,11 +10,6 @@ use office_stream::Port;
 use std::alloc::Global;
 use std::process::Abort;
 use std::test::Fail;
-
-const REQUEST: &[u8] =
-    b"POST /interchanges HTTP/1.1\r\nContent-Length: 121\r\n\r\nUNB+UNOA:3+HAULA+TERM1+240305:0910+3'UNH+1+CODECO:D:95B:UN'BGM+34+G1+9'EQD+CN+ABCU0000038+22G1:102:5+++5'UNT+4+1'UNZ+1+3'";
-
-const ASKED: &[u8] = b"GET /replies/HAULA/3 HTTP/1.1\r\n\r\n";
 
 /// What is left of a request where so many reads and writes don't fail: nothing is written, and the same desk answers
 /// so when it is asked for the interchange.
@@ -28,7 +22,7 @@ fn assert_left(
 ) -> Result<(), Fail> {
     let mut desk = open_demo(alloc)?;
     let pieces = Pieces {
-        text: REQUEST,
+        text: POSTED,
         next: 100,
         size: 100,
     };
@@ -40,7 +34,7 @@ fn assert_left(
     let served = serve_one(alloc, &mut reader, &mut writer, &mut desk);
     assert!(rt; matches!(served, Err(ServeFault::Read)) == reader.failed());
     assert!(rt; matches!(served, Err(ServeFault::Write)) == writer.failed());
-    assert_eq!(rt; writer.into_inner().written.len(), 0);
+    assert!(rt; writer.into_inner().written.is_empty());
     assert_served(rt, alloc, ASKED, &mut desk, response);
     Ok(())
 }

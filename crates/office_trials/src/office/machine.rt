@@ -47,11 +47,11 @@ fn what_is_not_admitted_for_a_partner_changes_nothing(rt: HostRuntime) -> Result
         (1, MISCOUNTED),
     ] {
         let reply = machine.step(rt.alloc(), partner, text)?;
-        assert_eq!(&rt; reply.as_str(), NOTHING);
+        assert!(&rt; reply.as_str() == NOTHING);
     }
-    assert_eq!(&rt; machine.terminal().visits().len(), 0);
+    assert!(&rt; machine.terminal().visits().is_empty());
     let reply = machine.step(rt.alloc(), 1, GATE_IN)?;
-    assert_eq!(&rt; reply.as_str(), TAKEN);
-    assert_eq!(&rt; machine.terminal().visits().len(), 1);
+    assert!(&rt; reply.as_str() == TAKEN);
+    assert!(&rt; machine.terminal().visits().len() == 1);
     Ok(())
 }

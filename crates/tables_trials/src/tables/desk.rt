@@ -1,26 +1,33 @@
-//! The desk over the tables.
+//! The desk over the tables, opened three times.
 
-use super::delivering::{FIRST, SECOND, THIRD};
-use super::{assert_shows, made};
+use super::made;
 use office_desk::Desk;
-use office_replies::{Deliver, Response};
-use sqlite::{Connection, MemStore};
+use office_replies::Deliver;
+use sqlite::MemStore;
 use std::alloc::Global;
 use std::process::Abort;
 use std::test::Fail;
+
+/// The gate-in of a container under a number.
+const THIRD: &[u8] =
+    b"UNB+UNOA:3+HAULA+TERM1+240305:0910+3'UNH+1+CODECO:D:95B:UN'BGM+34+G1+9'EQD+CN+ABCU0000038+22G1:102:5+++5'UNT+4+1'UNZ+1+3'";
+
+const SECOND: &[u8] =
+    b"UNB+UNOA:3+HAULA+TERM1+240305:0910+2'UNH+1+CODECO:D:95B:UN'BGM+34+G1+9'EQD+CN+ABCU0000022+22G1:102:5+++5'UNT+4+1'UNZ+1+2'";
+
+const FIRST: &[u8] =
+    b"UNB+UNOA:3+HAULA+TERM1+240305:0910+1'UNH+1+CODECO:D:95B:UN'BGM+34+G1+9'EQD+CN+ABCU0000017+22G1:102:5+++5'UNT+4+1'UNZ+1+1'";
 
 /// The second interchange with other bytes.
 const OTHER: &[u8] =
     b"UNB+UNOA:3+HAULA+TERM1+240305:0910+2'UNH+1+CODECO:D:95B:UN'BGM+34+G2+9'EQD+CN+ABCU0000022+22G1:102:5+++5'UNT+4+1'UNZ+1+2'";
 
-fn opened(
-    rt: &impl Abort,
-    alloc: Global,
-    conn: Connection<MemStore>,
-) -> Result<Desk<MemStore>, Fail> {
-    assert!(rt; conn.is_autocommit());
-    Ok(Desk::open(alloc, conn)?)
-}
+/// What is delivered at each opening, and the status of its answer.
+const OPENINGS: [&[(&[u8], u16)]; 3] = [
+    &[(THIRD, 202), (SECOND, 202), (THIRD, 202), (OTHER, 409)],
+    &[(FIRST, 200), (THIRD, 200), (OTHER, 409), (b"UNB", 400)],
+    &[(SECOND, 200), (FIRST, 200)],
+];
 
 /// Delivers each text, and expects its status.
 fn assert_answers(
@@ -30,41 +37,18 @@ fn assert_answers(
     expected: &[(&[u8], u16)],
 ) {
     for (text, status) in expected {
-        let response: Response = desk.deliver(alloc, text);
-        assert!(rt; response.status() == *status);
+        assert!(rt; desk.deliver(alloc, text).status() == *status);
     }
 }
 
 #[test]
 fn a_store_is_opened_again_where_it_was(rt: HostRuntime) -> Result<(), Fail> {
-    let alloc = rt.alloc();
-    let conn = made(&rt, alloc)?;
-    let mut desk = opened(&rt, alloc, conn)?;
-    assert_answers(
-        &rt,
-        alloc,
-        &mut desk,
-        &[(THIRD, 202), (SECOND, 202), (THIRD, 202), (OTHER, 409)],
-    );
-    let mut desk = opened(&rt, alloc, desk.into_connection())?;
-    assert_answers(
-        &rt,
-        alloc,
-        &mut desk,
-        &[(FIRST, 200), (THIRD, 200), (OTHER, 409), (b"UNB", 400)],
-    );
-    let mut desk = opened(&rt, alloc, desk.into_connection())?;
-    assert_answers(&rt, alloc, &mut desk, &[(SECOND, 200), (FIRST, 200)]);
-    let mut conn = desk.into_connection();
-    assert_shows(
-        &rt,
-        &mut conn,
-        "SELECT slot || ' ' || box FROM place ORDER BY slot",
-        &[
-            "A001011 ABCU0000017",
-            "A001021 ABCU0000022",
-            "A003011 ABCU0000038",
-        ],
-    )?;
+    let mut conn = made(&rt, rt.alloc())?;
+    for expected in OPENINGS {
+        assert!(&rt; conn.is_autocommit());
+        let mut desk = Desk::open(rt.alloc(), conn)?;
+        assert_answers(&rt, rt.alloc(), &mut desk, expected);
+        conn = desk.into_connection();
+    }
     Ok(())
 }

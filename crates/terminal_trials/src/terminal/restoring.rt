@@ -1,9 +1,7 @@
 //! Rows that are a state's, and rows that are none.
 
-use super::{
-    A, Answer, Ask, FIRST, HAULIER, QUAY, Row, SECOND, assert_answers, assert_lines, assert_stands,
-    assert_visits, call, moment, number, size_type, slot,
-};
+use super::{A, FIRST, HAULIER, SECOND, call, moment, number, size_type, slot};
+use edi_messages::Call;
 use std::alloc::{AllocError, Global};
 use std::process::Abort;
 use std::test::Fail;
@@ -120,42 +118,25 @@ fn whole_terminal(rt: &impl Abort, alloc: Global) -> Result<Terminal, Fail> {
     Ok(restored(rt, alloc, 3, visits, places, lines).expect(rt, "a state"))
 }
 
+/// The first container stands below the second, and the lines are as far as their rows say.
+fn assert_whole(rt: &impl Abort, terminal: &Terminal, call: &Call) {
+    let first = number(rt, FIRST);
+    let second = number(rt, SECOND);
+    assert!(rt; terminal.visits().len() == 3);
+    assert!(rt; terminal.slot_of(first) == Some(slot(rt, "A001011")));
+    assert!(rt; terminal.slot_of(second) == Some(slot(rt, "A001012")));
+    assert!(rt; terminal.line_state(call, Side::Load, first) == Some(LineState::Pending));
+    assert!(rt; terminal.line_state(call, Side::Discharge, second) == Some(LineState::Done));
+    assert!(rt; terminal.line_state(call, Side::Load, second).is_none());
+}
+
 #[test]
-fn containers_stand_where_their_rows_say(rt: HostRuntime) -> Result<(), Fail> {
+fn a_terminal_and_its_copy_are_as_the_rows_say(rt: HostRuntime) -> Result<(), Fail> {
+    let call = call(rt.alloc())?;
     let terminal = whole_terminal(&rt, rt.alloc())?;
-    assert_stands(&rt, &terminal, FIRST, Some(slot(&rt, "A001011")));
-    assert_stands(&rt, &terminal, SECOND, Some(slot(&rt, "A001012")));
-    assert_visits(&rt, &terminal, 3);
-    Ok(())
-}
-
-#[test]
-fn lines_are_as_far_as_their_rows_say(rt: HostRuntime) -> Result<(), Fail> {
-    let alloc = rt.alloc();
-    let terminal = whole_terminal(&rt, alloc)?;
-    assert_lines(
-        &rt,
-        alloc,
-        &terminal,
-        &[
-            (Side::Load, FIRST, Some(LineState::Pending)),
-            (Side::Discharge, SECOND, Some(LineState::Done)),
-            (Side::Load, SECOND, None),
-        ],
-    )?;
-    Ok(())
-}
-
-const BURIED_THEN_GONE: [Row; 2] = [
-    (HAULIER, FIRST, Ask::Goes, Answer::Buried(SECOND), 0),
-    (HAULIER, SECOND, Ask::Goes, Answer::Gone, 2),
-];
-
-#[test]
-fn a_step_follows_what_was_restored(rt: HostRuntime) -> Result<(), Fail> {
-    let alloc = rt.alloc();
-    let mut terminal = whole_terminal(&rt, alloc)?;
-    assert_answers(&rt, alloc, &mut terminal, &BURIED_THEN_GONE)?;
+    assert_whole(&rt, &terminal, &call);
+    let copy = terminal.copy(rt.alloc())?;
+    assert_whole(&rt, &copy, &call);
     Ok(())
 }
 
@@ -175,8 +156,8 @@ fn empty_terminal(rt: &impl Abort, alloc: Global) -> Terminal {
 #[test]
 fn no_rows_are_an_empty_state(rt: HostRuntime) -> Result<(), Fail> {
     let terminal = empty_terminal(&rt, rt.alloc());
-    assert_visits(&rt, &terminal, 0);
-    assert_stands(&rt, &terminal, FIRST, None);
+    assert!(&rt; terminal.visits().is_empty());
+    assert!(&rt; terminal.slot_of(number(&rt, FIRST)).is_none());
     Ok(())
 }
 
@@ -187,7 +168,7 @@ fn assert_fault(
     places: &[Place],
     want: Option<RestoreFault>,
 ) -> Result<(), Fail> {
-    assert_eq!(rt; fault(rt, alloc, places)?, want);
+    assert!(rt; fault(rt, alloc, places)? == want);
     Ok(())
 }
 
@@ -235,7 +216,7 @@ fn assert_visits_fault(
 ) -> Result<(), Fail> {
     let places = vec![in alloc; place(rt, FIRST, 1, "A001011")]?;
     let fault = restored(rt, alloc, limit, visits, places, Vec::new(alloc)).err();
-    assert_eq!(rt; fault, want);
+    assert!(rt; fault == want);
     Ok(())
 }
 
@@ -284,37 +265,6 @@ fn no_line_is_given_twice(rt: HostRuntime) -> Result<(), Fail> {
     let alloc = rt.alloc();
     let lines = three_lines(&rt, alloc)?;
     let terminal = restored(&rt, alloc, 3, Vec::new(alloc), Vec::new(alloc), lines);
-    assert_eq!(rt; terminal.err(), Some(RestoreFault::Unsound));
-    Ok(())
-}
-
-const ALL_GO: [Row; 2] = [
-    (HAULIER, SECOND, Ask::Goes, Answer::Gone, 2),
-    (QUAY, FIRST, Ask::Loads, Answer::Gone, 3),
-];
-
-/// How many visits are open.
-fn assert_open(rt: &impl Abort, terminal: &Terminal, count: usize) {
-    let open = terminal
-        .visits()
-        .iter()
-        .filter(|visit| visit.departure.is_none())
-        .count();
-    assert_eq!(rt; open, count);
-}
-
-#[test]
-fn a_restored_terminal_closes_its_visits(rt: HostRuntime) -> Result<(), Fail> {
-    let alloc = rt.alloc();
-    let mut terminal = whole_terminal(&rt, alloc)?;
-    assert_open(&rt, &terminal, 2);
-    assert_answers(&rt, alloc, &mut terminal, &ALL_GO)?;
-    assert_open(&rt, &terminal, 0);
-    assert_lines(
-        &rt,
-        alloc,
-        &terminal,
-        &[(Side::Load, FIRST, Some(LineState::Done))],
-    )?;
+    assert!(rt; terminal.err() == Some(RestoreFault::Unsound));
     Ok(())
 }
