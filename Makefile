@@ -28,7 +28,8 @@ strength:
 refusals:
 	scripts/refusals terminal_trials
 
-# The program beside a plain slow model, on the worked rows and on random streams: about a minute, once it is built.
+# The program beside a plain slow model, on the worked rows, changed stores and random streams: a minute or two, once it is
+# built.
 beside:
 	scripts/beside
 

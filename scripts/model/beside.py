@@ -1,4 +1,4 @@
-"""The program beside the model, on the worked rows, the cases, random streams, and random stores: scripts/beside."""
+"""The program beside the model, on worked rows, cases, changed stores, random streams and stores: scripts/beside."""
 import os
 import subprocess
 import sys
@@ -35,7 +35,8 @@ EVERY_KIND = (
 USAGE = """usage: scripts/beside [STREAMS DELIVERIES SHARE [SEED]]
 
 Compares crates/office/out/office with the model: first the worked rows, the day of examples/day and the cases of
-scripts/model/cases.txt, as `office demo` and over stores in files; then random set-ups, deliveries and reports over stores, and requests by HTTP; then random
+scripts/model/cases.txt, as `office demo` and over stores in files; then the changed stores of scripts/model/damaged.txt
+and a crowded yard; then random set-ups, deliveries and reports over stores, and requests by HTTP; then random
 streams. With arguments the rows, and STREAMS streams of DELIVERIES interchanges each, SHARE of them (0 to 1) with
 altered bytes, with the seeds from SEED on (1 where none is given). Without arguments: %s.
 """ % ', then '.join('%d %d %s' % mix for mix in MIXES)
@@ -96,8 +97,8 @@ def read_arguments(words):
 
 
 def main():
-    """The worked rows and the cases; without arguments set-ups, stores and requests; then each mix. With `demo` alone no store is made.
-    Gives the status."""
+    """The worked rows and the cases, changed stores and a crowded yard; without arguments set-ups, stores and requests; then
+    each mix. With `demo` alone no store is made. Gives the status."""
     demo_alone = sys.argv[1:] == ['demo']
     try:
         mixes, first_seed = read_arguments([] if demo_alone else sys.argv[1:])

@@ -1,5 +1,5 @@
-"""The streams, deliveries and requests of cases.txt, by the model and by the program: each is answered by the bytes that
-stand there.
+"""The streams, deliveries and requests of cases.txt, by the model and by the program: each is answered by the bytes
+that stand there.
 
 A stream goes through `office demo`, where it has that set-up, and through `office deliver` over a store. Texts that are
 delivered by themselves are bodies of requests to `office serve`; where a stream of them is cut into just these, it is
@@ -35,8 +35,8 @@ SETUPS = {
 }
 WORDS = ['set-up', 'stream', 'deliver', 'answer', 'status', 'cut', 'request', 'response']
 
-# texts are those that are delivered by themselves; requests are pairs of a request and its response; where there are none
-# of both, the stream is a text. The status is the stream's, which may be cut anywhere
+# texts are those that are delivered by themselves; requests are pairs of a request and its response; where there are
+# none of both, the stream is a text. The status is the stream's, which may be cut anywhere
 Case = namedtuple('Case', 'name setup stream texts lines status is_cut requests')
 
 
@@ -64,13 +64,18 @@ def read(text):
     return text.replace(r'\r', '\r').replace(r'\n', '\n')
 
 
+def unread(pipe):
+    """How many bytes of a pipe nobody has read yet."""
+    return struct.unpack('i', fcntl.ioctl(pipe, termios.FIONREAD, bytes(4)))[0]
+
+
 def fed(path, pieces):
     """What `office demo` prints, tells and ends with, where each piece comes once the one before it was read."""
     with subprocess.Popen(
             [path, 'demo'], stdin=subprocess.PIPE, stdout=subprocess.PIPE, stderr=subprocess.PIPE) as process:
         for piece in pieces:
             os.write(process.stdin.fileno(), piece.encode('latin-1'))
-            while process.poll() is None and struct.unpack('i', fcntl.ioctl(process.stdin, termios.FIONREAD, bytes(4)))[0]:
+            while process.poll() is None and unread(process.stdin):
                 time.sleep(0.0001)
         printed, told = process.communicate()
         return printed.decode('utf-8'), told.decode('utf-8'), process.returncode

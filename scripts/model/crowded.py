@@ -1,9 +1,9 @@
-"""A crowded yard: two blocks, and orders for sixty-four containers drawn at random, most of them for slots of the plan. The
-program answers each as the model does, which goes through all containers at each."""
+"""A crowded yard: two blocks, and orders for sixty-four containers drawn at random, most of them for slots of the plan.
+The program answers each as the model does, which goes through all containers at each."""
 import random
 import tempfile
 
-from .names import check_digit, slot_text, Slot
+from .names import Slot, check_digit, slot_text
 from .office import Office
 from .setup import DEMO
 from .setups import files_of
@@ -16,8 +16,8 @@ SETUP = DEMO._replace(
 STREAMS, ORDERS, CONTAINERS = 14, 300, 64
 CODES = [(6, '34'), (1, 'first'), (5, '36'), (4, 'YMV')]    # one in sixteen comes to the first slot that fits
 TEXT = (
-    "UNB+UNOA:3+%(sender)s+TERM1+240305:0910+%(number)d'UNH+1+CODECO:D:95B:UN'BGM+%(code)s'EQD+CN+%(box)s+%(size)s'%(place)s"
-    "UNT+%(count)d+1'UNZ+1+%(number)d'")
+    "UNB+UNOA:3+%(sender)s+TERM1+240305:0910+%(number)d'UNH+1+CODECO:D:95B:UN'BGM+%(code)s'"
+    "EQD+CN+%(box)s+%(size)s'%(place)sUNT+%(count)d+1'UNZ+1+%(number)d'")
 
 
 class Crowd:
@@ -30,7 +30,8 @@ class Crowd:
         """One of the plan's, or one time in eight one of another kind or next to the plan."""
         chance = self.random
         bay = chance.randrange(16) if chance.randrange(8) == 0 else 2 * chance.randrange(2) + (2 if is_forty else 1)
-        return slot_text(Slot(chance.choice('BC'), bay, chance.randint(1, 2), 1 + chance.randrange(2) + chance.randrange(2)))
+        tier = 1 + chance.randrange(2) + chance.randrange(2)
+        return slot_text(Slot(chance.choice('BC'), bay, chance.randint(1, 2), tier))
 
     def order(self):
         """A gate-in, a gate-out or a move, under its partner's next number."""

@@ -1,5 +1,5 @@
-"""The stores of damaged.txt: what the model says of their rows, and what the program tells as it opens each. A store that
-is refused has the same rows behind it.
+"""The stores of damaged.txt: what the model says of their rows, and what the program tells as it opens each. A store
+that is refused has the same rows behind it.
 """
 import os
 import shutil
@@ -104,8 +104,8 @@ def held(path):
 # ---- trials
 
 def try_one(beside, program, fault, change):
-    """Opens a changed store by a report and by a delivery. The model knows what rows an office has, and leaves what a schema
-    allows to SQLite."""
+    """Opens a changed store by a report and by a delivery. The model knows what rows an office has, and leaves what a
+    schema allows to SQLite."""
     tables, faults = read_by_sqlite(program.store)
     judged = 'Store' if faults else fault_of_rows(tables) or NOTHING
     beside.expect('changed stores, the model', change, fault, judged)
