@@ -3,7 +3,7 @@
 ghost use Rattle.std.specs.Prelude.{List, ℕ, ◌≤◌};
 ghost use Rattle.partner_core.specs.Runs.{partner_count};
 
-use super::assert_said;
+use super::{Told, assert_said};
 use partner_core::diary::Diary;
 use partner_core::{Machine, Runs};
 use std::alloc::{AllocError, Global};
@@ -57,16 +57,16 @@ fn is_refused_at(rt: &impl Abort, alloc: Global, step: u32) -> Result<(), Fail> 
         steps: &steps,
     };
     let mut runs = Runs::new(alloc, machine, 3)?;
-    let early = [(1, 3, "c", "waiting 1"), (1, 2, "b", "waiting 1")];
+    let early = [(1, 3, "c", Told::Waiting(1)), (1, 2, "b", Told::Waiting(1))];
     assert_said(rt, alloc, &mut runs, &early)?;
     steps.set(step);
     let refused = runs.deliver(alloc, 1, 1, b"a");
     assert!(rt; matches!(&refused, Err(AllocError)));
     assert_unmoved(rt, &runs)?;
     let again = [
-        (1, 3, "c", "waiting 1"),
-        (1, 1, "a", "taken 1"),
-        (1, 3, "c", "repeat 3"),
+        (1, 3, "c", Told::Waiting(1)),
+        (1, 1, "a", Told::Taken("1")),
+        (1, 3, "c", Told::Repeat("3")),
     ];
     assert_said(rt, alloc, &mut runs, &again)?;
     assert_eq!(rt; runs.machine().diary.text(2), Some(b"c".as_slice()));
