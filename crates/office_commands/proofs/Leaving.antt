@@ -1,5 +1,5 @@
 -- What the demonstration's stream leaves behind where it ends before the input.
-use Rattle.std.proofs.Common.{ℕ, List, [], Option, refl, rules}
+use Rattle.std.proofs.Common.{◌≡◌, ℕ, Bool, true, List, [], Option, refl, rules}
 use Rattle.sqlite_trees.specs.View.{doubt}
 use Rattle.sqlite.specs.Held.{state}
 use Rattle.sqlite.specs.State.{HasCleanDisk}
@@ -13,7 +13,7 @@ use Rattle.office_stream.specs.declared.stream_fault.StreamFault.{StreamFault}
 use Rattle.office_stream.specs.declared.stream_fault.StreamFault.TheVariants.{Read, Write, Turns}
 use Rattle.office_commands.specs.declared.demo_fault.DemoFault.TheVariants.{Stream}
 use Rattle.office_commands.specs.Opening.{MemoryDesk}
-use Rattle.office_commands.specs.Demo.{OpensDemo, DemoLeft}
+use Rattle.office_commands.specs.Demo.{OpensDemo, DemoLeft, IsOfPorts, port_failures}
 
 -- what a stream from such a desk on leaves behind
 pub left_by : (left left' written written' : Option (List ℕ)) (opening desk : MemoryDesk) (fault : StreamFault) → OpensDemo opening
@@ -34,3 +34,11 @@ memory_clean conn = search rules
 pub memory_sound : (desk : MemoryDesk) → IsSound over_memory desk
 unfolding doubt
 memory_sound desk = (memory_clean desk.conn, search rules)
+
+-- which of the ports has failed, by the fault of the stream
+pub failed_by : (read read' write write' : Bool) (fault : StreamFault) (Many Ended : Type 0)
+    → MatchFault fault ((read' ≡ true) × (write' ≡ write)) ((write' ≡ true) × (read' ≡ read)) ((read' ≡ read) × (write' ≡ write) × Many × Ended)
+    → IsOfPorts (port_failures read read' write write') (Stream fault)
+failed_by read read' write write' Read Many Ended failed = failed
+failed_by read read' write write' Turns Many Ended failed = (failed.0, failed.1)
+failed_by read read' write write' Write Many Ended failed = failed

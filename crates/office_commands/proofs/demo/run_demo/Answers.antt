@@ -1,5 +1,5 @@
 use Rattle.std.proofs.Common.{[]}
-use Rattle.office_commands.proofs.Leaving.{left_by, memory_sound}
+use Rattle.office_commands.proofs.Leaving.{left_by, failed_by, memory_sound}
 use Rattle.office_commands.proofs.demo.run_demo.Goals as goal
 
 -- The opening is the desk as it was opened, to which nothing has been delivered. A store in memory is clean.
@@ -15,3 +15,6 @@ pub returns-clause-err : goal.returns-clause-err
 returns-clause-err g c =
     left_by _ _ _ _ c.in-Ok.desk c.run_stream.new.desk c.in-Err-run_stream.fault c.in-Ok.ensures
     (c.in-Err-run_stream.ensures.err (memory_sound c.run_stream.new.desk) c.in-Ok.desk [] c.in-Ok.ensures.opens.stands)
+
+pub returns-clause-failed : goal.returns-clause-failed
+returns-clause-failed g c = failed_by _ _ _ _ c.in-Err-run_stream.fault _ _ c.in-Err-run_stream.ensures.failed
