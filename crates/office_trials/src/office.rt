@@ -7,3 +7,4 @@ pub(crate) mod failing_writer;
 mod machine;
 pub(crate) mod pieces;
 mod ports;
+mod runs;

@@ -28,7 +28,7 @@ const TAKEN: &str =
     "{\"contrl\":\"UNB+UNOA:3+TERM1+HAULA+240305:0910+1'UNH+1+CONTRL:D:3:UN'UCI+1+HAULA+TERM1+7'UCM+1+CODECO:D:95B:UN+7'UNT+4+1'UNZ+1+1'\",\"messages\":[{\"lines\":[{\"box\":\"ABCU0000017\",\"line\":1,\"outcome\":\"done\",\"slot\":\"A001011\"}],\"reference\":\"1\",\"result\":\"accepted\"}]}";
 
 /// That of the demonstration: TERM1, where HAULA and HAULB are partners 1 and 2.
-fn machine(rt: &impl Abort, alloc: Global) -> Result<TerminalMachine, Fail> {
+pub(crate) fn machine(rt: &impl Abort, alloc: Global) -> Result<TerminalMachine, Fail> {
     let setup = demo_setup(alloc)?;
     assert!(rt; setup.partners.as_slice().len() <= 999);
     let plan = Plan::new(setup.blocks.as_slice()).expect(rt, "a plan");
