@@ -7,7 +7,8 @@ ghost use Rattle.office_history.specs.Cascade.{with_changes, with_interchange, w
 ghost use Rattle.office_delivery.specs.Taken.{taken_content, taken_contents};
 
 use crate::taken::Taken;
-use office_tables::{TableFault, apply, keep, mark_taken};
+use office_changes::{apply, mark_taken};
+use office_tables::{TableFault, keep};
 use sqlite::{Alter, Transaction};
 use terminal_core::Change;
 

@@ -10,7 +10,7 @@ use Rattle.office_rows.proofs.StepLemmas.{stops_keep, keep_then}
 use Rattle.office_tables.specs.declared.table_fault.TableFault.{TableFault}
 use Rattle.office_tables.specs.declared.table_fault.TableFault.TheVariants.{Store, Damaged, Version, Memory}
 use Rattle.office_loading.specs.Decoded.{itself}
-use Rattle.office_loading.specs.Reads.{OnlyReads}
+use Rattle.office_selecting.specs.Reads.{OnlyReads}
 use Rattle.office_loading.specs.Tables.{FailsTable, FailsTables, FailsSettings, HasVersion, FitsRows}
 
 -- a call that read and did not fail

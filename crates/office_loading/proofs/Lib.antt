@@ -1,4 +1,3 @@
-pub mod ReadLemmas
 pub mod ColumnLemmas
 pub mod DecodeLemmas
 pub mod OrderLemmas

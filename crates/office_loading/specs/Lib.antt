@@ -1,4 +1,3 @@
-pub mod Reads
 pub mod Decoded
 pub mod Fits
 pub mod Columns

@@ -14,7 +14,6 @@ mod partner_rows;
 mod place_rows;
 mod reading;
 mod record;
-mod selecting;
 mod setting_rows;
 mod stays;
 mod version;

@@ -9,7 +9,7 @@ ghost use Rattle.office_rows.specs.Shown.{AreNexts};
 
 use crate::columns::number_at;
 use crate::record::append;
-use crate::selecting::select_partners;
+use office_selecting::select_partners;
 use office_tables::TableFault;
 use sqlite::{Alter, Connection, Row};
 use std::alloc::Global;

@@ -2,7 +2,7 @@ ghost use Rattle.std.specs.Prelude.{◌≡◌, OnOk};
 ghost use Rattle.sqlite.specs.Held.{state};
 ghost use Rattle.sqlite.specs.State.{HasCleanDisk, IsUnchanged};
 ghost use Rattle.office_rows.specs.Tables.{office_schema};
-ghost use Rattle.office_loading.specs.Reads.{OnlyReads};
+ghost use Rattle.office_selecting.specs.Reads.{OnlyReads};
 ghost use Rattle.office_loading.specs.Tables.{ReadsTables};
 
 use crate::reading::{

@@ -8,14 +8,14 @@ ghost use Rattle.office_rows.specs.Opened.{ShowsNumbers};
 ghost use Rattle.office_checks.specs.Contents.{partner_content, number_content, place_content};
 ghost use Rattle.office_loading.specs.Decoded.{itself};
 ghost use Rattle.office_loading.specs.Fits.{FitsPartner, FitsNumber, FitsVisit, FitsPlace, FitsLine, FitsBlock};
-ghost use Rattle.office_loading.specs.Reads.{OnlyReads};
+ghost use Rattle.office_selecting.specs.Reads.{OnlyReads};
 ghost use Rattle.office_loading.specs.Tables.{ReadsTable, ShowsPartners, ShowsVisits, ShowsPlaces, ShowsLines, ShowsBlocks};
 
 use crate::record::read_all;
-use crate::selecting::{
+use office_checks::{NumberRow, PartnerRow};
+use office_selecting::{
     select_blocks, select_interchanges, select_lines, select_partners, select_places, select_visits,
 };
-use office_checks::{NumberRow, PartnerRow};
 use office_tables::TableFault;
 use sqlite::{Alter, Connection};
 use std::alloc::Global;

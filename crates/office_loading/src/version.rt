@@ -6,12 +6,12 @@ ghost use Rattle.sqlite.specs.State.{HasCleanDisk, IsUnchanged};
 ghost use Rattle.office_rows.specs.Tables.{office_schema};
 ghost use Rattle.office_checks.specs.Contents.{setting_content};
 ghost use Rattle.office_loading.specs.Columns.{is_text, is_version};
-ghost use Rattle.office_loading.specs.Reads.{OnlyReads};
+ghost use Rattle.office_selecting.specs.Reads.{OnlyReads};
 ghost use Rattle.office_loading.specs.Tables.{ReadsSettings};
 
 use crate::record::read_all;
-use crate::selecting::select_settings;
 use office_checks::Setting;
+use office_selecting::select_settings;
 use office_tables::TableFault;
 use sqlite::types::ValueRef;
 use sqlite::{Alter, Connection, Row};

@@ -36,7 +36,7 @@ pub fn keep<S: Alter>(
 }
 
 /// Gives an interchange its reply.
-pub(crate) fn set_reply<S: Alter>(
+pub fn set_reply<S: Alter>(
     tx: &mut Transaction<'_, S>,
     partner: u16,
     number: u32,

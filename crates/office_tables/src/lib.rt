@@ -1,7 +1,6 @@
 //! The office's tables over SQL: what makes, writes and reads them.
 #![tactic(auto)]
 
-mod applying;
 mod blocks;
 mod codes;
 mod creating;
@@ -14,14 +13,15 @@ mod partners;
 mod places;
 mod settings;
 mod table_fault;
-mod taking;
 mod values;
 mod visits;
 
-pub use applying::apply;
 pub use finding::{kept, next_of};
-pub use interchanges::keep;
+pub use interchanges::{keep, set_reply};
 pub use kept_interchange::Kept;
+pub use lines::{insert_line, set_done};
 pub use opening::create;
+pub use partners::set_next;
+pub use places::{delete_place, insert_place, set_slot};
 pub use table_fault::TableFault;
-pub use taking::mark_taken;
+pub use visits::{insert_visit, set_exit};

@@ -15,7 +15,7 @@ use sqlite::{Alter, Transaction};
 use terminal_core::Side;
 
 /// A line that was opened.
-pub(crate) fn insert_line<'a, S: Alter>(
+pub fn insert_line<'a, S: Alter>(
     tx: &mut Transaction<'_, S>,
     call: &'a Call,
     side: Side,
@@ -46,7 +46,7 @@ pub(crate) fn insert_line<'a, S: Alter>(
 }
 
 /// A line whose container was loaded or discharged.
-pub(crate) fn set_done<S: Alter>(
+pub fn set_done<S: Alter>(
     tx: &mut Transaction<'_, S>,
     call: &Call,
     side: Side,

@@ -65,7 +65,7 @@ pub(crate) fn insert_partner<S: Alter>(
 }
 
 /// Says which number the partner's next interchange has.
-pub(crate) fn set_next<S: Alter>(
+pub fn set_next<S: Alter>(
     tx: &mut Transaction<'_, S>,
     partner: u16,
     next: u32,

@@ -11,7 +11,7 @@ use box6346::{BoxNumber, Slot};
 use sqlite::{Alter, Transaction};
 
 /// A container of this visit that was placed in a slot.
-pub(crate) fn insert_place<S: Alter>(
+pub fn insert_place<S: Alter>(
     tx: &mut Transaction<'_, S>,
     container: BoxNumber,
     visit: u32,
@@ -35,7 +35,7 @@ pub(crate) fn insert_place<S: Alter>(
 }
 
 /// The slot that a container was moved to.
-pub(crate) fn set_slot<S: Alter>(
+pub fn set_slot<S: Alter>(
     tx: &mut Transaction<'_, S>,
     container: BoxNumber,
     slot: Slot,
@@ -58,7 +58,7 @@ pub(crate) fn set_slot<S: Alter>(
 }
 
 /// A container that has left the yard has no place.
-pub(crate) fn delete_place<S: Alter>(
+pub fn delete_place<S: Alter>(
     tx: &mut Transaction<'_, S>,
     container: BoxNumber,
 ) -> Result<(), TableFault>

@@ -13,10 +13,7 @@ use sqlite::{Alter, Transaction};
 use terminal_core::{Departure, Visit};
 
 /// A visit that was opened.
-pub(crate) fn insert_visit<S: Alter>(
-    tx: &mut Transaction<'_, S>,
-    visit: &Visit,
-) -> Result<(), TableFault>
+pub fn insert_visit<S: Alter>(tx: &mut Transaction<'_, S>, visit: &Visit) -> Result<(), TableFault>
     ensures same_reference { tx.new.conn.ghost_name ≡ tx.old.conn.ghost_name }
     ensures steps { HasCleanDisk (state S.Store tx.new.conn.now) → IsTrue (state S.Store tx.old.conn.now).in_transaction
         → OnOk result (Steps (with_change (visit_opened (visit_content visit.now))) (state S.Store tx.old.conn.now)
@@ -86,7 +83,7 @@ fn insert_columns<'a, S: Alter>(
 }
 
 /// The exit of the visit of this number.
-pub(crate) fn set_exit<S: Alter>(
+pub fn set_exit<S: Alter>(
     tx: &mut Transaction<'_, S>,
     visit: u32,
     departure: Departure,

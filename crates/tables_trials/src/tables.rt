@@ -7,9 +7,10 @@ mod desk;
 mod opening;
 
 use edi_messages::{CodeTable, PartnerKind};
+use office_changes::mark_taken;
 use office_loading::nexts;
 use office_setup::{Account, Accounts, Setup};
-use office_tables::{Kept, TableFault, create, keep, kept, mark_taken, next_of};
+use office_tables::{Kept, TableFault, create, keep, kept, next_of};
 use sqlite::{Alter, Connection, MemStore};
 use std::alloc::{AllocError, Global};
 use std::process::Abort;

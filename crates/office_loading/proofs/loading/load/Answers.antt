@@ -3,7 +3,7 @@ use Rattle.sqlite.specs.Held.{state}
 use Rattle.std.proofs.Common.{subst}
 use Rattle.office_checks.specs.Contents.{opened_rows}
 use Rattle.office_checks.specs.Refusals.{RefusesTables}
-use Rattle.office_loading.proofs.ReadLemmas.{quiet}
+use Rattle.office_selecting.proofs.ReadLemmas.{quiet}
 use Rattle.office_loading.proofs.ChainLemmas.{clean_before}
 use Rattle.office_loading.proofs.OfficeLemmas.{tables_fail, none_shown}
 use Rattle.office_loading.proofs.loading.load.Goals as goal

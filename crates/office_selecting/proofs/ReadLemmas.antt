@@ -8,7 +8,7 @@ use Rattle.sqlite.proofs.Callers.{IsPlain}
 use Rattle.office_rows.specs.Tables.{office_schema}
 use Rattle.office_rows.proofs.ReadLemmas.{shown_keeps, failed_keeps}
 use Rattle.office_tables.proofs.OpenLemmas.{shown_open, failed_open}
-use Rattle.office_loading.specs.Reads.{OnlyReads}
+use Rattle.office_selecting.specs.Reads.{OnlyReads}
 
 pub plain_in : (sql : List ℕ) (old : State) → IsPlain (understood office_schema sql) → old.now.schema ≡ office_schema → IsPlain (understood old.now.schema sql)
 plain_in sql old plain is = subst (λ s. IsPlain (understood s sql)) (sym is) plain

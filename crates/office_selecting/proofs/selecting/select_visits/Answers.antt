@@ -2,7 +2,7 @@ use Rattle.sqlite.specs.Held.{state}
 use Rattle.office_rows.proofs.Reading.{select_visit_plain}
 use Rattle.office_rows.proofs.Listed.{lists_visit}
 use Rattle.office_rows.proofs.StepLemmas.{if_ok}
-use Rattle.office_loading.proofs.selecting.select_visits.Goals as goal
+use Rattle.office_selecting.proofs.selecting.select_visits.Goals as goal
 
 pub select-requires : goal.select-requires
 select-requires g c = record { plain = select_visit_plain }

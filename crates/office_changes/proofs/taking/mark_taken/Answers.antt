@@ -3,7 +3,7 @@ use Rattle.sqlite.specs.State.{HasCleanDisk}
 use Rattle.sqlite.specs.Held.{state}
 use Rattle.office_rows.specs.Effects.{with_reply, with_next}
 use Rattle.office_rows.proofs.StepLemmas.{steps_then, on_ok}
-use Rattle.office_tables.proofs.taking.mark_taken.Goals as goal
+use Rattle.office_changes.proofs.taking.mark_taken.Goals as goal
 
 pub returns-clause-steps : goal.returns-clause-steps
 returns-clause-steps g c clean inside =

@@ -5,7 +5,7 @@ ghost use Rattle.sqlite.specs.Listing.{understood};
 ghost use Rattle.sqlite.specs.State.{HasCleanDisk, IsUnchanged, Shown};
 ghost use Rattle.office_rows.specs.Tables.{partner, interchange, visit, place, listed, setting, block, office_schema};
 ghost use Rattle.office_rows.specs.Shown.{ShowsTable};
-ghost use Rattle.office_loading.specs.Reads.{OnlyReads, IsOfStore};
+ghost use Rattle.office_selecting.specs.Reads.{OnlyReads, IsOfStore};
 
 use office_tables::TableFault;
 use sqlite::{Alter, Connection, Error, ErrorCode, Row};
@@ -37,7 +37,7 @@ fn select<S: Alter>(conn: &mut Connection<S>, query: &str) -> Result<Vec<Row>, T
 }
 
 /// The rows of all accounts, by their ids.
-pub(crate) fn select_partners<S: Alter>(conn: &mut Connection<S>) -> Result<Vec<Row>, TableFault>
+pub fn select_partners<S: Alter>(conn: &mut Connection<S>) -> Result<Vec<Row>, TableFault>
     ensures shown { HasCleanDisk (state S.Store conn.new) → (state S.Store conn.old).now.schema ≡ office_schema
         → IfOk result (λ answer.
         ShowsTable partner (0 ∷ 1 ∷ 2 ∷ 3 ∷ []) (0 ∷ []) (state S.Store conn.old).now answer.items) }
@@ -50,9 +50,7 @@ pub(crate) fn select_partners<S: Alter>(conn: &mut Connection<S>) -> Result<Vec<
 }
 
 /// The rows of all interchanges that are kept, without their bodies, by partner and number.
-pub(crate) fn select_interchanges<S: Alter>(
-    conn: &mut Connection<S>,
-) -> Result<Vec<Row>, TableFault>
+pub fn select_interchanges<S: Alter>(conn: &mut Connection<S>) -> Result<Vec<Row>, TableFault>
     ensures shown { HasCleanDisk (state S.Store conn.new) → (state S.Store conn.old).now.schema ≡ office_schema
         → IfOk result (λ answer.
         ShowsTable interchange (0 ∷ 1 ∷ 3 ∷ []) (0 ∷ 1 ∷ []) (state S.Store conn.old).now answer.items) }
@@ -68,7 +66,7 @@ pub(crate) fn select_interchanges<S: Alter>(
 }
 
 /// The rows of all visits, by their numbers.
-pub(crate) fn select_visits<S: Alter>(conn: &mut Connection<S>) -> Result<Vec<Row>, TableFault>
+pub fn select_visits<S: Alter>(conn: &mut Connection<S>) -> Result<Vec<Row>, TableFault>
     ensures shown { HasCleanDisk (state S.Store conn.new) → (state S.Store conn.old).now.schema ≡ office_schema
         → IfOk result (λ answer.
         ShowsTable visit (0 ∷ 1 ∷ 2 ∷ 3 ∷ 4 ∷ 5 ∷ 6 ∷ 7 ∷ 8 ∷ 9 ∷ 10 ∷ 11 ∷ 12 ∷ 13 ∷ []) (0 ∷ [])
@@ -85,7 +83,7 @@ pub(crate) fn select_visits<S: Alter>(conn: &mut Connection<S>) -> Result<Vec<Ro
 }
 
 /// The rows of all containers in the yard, by their numbers.
-pub(crate) fn select_places<S: Alter>(conn: &mut Connection<S>) -> Result<Vec<Row>, TableFault>
+pub fn select_places<S: Alter>(conn: &mut Connection<S>) -> Result<Vec<Row>, TableFault>
     ensures shown { HasCleanDisk (state S.Store conn.new) → (state S.Store conn.old).now.schema ≡ office_schema
         → IfOk result (λ answer. ShowsTable place (0 ∷ 1 ∷ 2 ∷ []) (0 ∷ []) (state S.Store conn.old).now answer.items) }
     ensures same { HasCleanDisk (state S.Store conn.new) → (state S.Store conn.old).now.schema ≡ office_schema →
@@ -97,7 +95,7 @@ pub(crate) fn select_places<S: Alter>(conn: &mut Connection<S>) -> Result<Vec<Ro
 }
 
 /// The rows of all lines of vessels' lists, by call, side and container.
-pub(crate) fn select_lines<S: Alter>(conn: &mut Connection<S>) -> Result<Vec<Row>, TableFault>
+pub fn select_lines<S: Alter>(conn: &mut Connection<S>) -> Result<Vec<Row>, TableFault>
     ensures shown { HasCleanDisk (state S.Store conn.new) → (state S.Store conn.old).now.schema ≡ office_schema
         → IfOk result (λ answer.
         ShowsTable listed (0 ∷ 1 ∷ 2 ∷ 3 ∷ 4 ∷ 5 ∷ []) (0 ∷ 1 ∷ 2 ∷ 3 ∷ [])
@@ -114,7 +112,7 @@ pub(crate) fn select_lines<S: Alter>(conn: &mut Connection<S>) -> Result<Vec<Row
 }
 
 /// The rows of all settings, by their names.
-pub(crate) fn select_settings<S: Alter>(conn: &mut Connection<S>) -> Result<Vec<Row>, TableFault>
+pub fn select_settings<S: Alter>(conn: &mut Connection<S>) -> Result<Vec<Row>, TableFault>
     ensures shown { HasCleanDisk (state S.Store conn.new) → (state S.Store conn.old).now.schema ≡ office_schema
         → IfOk result (λ answer. ShowsTable setting (0 ∷ 1 ∷ []) (0 ∷ []) (state S.Store conn.old).now answer.items) }
     ensures same { HasCleanDisk (state S.Store conn.new) → (state S.Store conn.old).now.schema ≡ office_schema →
@@ -126,7 +124,7 @@ pub(crate) fn select_settings<S: Alter>(conn: &mut Connection<S>) -> Result<Vec<
 }
 
 /// The rows of all blocks of the yard, by their letters.
-pub(crate) fn select_blocks<S: Alter>(conn: &mut Connection<S>) -> Result<Vec<Row>, TableFault>
+pub fn select_blocks<S: Alter>(conn: &mut Connection<S>) -> Result<Vec<Row>, TableFault>
     ensures shown { HasCleanDisk (state S.Store conn.new) → (state S.Store conn.old).now.schema ≡ office_schema
         → IfOk result (λ answer.
         ShowsTable block (0 ∷ 1 ∷ 2 ∷ 3 ∷ []) (0 ∷ []) (state S.Store conn.old).now answer.items) }

@@ -5,10 +5,9 @@ ghost use Rattle.terminal_core.specs.Rows.{change_content};
 ghost use Rattle.office_rows.specs.Effects.{with_change};
 ghost use Rattle.office_rows.specs.Steps.{Steps};
 
-use crate::lines::{insert_line, set_done};
-use crate::places::{delete_place, insert_place, set_slot};
-use crate::table_fault::TableFault;
-use crate::visits::{insert_visit, set_exit};
+use office_tables::{
+    TableFault, delete_place, insert_line, insert_place, insert_visit, set_done, set_exit, set_slot,
+};
 use sqlite::{Alter, Transaction};
 use terminal_core::Change;
 

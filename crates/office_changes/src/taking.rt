@@ -4,9 +4,7 @@ ghost use Rattle.sqlite.specs.State.{HasCleanDisk, Survives, KeepsCommit};
 ghost use Rattle.office_rows.specs.Effects.{with_taken};
 ghost use Rattle.office_rows.specs.Steps.{Steps};
 
-use crate::interchanges::set_reply;
-use crate::partners::set_next;
-use crate::table_fault::TableFault;
+use office_tables::{TableFault, set_next, set_reply};
 use sqlite::{Alter, Transaction};
 
 /// Marks an interchange as taken: it has its reply, and the partner's next number follows its own.

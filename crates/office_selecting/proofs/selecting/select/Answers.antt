@@ -2,8 +2,8 @@ use Rattle.std.proofs.Common.{[]}
 use Rattle.sqlite.specs.Order.{Row}
 use Rattle.sqlite.specs.Held.{state}
 use Rattle.office_rows.proofs.ReadLemmas.{shown_same}
-use Rattle.office_loading.proofs.ReadLemmas.{plain_in, reads_shown, reads_failed}
-use Rattle.office_loading.proofs.selecting.select.Goals as goal
+use Rattle.office_selecting.proofs.ReadLemmas.{plain_in, reads_shown, reads_failed}
+use Rattle.office_selecting.proofs.selecting.select.Goals as goal
 
 pub returns-in-Ok-clause-same : goal.returns-in-Ok-clause-same
 returns-in-Ok-clause-same g c clean is =

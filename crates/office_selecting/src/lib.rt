@@ -1,0 +1,9 @@
+//! The queries of whole tables, each in the order of its key.
+#![tactic(auto)]
+
+mod selecting;
+
+pub use selecting::{
+    select_blocks, select_interchanges, select_lines, select_partners, select_places,
+    select_settings, select_visits,
+};
