@@ -3,7 +3,7 @@
 # The main job on a real interchange, by a build that proves nothing (`make build` leaves the proved program).
 demo:
 	@echo "(an unproved build: 'make build' leaves the proved one)"
-	@cd crates/office && rt try -- demo < ../../examples/gate-in.edi
+	@scripts/demo
 
 # The gate: every proof from nothing, the edits that must fail, every test, the program as two compilers build it, and that
 # program beside a plain slow model.
