@@ -35,7 +35,7 @@ pub fn keep<S: Alter>(
     Ok(())
 }
 
-/// Gives an interchange its reply.
+/// Writes the reply of an interchange into its row, so that it waits no longer.
 pub fn set_reply<S: Alter>(
     tx: &mut Transaction<'_, S>,
     partner: u16,

@@ -14,7 +14,7 @@ use edi_messages::Call;
 use sqlite::{Alter, Transaction};
 use terminal_core::Side;
 
-/// A line that was opened.
+/// Writes the row of a line that was opened, as one that is not done.
 pub fn insert_line<'a, S: Alter>(
     tx: &mut Transaction<'_, S>,
     call: &'a Call,
@@ -45,7 +45,7 @@ pub fn insert_line<'a, S: Alter>(
     Ok(())
 }
 
-/// A line whose container was loaded or discharged.
+/// Marks the row of a line as done: its container was loaded or discharged.
 pub fn set_done<S: Alter>(
     tx: &mut Transaction<'_, S>,
     call: &Call,

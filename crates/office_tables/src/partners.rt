@@ -64,7 +64,7 @@ pub(crate) fn insert_partner<S: Alter>(
     Ok(())
 }
 
-/// Says which number the partner's next interchange has.
+/// Writes the number that the partner's next interchange has into its row.
 pub fn set_next<S: Alter>(
     tx: &mut Transaction<'_, S>,
     partner: u16,

@@ -10,7 +10,7 @@ use crate::values::{characters, integer};
 use box6346::{BoxNumber, Slot};
 use sqlite::{Alter, Transaction};
 
-/// A container of this visit that was placed in a slot.
+/// Writes the row of a container of this visit that was placed in a slot.
 pub fn insert_place<S: Alter>(
     tx: &mut Transaction<'_, S>,
     container: BoxNumber,
@@ -34,7 +34,7 @@ pub fn insert_place<S: Alter>(
     Ok(())
 }
 
-/// The slot that a container was moved to.
+/// Writes the slot that a container was moved to into its row.
 pub fn set_slot<S: Alter>(
     tx: &mut Transaction<'_, S>,
     container: BoxNumber,
@@ -57,7 +57,7 @@ pub fn set_slot<S: Alter>(
     Ok(())
 }
 
-/// A container that has left the yard has no place.
+/// Removes the row of a container that has left the yard.
 pub fn delete_place<S: Alter>(
     tx: &mut Transaction<'_, S>,
     container: BoxNumber,

@@ -12,7 +12,7 @@ use crate::values::{characters, integer};
 use sqlite::{Alter, Transaction};
 use terminal_core::{Departure, Visit};
 
-/// A visit that was opened.
+/// Writes the row of a visit, with its exit if it has one.
 pub fn insert_visit<S: Alter>(tx: &mut Transaction<'_, S>, visit: &Visit) -> Result<(), TableFault>
     ensures same_reference { tx.new.conn.ghost_name ≡ tx.old.conn.ghost_name }
     ensures steps { HasCleanDisk (state S.Store tx.new.conn.now) → IsTrue (state S.Store tx.old.conn.now).in_transaction
@@ -82,7 +82,7 @@ fn insert_columns<'a, S: Alter>(
     Ok(())
 }
 
-/// The exit of the visit of this number.
+/// Writes the exit of the visit of this number into its row.
 pub fn set_exit<S: Alter>(
     tx: &mut Transaction<'_, S>,
     visit: u32,
