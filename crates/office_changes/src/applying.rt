@@ -1,9 +1,10 @@
-ghost use Rattle.std.specs.Prelude.{◌≡◌, OnOk, IsTrue};
+ghost use Rattle.std.specs.Prelude.{◌≡◌, OnOk, IfErr, IsTrue};
 ghost use Rattle.sqlite.specs.Held.{state};
 ghost use Rattle.sqlite.specs.State.{HasCleanDisk, Survives, KeepsCommit};
 ghost use Rattle.terminal_core.specs.Rows.{change_content};
 ghost use Rattle.office_rows.specs.Effects.{with_change};
 ghost use Rattle.office_rows.specs.Steps.{Steps};
+ghost use Rattle.office_tables.specs.Faults.{IsOfStore};
 
 use office_tables::{
     TableFault, delete_place, insert_line, insert_place, insert_visit, set_done, set_exit, set_slot,
@@ -20,6 +21,7 @@ pub fn apply<S: Alter>(tx: &mut Transaction<'_, S>, change: &Change) -> Result<(
     ensures keeps { HasCleanDisk (state S.Store tx.new.conn.now) → IsTrue (state S.Store tx.old.conn.now).in_transaction
         → KeepsCommit (state S.Store tx.old.conn.now) (state S.Store tx.new.conn.now) }
     ensures survives { Survives (state S.Store tx.old.conn.now) (state S.Store tx.new.conn.now) (λ _. ⊥) }
+    ensures fault { IfErr result IsOfStore }
 {
     match change {
         Change::VisitOpened(visit) => insert_visit(tx, visit),

@@ -1,8 +1,9 @@
-ghost use Rattle.std.specs.Prelude.{◌≡◌, OnOk, IsTrue, ◌<◌};
+ghost use Rattle.std.specs.Prelude.{◌≡◌, OnOk, IfErr, IsTrue, ◌<◌};
 ghost use Rattle.sqlite.specs.Held.{state};
 ghost use Rattle.sqlite.specs.State.{HasCleanDisk, Survives, KeepsCommit};
 ghost use Rattle.office_rows.specs.Effects.{with_taken};
 ghost use Rattle.office_rows.specs.Steps.{Steps};
+ghost use Rattle.office_tables.specs.Faults.{IsOfStore};
 
 use office_tables::{TableFault, set_next, set_reply};
 use sqlite::{Alter, Transaction};
@@ -22,6 +23,7 @@ pub fn mark_taken<S: Alter>(
     ensures keeps { HasCleanDisk (state S.Store tx.new.conn.now) → IsTrue (state S.Store tx.old.conn.now).in_transaction
         → KeepsCommit (state S.Store tx.old.conn.now) (state S.Store tx.new.conn.now) }
     ensures survives { Survives (state S.Store tx.old.conn.now) (state S.Store tx.new.conn.now) (λ _. ⊥) }
+    ensures fault { IfErr result IsOfStore }
 {
     set_reply(tx, partner, number, reply)?;
     set_next(tx, partner, number + 1)

@@ -14,7 +14,7 @@ use Rattle.office_rows.specs.Opened.{Numbered, numbered, reply_values, ShowsNumb
 use Rattle.office_rows.specs.Shown.{columns_at, ShowsTable}
 use Rattle.office_tables.specs.declared.table_fault.TableFault.{TableFault}
 use Rattle.office_tables.specs.declared.table_fault.TableFault.TheVariants.{Store, Damaged, Version, Memory}
-use Rattle.office_selecting.specs.Reads.{IsOfStore}
+use Rattle.office_tables.specs.Faults.{IsOfStore}
 use Rattle.office_loading.specs.Decoded.{Said, FailsOne, DecodesAll}
 use Rattle.office_loading.specs.Columns.{SaysNumbered}
 use Rattle.office_loading.specs.Fits.{FitsNumber}

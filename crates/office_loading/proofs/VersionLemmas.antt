@@ -19,7 +19,7 @@ use Rattle.office_rows.specs.Stored.{columns_of}
 use Rattle.office_rows.specs.Shown.{columns_at, ShowsTable}
 use Rattle.office_tables.specs.declared.table_fault.TableFault.{TableFault}
 use Rattle.office_tables.specs.declared.table_fault.TableFault.TheVariants.{Store, Damaged, Version, Memory}
-use Rattle.office_selecting.specs.Reads.{IsOfStore}
+use Rattle.office_tables.specs.Faults.{IsOfStore}
 use Rattle.office_loading.specs.Columns.{is_text, is_version}
 use Rattle.office_loading.specs.Fits.{FitsSetting}
 use Rattle.office_loading.specs.Tables.{HasVersion, FailsSettings, ReadsTable, ReadsSettings, ShowsSettings}

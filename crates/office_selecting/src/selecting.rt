@@ -5,20 +5,11 @@ ghost use Rattle.sqlite.specs.Listing.{understood};
 ghost use Rattle.sqlite.specs.State.{HasCleanDisk, IsUnchanged, Shown};
 ghost use Rattle.office_rows.specs.Tables.{partner, interchange, visit, place, listed, setting, block, office_schema};
 ghost use Rattle.office_rows.specs.Shown.{ShowsTable};
-ghost use Rattle.office_selecting.specs.Reads.{OnlyReads, IsOfStore};
+ghost use Rattle.office_selecting.specs.Reads.{OnlyReads};
+ghost use Rattle.office_tables.specs.Faults.{IsOfStore};
 
 use office_tables::TableFault;
-use sqlite::{Alter, Connection, Error, ErrorCode, Row};
-
-/// What a query that fails is to a caller of the tables: no fault of it speaks of rows.
-fn query_fault(error: Error) -> TableFault
-    ensures { IsOfStore result }
-{
-    match error {
-        Error::SqliteFailure(ErrorCode::OutOfMemory) => TableFault::Memory,
-        other => TableFault::Store(other),
-    }
-}
+use sqlite::{Alter, Connection, Row};
 
 /// The rows that a query shows.
 fn select<S: Alter>(conn: &mut Connection<S>, query: &str) -> Result<Vec<Row>, TableFault>
@@ -30,10 +21,7 @@ fn select<S: Alter>(conn: &mut Connection<S>, query: &str) -> Result<Vec<Row>, T
     ensures reads { OnlyReads (state S.Store conn.old) (state S.Store conn.new) }
     ensures fault { IfErr result IsOfStore }
 {
-    match conn.query_all(query, &[]) {
-        Ok(rows) => Ok(rows),
-        Err(error) => Err(query_fault(error)),
-    }
+    Ok(conn.query_all(query, &[])?)
 }
 
 /// The rows of all accounts, by their ids.

@@ -1,14 +1,18 @@
 -- What a fault of SQL is to a caller of the tables.
 use Rattle.sqlite.specs.declared.error.Error.{Error}
-use Rattle.sqlite.specs.declared.error.Error.TheVariants.{SqliteFailure, InvalidColumnType, IntegralValueOutOfRange, Utf8Error}
+use Rattle.sqlite.specs.declared.error.Error.TheVariants.{SqliteFailure}
 use Rattle.sqlite.specs.declared.error.ErrorCode.TheVariants.{OutOfMemory}
 use Rattle.office_tables.specs.declared.table_fault.TableFault.{TableFault}
-use Rattle.office_tables.specs.declared.table_fault.TableFault.TheVariants.{Store, Damaged, Memory}
+use Rattle.office_tables.specs.declared.table_fault.TableFault.TheVariants.{Store, Damaged, Version, Memory}
 
--- a column of another kind, out of range or no text is damage; the rest is the store's
+-- a statement that fails is the store's fault, or memory was refused
 abbrev pub fault_of : Error → TableFault
 fault_of (SqliteFailure OutOfMemory) = Memory
-fault_of (InvalidColumnType place kind) = Damaged
-fault_of (IntegralValueOutOfRange place) = Damaged
-fault_of (Utf8Error place) = Damaged
 fault_of error = Store error
+
+-- the store failed, or memory was refused; nothing is said of rows
+abbrev pub IsOfStore : TableFault → Type 0
+IsOfStore (Store error) = Unit {0}
+IsOfStore Memory = Unit {0}
+IsOfStore Damaged = ⊥
+IsOfStore Version = ⊥

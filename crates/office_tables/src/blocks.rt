@@ -1,8 +1,9 @@
-ghost use Rattle.std.specs.Prelude.{◌≡◌, ◌<◌, ◌≤◌, ◌+◌, [], ◌∷◌, length, slice_get, Some, codes, decimal, OnOk, IsTrue};
+ghost use Rattle.std.specs.Prelude.{◌≡◌, ◌<◌, ◌≤◌, ◌+◌, [], ◌∷◌, length, slice_get, Some, codes, decimal, OnOk, IfErr, IsTrue};
 ghost use Rattle.sqlite.specs.Held.{state};
 ghost use Rattle.sqlite.specs.State.{HasCleanDisk, Survives, KeepsCommit};
 ghost use Rattle.office_rows.specs.Steps.{Steps};
 ghost use Rattle.office_rows.specs.Opening.{with_blocks};
+ghost use Rattle.office_tables.specs.Faults.{IsOfStore};
 
 use crate::table_fault::TableFault;
 use crate::values::{characters, integer};
@@ -22,6 +23,7 @@ pub(crate) fn insert_blocks<S: Alter>(
         IsTrue (state S.Store tx.old.conn.now).in_transaction → IsTrue (state S.Store tx.old.conn.now).is_open
         → KeepsCommit (state S.Store tx.old.conn.now) (state S.Store tx.new.conn.now) }
     ensures survives { Survives (state S.Store tx.old.conn.now) (state S.Store tx.new.conn.now) (λ _. ⊥) }
+    ensures fault { IfErr result IsOfStore }
 {
     for block in blocks {
         insert_block(tx, *block)?;
@@ -37,6 +39,7 @@ fn insert_block<S: Alter>(tx: &mut Transaction<'_, S>, block: Block) -> Result<(
     ensures keeps { HasCleanDisk (state S.Store tx.new.conn.now) → IsTrue (state S.Store tx.old.conn.now).in_transaction
         → KeepsCommit (state S.Store tx.old.conn.now) (state S.Store tx.new.conn.now) }
     ensures survives { Survives (state S.Store tx.old.conn.now) (state S.Store tx.new.conn.now) (λ _. ⊥) }
+    ensures fault { IfErr result IsOfStore }
 {
     let letter = [block.letter];
     tx.execute(

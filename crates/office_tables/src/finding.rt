@@ -12,7 +12,7 @@ ghost use Rattle.office_tables.specs.Answers.{IsKept, IsNextOf, RepliesAs, has_i
 use crate::kept_interchange::Kept;
 use crate::table_fault::TableFault;
 use crate::values::integer;
-use sqlite::{Alter, Connection, Row};
+use sqlite::{Alter, Connection, Error, ErrorCode, Row};
 
 /// The interchange that is kept for a partner and a number. It changes nothing.
 pub fn kept<S: Alter>(
@@ -37,7 +37,10 @@ pub fn kept<S: Alter>(
     let rows = select_kept(conn, partner, number)?;
     match rows.first() {
         None => Ok(None),
-        Some(row) => Ok(Some(read_kept(row)?)),
+        Some(row) => match read_kept(row) {
+            Ok(kept) => Ok(Some(kept)),
+            Err(error) => Err(column_fault(error)),
+        },
     }
 }
 
@@ -66,7 +69,15 @@ fn select_kept<S: Alter>(
     )?)
 }
 
-fn read_kept(row: &Row) -> Result<Kept, TableFault>
+/// What a column that can't be read is to a caller: its row is that of no office, if memory wasn't refused.
+fn column_fault(error: Error) -> TableFault {
+    match error {
+        Error::SqliteFailure(ErrorCode::OutOfMemory) => TableFault::Memory,
+        _ => TableFault::Damaged,
+    }
+}
+
+fn read_kept(row: &Row) -> Result<Kept, Error>
     ensures { IfOk result
         (λ kept. (column row.now 0 ≡ Blob kept.text.items)
         × ((reply : _) × (column row.now 1 ≡ Text reply) × RepliesAs kept.reply reply)) }
@@ -123,5 +134,8 @@ fn select_next<S: Alter>(conn: &mut Connection<S>, partner: u16) -> Result<Vec<R
 fn read_number(row: &Row) -> Result<u32, TableFault>
     ensures { IfOk result (λ read. column row.now 0 ≡ number read) }
 {
-    Ok(row.get(0)?)
+    match row.get(0) {
+        Ok(next) => Ok(next),
+        Err(error) => Err(column_fault(error)),
+    }
 }

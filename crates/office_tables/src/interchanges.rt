@@ -1,8 +1,9 @@
-ghost use Rattle.std.specs.Prelude.{◌≡◌, OnOk, IsTrue};
+ghost use Rattle.std.specs.Prelude.{◌≡◌, OnOk, IfErr, IsTrue};
 ghost use Rattle.sqlite.specs.Held.{state};
 ghost use Rattle.sqlite.specs.State.{HasCleanDisk, Survives, KeepsCommit};
 ghost use Rattle.office_rows.specs.Effects.{with_kept, with_reply};
 ghost use Rattle.office_rows.specs.Steps.{Steps};
+ghost use Rattle.office_tables.specs.Faults.{IsOfStore};
 
 use crate::table_fault::TableFault;
 use crate::values::{characters, integer};
@@ -23,6 +24,7 @@ pub fn keep<S: Alter>(
     ensures keeps { HasCleanDisk (state S.Store tx.new.conn.now) → IsTrue (state S.Store tx.old.conn.now).in_transaction
         → KeepsCommit (state S.Store tx.old.conn.now) (state S.Store tx.new.conn.now) }
     ensures survives { Survives (state S.Store tx.old.conn.now) (state S.Store tx.new.conn.now) (λ _. ⊥) }
+    ensures fault { IfErr result IsOfStore }
 {
     tx.execute(
         "INSERT INTO interchange (partner, number, body, reply) VALUES (?1, ?2, ?3, '')",
@@ -49,6 +51,7 @@ pub fn set_reply<S: Alter>(
     ensures keeps { HasCleanDisk (state S.Store tx.new.conn.now) → IsTrue (state S.Store tx.old.conn.now).in_transaction
         → KeepsCommit (state S.Store tx.old.conn.now) (state S.Store tx.new.conn.now) }
     ensures survives { Survives (state S.Store tx.old.conn.now) (state S.Store tx.new.conn.now) (λ _. ⊥) }
+    ensures fault { IfErr result IsOfStore }
 {
     tx.execute(
         "UPDATE interchange SET reply = ?3 WHERE partner = ?1 AND number = ?2",

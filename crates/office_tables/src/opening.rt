@@ -1,4 +1,4 @@
-ghost use Rattle.std.specs.Prelude.{◌≡◌, ◌<◌, ◌≤◌, ◌+◌, [], ◌∷◌, length, slice_get, Some, codes, decimal, OnOk, IsTrue};
+ghost use Rattle.std.specs.Prelude.{◌≡◌, ◌<◌, ◌≤◌, ◌+◌, [], ◌∷◌, length, slice_get, Some, codes, decimal, OnOk, IfErr, IsTrue};
 ghost use Rattle.sqlite.specs.Held.{state};
 ghost use Rattle.sqlite.specs.State.{HasCleanDisk, Survives, KeepsCommit};
 ghost use Rattle.std.specs.Prelude.{false, take, OnErr};
@@ -8,6 +8,7 @@ ghost use Rattle.office_rows.specs.Steps.{Turns};
 ghost use Rattle.office_rows.specs.Opening.{opening_rows};
 ghost use Rattle.office_setup.specs.Setups.{setup_content};
 ghost use Rattle.office_tables.specs.Opened.{Opens, IsOpening};
+ghost use Rattle.office_tables.specs.Faults.{IsOfStore};
 
 use crate::blocks::insert_blocks;
 use crate::creating::create_tables;
@@ -29,6 +30,7 @@ pub fn create<S: Alter>(conn: &mut Connection<S>, setup: &Setup) -> Result<(), T
         × ((state S.Store conn.new).committed ≡ (state S.Store conn.old).committed)) }
     ensures crash { Survives (state S.Store conn.old) (state S.Store conn.new)
         (IsOpening (setup_content setup.now) (state S.Store conn.old)) }
+    ensures fault { IfErr result IsOfStore }
 {
     let is_idle = conn.is_autocommit();
     prove!(is_idle);
@@ -48,6 +50,7 @@ fn write_opening<S: Alter>(tx: &mut Transaction<'_, S>, setup: &Setup) -> Result
     ensures keeps { HasCleanDisk (state S.Store tx.new.conn.now) → IsTrue (state S.Store tx.old.conn.now).in_transaction
         → KeepsCommit (state S.Store tx.old.conn.now) (state S.Store tx.new.conn.now) }
     ensures survives { Survives (state S.Store tx.old.conn.now) (state S.Store tx.new.conn.now) (λ _. ⊥) }
+    ensures fault { IfErr result IsOfStore }
 {
     create_tables(tx)?;
     insert_settings(tx, setup)?;

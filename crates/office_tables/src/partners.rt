@@ -1,10 +1,11 @@
-ghost use Rattle.std.specs.Prelude.{◌≡◌, ◌≤◌, length, OnOk, IsTrue};
+ghost use Rattle.std.specs.Prelude.{◌≡◌, ◌≤◌, length, OnOk, IfErr, IsTrue};
 ghost use Rattle.sqlite.specs.Held.{state};
 ghost use Rattle.sqlite.specs.State.{HasCleanDisk, Survives, KeepsCommit};
 ghost use Rattle.office_rows.specs.Effects.{with_next, with_partner};
 ghost use Rattle.office_rows.specs.Opening.{partners_from, with_partners};
 ghost use Rattle.office_rows.specs.Steps.{Steps};
 ghost use Rattle.office_setup.specs.Setups.{account_contents};
+ghost use Rattle.office_tables.specs.Faults.{IsOfStore};
 
 use crate::codes::kind_code;
 use crate::table_fault::TableFault;
@@ -28,6 +29,7 @@ pub(crate) fn insert_partners<S: Alter>(
         IsTrue (state S.Store tx.old.conn.now).in_transaction → IsTrue (state S.Store tx.old.conn.now).is_open
         → KeepsCommit (state S.Store tx.old.conn.now) (state S.Store tx.new.conn.now) }
     ensures survives { Survives (state S.Store tx.old.conn.now) (state S.Store tx.new.conn.now) (λ _. ⊥) }
+    ensures fault { IfErr result IsOfStore }
 {
     let mut id = 1;
     for account in accounts {
@@ -51,6 +53,7 @@ pub(crate) fn insert_partner<S: Alter>(
     ensures keeps { HasCleanDisk (state S.Store tx.new.conn.now) → IsTrue (state S.Store tx.old.conn.now).in_transaction
         → KeepsCommit (state S.Store tx.old.conn.now) (state S.Store tx.new.conn.now) }
     ensures survives { Survives (state S.Store tx.old.conn.now) (state S.Store tx.new.conn.now) (λ _. ⊥) }
+    ensures fault { IfErr result IsOfStore }
 {
     tx.execute(
         "INSERT INTO partner (id, code, kind, next) VALUES (?1, ?2, ?3, ?4)",
@@ -76,6 +79,7 @@ pub fn set_next<S: Alter>(
     ensures keeps { HasCleanDisk (state S.Store tx.new.conn.now) → IsTrue (state S.Store tx.old.conn.now).in_transaction
         → KeepsCommit (state S.Store tx.old.conn.now) (state S.Store tx.new.conn.now) }
     ensures survives { Survives (state S.Store tx.old.conn.now) (state S.Store tx.new.conn.now) (λ _. ⊥) }
+    ensures fault { IfErr result IsOfStore }
 {
     tx.execute(
         "UPDATE partner SET next = ?2 WHERE id = ?1",

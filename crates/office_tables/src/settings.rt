@@ -1,9 +1,10 @@
-ghost use Rattle.std.specs.Prelude.{◌≡◌, ◌<◌, ◌≤◌, ◌+◌, [], ◌∷◌, length, slice_get, Some, codes, decimal, OnOk, IsTrue};
+ghost use Rattle.std.specs.Prelude.{◌≡◌, ◌<◌, ◌≤◌, ◌+◌, [], ◌∷◌, length, slice_get, Some, codes, decimal, OnOk, IfErr, IsTrue};
 ghost use Rattle.sqlite.specs.Held.{state};
 ghost use Rattle.sqlite.specs.State.{HasCleanDisk, Survives, KeepsCommit};
 ghost use Rattle.office_rows.specs.Steps.{Steps};
 ghost use Rattle.office_rows.specs.Opening.{code_names, code_settings, setting, settings_of, with_settings};
 ghost use Rattle.office_setup.specs.Setups.{setup_content};
+ghost use Rattle.office_tables.specs.Faults.{IsOfStore};
 
 use crate::table_fault::TableFault;
 use crate::values::characters;
@@ -24,6 +25,7 @@ pub(crate) fn insert_settings<S: Alter>(
     ensures keeps { HasCleanDisk (state S.Store tx.new.conn.now) → IsTrue (state S.Store tx.old.conn.now).in_transaction
         → KeepsCommit (state S.Store tx.old.conn.now) (state S.Store tx.new.conn.now) }
     ensures survives { Survives (state S.Store tx.old.conn.now) (state S.Store tx.new.conn.now) (λ _. ⊥) }
+    ensures fault { IfErr result IsOfStore }
 {
     insert_setting(tx, "version", b"1")?;
     insert_setting(tx, "terminal", setup.terminal.as_bytes())?;
@@ -43,6 +45,7 @@ fn insert_codes<S: Alter>(tx: &mut Transaction<'_, S>, codes: &CodeTable) -> Res
         IsTrue (state S.Store tx.old.conn.now).in_transaction → IsTrue (state S.Store tx.old.conn.now).is_open
         → KeepsCommit (state S.Store tx.old.conn.now) (state S.Store tx.new.conn.now) }
     ensures survives { Survives (state S.Store tx.old.conn.now) (state S.Store tx.new.conn.now) (λ _. ⊥) }
+    ensures fault { IfErr result IsOfStore }
 {
     for place in 0..7 {
         insert_setting(tx, code_name(place), codes.code(place))?;
@@ -78,6 +81,7 @@ fn insert_setting<'a, S: Alter>(
     ensures keeps { HasCleanDisk (state S.Store tx.new.conn.now) → IsTrue (state S.Store tx.old.conn.now).in_transaction
         → KeepsCommit (state S.Store tx.old.conn.now) (state S.Store tx.new.conn.now) }
     ensures survives { Survives (state S.Store tx.old.conn.now) (state S.Store tx.new.conn.now) (λ _. ⊥) }
+    ensures fault { IfErr result IsOfStore }
 {
     tx.execute(
         "INSERT INTO setting (name, value) VALUES (?1, ?2)",

@@ -1,5 +1,5 @@
 ghost use Rattle.std.specs.Prelude.{◌≡◌};
-ghost use Rattle.office_tables.specs.Faults.{fault_of};
+ghost use Rattle.office_tables.specs.Faults.{fault_of, IsOfStore};
 ghost use Rattle.office_tables.specs.declared.table_fault.TableFault.TheVariants.{Memory};
 
 use sqlite::{Error, ErrorCode};
@@ -32,14 +32,11 @@ impl From<AllocError> for TableFault {
 }
 
 impl From<Error> for TableFault {
-    ghost from_gives = { λ error fault. fault ≡ fault_of error };
+    ghost from_gives = { λ error fault. (fault ≡ fault_of error) × IsOfStore fault };
 
     fn from(error: Error) -> TableFault {
         match error {
             Error::SqliteFailure(ErrorCode::OutOfMemory) => TableFault::Memory,
-            Error::InvalidColumnType(_, _)
-            | Error::IntegralValueOutOfRange(_)
-            | Error::Utf8Error(_) => TableFault::Damaged,
             other => TableFault::Store(other),
         }
     }

@@ -1,10 +1,11 @@
-ghost use Rattle.std.specs.Prelude.{◌≡◌, OnOk, IsTrue};
+ghost use Rattle.std.specs.Prelude.{◌≡◌, OnOk, IfErr, IsTrue};
 ghost use Rattle.sqlite.specs.Held.{state};
 ghost use Rattle.sqlite.specs.State.{HasCleanDisk, Survives, KeepsCommit};
 ghost use Rattle.terminal_core.specs.Rows.{visit_content, visit_opened, visit_closed};
 ghost use Rattle.office_rows.specs.Values.{out_by, out_partner, out_number, out_at};
 ghost use Rattle.office_rows.specs.Effects.{with_change};
 ghost use Rattle.office_rows.specs.Steps.{Steps};
+ghost use Rattle.office_tables.specs.Faults.{IsOfStore};
 
 use crate::codes::{laden_code, way_code};
 use crate::table_fault::TableFault;
@@ -21,6 +22,7 @@ pub fn insert_visit<S: Alter>(tx: &mut Transaction<'_, S>, visit: &Visit) -> Res
     ensures keeps { HasCleanDisk (state S.Store tx.new.conn.now) → IsTrue (state S.Store tx.old.conn.now).in_transaction
         → KeepsCommit (state S.Store tx.old.conn.now) (state S.Store tx.new.conn.now) }
     ensures survives { Survives (state S.Store tx.old.conn.now) (state S.Store tx.new.conn.now) (λ _. ⊥) }
+    ensures fault { IfErr result IsOfStore }
 {
     match visit.departure {
         None => insert_columns(tx, visit, 0, 0, 0, &[]),
@@ -55,6 +57,7 @@ fn insert_columns<'a, S: Alter>(
     ensures keeps { HasCleanDisk (state S.Store tx.new.conn.now) → IsTrue (state S.Store tx.old.conn.now).in_transaction
         → KeepsCommit (state S.Store tx.old.conn.now) (state S.Store tx.new.conn.now) }
     ensures survives { Survives (state S.Store tx.old.conn.now) (state S.Store tx.new.conn.now) (λ _. ⊥) }
+    ensures fault { IfErr result IsOfStore }
 {
     let container = visit.container.text();
     let size = visit.size_type.text();
@@ -95,6 +98,7 @@ pub fn set_exit<S: Alter>(
     ensures keeps { HasCleanDisk (state S.Store tx.new.conn.now) → IsTrue (state S.Store tx.old.conn.now).in_transaction
         → KeepsCommit (state S.Store tx.old.conn.now) (state S.Store tx.new.conn.now) }
     ensures survives { Survives (state S.Store tx.old.conn.now) (state S.Store tx.new.conn.now) (λ _. ⊥) }
+    ensures fault { IfErr result IsOfStore }
 {
     let at = departure.moment.digits();
     tx.execute(

@@ -8,11 +8,11 @@ pub returns-in-None-clause-answer : goal.returns-in-None-clause-answer
 returns-in-None-clause-answer g c clean rows has =
     none_first kept_values (pair_of c.args.partner c.args.number rows) c.in_ok-rows.rows.items (c.in_ok-rows.ensures.shown clean rows has) (sym (rw c.deref.ensures.value at c.in-None.ensures.value))
 
-pub returns-clause-answer : goal.returns-clause-answer
-returns-clause-answer g c clean rows has =
+pub returns-in-Ok-clause-answer : goal.returns-in-Ok-clause-answer
+returns-in-Ok-clause-answer g c clean rows has =
     let found = some_first kept_values (pair_of c.args.partner c.args.number rows) c.in_ok-rows.rows.items c.in-Some.row.now (c.in_ok-rows.ensures.shown clean rows has) (sym (rw c.deref.ensures.value at c.in-Some.ensures.value)) in
-    let kept = c.in_ok-read_kept-in-Some.field-0 in
-    let read = rw found.2 at c.in_ok-read_kept-in-Some.ensures in
+    let kept = c.in-Ok.kept in
+    let read = rw found.2 at c.in-Ok.ensures in
     let body : kept.text.items ≡ found.0.body = let e = read.0 in cc in
     let reply : read.1.0 ≡ found.0.reply = let e = read.1.1 in cc in
     (found.0, found.1, body, subst (RepliesAs kept.reply) reply read.1.2)
