@@ -1,9 +1,7 @@
-//! Trials of the office: the demonstration's desk and the program on it, by the bytes that come in and those that are
-//! answered; HTTP over that desk; and a second desk, which stands on records that may cease to tell the truth.
+//! Trials of the office without a store: streams whose reader or writer fails, over a desk that keeps a book; and the
+//! runs over the terminal's machine.
 #![tactic(auto)]
 
-#[cfg(test)]
-mod http;
 pub mod logbook;
 #[cfg(test)]
 mod office;

@@ -23,6 +23,14 @@ impl<W: Write> Logbook<W> {
     {
         Logbook { pages }
     }
+
+    /// What the texts were written into.
+    pub fn into_pages(self) -> Port<W>
+        ensures { result ≡ self.pages }
+    {
+        let Logbook { pages } = self;
+        pages
+    }
 }
 
 impl<W: Write + Drop> Deliver for Logbook<W> {

@@ -1,6 +1,5 @@
-//! The demonstration's desk and the program on it, by the bytes that come in and those that are answered.
+//! Streams and runs, by the bytes that come in and those that are answered.
 
-mod answers;
 mod books;
 pub(crate) mod failing_reader;
 pub(crate) mod failing_writer;

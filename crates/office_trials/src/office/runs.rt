@@ -45,7 +45,7 @@ fn answer(
 #[test]
 fn a_gap_that_closes_takes_those_behind_it(rt: HostRuntime) -> Result<(), Fail> {
     let alloc = rt.alloc();
-    let mut runs = Runs::new(alloc, machine(&rt, alloc)?, 2)?;
+    let mut runs = Runs::new(alloc, machine(&rt, alloc)?, 1)?;
     let third = answer(alloc, &mut runs, 3, THIRD)?;
     assert!(&rt; matches!(&third, Answer::Waiting { next: 1 }));
     let second = answer(alloc, &mut runs, 2, SECOND)?;

@@ -52,3 +52,14 @@ fn a_store_is_opened_again_where_it_was(rt: HostRuntime) -> Result<(), Fail> {
     }
     Ok(())
 }
+
+/// A text that comes to a desk by this call alone: a stream is cut before, and a body refused.
+#[test]
+fn more_than_a_mebibyte_is_too_long(rt: HostRuntime) -> Result<(), Fail> {
+    let conn = made(&rt, rt.alloc())?;
+    assert!(&rt; conn.is_autocommit());
+    let mut desk = Desk::open(rt.alloc(), conn)?;
+    let long = vec![in rt.alloc(); b'A'; 1_048_577]?;
+    assert_answers(&rt, rt.alloc(), &mut desk, &[(long.as_slice(), 413)]);
+    Ok(())
+}
