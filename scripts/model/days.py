@@ -25,6 +25,10 @@ MESSAGES = [(8, 1), (2, 2), (1, 3)]
 LINES = [(6, 1), (2, 2), (1, 3), (1, 5)]
 MANY_LINES = [(1, 999), (1, 1000)]
 
+# the functions of a list's message, and of another's
+LIST_FUNCTIONS = [(3, ''), (3, '+9'), (3, '+5')]
+OTHER_FUNCTIONS = [(12, ''), (12, '+9'), (1, '+5')]
+
 # how often a partner of each kind sends, and what
 SENDERS = {
     'gate': (3, [(3, 'GateIn'), (2, 'GateOut')]),
@@ -58,7 +62,7 @@ MESSAGE_SPOILS = [
     ('OtherType', r':95B', ':96A'), ('OtherType', r'\+CO[A-Z]+', '+BAPLIE'),
     ('NoBgm', r'BGM', 'FTX'),
     ('Code', r'BGM\+\w+', 'BGM+99'), ('Code', r'BGM\+\w+', 'BGM+34'), ('Code', r'BGM\+\w+', 'BGM+46'),
-    ('Function', r'(BGM\+\w+\+\w*)\+?9?', r'\1+1'),
+    ('Function', r'(BGM\+\w+\+\w*)\+?[59]?', r'\1+1'), ('Function', r'(BGM\+\w+\+\w*)\+?[59]?', r'\1+05'),
     ('NoTransport', r'TDT\+20', 'TDT+30'), ('NoTransport', r'9123456', ''), ('NoTransport', r'V12', 'V' * 36),
     ('NoEquipment', r'EQD\+CN', 'EQD+TE'), ('NoEquipment', r'EQD\+', 'FTX+'),
     ('EquipmentCount', r"'UNT", "'CNT+16:7'UNT"),
@@ -150,7 +154,7 @@ class Day:
     def message(self, order, reference):
         """A message of one order, from UNH to UNT."""
         type_name, code = self.codes[order]
-        body = ['BGM+%s+G1%s' % (code, self.random.choice(['', '+9']))]
+        body = ['BGM+%s+G1%s' % (code, self.pick(LIST_FUNCTIONS if type_name == 'COPRAR' else OTHER_FUNCTIONS))]
         if type_name != 'CODECO':
             body.append(self.pick(TRANSPORTS))
         is_long = self.happens(MANY)

@@ -13,6 +13,7 @@ from .syntax import is_count, is_printable
 
 READ_SIZE = ('GateIn', 'Discharge')
 READ_SLOT = ('GateIn', 'Discharge', 'Move')
+LISTS = ('ListLoad', 'ListDischarge')
 READ_MOMENT = ('GateIn', 'GateOut', 'Discharge', 'Load')
 
 # what a line orders: `name` is the order's, `slot` None where none is asked for, `call` is (vessel, voyage) or None
@@ -94,9 +95,15 @@ def is_other_code(message, may_order):
     return (type_of(message), code_of(message)) not in may_order
 
 
+def function_of(message):
+    """1225, of the first BGM in the header: empty or 9 is an original, 5 replaces."""
+    return first(header_of(message), 'BGM').value(3)
+
+
 def is_other_function(message, may_order):
-    """1225 is neither empty nor 9, original."""
-    return first(header_of(message), 'BGM').value(3) not in ('', '9')
+    """1225 is none of an original, and is not 5 under the code of a list."""
+    is_list = may_order[type_of(message), code_of(message)] in LISTS
+    return function_of(message) not in (('', '9', '5') if is_list else ('', '9'))
 
 
 def has_limits(value):
@@ -212,6 +219,13 @@ def order_in(group, order, moment_of_interchange, call):
         slot=slot_of(slot) if order in READ_SLOT and slot else None,
         call=call,
         port=kept(place_in(group, '11')) if order == 'ListLoad' else '')
+
+
+def list_replaced(message, may_order):
+    """Call and order of the list that a message without fault replaces, or None."""
+    if function_of(message) != '5':
+        return None
+    return call_of(message), may_order[type_of(message), code_of(message)]
 
 
 def lines_of(message, may_order, moment_of_interchange):

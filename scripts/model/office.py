@@ -6,7 +6,7 @@ import json
 
 from .contrl import acknowledgement, rejection
 from .deliveries import Delivery, answer_of, first_text, made_next, order
-from .messages import lines_of, message_fault
+from .messages import lines_of, list_replaced, message_fault
 from .setup import DEMO, orders_of
 from .syntax import BREAKS, FAULTS, fault_of, messages_of, moment_of_header, number_of, recipient_of, sender_of
 from .terminal import Terminal
@@ -49,7 +49,8 @@ class Fold:
 
     def take(self, partner, number, text):
         """Its messages in order and each message's lines in order. The reply is the CONTRL and what became of each
-        line. A message with a fault gives no orders, and the other messages do."""
+        line. A message with a fault gives no orders and drops no list, and the other messages do. One that replaces a list
+        drops it first."""
         faults, reports = [], []
         may_order = orders_of(self.setup, self.setup.partners[partner])
         for message in messages_of(text):
@@ -58,11 +59,16 @@ class Fold:
             if fault:
                 report = dict(fault=fault, result='rejected')
             else:
+                report = self.replaced(list_replaced(message, may_order))
                 lines = lines_of(message, may_order, moment_of_header(text))
-                report = dict(lines=self.outcomes(lines, (partner, number)), result='accepted')
+                report.update(lines=self.outcomes(lines, (partner, number)), result='accepted')
             reports.append(dict(report, reference=message[0].value(1)))
         contrl = acknowledgement(text, messages_of(text), faults)
         self.replies[partner, number] = dict(contrl=contrl, messages=reports)
+
+    def replaced(self, list_of):
+        """How many lines were dropped of the list that a message replaces: told if it replaces one, and only then."""
+        return {} if list_of is None else dict(dropped=self.terminal.drop_open(*list_of))
 
     def outcomes(self, lines, source):
         """What became of each line, from 1 on. A line with a fault gives no order."""

@@ -110,7 +110,7 @@ def fault_of_rows(tables):
     settings; Damaged where the rows are those of no office; else None."""
     if not isinstance(tables.get('setting'), list):
         return 'Store'
-    if dict(tables['setting']).get('version') != '1':
+    if dict(tables['setting']).get('version') != '2':
         return 'Version'
     if not all(isinstance(tables.get(table), list) for table in COLUMNS):
         return 'Store'

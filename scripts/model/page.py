@@ -87,5 +87,5 @@ def is_told(cell, answer):
     """Whether the answer is what a cell says: the short one, and in it each text that the cell quotes."""
     told = re.sub(r'\. Then .*', '', cell)
     quoted = re.findall(r'`([^`]*)`', told)
-    short = re.sub(r",? (by|the line) `[^`]*`", '', re.sub(r", with the CONTRL's `.*\+(\d+)'`", r', \1', told))
+    short = re.sub(r",? (by|the line|with) `[^`]*`", '', re.sub(r", with the CONTRL's `.*\+(\d+)'`", r', \1', told))
     return short == short_of(answer) and all(text in json_text(answer) for text in quoted)

@@ -83,9 +83,9 @@ def listed_rows(office):
 
 
 def setting_rows(office):
-    """The set-up: version 1 of the tables, and each number without leading zeros."""
+    """The set-up: version 2 of the tables, and each number without leading zeros."""
     setup = office.setup
-    return [('version', '1'), ('terminal', setup.terminal), ('visits', str(setup.most_visits)), *setup.codes.items()]
+    return [('version', '2'), ('terminal', setup.terminal), ('visits', str(setup.most_visits)), *setup.codes.items()]
 
 
 def block_rows(office):

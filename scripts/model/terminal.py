@@ -13,6 +13,9 @@ Passage = namedtuple('Passage', 'way source moment')
 Visit = namedtuple('Visit', 'number size_type is_full booking entry entry_slot exit')
 ListLine = namedtuple('ListLine', 'port is_done')
 
+# on which side of a call an order's line is
+SIDES = {'Load': 'load', 'ListLoad': 'load', 'Discharge': 'discharge', 'ListDischarge': 'discharge'}
+
 
 def refused(reason, **more):
     """An outcome that changes nothing."""
@@ -73,6 +76,15 @@ class Terminal:
         self.lines[self.line_key(order)] = ListLine(order.port, is_done=False)
         return dict(outcome='listed')
 
+    def drop_open(self, call, order):
+        """The lines of the list of that call and order that are not done are gone; gives how many."""
+        side = SIDES[order]
+        dropped = [
+            key for key, line in self.lines.items() if key[0] == call and key[1] == side and not line.is_done]
+        for key in dropped:
+            del self.lines[key]
+        return len(dropped)
+
     def load(self, source, order):
         """Refused where it is not in the yard; where it has no line, or its line is done; where it is buried."""
         if order.number not in self.yard:
@@ -91,7 +103,7 @@ class Terminal:
 
     def line_key(self, order):
         """A call is vessel and voyage, a side load or discharge."""
-        return order.call, 'load' if order.name in ('Load', 'ListLoad') else 'discharge', order.number
+        return order.call, SIDES[order.name], order.number
 
     def line_reason(self, order):
         """Why a container may not be loaded or discharged by the list, or None."""

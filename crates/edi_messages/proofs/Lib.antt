@@ -8,3 +8,4 @@ pub mod LineLemmas
 pub mod ContrlLemmas
 pub mod ContrlCounts
 pub mod OrderForms
+mod Replacing

@@ -102,7 +102,7 @@ by_parts codes (Some type) None transport some lacks = absurd (true≢false some
 by_parts codes (Some type) (Some segment) transport some lacks =
     meant codes.table codes.kind type (document_name segment) (option_and_then call_if_named transport) (has_call type transport lacks) some
 
-past_first : (b : Bool) (fault : MessageFault) (o : Option MessageFault) → cond b (Some fault) o ≡ None → (b ≡ false) × (o ≡ None)
+pub past_first : (b : Bool) (fault : MessageFault) (o : Option MessageFault) → cond b (Some fault) o ≡ None → (b ≡ false) × (o ≡ None)
 past_first true fault o e = absurd cc
 past_first false fault o e = (refl, e)
 

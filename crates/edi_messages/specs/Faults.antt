@@ -13,6 +13,7 @@ use Rattle.edi_messages.specs.Codes.{order_meant}
 use Rattle.edi_messages.specs.Purposes.{CallContent, Purpose, purpose_with}
 use Rattle.edi_messages.specs.declared.codes.Codes.{Codes}
 use Rattle.edi_messages.specs.declared.order_kind.OrderKind.{OrderKind}
+use Rattle.edi_messages.specs.declared.order_kind.OrderKind.TheVariants.{ListDischarge, ListLoad}
 use Rattle.edi_messages.specs.declared.message_type.MessageType.{MessageType}
 use Rattle.edi_messages.specs.declared.message_type.MessageType.TheVariants.{Codeco, Coprar, Coarri}
 use Rattle.edi_messages.specs.declared.message_fault.MessageFault.{MessageFault}
@@ -55,6 +56,10 @@ is_container segment = is_qualified (codes "EQD") (codes "CN") segment
 abbrev pub is_original : Content → Bool
 is_original segment = bytes_eq (message_function segment) [] || bytes_eq (message_function segment) (codes "9")
 
+-- 1225 is 5, a replacement
+abbrev pub is_replacement : Content → Bool
+is_replacement segment = bytes_eq (message_function segment) (codes "5")
+
 -- voyage and vessel are within the limits
 abbrev pub names_call : Content → Bool
 names_call segment = is_name (voyage_of segment) && is_name (vessel_of segment)
@@ -71,6 +76,24 @@ order_kind_of codes message =
     option_and_then (λ type.
     option_and_then (λ segment. order_meant codes type (document_name segment)) (beginning message))
     (message_type_of message.header)
+
+-- what a vessel will discharge or load
+abbrev pub is_list : OrderKind → Bool
+is_list ListDischarge = true
+is_list ListLoad = true
+is_list kind = false
+
+-- its document name is that of a list of what a vessel will discharge or load
+abbrev pub names_list : Codes → Message → Bool
+names_list codes message = option_map_or is_list (order_kind_of codes message) false
+
+-- an original; or a replacement, if it is of a list
+abbrev pub has_function : Codes → Message → Content → Bool
+has_function codes message segment = is_original segment || (is_replacement segment && names_list codes message)
+
+-- its function is that of a replacement
+abbrev pub replaces_list : Message → Bool
+replaces_list message = option_map_or is_replacement (beginning message) false
 
 -- the call that the transport names, if it does
 abbrev pub call_named : Content → CallContent
@@ -91,8 +114,8 @@ purpose_of codes message = option_and_then (λ kind. purpose_with kind (call_in 
 abbrev pub is_of_other_type : Message → Bool
 is_of_other_type message = is_none (message_type_of message.header)
 
-abbrev pub is_no_original : Message → Bool
-is_no_original message = not (option_map_or is_original (beginning message) true)
+abbrev pub has_other_function : Codes → Message → Bool
+has_other_function codes message = not (option_map_or (has_function codes message) (beginning message) true)
 
 abbrev pub lacks_transport : Message → Bool
 lacks_transport message =
@@ -116,7 +139,7 @@ abbrev pub applies : Codes → Message → MessageFault → Bool
 applies codes message OtherType = is_of_other_type message
 applies codes message NoBgm = is_none (beginning message)
 applies codes message Code = is_none (order_kind_of codes message)
-applies codes message Function = is_no_original message
+applies codes message Function = has_other_function codes message
 applies codes message NoTransport = lacks_transport message
 applies codes message NoEquipment = lacks_equipment message
 applies codes message EquipmentCount = miscounts_equipment message

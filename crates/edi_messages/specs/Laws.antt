@@ -1,14 +1,14 @@
 -- Laws of what a message says.
-use Rattle.std.specs.Prelude.{◌≡◌, None, Ok}
+use Rattle.std.specs.Prelude.{◌≡◌, true, None, Ok, is_some}
 use Rattle.std.specs.Result.{result_err}
 use Rattle.edi_syntax.specs.Moments.{CivilMoment}
 use Rattle.edi_syntax.specs.Messages.{Message}
 use Rattle.edi_messages.specs.Parts.{EquipmentGroup}
 use Rattle.edi_messages.specs.Purposes.{Purpose, kind_of}
-use Rattle.edi_messages.specs.Faults.{fault_of}
+use Rattle.edi_messages.specs.Faults.{is_list, fault_of}
 use Rattle.edi_messages.specs.LineFaults.{line_fault_in}
 use Rattle.edi_messages.specs.Orders.{order_of}
-use Rattle.edi_messages.specs.Message.{message_of, reading}
+use Rattle.edi_messages.specs.Message.{MessageContent, message_of, reading}
 use Rattle.edi_messages.specs.declared.codes.Codes.{Codes}
 
 -- A message to which no fault applies is read for a purpose.
@@ -23,3 +23,10 @@ abbrev pub LinesAnswerTheirFirstFault : Type 0
 LinesAnswerTheirFirstFault =
     (purpose : Purpose) (opened : CivilMoment) (group : EquipmentGroup)
     → result_err (order_of purpose opened group) ≡ line_fault_in (kind_of purpose) group
+
+-- A message that replaces is of a list, and names the call whose list it is.
+abbrev pub ReplacingIsOfAList : Type 0
+ReplacingIsOfAList =
+    (codes : Codes) (opened : CivilMoment) (message : Message) (content : MessageContent)
+    → reading codes opened message ≡ Ok content → content.replaces ≡ true
+    → (is_list content.kind ≡ true) × (is_some content.call ≡ true)

@@ -7,7 +7,7 @@ use Rattle.edi_syntax.specs.Moments.{CivilMoment}
 use Rattle.edi_segments.specs.Text.{Content}
 use Rattle.edi_syntax.specs.Messages.{Message}
 use Rattle.edi_messages.specs.Parts.{EquipmentGroup, groups_of}
-use Rattle.edi_messages.specs.Faults.{is_container, purpose_of, fault_of}
+use Rattle.edi_messages.specs.Faults.{is_container, purpose_of, fault_of, replaces_list}
 use Rattle.edi_messages.specs.Purposes.{CallContent, Purpose, kind_of, call_of}
 use Rattle.edi_messages.specs.Orders.{OrderContent, read_number, order_of}
 use Rattle.edi_messages.specs.declared.line_fault.LineFault.{LineFault}
@@ -39,12 +39,14 @@ lines_of purpose opened segments = map (line_of purpose opened) (filter is_conta
 pub record MessageContent : Type 0 where
   pub kind : OrderKind
   pub call : Option CallContent
+  pub replaces : Bool
   pub lines : List LineContent
 
 abbrev pub message_of : Purpose → CivilMoment → Message → MessageContent
 message_of purpose opened message = record {
   kind = kind_of purpose;
   call = call_of purpose;
+  replaces = replaces_list message;
   lines = lines_of purpose opened message.segments;
 }
 

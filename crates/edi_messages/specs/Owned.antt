@@ -41,5 +41,6 @@ abbrev pub message_content : Message → MessageContent
 message_content message = record {
   kind = message.kind;
   call = option_map call_content message.call;
+  replaces = message.replaces;
   lines = map line_content message.lines.items;
 }

@@ -2,7 +2,7 @@ ghost use Rattle.std.specs.Prelude.{◌≡◌, is_none};
 ghost use Rattle.edi_segments.specs.Segment.{content, value};
 ghost use Rattle.edi_syntax.specs.Frames.{message};
 ghost use Rattle.edi_messages.specs.Texts.{is_name};
-ghost use Rattle.edi_messages.specs.Faults.{beginning, is_original, names_call, is_container, order_kind_of, fault_of, is_of_other_type, is_no_original, lacks_transport, lacks_equipment, miscounts_equipment, has_too_many};
+ghost use Rattle.edi_messages.specs.Faults.{beginning, is_original, is_replacement, is_list, names_list, has_function, replaces_list, names_call, is_container, order_kind_of, fault_of, is_of_other_type, has_other_function, lacks_transport, lacks_equipment, miscounts_equipment, has_too_many};
 
 use crate::codes::Codes;
 use crate::message_fault::MessageFault;
@@ -26,7 +26,7 @@ pub(crate) fn message_fault(survey: &Survey<'_>, codes: &Codes) -> Option<Messag
         Some(MessageFault::NoBgm)
     } else if order_kind(survey, codes).is_none() {
         Some(MessageFault::Code)
-    } else if is_no_original(survey) {
+    } else if has_other_function(survey, codes) {
         Some(MessageFault::Function)
     } else if lacks_transport(survey) {
         Some(MessageFault::NoTransport)
@@ -62,11 +62,13 @@ fn has_no_beginning(survey: &Survey<'_>) -> bool
     survey.beginning.is_none()
 }
 
-fn is_no_original(survey: &Survey<'_>) -> bool
-    ensures { result ≡ is_no_original (message survey.now.frame) }
+fn has_other_function(survey: &Survey<'_>, codes: &Codes) -> bool
+    ensures { result ≡ has_other_function codes.now (message survey.now.frame) }
 {
     match survey.beginning {
-        Some(segment) => !is_original(&segment),
+        Some(segment) => {
+            !(is_original(&segment) || (is_replacement(&segment) && names_list(survey, codes)))
+        }
         None => false,
     }
 }
@@ -76,6 +78,38 @@ fn is_original(beginning: &Segment<'_>) -> bool
 {
     let function = beginning.component(3, 1);
     is_value(function, b"") || is_value(function, b"9")
+}
+
+fn is_replacement(beginning: &Segment<'_>) -> bool
+    ensures { result ≡ is_replacement (content beginning.now) }
+{
+    is_value(beginning.component(3, 1), b"5")
+}
+
+/// The document name is that of a list of what a vessel will discharge or load.
+fn names_list(survey: &Survey<'_>, codes: &Codes) -> bool
+    ensures { result ≡ names_list codes.now (message survey.now.frame) }
+{
+    match order_kind(survey, codes) {
+        Some(kind) => is_list(kind),
+        None => false,
+    }
+}
+
+fn is_list(kind: OrderKind) -> bool
+    ensures { result ≡ is_list kind }
+{
+    matches!(kind, OrderKind::ListDischarge | OrderKind::ListLoad)
+}
+
+/// The message's function is that of a replacement.
+pub(crate) fn replaces_list(survey: &Survey<'_>) -> bool
+    ensures { result ≡ replaces_list (message survey.now.frame) }
+{
+    match survey.beginning {
+        Some(segment) => is_replacement(&segment),
+        None => false,
+    }
 }
 
 fn lacks_transport(survey: &Survey<'_>) -> bool

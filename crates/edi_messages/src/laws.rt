@@ -1,6 +1,6 @@
 ghost use Rattle.edi_messages.specs.Contrl.{ContrlsAreCounted};
 ghost use Rattle.edi_messages.specs.Forms.{OrdersAreFormed};
-ghost use Rattle.edi_messages.specs.Laws.{FaultlessAreRead, LinesAnswerTheirFirstFault};
+ghost use Rattle.edi_messages.specs.Laws.{FaultlessAreRead, LinesAnswerTheirFirstFault, ReplacingIsOfAList};
 
 /// A message to which no fault applies is read for a purpose: as a list of lines of one kind of order.
 pub fn faultless_are_read()
@@ -10,6 +10,11 @@ pub fn faultless_are_read()
 /// What a line is refused for is the first of its faults in their order, and a line without fault is an order.
 pub fn lines_answer_their_first_fault()
     ensures { LinesAnswerTheirFirstFault }
+{}
+
+/// A message that replaces is of a list, and names the call whose list it is.
+pub fn replacing_is_of_a_list()
+    ensures { ReplacingIsOfAList }
 {}
 
 /// The segments of a CONTRL have none of faults 9 to 15: they are one message, and their counts and references are

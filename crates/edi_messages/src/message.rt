@@ -9,6 +9,8 @@ pub struct Message {
     pub kind: OrderKind,
     /// The vessel's call that it is about, for a list or a report of a vessel.
     pub call: Option<Call>,
+    /// It replaces the list of that call, in place of adding to it.
+    pub replaces: bool,
     /// A line for each container, in the message's order.
     pub lines: Vec<Line>,
 }

@@ -1,6 +1,7 @@
 ghost use Rattle.std.specs.Prelude.{◌≡◌, map, IfOk, IfErr, MatchResult, Ok};
 ghost use Rattle.std.specs.Option.{option_map};
 ghost use Rattle.edi_syntax.specs.Frames.{message, message_segments_left};
+ghost use Rattle.edi_messages.specs.Faults.{replaces_list};
 ghost use Rattle.edi_messages.specs.Message.{line_of, lines_of, message_of, reading};
 ghost use Rattle.edi_messages.specs.Spans.{group_content, call_spanned, purpose_spanned};
 ghost use Rattle.edi_messages.specs.Owned.{call_content, line_content, message_content};
@@ -8,7 +9,7 @@ ghost use Rattle.edi_messages.specs.Owned.{call_content, line_content, message_c
 use crate::call::Call;
 use crate::call_span::CallSpan;
 use crate::codes::Codes;
-use crate::faults::{is_container, message_fault};
+use crate::faults::{is_container, message_fault, replaces_list};
 use crate::group::Group;
 use crate::line::Line;
 use crate::line_refusal::LineRefusal;
@@ -46,7 +47,7 @@ pub fn read_message(
     let Some(purpose) = purpose(&survey, codes) else {
         return Err(MessageFault::Code);
     };
-    match build(alloc, frame, opened, purpose) {
+    match build(alloc, frame, opened, purpose, replaces_list(&survey)) {
         Ok(message) => Ok(message),
         Err(_) => Err(MessageFault::Memory),
     }
@@ -57,7 +58,9 @@ fn build(
     frame: &Frame<'_>,
     opened: Moment,
     purpose: PurposeSpan<'_>,
+    replaces: bool,
 ) -> Result<Message, AllocError>
+    requires told { replaces ≡ replaces_list (message frame.now) }
     ensures { IfOk result
         (λ built. message_content built ≡ message_of (purpose_spanned purpose.entry) opened
         (message frame.now)) }
@@ -67,6 +70,7 @@ fn build(
     Ok(Message {
         kind: kind_of(purpose),
         call,
+        replaces,
         lines,
     })
 }

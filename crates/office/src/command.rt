@@ -30,7 +30,12 @@ pub(crate) fn run<R: Read, W: Write, E: Write>(
             blocks,
         } => init(rt, store, partners, blocks, writer, errors),
         Request::Deliver { store, file } => deliver(rt, store, file, reader, writer, errors),
-        Request::Serve { store, port, count } => serve(rt, store, port, count, writer, errors),
+        Request::Serve {
+            store,
+            port,
+            count,
+            log,
+        } => serve(rt, store, (port, count), log, writer, errors),
         Request::Report { store, kind, key } => report(rt, store, kind, key, writer, errors),
         Request::Demo => demonstrate(rt.alloc(), reader, writer, errors),
     }
@@ -44,7 +49,7 @@ fn refuse<W: Write, E: Write>(
     errors: &mut Port<E>,
 ) -> u8 {
     let Ok(text) = fault.to_string(alloc) else {
-        return FAILED;
+        return tell(errors, "store: Memory\n", FAILED);
     };
     match fault {
         CommandFault::Memory => tell(errors, text.as_str(), FAILED),

@@ -1,6 +1,6 @@
 use crate::looked_at::is_looked_at;
 use crate::store::make_store;
-use crate::telling::{DONE, FAILED, REFUSED, print, tell, tell_fault, tell_unread};
+use crate::telling::{DONE, REFUSED, print, tell, tell_store, tell_unread};
 use office_setup_files::{SetupFault, WrongRecord, first_wrong, read_setup};
 use office_stream::Port;
 use std::alloc::{AllocError, Global};
@@ -25,48 +25,57 @@ pub(crate) fn init<W: Write, E: Write>(
     let setup = match read_setup(rt.alloc(), &partner_file, &block_file) {
         Ok(setup) => setup,
         Err(fault) => {
-            return match fault_text(rt, fault, (partners, &partner_file), (blocks, &block_file)) {
-                Ok(text) => tell(errors, text.as_str(), REFUSED),
-                Err(_) => FAILED,
-            };
+            return refuse(
+                rt,
+                fault,
+                (partners, &partner_file),
+                (blocks, &block_file),
+                errors,
+            );
         }
     };
     match make_store(rt, store, &setup) {
         Ok(()) => print(writer, "ready\n", DONE),
-        Err(fault) => tell_fault(errors, &fault),
+        Err(fault) => tell_store(rt, errors, store, &fault),
     }
 }
 
-/// The fault's name, and for a person also which record shows it. Each file comes with its path.
-fn fault_text(
+/// Tells the fault's name, and then to a person which record shows it. Each file comes with its path.
+fn refuse<E: Write>(
     rt: &HostRuntime,
     fault: SetupFault,
     partners: (&str, &[u8]),
     blocks: (&str, &[u8]),
-) -> Result<String, AllocError> {
-    let mut text = format!(in rt.alloc(); "setup: {fault}\n")?;
-    if is_looked_at(rt) {
-        let (partners_path, partners) = partners;
-        let (blocks_path, blocks) = blocks;
-        match first_wrong(rt.alloc(), partners, blocks, fault)? {
-            Some(WrongRecord::OfPartners(number)) => {
-                tell_record(rt.alloc(), &mut text, partners_path, number)?
-            }
-            Some(WrongRecord::OfBlocks(number)) => {
-                tell_record(rt.alloc(), &mut text, blocks_path, number)?
-            }
-            None => text.push_str("a record is missing\n")?,
+    errors: &mut Port<E>,
+) -> u8 {
+    let Ok(text) = format!(in rt.alloc(); "setup: {fault}\n") else {
+        return tell(errors, "setup: Memory\n", REFUSED);
+    };
+    let status = tell(errors, text.as_str(), REFUSED);
+    if errors.flush().is_ok() && is_looked_at(rt) {
+        if let Ok(place) = place_of(rt.alloc(), fault, partners, blocks) {
+            let _ = errors.write_all(place.as_bytes());
         }
     }
-    Ok(text)
+    status
 }
 
-fn tell_record(
+/// Which record shows a fault.
+fn place_of(
     alloc: Global,
-    text: &mut String,
-    path: &str,
-    number: usize,
-) -> Result<(), AllocError> {
-    let place = format!(in alloc; "{path}, record {number}\n")?;
-    text.push_str(place.as_str())
+    fault: SetupFault,
+    partners: (&str, &[u8]),
+    blocks: (&str, &[u8]),
+) -> Result<String, AllocError> {
+    let (partners_path, partners) = partners;
+    let (blocks_path, blocks) = blocks;
+    match first_wrong(alloc, partners, blocks, fault)? {
+        Some(WrongRecord::OfPartners(number)) => {
+            format!(in alloc; "{partners_path}, record {number}\n")
+        }
+        Some(WrongRecord::OfBlocks(number)) => {
+            format!(in alloc; "{blocks_path}, record {number}\n")
+        }
+        None => String::from_str(alloc, "a record is missing\n"),
+    }
 }

@@ -3,11 +3,20 @@
 //! memory. Its texts and exit statuses are tested; what its commands are made of is proved.
 #![tactic(auto)]
 
+mod cause;
+mod causes;
+mod clock_time;
 mod command;
+mod cut;
 mod deliver;
+mod faults;
 mod init;
+mod lines;
+mod logged;
 mod looked_at;
+mod placed;
 mod report;
+mod request_log;
 mod serve;
 mod store;
 mod tally;
@@ -16,14 +25,17 @@ mod watched;
 
 use command::run;
 use office_stream::{Gathered, Port};
+use std::io::ErrorKind;
 use std::process::ExitCode;
 use std::{env, io};
+use telling::{COMMAND_LINE, FAILED, tell};
 
 fn main(rt: HostRuntime) -> ExitCode {
-    match run_words(&rt) {
-        Ok(status) => ExitCode::from(status),
-        Err(_) => ExitCode::from(3),
-    }
+    let status = match run_words(&rt) {
+        Ok(status) => status,
+        Err(fault) => tell_words(&rt, fault.kind()),
+    };
+    ExitCode::from(status)
 }
 
 /// Runs the program on its words and the standard streams. An error is that the words could not be had.
@@ -38,4 +50,13 @@ fn run_words(rt: &HostRuntime) -> io::Result<u8> {
     let mut output = Port::new(Gathered::new(rt.stdout()));
     let mut errors = Port::new(rt.stderr());
     Ok(run(rt, words.as_slice(), &mut input, &mut output, &mut errors))
+}
+
+/// Tells why the words could not be had: one is no text, or there was no memory for them.
+fn tell_words(rt: &HostRuntime, kind: ErrorKind) -> u8 {
+    let mut errors = Port::new(rt.stderr());
+    match kind {
+        ErrorKind::InvalidData => tell(&mut errors, "a word is not UTF-8\n", COMMAND_LINE),
+        _ => tell(&mut errors, "store: Memory\n", FAILED),
+    }
 }

@@ -1,5 +1,5 @@
 use crate::store::{Store, open_store};
-use crate::telling::{DONE, REFUSED, print, tell_fault};
+use crate::telling::{DONE, REFUSED, print, tell_store};
 use office_desk::Desk;
 use office_queries::{ReportKind, read_query};
 use office_stream::Port;
@@ -19,7 +19,7 @@ pub(crate) fn report<W: Write, E: Write>(
     match find(rt, store, kind, key) {
         Ok(Some(text)) => print(writer, text.as_str(), DONE),
         Ok(None) => print(writer, "none\n", REFUSED),
-        Err(fault) => tell_fault(errors, &fault),
+        Err(fault) => tell_store(rt, errors, store, &fault),
     }
 }
 

@@ -1,35 +1,44 @@
+use crate::logged::Logged;
+use crate::looked_at::is_looked_at;
+use crate::request_log::RequestLog;
 use crate::store::{Store, open_store};
-use crate::telling::{DONE, FAILED, print, tell, tell_fault};
+use crate::telling::{DONE, FAILED, print, tell, tell_store};
 use office_desk::Desk;
 use office_http::serve_on;
 use office_stream::Port;
 use std::io::Write;
 use std::net::TcpListener;
 
-/// `serve DB PORT COUNT`: serves so many connections at a port of this machine, one after the other.
+/// `serve DB PORT COUNT`: serves so many connections at a port of this machine, one after the other. It writes a line for
+/// each to the stream of errors if that is a terminal, or if a log is wanted.
 pub(crate) fn serve<W: Write, E: Write>(
     rt: &HostRuntime,
     store: &str,
-    port: u16,
-    count: u32,
+    place: (u16, u32),
+    log: bool,
     writer: &mut Port<W>,
     errors: &mut Port<E>,
 ) -> u8 {
     match open_store(rt, store) {
-        Ok(mut desk) => serve_desk(rt, &mut desk, port, count, writer, errors),
-        Err(fault) => tell_fault(errors, &fault),
+        Ok(desk) => {
+            let log = RequestLog::new(rt, log || is_looked_at(rt));
+            let mut logged = Logged::new(desk, rt, &log, store);
+            serve_desk(rt, &mut logged, &log, place, writer, errors)
+        }
+        Err(fault) => tell_store(rt, errors, store, &fault),
     }
 }
 
 fn serve_desk<W: Write, E: Write>(
     rt: &HostRuntime,
-    desk: &mut Desk<Store>,
-    port: u16,
-    count: u32,
+    desk: &mut Logged<'_, Desk<Store>>,
+    log: &RequestLog<'_>,
+    place: (u16, u32),
     writer: &mut Port<W>,
     errors: &mut Port<E>,
 ) -> u8 {
     let alloc = rt.alloc();
+    let (port, count) = place;
     let (Ok(address), Ok(listening), Ok(served)) = (
         format!(in alloc; "127.0.0.1:{port}"),
         format!(in alloc; "listening 127.0.0.1:{port}\n"),
@@ -43,6 +52,7 @@ fn serve_desk<W: Write, E: Write>(
     if print(writer, listening.as_str(), DONE) != DONE {
         return FAILED;
     }
-    serve_on(alloc, rt, &listener, count, desk);
+    let mut log = log;
+    serve_on(alloc, rt, &listener, count, desk, &mut log);
     print(writer, served.as_str(), DONE)
 }

@@ -1,7 +1,8 @@
+use crate::lines::Lines;
 use office_replies::Response;
 use std::fmt;
 
-/// How many interchanges were answered, and how.
+/// How many interchanges were answered, and how; and what those that were taken did.
 #[derive(Clone, Copy)]
 pub(crate) struct Tally {
     taken: u64,
@@ -9,6 +10,7 @@ pub(crate) struct Tally {
     waiting: u64,
     refused: u64,
     not_now: u64,
+    lines: Lines,
 }
 
 impl Tally {
@@ -19,13 +21,17 @@ impl Tally {
             waiting: 0,
             refused: 0,
             not_now: 0,
+            lines: Lines::new(),
         }
     }
 
     /// Counts one answer more.
     pub(crate) fn count(&mut self, response: &Response) {
         let counter = match response {
-            Response::Taken(_) => &mut self.taken,
+            Response::Taken(body) => {
+                self.lines.count(body.as_str());
+                &mut self.taken
+            }
             Response::Repeat(_) => &mut self.repeated,
             Response::Waiting(_) => &mut self.waiting,
             Response::Clash(_) | Response::Refused(_) | Response::Rejected { .. } => {
@@ -48,8 +54,8 @@ impl fmt::Display for Tally {
     fn fmt<W: fmt::Write>(&self, f: &mut fmt::Formatter<W>) -> fmt::Result {
         write!(
             f,
-            "{} taken, {} repeated, {} waiting, {} refused, {} not now",
-            self.taken, self.repeated, self.waiting, self.refused, self.not_now
+            "{} taken, {} repeated, {} waiting, {} refused, {} not now{}",
+            self.taken, self.repeated, self.waiting, self.refused, self.not_now, self.lines
         )
     }
 }

@@ -1,8 +1,10 @@
-use crate::tally::Tally;
+use crate::cause::cause_of;
+use crate::looked_at::is_looked_at;
 use office_replies::Worst;
 use office_stream::{Port, StreamFault};
 use office_tables::TableFault;
 use std::alloc::Global;
+use std::fmt;
 use std::io::Write;
 
 /// Done.
@@ -37,8 +39,23 @@ pub(crate) fn tell_unread<E: Write>(errors: &mut Port<E>) -> u8 {
     tell(errors, "cannot read\n", FAILED)
 }
 
-/// Tells why a store did not do what was asked.
-pub(crate) fn tell_fault<E: Write>(errors: &mut Port<E>, fault: &TableFault) -> u8 {
+/// Tells why the store at a path did not do what was asked, and to a person also the cause and what to do.
+pub(crate) fn tell_store<E: Write>(
+    rt: &HostRuntime,
+    errors: &mut Port<E>,
+    path: &str,
+    fault: &TableFault,
+) -> u8 {
+    let status = tell_fault(errors, fault);
+    if is_looked_at(rt) {
+        let _ = errors.write_all(cause_of(rt, path, fault).as_bytes());
+        let _ = errors.write_all(b"\n");
+    }
+    status
+}
+
+/// Tells the name of a store's fault.
+fn tell_fault<E: Write>(errors: &mut Port<E>, fault: &TableFault) -> u8 {
     let text = match fault {
         TableFault::Store(_) => "store: Store\n",
         TableFault::Damaged => "store: Damaged\n",
@@ -60,9 +77,13 @@ pub(crate) fn tell_stream<E: Write>(errors: &mut Port<E>, ended: Result<Worst, S
     }
 }
 
-/// Tells how many interchanges were answered, and how.
-pub(crate) fn tell_tally<E: Write>(alloc: Global, errors: &mut Port<E>, tally: Tally) {
-    if let Ok(text) = format!(in alloc; "{tally}\n") {
+/// Tells a person something in lines of their own.
+pub(crate) fn tell_line<E: Write, T: fmt::Display + Drop>(
+    alloc: Global,
+    errors: &mut Port<E>,
+    told: T,
+) {
+    if let Ok(text) = format!(in alloc; "{told}\n") {
         let _ = errors.write_all(text.as_bytes());
     }
 }

@@ -1,5 +1,7 @@
-ghost use Rattle.std.specs.Prelude.{ℕ, List};
+ghost use Rattle.std.specs.Prelude.{◌≡◌, ℕ, List};
 
+use crate::causes::Causes;
+use crate::faults::Faults;
 use crate::tally::Tally;
 use office_replies::{Deliver, Response};
 use std::alloc::Global;
@@ -14,15 +16,22 @@ pub(crate) struct Watched<'a, D> {
     rt: &'a HostRuntime,
     looked_at: bool,
     tally: Tally,
+    causes: Causes<'a>,
 }
 
-impl<'a, D: Deliver> Watched<'a, D> {
-    pub(crate) fn new(desk: D, rt: &'a HostRuntime, looked_at: bool) -> Watched<'a, D> {
+impl<'a, D: Deliver + Faults> Watched<'a, D> {
+    pub(crate) fn new(
+        desk: D,
+        rt: &'a HostRuntime,
+        looked_at: bool,
+        path: &'a str,
+    ) -> Watched<'a, D> {
         Watched {
             desk,
             rt,
             looked_at,
             tally: Tally::new(),
+            causes: Causes::new(path),
         }
     }
 
@@ -30,20 +39,37 @@ impl<'a, D: Deliver> Watched<'a, D> {
     pub(crate) fn tally(&self) -> Tally {
         self.tally
     }
+
+    /// Tells a person how far it is, and why an answer is `not now`.
+    fn tell(&mut self, response: &Response)
+        ensures { self.new.desk ≡ self.old.desk }
+    {
+        self.tally.count(response);
+        let cause = self
+            .causes
+            .behind(self.rt, response, self.desk.last_fault());
+        if let Some(cause) = cause {
+            let _ = eprintln!(self.rt; "not now: {cause}");
+        }
+        if self.tally.all() % STEP == 0 {
+            let _ = eprint!(self.rt; "{} interchanges\r", self.tally.all());
+        }
+    }
 }
 
-impl<D: Deliver> Deliver for Watched<'_, D> {
+impl<D: Deliver + Faults> Deliver for Watched<'_, D> {
     ghost clean = { λ watched. D.clean watched.desk };
 
-    ghost stands = { λ opening ds watched. D.stands opening.desk ds watched.desk };
+    ghost Opening = { D.Opening };
 
-    ghost answers = { λ opening ds text response. D.answers opening.desk ds text response };
+    ghost stands = { λ opening es watched. D.stands opening es watched.desk };
+
+    ghost answers = { λ opening es text response. D.answers opening es text response };
 
     fn deliver(&mut self, alloc: Global, delivered: &[u8]) -> Response {
         let response = self.desk.deliver(alloc, delivered);
-        self.tally.count(&response);
-        if self.looked_at && self.tally.all() % STEP == 0 {
-            let _ = eprint!(self.rt; "{} interchanges\r", self.tally.all());
+        if self.looked_at {
+            self.tell(&response);
         }
         response
     }

@@ -7,7 +7,8 @@ ghost use Rattle.office_rows.specs.Steps.{Steps};
 ghost use Rattle.office_tables.specs.Faults.{IsOfStore};
 
 use office_tables::{
-    TableFault, delete_place, insert_line, insert_place, insert_visit, set_done, set_exit, set_slot,
+    TableFault, delete_line, delete_place, insert_line, insert_place, insert_visit, set_done,
+    set_exit, set_slot,
 };
 use sqlite::{Alter, Transaction};
 use terminal_core::Change;
@@ -44,5 +45,10 @@ pub fn apply<S: Alter>(tx: &mut Transaction<'_, S>, change: &Change) -> Result<(
             side,
             container,
         } => set_done(tx, call, *side, *container),
+        Change::Unlisted {
+            call,
+            side,
+            container,
+        } => delete_line(tx, call, *side, *container),
     }
 }

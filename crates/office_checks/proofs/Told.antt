@@ -6,6 +6,7 @@ use Rattle.std.proofs.lemmas.List.{length-map}
 use Rattle.edi_messages.specs.Codes.{table_texts}
 use Rattle.office_setup.specs.Setups.{SetupContent}
 use Rattle.office_rows.specs.Rows.{Setting}
+use Rattle.office_rows.specs.Opening.{tables_version}
 use Rattle.office_rows.specs.Office.{settings_with, settings_by_name}
 use Rattle.office_checks.specs.Contents.{setting_content}
 use Rattle.office_checks.specs.Said.{setting_names, names_of, values_of, code_values}
@@ -54,7 +55,7 @@ module _ (rows : List Setting) (content : SetupContent) (are : rows ≡ settings
   pub terminal_so : slice_get (values_of rows) 6 ≡ Some content.terminal
   terminal_so = ap (λ (r : List Setting). slice_get (values_of r) 6) are
 
-  pub version_so : slice_get (values_of rows) 7 ≡ Some (codes "1")
+  pub version_so : slice_get (values_of rows) 7 ≡ Some tables_version
   version_so = ap (λ (r : List Setting). slice_get (values_of r) 7) are
 
   pub limit_so : slice_get (values_of rows) 8 ≡ Some (decimal content.visit_limit)
@@ -69,7 +70,7 @@ ten_long rows named = sym (length-map rows (λ (row : Setting). row.name)) ∙ a
 named_as : (row : Setting) (name value : List ℕ) → row.name ≡ name → row.value ≡ value → row ≡ record { name = name; value = value }
 named_as row name value e f = λ i. record { name = e i; value = f i }
 
-pub settings_so : (rows : List Setting) (content : SetupContent) → names_of rows ≡ setting_names → slice_get (values_of rows) 6 ≡ Some content.terminal → slice_get (values_of rows) 7 ≡ Some (codes "1")
+pub settings_so : (rows : List Setting) (content : SetupContent) → names_of rows ≡ setting_names → slice_get (values_of rows) 6 ≡ Some content.terminal → slice_get (values_of rows) 7 ≡ Some tables_version
     → slice_get (values_of rows) 8 ≡ Some (decimal content.visit_limit) → table_texts content.codes ≡ code_values (values_of rows) → rows ≡ settings_by_name content
 settings_so [] content named terminal version limit table = let ten = ten_long [] named in absurd (omega (arith, ten))
 settings_so (r0 ∷ []) content named terminal version limit table = let ten = ten_long (r0 ∷ []) named in absurd (omega (arith, ten))
@@ -99,7 +100,7 @@ settings_so (r0 ∷ r1 ∷ r2 ∷ r3 ∷ r4 ∷ r5 ∷ r6 ∷ r7 ∷ r8 ∷ r9 �
     let s4 : r4 ≡ record { name = codes "load-list"; value = r4.value } = named_as r4 (codes "load-list") r4.value n4 refl in
     let s5 : r5 ≡ record { name = codes "load-report"; value = r5.value } = named_as r5 (codes "load-report") r5.value n5 refl in
     let s6 : r6 ≡ record { name = codes "terminal"; value = content.terminal } = named_as r6 (codes "terminal") content.terminal n6 (same_Some r6.value content.terminal terminal) in
-    let s7 : r7 ≡ record { name = codes "version"; value = (codes "1") } = named_as r7 (codes "version") (codes "1") n7 (same_Some r7.value (codes "1") version) in
+    let s7 : r7 ≡ record { name = codes "version"; value = tables_version } = named_as r7 (codes "version") tables_version n7 (same_Some r7.value tables_version version) in
     let s8 : r8 ≡ record { name = codes "visits"; value = (decimal content.visit_limit) } = named_as r8 (codes "visits") (decimal content.visit_limit) n8 (same_Some r8.value (decimal content.visit_limit) limit) in
     let s9 : r9 ≡ record { name = codes "yard-move"; value = r9.value } = named_as r9 (codes "yard-move") r9.value n9 refl in
     let all : r0 ∷ r1 ∷ r2 ∷ r3 ∷ r4 ∷ r5 ∷ r6 ∷ r7 ∷ r8 ∷ r9 ∷ [] ≡ settings_with content (code_values (values_of (r0 ∷ r1 ∷ r2 ∷ r3 ∷ r4 ∷ r5 ∷ r6 ∷ r7 ∷ r8 ∷ r9 ∷ []))) = λ i. s0 i ∷ s1 i ∷ s2 i ∷ s3 i ∷ s4 i ∷ s5 i ∷ s6 i ∷ s7 i ∷ s8 i ∷ s9 i ∷ [] in

@@ -2,7 +2,7 @@
 use Rattle.std.specs.Prelude.{true, Some, codes}
 use Rattle.clap.specs.Words.{App, Rule, Text, new_app, new_rule, with_rule, with_subcommand}
 use Rattle.clap.specs.Simple.{on_top}
-use Rattle.clap.specs.declared.builder.ArgAction.TheVariants.{Set}
+use Rattle.clap.specs.declared.builder.ArgAction.TheVariants.{Set, SetTrue}
 
 -- a word that has to be there
 abbrev pub word : Text → Rule
@@ -11,6 +11,10 @@ word id = record (new_rule id) { action = Some Set; required = true }
 -- a word that may be left out
 abbrev pub word_if_any : Text → Rule
 word_if_any id = record (new_rule id) { action = Some Set }
+
+-- an option without a value, as --log: `clap` gives it the value "true" if it is there, else "false"
+abbrev pub flag : Text → Rule
+flag name = record (new_rule name) { long = Some name; action = Some SetTrue }
 
 -- init DB PARTNERS BLOCKS
 unfoldable pub init_app : App
@@ -21,10 +25,11 @@ init_app = with_rule (with_rule (with_rule (new_app (codes "init")) (word (codes
 unfoldable pub deliver_app : App
 deliver_app = with_rule (with_rule (new_app (codes "deliver")) (word (codes "DB"))) (word (codes "FILE"))
 
--- serve DB PORT COUNT
+-- serve DB PORT COUNT [--log]
 unfoldable pub serve_app : App
-serve_app = with_rule (with_rule (with_rule (new_app (codes "serve")) (word (codes "DB"))) (word (codes "PORT")))
-    (word (codes "COUNT"))
+serve_app =
+    with_rule (with_rule (with_rule (with_rule (new_app (codes "serve")) (word (codes "DB"))) (word (codes "PORT")))
+    (word (codes "COUNT"))) (flag (codes "log"))
 
 -- report DB KIND [KEY]
 unfoldable pub report_app : App

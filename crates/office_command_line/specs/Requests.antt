@@ -1,6 +1,6 @@
 -- What the words of a command line ask for.
 use Rattle.std.specs.Prelude.{◌≡◌, ℕ, Bool, true, false, ◌&&◌, nat_le, List, [], length, Option, None, Some, codes, if◌then◌else◌}
-use Rattle.std.specs.Option.{option_map, option_and_then}
+use Rattle.std.specs.Option.{option_map, option_map_or, option_and_then}
 use Rattle.std.specs.List.{list_all}
 use Rattle.std.specs.Char.{is_ascii_digit}
 use Rattle.std.specs.Str.{bytes_eq}
@@ -20,14 +20,14 @@ use Rattle.office_command_line.specs.declared.request.Request.TheVariants as req
 pub data Asked : Type 0 where
   init : Text → Text → Text → Asked
   deliver : Text → Text → Asked
-  serve : Text → ℕ → ℕ → Asked
+  serve : Text → ℕ → ℕ → Bool → Asked
   report : Text → ReportKind → Option Text → Asked
   demo : Asked
 
 abbrev pub request_asked : Request → Asked
 request_asked (request.Init store partners blocks) = init store.now partners.now blocks.now
 request_asked (request.Deliver store file) = deliver store.now file.now
-request_asked (request.Serve store port count) = serve store.now port count
+request_asked (request.Serve store port count log) = serve store.now port count log
 request_asked (request.Report store kind key) = report store.now kind (option_map (λ text. text.now) key)
 request_asked request.Demo = demo
 
@@ -82,12 +82,16 @@ deliver_asked rows = option_and_then
     (λ (store : Text). option_map (λ (file : Text). deliver store file) (first_of (codes "FILE") rows))
     (first_of (codes "DB") rows)
 
--- a port from 1 to 65535, and from 1 to 1,000,000 connections
+-- an option without a value is there
+abbrev pub is_set : Text → List Row → Bool
+is_set name rows = option_map_or (λ (text : Text). bytes_eq text (codes "true")) (first_of name rows) false
+
+-- a port from 1 to 65535, from 1 to 1,000,000 connections, and whether a log is wanted
 abbrev pub serve_asked : List Row → Option Asked
 serve_asked rows =
     option_and_then (λ (store : Text).
     option_and_then (λ (port : ℕ).
-    option_map (λ (count : ℕ). serve store port count)
+    option_map (λ (count : ℕ). serve store port count (is_set (codes "log") rows))
     (option_and_then (number_upto 1000000) (first_of (codes "COUNT") rows)))
     (option_and_then (number_upto 65535) (first_of (codes "PORT") rows)))
     (first_of (codes "DB") rows)

@@ -1,7 +1,7 @@
 ghost use Rattle.std.specs.Prelude.{◌≡◌, IfOk, true, false};
 ghost use Rattle.clap.specs.Words.{app_of, rule_of};
 ghost use Rattle.clap.specs.declared.builder.command.Command.TheViews.{out-Command};
-ghost use Rattle.office_command_line.specs.Commands.{word, word_if_any, init_app, deliver_app, serve_app, report_app, demo_app};
+ghost use Rattle.office_command_line.specs.Commands.{word, word_if_any, flag, init_app, deliver_app, serve_app, report_app, demo_app};
 
 use clap::{Arg, ArgAction, Command};
 use std::alloc::{AllocError, Global};
@@ -42,7 +42,7 @@ pub(crate) fn deliver_command<'a>(alloc: Global) -> Result<Command<'a>, AllocErr
     Ok(deliver)
 }
 
-/// `serve DB PORT COUNT`
+/// `serve DB PORT COUNT [--log]`
 pub(crate) fn serve_command<'a>(alloc: Global) -> Result<Command<'a>, AllocError>
     ensures app { IfOk result (λ command. app_of command ≡ serve_app) }
     ensures local { IfOk result (λ command. (out-Command command).has_globals ≡ false) }
@@ -50,12 +50,18 @@ pub(crate) fn serve_command<'a>(alloc: Global) -> Result<Command<'a>, AllocError
     let store = word(alloc, "DB", "The store");
     let port = word(alloc, "PORT", "A port of this machine, from 1 to 65535");
     let count = word(alloc, "COUNT", "How many connections, from 1 to 1000000");
+    let log = flag(
+        alloc,
+        "log",
+        "Write a line for each request to the stream of errors, also if it is no terminal",
+    );
     let serve = Command::new(alloc, "serve")
         .about("Serves connections by HTTP, one after the other")
         .after_help("Example: office serve office.db 8080 1000")
         .arg(store)?
         .arg(port)?
-        .arg(count)?;
+        .arg(count)?
+        .arg(log)?;
     Ok(serve)
 }
 
@@ -107,4 +113,15 @@ fn word_if_any<'a>(alloc: Global, id: &'a str, help: &'a str) -> Arg<'a>
     ensures local { result.global ≡ false }
 {
     Arg::new(alloc, id).action(ArgAction::Set).help(help)
+}
+
+/// An option without a value.
+fn flag<'a>(alloc: Global, name: &'a str, help: &'a str) -> Arg<'a>
+    ensures rule { rule_of result ≡ flag name.entry.now }
+    ensures local { result.global ≡ false }
+{
+    Arg::new(alloc, name)
+        .long(name)
+        .action(ArgAction::SetTrue)
+        .help(help)
 }

@@ -1,7 +1,7 @@
 ghost use Rattle.std.specs.Prelude.{◌≡◌, IfOk, IfErr, map};
 ghost use Rattle.std.specs.Option.{option_map};
 ghost use Rattle.clap.specs.Words.{found_of, rows_of, subcommand_rows_of, first_of};
-ghost use Rattle.office_command_line.specs.Requests.{request_asked, init_asked, deliver_asked, serve_asked, report_asked, report_with, asked_by, met_asks, kind_said, usage_line, wants_key, RefusesWords, RefusesMet, WordsAsk};
+ghost use Rattle.office_command_line.specs.Requests.{request_asked, init_asked, deliver_asked, serve_asked, report_asked, report_with, asked_by, met_asks, is_set, kind_said, usage_line, wants_key, RefusesWords, RefusesMet, WordsAsk};
 
 use crate::command_fault::CommandFault;
 use crate::numbers::number_upto;
@@ -98,6 +98,7 @@ fn serve_in<'a>(matches: &ArgMatches<'a>) -> Option<Request<'a>>
         store,
         port: port as u16,
         count,
+        log: is_set(matches, "log"),
     })
 }
 
@@ -141,6 +142,16 @@ fn kind_of(word: &str) -> Option<ReportKind>
         "ticket" => Some(ReportKind::Ticket),
         "reply" => Some(ReportKind::Reply),
         _ => None,
+    }
+}
+
+/// Whether an option without a value is there: `clap` gives it one of two values.
+fn is_set(matches: &ArgMatches<'_>, name: &str) -> bool
+    ensures { result ≡ is_set name.now (rows_of (found_of matches.now)) }
+{
+    match text_of(matches, name) {
+        Some(text) => text == "true",
+        None => false,
     }
 }
 

@@ -27,6 +27,8 @@ pub enum Request<'a> {
         port: u16,
         /// How many connections, from 1 to 1,000,000.
         count: u32,
+        /// Whether a line is written for each request, also if nobody looks on.
+        log: bool,
     },
     /// To report on the store.
     Report {

@@ -6,9 +6,9 @@ use Rattle.edi_messages.specs.declared.code_table.CodeTable.{CodeTable}
 use Rattle.edi_messages.specs.declared.partner_kind.PartnerKind.{PartnerKind}
 use Rattle.edi_messages.specs.declared.partner_kind.PartnerKind.TheVariants.{Gate, Line, Quay, Yard}
 use Rattle.yard_core.specs.declared.block.Block.{Block}
-use Rattle.office_setup.specs.Setups.{SetupContent}
+use Rattle.office_setup.specs.Setups.{SetupContent, setup_content}
 use Rattle.sqlite.specs.Steps.{over_memory}
-use Rattle.office_desk.specs.Desks.{DeskStands, DeskAnswers}
+use Rattle.office_desk.specs.Desks.{StandsFor, answers_for}
 use Rattle.office_commands.specs.Opening.{MemoryDesk, OpensEmpty}
 use Rattle.office_replies.specs.declared.worst.Worst.{Worst}
 use Rattle.office_stream.specs.Streams.{PortBytes, Streamed, Began, Delivered}
@@ -55,21 +55,24 @@ pub record DemoRuns (ports : PortBytes) (worst : Worst) : Type 0 where
   pub opening : MemoryDesk
   pub desk : MemoryDesk
   pub opens : OpensDemo opening
-  pub streamed : Streamed (DeskStands over_memory opening) (DeskAnswers over_memory opening) [] ports desk worst
+  pub streamed : Streamed (StandsFor over_memory (setup_content opening.setup))
+      (answers_for (setup_content opening.setup)) [] ports desk worst
 
 -- All interchanges of what was read were delivered to such a desk and answered by their lines.
 pub record DemoBegan (ports : PortBytes) : Type 0 where
   pub opening : MemoryDesk
   pub desk : MemoryDesk
   pub opens : OpensDemo opening
-  pub began : Began (DeskStands over_memory opening) (DeskAnswers over_memory opening) [] ports desk
+  pub began : Began (StandsFor over_memory (setup_content opening.setup))
+      (answers_for (setup_content opening.setup)) [] ports desk
 
 -- They were delivered to such a desk as far as lines could be written, of which the last was cut short.
 pub record DemoDelivered (ports : PortBytes) : Type 0 where
   pub opening : MemoryDesk
   pub desk : MemoryDesk
   pub opens : OpensDemo opening
-  pub delivered : Delivered (DeskStands over_memory opening) (DeskAnswers over_memory opening) [] ports desk
+  pub delivered : Delivered (StandsFor over_memory (setup_content opening.setup))
+      (answers_for (setup_content opening.setup)) [] ports desk
 
 -- how many reads of the input are made
 abbrev pub demo_turns : ℕ

@@ -13,10 +13,11 @@ use Rattle.sqlite.specs.Steps.{over_memory}
 use Rattle.sqlite.specs.Tree.{Trees}
 use Rattle.sqlite.specs.declared.FileStore.{FileStore}
 use Rattle.office_setup.specs.Setups.{SetupContent, setup_content}
+use Rattle.office_replies.specs.Events.{Event}
 use Rattle.office_rows.specs.Tables.{office_schema}
 use Rattle.office_history.specs.After.{SaysSame}
 use Rattle.office_desk.specs.Crashes.{IsAfter}
-use Rattle.office_desk.specs.Desks.{DeskStands}
+use Rattle.office_desk.specs.Desks.{StandsFor}
 use Rattle.office_desk.specs.Offices.{OpensOffice}
 use Rattle.office_desk.specs.declared.desk.Desk.{Desk}
 
@@ -29,7 +30,7 @@ MemoryDesk = Desk MemStore over_memory
 -- a desk whose set-up says the same, to which nothing has been delivered
 pub record OpensEmpty (content : SetupContent) (desk : MemoryDesk) : Type 0 where
   pub says : SaysSame (setup_content desk.setup) content
-  pub stands : DeskStands over_memory desk [] desk
+  pub stands : StandsFor over_memory (setup_content desk.setup) [] desk
 
 -- ---- over files
 
@@ -38,11 +39,11 @@ pub record HoldsTables (image : Image) (db : Trees) : Type 0 where
   pub held : ∥ HoldsDatabase image db ∥₁
   pub lists : Lists (db catalog_tree) office_schema
 
--- the files hold a database with the rows after those deliveries
-pub record HoldsAfter (image : Image) (content : SetupContent) (ds : List (List ℕ)) : Type 0 where
+-- the files hold a database with the rows after those events
+pub record HoldsAfter (image : Image) (content : SetupContent) (es : List Event) : Type 0 where
   pub db : Trees
   pub held : ∥ HoldsDatabase image db ∥₁
-  pub after : IsAfter content ds db
+  pub after : IsAfter content es db
 
 module _ {D : Type 0} {g : Ghosts D} where
   -- a connection shows the database that the files held, with the tables that it lists

@@ -3,6 +3,7 @@ ghost use Rattle.sqlite.specs.State.{HasCleanDisk};
 ghost use Rattle.sqlite.specs.Files.{file_state, over_files};
 ghost use Rattle.sqlite.specs.Tree.{Trees};
 ghost use Rattle.sqlite.specs.WalFiles.{image_at};
+ghost use Rattle.office_replies.specs.Events.{Event};
 ghost use Rattle.office_setup.specs.Given.{IsGiven};
 ghost use Rattle.office_setup.specs.Setups.{SetupContent, setup_content};
 ghost use Rattle.office_rows.specs.Tables.{no_schema};
@@ -19,7 +20,7 @@ use std::fs;
 /// A store that can't be opened.
 const NO_STORE: Error = Error::SqliteFailure(ErrorCode::CannotOpen);
 
-/// The desk over the store in the file at a path. It goes on from the deliveries whose rows the file held, whatever
+/// The desk over the store in the file at a path. It goes on from the events whose rows the file held, whatever
 /// first contents `S` stands for. No file is made, and an empty one is no store. No clause ties the contents to the
 /// path: that this body opens the files there, and touches them by nothing else, is to be read.
 pub fn open_store<S: Start>(
@@ -28,8 +29,8 @@ pub fn open_store<S: Start>(
     start: S,
 ) -> Result<Desk<FileStore<FileFrom<S>>>, TableFault>
     ensures opens { IfOk result
-        (λ desk. IsSound over_files desk → (content : SetupContent) (ds : List (List ℕ)) →
-        IsGiven content → HoldsAfter (image_at S.Start) content ds → OpensAt over_files content ds desk) }
+        (λ desk. IsSound over_files desk → (content : SetupContent) (es : List Event) →
+        IsGiven content → HoldsAfter (image_at S.Start) content es → OpensAt over_files content es desk) }
     ensures office { IfOk result
         (λ desk. IsSound over_files desk → (db : Trees) → HoldsTables (image_at S.Start) db → OpensOver db desk) }
 {
@@ -41,7 +42,7 @@ pub fn open_store<S: Start>(
 }
 
 /// Makes the tables of a store with the rows of a set-up, wholly or not at all, and answers the connection to them. A
-/// file that isn't there is made. If the file was empty, a crash behind this leaves the rows after no delivery.
+/// file that isn't there is made. If the file was empty, a crash behind this leaves the rows after no event.
 pub fn make_store<S: Start>(
     rt: &HostRuntime,
     path: &str,

@@ -4,6 +4,7 @@ use Rattle.sqlite.specs.State.{State, HasCleanDisk, Survives}
 use Rattle.sqlite.specs.Tree.{Trees}
 use Rattle.edi_segments.specs.Interchange.{interchange_of}
 use Rattle.partner_core.specs.Deliveries.{run}
+use Rattle.office_replies.specs.Events.{Event, delivered}
 use Rattle.office_replies.specs.declared.fault.Fault.{Fault}
 use Rattle.office_replies.specs.declared.response.Response.{Response}
 use Rattle.office_replies.specs.declared.response.Response.TheVariants as response
@@ -63,45 +64,45 @@ pub either_of : {A B C D : Type 0} → (A → C) → (B → D) → A ⊎ B → C
 either_of f g (inl x) = inl (f x)
 either_of f g (inr y) = inr (g y)
 
-module _ (content : SetupContent) (ds : List (List ℕ)) (delivered : List ℕ) where
+module _ (content : SetupContent) (es : List Event) (sent : List ℕ) where
   -- what is refused adds nothing
-  pub refused_leaves : (fault : Fault) (s : State) → admission (parties_in content) (interchange_of delivered) ≡ Err fault → Leaves content ds s → Leaves content (ds ++ delivered ∷ []) s
+  pub refused_leaves : (fault : Fault) (s : State) → admission (parties_in content) (interchange_of sent) ≡ Err fault → Leaves content es s → Leaves content (es ++ delivered sent ∷ []) s
   refused_leaves fault s refused leaves db left =
       let is = leaves db left in
-      record { rows = is.rows; are = is.are; after = (refused_adds content ds is.rows delivered fault is.after refused).rows_are }
+      record { rows = is.rows; are = is.are; after = (refused_adds content es is.rows sent fault is.after refused).rows_are }
 
   -- nor does what is used
-  pub used_leaves : (rows : Rows) (partner number : ℕ) (kept : List ℕ) (old new : State) → AreAfter content ds rows → IsFor content delivered partner number → text_in rows partner number ≡ Some kept →
-      ((db : Trees) → new.may_leave db → old.may_leave db) → Leaves content ds old → Leaves content (ds ++ delivered ∷ []) new
+  pub used_leaves : (rows : Rows) (partner number : ℕ) (kept : List ℕ) (old new : State) → AreAfter content es rows → IsFor content sent partner number → text_in rows partner number ≡ Some kept →
+      ((db : Trees) → new.may_leave db → old.may_leave db) → Leaves content es old → Leaves content (es ++ delivered sent ∷ []) new
   used_leaves rows partner number kept old new after is_for there less leaves db left =
       let is = leaves db (less db left) in
       let here : text_in is.rows partner number ≡ Some kept = is.after.texts partner number ∙ sym (after.texts partner number) ∙ there in
-      record { rows = is.rows; are = is.are; after = (used_adds content ds is.rows delivered partner number kept is.after is_for here).rows_are }
+      record { rows = is.rows; are = is.are; after = (used_adds content es is.rows sent partner number kept is.after is_for here).rows_are }
 
-  pub early_after : (rows : Rows) (text : List ℕ) (partner number next : ℕ) (db : Trees) → AreAfter content ds rows → Comes content delivered text partner number → text_in rows partner number ≡ None →
-      next ≡ run (delivered_to content ds) partner + 1 → next < number → StoresRows (with_kept partner number text rows) db → IsAfter content (ds ++ delivered ∷ []) db
+  pub early_after : (rows : Rows) (text : List ℕ) (partner number next : ℕ) (db : Trees) → AreAfter content es rows → Comes content sent text partner number → text_in rows partner number ≡ None →
+      next ≡ run (delivered_to content es) partner + 1 → next < number → StoresRows (with_kept partner number text rows) db → IsAfter content (es ++ delivered sent ∷ []) db
   early_after rows text partner number next db after comes free is later are = record {
-    rows = with_kept partner number (interchange_of delivered) rows;
+    rows = with_kept partner number (interchange_of sent) rows;
     are = subst (λ t. StoresRows (with_kept partner number t rows) db) comes.text_is are;
-    after = (early_adds content ds rows delivered partner number after comes.is_for free (omega (arith, is, later))).rows_are;
+    after = (early_adds content es rows sent partner number after comes.is_for free (omega (arith, is, later))).rows_are;
   }
 
-  pub run_after : (rows : Rows) (text : List ℕ) (partner number next : ℕ) (now : Beside) (db : Trees) → IsGiven content → AreAfter content ds rows → IsAt content ds now →
-      Comes content delivered text partner number → text_in rows partner number ≡ None → next ≡ run (delivered_to content ds) partner + 1 → number ≡ next →
-      IsRunDone rows partner number text (machine_with content now.terminal) db → IsAfter content (ds ++ delivered ∷ []) db
+  pub run_after : (rows : Rows) (text : List ℕ) (partner number next : ℕ) (now : Beside) (db : Trees) → IsGiven content → AreAfter content es rows → IsAt content es now →
+      Comes content sent text partner number → text_in rows partner number ≡ None → next ≡ run (delivered_to content es) partner + 1 → number ≡ next →
+      IsRunDone rows partner number text (machine_with content now.terminal) db → IsAfter content (es ++ delivered sent ∷ []) db
   run_after rows text partner number next now db given after at comes free is same done =
-      let own = interchange_of delivered in
-      let here : AreTakenFrom partner (texts_with rows partner number own) number (machine_after content ds) done.taken done.new =
+      let own = interchange_of sent in
+      let here : AreTakenFrom partner (texts_with rows partner number own) number (machine_after content es) done.taken done.new =
       subst (λ m. AreTakenFrom partner (texts_with rows partner number own) number m done.taken done.new) at.terminal
       (subst (λ t. AreTakenFrom partner (texts_with rows partner number t) number (machine_with content now.terminal) done.taken done.new) comes.text_is done.are_taken) in
       record {
         rows = with_run partner number own done.taken rows;
         are = subst (λ t. StoresRows (with_run partner number t done.taken rows) db) comes.text_is done.are;
-        after = (next_adds content ds rows delivered partner number done.taken done.new given after comes.is_for free (same ∙ is) here).rows_are;
+        after = (next_adds content es rows sent partner number done.taken done.new given after comes.is_for free (same ∙ is) here).rows_are;
       }
 
   -- what is told of what a crash leaves, by the answer
-  pub answered_behind : (given : Response) (s : State) → Leaves content (ds ++ delivered ∷ []) s → LeavesBehind content ds delivered given s
+  pub answered_behind : (given : Response) (s : State) → Leaves content (es ++ delivered sent ∷ []) s → LeavesBehind content es sent given s
   answered_behind (response.Taken body) s leaves = leaves
   answered_behind (response.Repeat body) s leaves = leaves
   answered_behind (response.Waiting body) s leaves = leaves
@@ -111,10 +112,10 @@ module _ (content : SetupContent) (ds : List (List ℕ)) (delivered : List ℕ) 
   answered_behind response.NotNow s leaves = λ db left. inr (leaves db left)
 
 -- a crash leaves what was committed
-pub committed_leaves : (content : SetupContent) (ds : List (List ℕ)) (s : State) (rows : Rows) → HasCommitted s → HasRows rows s.committed → AreAfter content ds rows → Leaves content ds s
-committed_leaves content ds s rows done has after db left = record { rows = rows; are = subst (StoresRows rows) (sym (done.alone db left)) (stores rows s.committed has); after = after }
+pub committed_leaves : (content : SetupContent) (es : List Event) (s : State) (rows : Rows) → HasCommitted s → HasRows rows s.committed → AreAfter content es rows → Leaves content es s
+committed_leaves content es s rows done has after db left = record { rows = rows; are = subst (StoresRows rows) (sym (done.alone db left)) (stores rows s.committed has); after = after }
 
 -- while it is open, a crash leaves what was committed alone, so the rows that are held
-pub held_leaves : (content : SetupContent) (ds : List (List ℕ)) (s : State) (there : Option Beside) → IsTrue s.is_open → ((db : Trees) → s.may_leave db → db ≡ s.committed.trees) →
-    Holds content ds s.committed there → Leaves content ds s
-held_leaves content ds s there is_open alone holds = committed_leaves content ds s holds.rows (record { is_open = is_open; alone = alone }) holds.has holds.after
+pub held_leaves : (content : SetupContent) (es : List Event) (s : State) (there : Option Beside) → IsTrue s.is_open → ((db : Trees) → s.may_leave db → db ≡ s.committed.trees) →
+    Holds content es s.committed there → Leaves content es s
+held_leaves content es s there is_open alone holds = committed_leaves content es s holds.rows (record { is_open = is_open; alone = alone }) holds.has holds.after

@@ -7,6 +7,7 @@ use Rattle.edi_segments.specs.Interchange.{interchange_of, segments_in}
 use Rattle.edi_syntax.specs.Envelope.{header_of}
 use Rattle.partner_core.specs.Answers.{Told}
 use Rattle.partner_core.specs.Answers as told
+use Rattle.office_replies.specs.Events.{Event, delivered}
 use Rattle.office_replies.specs.Contents.{AnswerContent, GivesOrNotNow, content_of}
 use Rattle.office_replies.specs.Delivering.{Delivers}
 use Rattle.office_replies.specs.declared.response.Response.{Response}
@@ -51,112 +52,112 @@ never_now code number (told.Waiting next) e = not_fine (ap (λ answer. answer.ho
 never_now code number told.Clash e = not_refused (ap (λ answer. answer.how_bad) e)
 
 module _ {S : Type 0} (g : Ghosts S) (content : SetupContent) where
-  abbrev Next : List (List ℕ) → List ℕ → Response → Desk S g → Type 0
-  Next ds delivered given desk = Delivers (StandsFor g content) (answers_for content) ds delivered given desk
+  abbrev Next : List Event → List ℕ → Response → Desk S g → Type 0
+  Next es sent given desk = Delivers (StandsFor g content) (answers_for content) es sent given desk
 
-  abbrev answer : List (List ℕ) → List ℕ → AnswerContent
-  answer ds delivered = answer_to (parties_in content) interchange_taken (opening_of content) ds delivered
+  abbrev answer : List Event → List ℕ → AnswerContent
+  answer es sent = answer_to (parties_in content) interchange_taken (opening_of content) es sent
 
-  answers_or_not : (ds : List (List ℕ)) (delivered : List ℕ) (given : Response) (desk : Desk S g) → GivesOrNotNow (answer ds delivered) given → RefusedSurely (parties_in content) (interchange_of delivered) given →
-      StandsFor g content ds desk → StandsFor g content (ds ++ delivered ∷ []) desk → Next ds delivered given desk
-  answers_or_not ds delivered (response.Taken body) desk gives surely before after = (gives, after)
-  answers_or_not ds delivered (response.Repeat body) desk gives surely before after = (gives, after)
-  answers_or_not ds delivered (response.Waiting body) desk gives surely before after = (gives, after)
-  answers_or_not ds delivered (response.Clash body) desk gives surely before after = (gives, after)
-  answers_or_not ds delivered (response.Refused fault) desk gives surely before after = (gives, after)
-  answers_or_not ds delivered (response.Rejected fault body) desk gives surely before after = (gives, after)
-  answers_or_not ds delivered response.NotNow desk gives surely before after = (not_now_surely (parties_in content) (interchange_of delivered) surely, before)
+  answers_or_not : (es : List Event) (sent : List ℕ) (given : Response) (desk : Desk S g) → GivesOrNotNow (answer es sent) given → RefusedSurely (parties_in content) (interchange_of sent) given →
+      StandsFor g content es desk → StandsFor g content (es ++ delivered sent ∷ []) desk → Next es sent given desk
+  answers_or_not es sent (response.Taken body) desk gives surely before after = (gives, after)
+  answers_or_not es sent (response.Repeat body) desk gives surely before after = (gives, after)
+  answers_or_not es sent (response.Waiting body) desk gives surely before after = (gives, after)
+  answers_or_not es sent (response.Clash body) desk gives surely before after = (gives, after)
+  answers_or_not es sent (response.Refused fault) desk gives surely before after = (gives, after)
+  answers_or_not es sent (response.Rejected fault body) desk gives surely before after = (gives, after)
+  answers_or_not es sent response.NotNow desk gives surely before after = (not_now_surely (parties_in content) (interchange_of sent) surely, before)
 
-  answers_now : (ds : List (List ℕ)) (delivered : List ℕ) (given : Response) (desk : Desk S g) (code : List ℕ) (number : ℕ) (kind : Told) → content_of given ≡ told_answer code number kind →
-      content_of given ≡ answer ds delivered → StandsFor g content (ds ++ delivered ∷ []) desk → Next ds delivered given desk
-  answers_now ds delivered (response.Taken body) desk code number kind e is after = (is, after)
-  answers_now ds delivered (response.Repeat body) desk code number kind e is after = (is, after)
-  answers_now ds delivered (response.Waiting body) desk code number kind e is after = (is, after)
-  answers_now ds delivered (response.Clash body) desk code number kind e is after = (is, after)
-  answers_now ds delivered (response.Refused fault) desk code number kind e is after = (is, after)
-  answers_now ds delivered (response.Rejected fault body) desk code number kind e is after = (is, after)
-  answers_now ds delivered response.NotNow desk code number kind e is after = absurd (never_now code number kind e)
+  answers_now : (es : List Event) (sent : List ℕ) (given : Response) (desk : Desk S g) (code : List ℕ) (number : ℕ) (kind : Told) → content_of given ≡ told_answer code number kind →
+      content_of given ≡ answer es sent → StandsFor g content (es ++ delivered sent ∷ []) desk → Next es sent given desk
+  answers_now es sent (response.Taken body) desk code number kind e is after = (is, after)
+  answers_now es sent (response.Repeat body) desk code number kind e is after = (is, after)
+  answers_now es sent (response.Waiting body) desk code number kind e is after = (is, after)
+  answers_now es sent (response.Clash body) desk code number kind e is after = (is, after)
+  answers_now es sent (response.Refused fault) desk code number kind e is after = (is, after)
+  answers_now es sent (response.Rejected fault body) desk code number kind e is after = (is, after)
+  answers_now es sent response.NotNow desk code number kind e is after = absurd (never_now code number kind e)
 
-  pub refusal_delivered : (ds : List (List ℕ)) (delivered text : List ℕ) (given : Response) (desk : Desk S g) (refusal : Refusal) → text ≡ interchange_of delivered → StandsFor g content ds desk →
+  pub refusal_delivered : (es : List Event) (sent text : List ℕ) (given : Response) (desk : Desk S g) (refusal : Refusal) → text ≡ interchange_of sent → StandsFor g content es desk →
       IsRefused desk.setup text refusal → GivesOrNotNow (refusal_of (parties_of desk.setup) (header_of (segments_in text)) (fault_in refusal)) given → RefusedSurely (parties_of desk.setup) text given →
-      Next ds delivered given desk
-  refusal_delivered ds delivered text given desk refusal is stands refused gives surely =
-      let own = interchange_of delivered in
+      Next es sent given desk
+  refusal_delivered es sent text given desk refusal is stands refused gives surely =
+      let own = interchange_of sent in
       let P = parties_in content in
       let fault = fault_in refusal in
       let same : parties_of desk.setup ≡ P = parties_same desk.setup ∙ ap parties_in stands.setup in
       let here : admission P own ≡ Err fault = subst (λ others. admission others own ≡ Err fault) same (subst (λ other. admission (parties_of desk.setup) other ≡ Err fault) is (refused_for desk.setup text refusal refused)) in
-      let adds = refused_adds content ds stands.holds.rows delivered fault stands.holds.after here in
-      let after : StandsFor g content (ds ++ delivered ∷ []) desk = record {
+      let adds = refused_adds content es stands.holds.rows sent fault stands.holds.after here in
+      let after : StandsFor g content (es ++ delivered sent ∷ []) desk = record {
         setup = stands.setup;
-        holds = record { rows = stands.holds.rows; has = stands.holds.has; after = adds.rows_are; beside = beside_same content ds (ds ++ delivered ∷ []) desk.beside adds.machine adds.runs stands.holds.beside };
+        holds = record { rows = stands.holds.rows; has = stands.holds.has; after = adds.rows_are; beside = beside_same content es (es ++ delivered sent ∷ []) desk.beside adds.machine adds.runs stands.holds.beside };
       } in
       let told : GivesOrNotNow (refusal_of P (header_of (segments_in own)) fault) given =
       subst (λ others. GivesOrNotNow (refusal_of others (header_of (segments_in own)) fault) given) same
       (subst (λ other. GivesOrNotNow (refusal_of (parties_of desk.setup) (header_of (segments_in other)) fault) given) is gives) in
-      answers_or_not ds delivered given desk
-      (subst (λ place. GivesOrNotNow (answer_at P interchange_taken (opening_of content) (delivered_to content ds) own place) given) (sym here) told)
+      answers_or_not es sent given desk
+      (subst (λ place. GivesOrNotNow (answer_at P interchange_taken (opening_of content) (delivered_to content es) own place) given) (sym here) told)
       (subst (λ others. RefusedSurely others own given) same (subst (λ other. RefusedSurely (parties_of desk.setup) other given) is surely)) stands after
 
-  pub taken_delivered : (ds : List (List ℕ)) (delivered : List ℕ) (given : Response) (desk : Desk S g) (partner number : ℕ) (code : List ℕ) → setup_content desk.setup ≡ content →
-      IsFor content delivered partner number → code ≡ code_of (parties_in content) partner →
-      Answers content ds delivered partner number code given (state g desk.conn).committed desk.beside → Next ds delivered given desk
-  taken_delivered ds delivered given desk partner number code setup is_for is_code told =
-      let kind = told_of content ds partner number delivered in
+  pub taken_delivered : (es : List Event) (sent : List ℕ) (given : Response) (desk : Desk S g) (partner number : ℕ) (code : List ℕ) → setup_content desk.setup ≡ content →
+      IsFor content sent partner number → code ≡ code_of (parties_in content) partner →
+      Answers content es sent partner number code given (state g desk.conn).committed desk.beside → Next es sent given desk
+  taken_delivered es sent given desk partner number code setup is_for is_code told =
+      let kind = told_of content es partner number sent in
       let here : content_of given ≡ told_answer (code_of (parties_in content) partner) number kind = told.answers ∙ ap (λ c. told_answer c number kind) is_code in
-      answers_now ds delivered given desk (code_of (parties_in content) partner) number kind here
-      (subst (λ place. content_of given ≡ answer_at (parties_in content) interchange_taken (opening_of content) (delivered_to content ds) (interchange_of delivered) place) (sym is_for) here)
+      answers_now es sent given desk (code_of (parties_in content) partner) number kind here
+      (subst (λ place. content_of given ≡ answer_at (parties_in content) interchange_taken (opening_of content) (delivered_to content es) (interchange_of sent) place) (sym is_for) here)
       (record { setup = setup; holds = told.holds })
 
-  pub not_now_delivered : (ds : List (List ℕ)) (delivered : List ℕ) (desk : Desk S g) → StandsFor g content ds desk → RefusedSurely (parties_in content) (interchange_of delivered) response.NotNow →
-      Next ds delivered response.NotNow desk
-  not_now_delivered ds delivered desk stands surely = (not_now_surely (parties_in content) (interchange_of delivered) surely, stands)
+  pub not_now_delivered : (es : List Event) (sent : List ℕ) (desk : Desk S g) → StandsFor g content es desk → RefusedSurely (parties_in content) (interchange_of sent) response.NotNow →
+      Next es sent response.NotNow desk
+  not_now_delivered es sent desk stands surely = (not_now_surely (parties_in content) (interchange_of sent) surely, stands)
 
   -- a text that is admitted, and was taken in
-  pub taken_in : (ds : List (List ℕ)) (delivered text : List ℕ) (given : Response) (old new : Desk S g) (partner number : ℕ) (code : List ℕ) → text ≡ interchange_of delivered → StandsFor g content ds old →
+  pub taken_in : (es : List Event) (sent text : List ℕ) (given : Response) (old new : Desk S g) (partner number : ℕ) (code : List ℕ) → text ≡ interchange_of sent → StandsFor g content es old →
       new.setup ≡ old.setup → admission (parties_of old.setup) text ≡ Ok (partner, number) → code ≡ code_of (parties_of old.setup) partner →
-      ((before : List (List ℕ)) (now : List ℕ) → Holds (setup_content old.setup) before (state g old.conn).committed old.beside → Comes (setup_content old.setup) now text partner number →
+      ((before : List Event) (now : List ℕ) → Holds (setup_content old.setup) before (state g old.conn).committed old.beside → Comes (setup_content old.setup) now text partner number →
       Answers (setup_content old.setup) before now partner number code given (state g new.conn).committed new.beside) →
-      Next ds delivered given new
-  taken_in ds delivered text given old new partner number code is stands same admits is_code takes =
+      Next es sent given new
+  taken_in es sent text given old new partner number code is stands same admits is_code takes =
       let first = setup_content old.setup in
-      let own : IsFor first delivered partner number = subst (λ P. admission P (interchange_of delivered) ≡ Ok (partner, number)) (parties_same old.setup) (subst (λ t. admission (parties_of old.setup) t ≡ Ok (partner, number)) is admits) in
-      let holds : Holds first ds (state g old.conn).committed old.beside = subst (λ k. Holds k ds (state g old.conn).committed old.beside) (sym stands.setup) stands.holds in
-      let told = takes ds delivered holds (record { text_is = is; is_for = own }) in
-      taken_delivered ds delivered given new partner number code (ap setup_content same ∙ stands.setup) (subst (λ k. IsFor k delivered partner number) stands.setup own)
+      let own : IsFor first sent partner number = subst (λ P. admission P (interchange_of sent) ≡ Ok (partner, number)) (parties_same old.setup) (subst (λ t. admission (parties_of old.setup) t ≡ Ok (partner, number)) is admits) in
+      let holds : Holds first es (state g old.conn).committed old.beside = subst (λ k. Holds k es (state g old.conn).committed old.beside) (sym stands.setup) stands.holds in
+      let told = takes es sent holds (record { text_is = is; is_for = own }) in
+      taken_delivered es sent given new partner number code (ap setup_content same ∙ stands.setup) (subst (λ k. IsFor k sent partner number) stands.setup own)
       (is_code ∙ ap (λ P. code_of P partner) (parties_same old.setup ∙ ap parties_in stands.setup))
-      (subst (λ k. Answers k ds delivered partner number code given (state g new.conn).committed new.beside) stands.setup told)
+      (subst (λ k. Answers k es sent partner number code given (state g new.conn).committed new.beside) stands.setup told)
 
   -- one that is admitted, and could not be taken now
-  pub not_taken : (ds : List (List ℕ)) (delivered : List ℕ) (old new : Desk S g) → StandsFor g content ds old → new.setup ≡ old.setup → RefusedSurely (parties_of old.setup) (interchange_of delivered) response.NotNow →
-      ((before : List (List ℕ)) → Holds (setup_content old.setup) before (state g old.conn).committed old.beside → Holds (setup_content old.setup) before (state g new.conn).committed new.beside) →
-      Next ds delivered response.NotNow new
-  not_taken ds delivered old new stands same surely keeps =
-      let holds = keeps ds (subst (λ k. Holds k ds (state g old.conn).committed old.beside) (sym stands.setup) stands.holds) in
-      not_now_delivered ds delivered new
-      (record { setup = ap setup_content same ∙ stands.setup; holds = subst (λ k. Holds k ds (state g new.conn).committed new.beside) stands.setup holds })
-      (subst (λ P. RefusedSurely P (interchange_of delivered) response.NotNow) (parties_same old.setup ∙ ap parties_in stands.setup) surely)
+  pub not_taken : (es : List Event) (sent : List ℕ) (old new : Desk S g) → StandsFor g content es old → new.setup ≡ old.setup → RefusedSurely (parties_of old.setup) (interchange_of sent) response.NotNow →
+      ((before : List Event) → Holds (setup_content old.setup) before (state g old.conn).committed old.beside → Holds (setup_content old.setup) before (state g new.conn).committed new.beside) →
+      Next es sent response.NotNow new
+  not_taken es sent old new stands same surely keeps =
+      let holds = keeps es (subst (λ k. Holds k es (state g old.conn).committed old.beside) (sym stands.setup) stands.holds) in
+      not_now_delivered es sent new
+      (record { setup = ap setup_content same ∙ stands.setup; holds = subst (λ k. Holds k es (state g new.conn).committed new.beside) stands.setup holds })
+      (subst (λ P. RefusedSurely P (interchange_of sent) response.NotNow) (parties_same old.setup ∙ ap parties_in stands.setup) surely)
 
   -- ---- what a crash leaves
 
-  pub refusal_leaves : (ds : List (List ℕ)) (delivered text : List ℕ) (given : Response) (desk : Desk S g) (refusal : Refusal) → text ≡ interchange_of delivered → StandsFor g content ds desk →
-      IsRefused desk.setup text refusal → Leaves content ds (state g desk.conn) → LeavesBehind content ds delivered given (state g desk.conn)
-  refusal_leaves ds delivered text given desk refusal is stands refused leaves =
+  pub refusal_leaves : (es : List Event) (sent text : List ℕ) (given : Response) (desk : Desk S g) (refusal : Refusal) → text ≡ interchange_of sent → StandsFor g content es desk →
+      IsRefused desk.setup text refusal → Leaves content es (state g desk.conn) → LeavesBehind content es sent given (state g desk.conn)
+  refusal_leaves es sent text given desk refusal is stands refused leaves =
       let same : parties_of desk.setup ≡ parties_in content = parties_same desk.setup ∙ ap parties_in stands.setup in
-      let here : admission (parties_in content) (interchange_of delivered) ≡ Err (fault_in refusal) =
-      subst (λ others. admission others (interchange_of delivered) ≡ Err (fault_in refusal)) same
+      let here : admission (parties_in content) (interchange_of sent) ≡ Err (fault_in refusal) =
+      subst (λ others. admission others (interchange_of sent) ≡ Err (fault_in refusal)) same
       (subst (λ other. admission (parties_of desk.setup) other ≡ Err (fault_in refusal)) is (refused_for desk.setup text refusal refused)) in
-      answered_behind content ds delivered given (state g desk.conn) (refused_leaves content ds delivered (fault_in refusal) (state g desk.conn) here leaves)
+      answered_behind content es sent given (state g desk.conn) (refused_leaves content es sent (fault_in refusal) (state g desk.conn) here leaves)
 
   -- what is told of a text that is admitted, for the desk's own set-up
-  pub admitted_leaves : (ds : List (List ℕ)) (delivered text : List ℕ) (old : Desk S g) (partner number : ℕ) (P : SetupContent → Type 0) → text ≡ interchange_of delivered → StandsFor g content ds old →
-      admission (parties_of old.setup) text ≡ Ok (partner, number) → Leaves content ds (state g old.conn) →
-      ((before : List (List ℕ)) (now : List ℕ) → before ≡ ds → now ≡ delivered → Holds (setup_content old.setup) before (state g old.conn).committed old.beside → Leaves (setup_content old.setup) before (state g old.conn) →
+  pub admitted_leaves : (es : List Event) (sent text : List ℕ) (old : Desk S g) (partner number : ℕ) (P : SetupContent → Type 0) → text ≡ interchange_of sent → StandsFor g content es old →
+      admission (parties_of old.setup) text ≡ Ok (partner, number) → Leaves content es (state g old.conn) →
+      ((before : List Event) (now : List ℕ) → before ≡ es → now ≡ sent → Holds (setup_content old.setup) before (state g old.conn).committed old.beside → Leaves (setup_content old.setup) before (state g old.conn) →
       Comes (setup_content old.setup) now text partner number → P (setup_content old.setup)) →
       P content
-  admitted_leaves ds delivered text old partner number P is stands admits leaves takes =
+  admitted_leaves es sent text old partner number P is stands admits leaves takes =
       let first = setup_content old.setup in
-      let own : IsFor first delivered partner number = subst (λ P. admission P (interchange_of delivered) ≡ Ok (partner, number)) (parties_same old.setup) (subst (λ t. admission (parties_of old.setup) t ≡ Ok (partner, number)) is admits) in
+      let own : IsFor first sent partner number = subst (λ P. admission P (interchange_of sent) ≡ Ok (partner, number)) (parties_same old.setup) (subst (λ t. admission (parties_of old.setup) t ≡ Ok (partner, number)) is admits) in
       subst P stands.setup
-      (takes ds delivered refl refl (subst (λ k. Holds k ds (state g old.conn).committed old.beside) (sym stands.setup) stands.holds)
-      (subst (λ k. Leaves k ds (state g old.conn)) (sym stands.setup) leaves) (record { text_is = is; is_for = own }))
+      (takes es sent refl refl (subst (λ k. Holds k es (state g old.conn).committed old.beside) (sym stands.setup) stands.holds)
+      (subst (λ k. Leaves k es (state g old.conn)) (sym stands.setup) leaves) (record { text_is = is; is_for = own }))

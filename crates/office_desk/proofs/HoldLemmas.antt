@@ -15,6 +15,7 @@ use Rattle.partner_core.specs.Numbered.{with_number}
 use Rattle.partner_core.specs.Standings.{standing_of, is_same_text}
 use Rattle.partner_core.specs.declared.standing.Standing.TheVariants.{Known, Other}
 use Rattle.terminal_core.specs.State.{TerminalState}
+use Rattle.office_replies.specs.Events.{Event, delivered}
 use Rattle.office_replies.specs.Contents.{content_of}
 use Rattle.office_replies.specs.declared.response.Response.{Response}
 use Rattle.office_rows.specs.Rows.{Interchange, Rows}
@@ -52,78 +53,78 @@ pub reply_kept : (partner number : ℕ) (rows : Rows) (kept : Kept) → AreKeptO
 reply_kept partner number rows kept once is =
     ap (option_and_then (λ (i : Interchange). reply_if_any i.reply)) (one_kept partner number rows is.0 once is.1) ∙ reply_is kept.reply is.0.reply is.3
 
-pub next_is : (content : SetupContent) (ds : List (List ℕ)) (there : Beside) (partner next : ℕ) → IsAt content ds there → with_number there.nexts.items partner ≡ Some next → next ≡ run (delivered_to content ds) partner + 1
-next_is content ds there partner next at is =
-    number_of (λ p. run (delivered_to content ds) p + 1) (length content.partners) partner next (sym (ap (λ l. with_number l partner) at.nexts) ∙ is)
+pub next_is : (content : SetupContent) (es : List Event) (there : Beside) (partner next : ℕ) → IsAt content es there → with_number there.nexts.items partner ≡ Some next → next ≡ run (delivered_to content es) partner + 1
+next_is content es there partner next at is =
+    number_of (λ p. run (delivered_to content es) p + 1) (length content.partners) partner next (sym (ap (λ l. with_number l partner) at.nexts) ∙ is)
 
-pub numbered : (content : SetupContent) (ds : List (List ℕ)) (rows : Rows) (partner : ℕ) → AreAfter content ds rows → IsNumbered partner rows
-numbered content ds rows partner after = record { kept_once = after.kept_once; none_beyond = at (text_in rows partner 1000000000) refl }
+pub numbered : (content : SetupContent) (es : List Event) (rows : Rows) (partner : ℕ) → AreAfter content es rows → IsNumbered partner rows
+numbered content es rows partner after = record { kept_once = after.kept_once; none_beyond = at (text_in rows partner 1000000000) refl }
   where
     at : (found : Option (List ℕ)) → text_in rows partner 1000000000 ≡ found → text_in rows partner 1000000000 ≡ None
     at None e = e
-    at (Some text) e = let within = text_within content ds rows partner 1000000000 text after e in absurd (omega (arith, within))
+    at (Some text) e = let within = text_within content es rows partner 1000000000 text after e in absurd (omega (arith, within))
 
 -- ---- the answers
 
-module _ (content : SetupContent) (ds : List (List ℕ)) (rows : Rows) (delivered : List ℕ) (partner number : ℕ) (after : AreAfter content ds rows) (is_for : IsFor content delivered partner number) where
+module _ (content : SetupContent) (es : List Event) (rows : Rows) (sent : List ℕ) (partner number : ℕ) (after : AreAfter content es rows) (is_for : IsFor content sent partner number) where
   abbrev told : Told
-  told = told_of content ds partner number delivered
+  told = told_of content es partner number sent
 
-  abbrev by_rows : AnswersBy content ds rows delivered partner number
-  by_rows = answers content ds rows delivered partner number after is_for
+  abbrev by_rows : AnswersBy content es rows sent partner number
+  by_rows = answers content es rows sent partner number after is_for
 
-  used_by : (same : Bool) (kept : List ℕ) (reply : Option (List ℕ)) (next : ℕ) → same ≡ is_same_text kept (interchange_of delivered) → text_in rows partner number ≡ Some kept →
-      reply_in rows partner number ≡ reply → next ≡ run (delivered_to content ds) partner + 1 → told ≡ answer_by (cond same Known Other) next reply None
+  used_by : (same : Bool) (kept : List ℕ) (reply : Option (List ℕ)) (next : ℕ) → same ≡ is_same_text kept (interchange_of sent) → text_in rows partner number ≡ Some kept →
+      reply_in rows partner number ≡ reply → next ≡ run (delivered_to content es) partner + 1 → told ≡ answer_by (cond same Known Other) next reply None
   used_by true kept (Some reply) next same there has is =
-      by_rows.repeat reply (there ∙ ap Some (same_text kept (interchange_of delivered) same)) has
+      by_rows.repeat reply (there ∙ ap Some (same_text kept (interchange_of sent) same)) has
   used_by true kept None next same there has is =
-      by_rows.waits (there ∙ ap Some (same_text kept (interchange_of delivered) same)) has ∙ ap Waiting (sym is)
-  used_by false kept reply next same there has is = by_rows.clash kept there (other_text kept (interchange_of delivered) same)
+      by_rows.waits (there ∙ ap Some (same_text kept (interchange_of sent) same)) has ∙ ap Waiting (sym is)
+  used_by false kept reply next same there has is = by_rows.clash kept there (other_text kept (interchange_of sent) same)
 
   pub used_told : (kept : List ℕ) (reply : Option (List ℕ)) (next : ℕ) → text_in rows partner number ≡ Some kept →
-      reply_in rows partner number ≡ reply → next ≡ run (delivered_to content ds) partner + 1 →
-      told ≡ answer_by (standing_of next number (Some kept) (interchange_of delivered)) next reply None
-  used_told kept reply next there has is = used_by (is_same_text kept (interchange_of delivered)) kept reply next refl there has is
+      reply_in rows partner number ≡ reply → next ≡ run (delivered_to content es) partner + 1 →
+      told ≡ answer_by (standing_of next number (Some kept) (interchange_of sent)) next reply None
+  used_told kept reply next there has is = used_by (is_same_text kept (interchange_of sent)) kept reply next refl there has is
 
 -- ---- what is held
 
-pub beside_same : (content : SetupContent) (ds ds' : List (List ℕ)) (there : Option Beside) → machine_after content ds' ≡ machine_after content ds →
-    ((partner : ℕ) → run (delivered_to content ds') partner ≡ run (delivered_to content ds) partner) → IsBeside content ds there → IsBeside content ds' there
-beside_same content ds ds' None same runs beside = tt
-beside_same content ds ds' (Some there) same runs beside = record {
+pub beside_same : (content : SetupContent) (es es' : List Event) (there : Option Beside) → machine_after content es' ≡ machine_after content es →
+    ((partner : ℕ) → run (delivered_to content es') partner ≡ run (delivered_to content es) partner) → IsBeside content es there → IsBeside content es' there
+beside_same content es es' None same runs beside = tt
+beside_same content es es' (Some there) same runs beside = record {
   terminal = beside.terminal ∙ sym same;
   nexts = beside.nexts
-      ∙ sym (map_alike (λ p. run (delivered_to content ds) p + 1) (λ p. run (delivered_to content ds') p + 1) (λ p. ap (λ r. r + 1) (runs p)) (range_with_len 1 (length content.partners)));
+      ∙ sym (map_alike (λ p. run (delivered_to content es) p + 1) (λ p. run (delivered_to content es') p + 1) (λ p. ap (λ r. r + 1) (runs p)) (range_with_len 1 (length content.partners)));
 }
 
-pub used_answers : (content : SetupContent) (ds : List (List ℕ)) (rows : Rows) (delivered text : List ℕ) (partner number next : ℕ) (code : List ℕ) (kept : Kept) (response : Response) (was db : Database) (there : Option Beside) →
-    AreAfter content ds rows → HasRows rows was → was ≡ db → IsBeside content ds there → Comes content delivered text partner number → IsKept partner number rows (Some kept) → next ≡ run (delivered_to content ds) partner + 1 →
+pub used_answers : (content : SetupContent) (es : List Event) (rows : Rows) (sent text : List ℕ) (partner number next : ℕ) (code : List ℕ) (kept : Kept) (response : Response) (was db : Database) (there : Option Beside) →
+    AreAfter content es rows → HasRows rows was → was ≡ db → IsBeside content es there → Comes content sent text partner number → IsKept partner number rows (Some kept) → next ≡ run (delivered_to content es) partner + 1 →
     content_of response ≡ told_answer code number (answer_by (standing_of next number (Some kept.text.items) text) next (option_map string_bytes kept.reply) None) →
-    Answers content ds delivered partner number code response db there
-used_answers content ds rows delivered text partner number next code kept response was db there after has same beside comes is next_of told =
+    Answers content es sent partner number code response db there
+used_answers content es rows sent text partner number next code kept response was db there after has same beside comes is next_of told =
     let used : text_in rows partner number ≡ Some kept.text.items = text_kept partner number rows kept after.kept_once is in
-    let adds = used_adds content ds rows delivered partner number kept.text.items after comes.is_for used in
-    let answer = used_told content ds rows delivered partner number after comes.is_for kept.text.items (option_map string_bytes kept.reply) next used (reply_kept partner number rows kept after.kept_once is) next_of in
+    let adds = used_adds content es rows sent partner number kept.text.items after comes.is_for used in
+    let answer = used_told content es rows sent partner number after comes.is_for kept.text.items (option_map string_bytes kept.reply) next used (reply_kept partner number rows kept after.kept_once is) next_of in
     record {
       answers = told ∙ ap (λ t. told_answer code number (answer_by (standing_of next number (Some kept.text.items) t) next (option_map string_bytes kept.reply) None)) comes.text_is ∙ ap (told_answer code number) (sym answer);
-      holds = record { rows = rows; has = subst (HasRows rows) same has; after = adds.rows_are; beside = beside_same content ds (ds ++ delivered ∷ []) there adds.machine adds.runs beside };
+      holds = record { rows = rows; has = subst (HasRows rows) same has; after = adds.rows_are; beside = beside_same content es (es ++ delivered sent ∷ []) there adds.machine adds.runs beside };
     }
 
-pub early_answers : (content : SetupContent) (ds : List (List ℕ)) (rows : Rows) (delivered text : List ℕ) (partner number next : ℕ) (code : List ℕ) (response : Response) (old new : State) (there : Option Beside) →
-    AreAfter content ds rows → HasRows rows old.now → old.now ≡ old.committed → IsBeside content ds there → Comes content delivered text partner number → text_in rows partner number ≡ None →
-    next ≡ run (delivered_to content ds) partner + 1 → next < number → content_of response ≡ told_answer code number (Waiting next) → Commits (with_kept partner number text) old new →
-    Answers content ds delivered partner number code response new.committed there
-early_answers content ds rows delivered text partner number next code response old new there after has settled beside comes free is later told wrote =
-    let beyond : run (delivered_to content ds) partner + 1 < number = omega (arith, is, later) in
-    let adds = early_adds content ds rows delivered partner number after comes.is_for free beyond in
-    let answer = (answers content ds rows delivered partner number after comes.is_for).early free beyond in
+pub early_answers : (content : SetupContent) (es : List Event) (rows : Rows) (sent text : List ℕ) (partner number next : ℕ) (code : List ℕ) (response : Response) (old new : State) (there : Option Beside) →
+    AreAfter content es rows → HasRows rows old.now → old.now ≡ old.committed → IsBeside content es there → Comes content sent text partner number → text_in rows partner number ≡ None →
+    next ≡ run (delivered_to content es) partner + 1 → next < number → content_of response ≡ told_answer code number (Waiting next) → Commits (with_kept partner number text) old new →
+    Answers content es sent partner number code response new.committed there
+early_answers content es rows sent text partner number next code response old new there after has settled beside comes free is later told wrote =
+    let beyond : run (delivered_to content es) partner + 1 < number = omega (arith, is, later) in
+    let adds = early_adds content es rows sent partner number after comes.is_for free beyond in
+    let answer = (answers content es rows sent partner number after comes.is_for).early free beyond in
     record {
       answers = told ∙ ap (told_answer code number) (ap Waiting is ∙ sym answer);
       holds = record {
-        rows = with_kept partner number (interchange_of delivered) rows;
+        rows = with_kept partner number (interchange_of sent) rows;
         has = subst (λ t. HasRows (with_kept partner number t rows) new.committed) comes.text_is (wrote.rows rows (subst (HasRows rows) settled has));
         after = adds.rows_are;
-        beside = beside_same content ds (ds ++ delivered ∷ []) there adds.machine adds.runs beside;
+        beside = beside_same content es (es ++ delivered sent ∷ []) there adds.machine adds.runs beside;
       };
     }
 
@@ -136,29 +137,29 @@ machine_same setup terminal =
     ∙ ap (λ kinds. record { parties = parties_in (setup_content setup); codes = setup.codes; kinds = kinds; blocks = setup.blocks.items; visit_limit = setup.visit_limit; terminal = terminal }) (sym (map-map _ _ setup.partners.items))
 
 -- the numbers after a run: its partner's is raised by its length
-nexts_raised : (content : SetupContent) (ds : List (List ℕ)) (delivered nexts : List ℕ) (partner number count : ℕ) (rows : Rows) (machine : MachineState) → 1 ≤ partner → number ≡ run (delivered_to content ds) partner + 1 →
-    nexts ≡ nexts_after content ds → AddsRun content ds delivered partner count rows machine → slice_set nexts (partner - 1) (number + count) ≡ nexts_after content (ds ++ delivered ∷ [])
-nexts_raised content ds delivered nexts partner number count rows machine one is are adds =
-    let f : ℕ → ℕ = λ p. run (delivered_to content ds) p + 1 in
-    let f' : ℕ → ℕ = λ p. run (delivered_to content (ds ++ delivered ∷ [])) p + 1 in
+nexts_raised : (content : SetupContent) (es : List Event) (sent nexts : List ℕ) (partner number count : ℕ) (rows : Rows) (machine : MachineState) → 1 ≤ partner → number ≡ run (delivered_to content es) partner + 1 →
+    nexts ≡ nexts_after content es → AddsRun content es sent partner count rows machine → slice_set nexts (partner - 1) (number + count) ≡ nexts_after content (es ++ delivered sent ∷ [])
+nexts_raised content es sent nexts partner number count rows machine one is are adds =
+    let f : ℕ → ℕ = λ p. run (delivered_to content es) p + 1 in
+    let f' : ℕ → ℕ = λ p. run (delivered_to content (es ++ delivered sent ∷ [])) p + 1 in
     let last : number + count ≡ f' partner = omega (arith, is, adds.run_is) in
     ap₂ (λ l n. slice_set l (partner - 1) n) are last
     ∙ set_one f f' partner (λ p apart. ap (λ r. r + 1) (adds.other_runs p apart)) (length content.partners) one
 
-pub next_answers : (setup : Setup) (ds : List (List ℕ)) (rows : Rows) (delivered text : List ℕ) (partner number next : ℕ) (code : List ℕ) (response : Response) (now left : Beside) (end : State) →
-    IsGiven (setup_content setup) → AreAfter (setup_content setup) ds rows → IsAt (setup_content setup) ds now → Comes (setup_content setup) delivered text partner number → text_in rows partner number ≡ None →
-    1 ≤ partner → next ≡ run (delivered_to (setup_content setup) ds) partner + 1 → number ≡ next → TakesNext rows partner number text code setup now response left end →
-    Answers (setup_content setup) ds delivered partner number code response end.committed (Some left)
-next_answers setup ds rows delivered text partner number next code response now left end given after at comes free one is same takes =
+pub next_answers : (setup : Setup) (es : List Event) (rows : Rows) (sent text : List ℕ) (partner number next : ℕ) (code : List ℕ) (response : Response) (now left : Beside) (end : State) →
+    IsGiven (setup_content setup) → AreAfter (setup_content setup) es rows → IsAt (setup_content setup) es now → Comes (setup_content setup) sent text partner number → text_in rows partner number ≡ None →
+    1 ≤ partner → next ≡ run (delivered_to (setup_content setup) es) partner + 1 → number ≡ next → TakesNext rows partner number text code setup now response left end →
+    Answers (setup_content setup) es sent partner number code response end.committed (Some left)
+next_answers setup es rows sent text partner number next code response now left end given after at comes free one is same takes =
     let content = setup_content setup in
-    let own = interchange_of delivered in
-    let number_is : number ≡ run (delivered_to content ds) partner + 1 = same ∙ is in
-    let here : AreTakenFrom partner (texts_with rows partner number own) number (machine_after content ds) (takes.first ∷ takes.later) (machine_with content left.terminal) =
-    subst (λ m. AreTakenFrom partner (texts_with rows partner number own) number (machine_after content ds) (takes.first ∷ takes.later) m) (machine_same setup left.terminal)
+    let own = interchange_of sent in
+    let number_is : number ≡ run (delivered_to content es) partner + 1 = same ∙ is in
+    let here : AreTakenFrom partner (texts_with rows partner number own) number (machine_after content es) (takes.first ∷ takes.later) (machine_with content left.terminal) =
+    subst (λ m. AreTakenFrom partner (texts_with rows partner number own) number (machine_after content es) (takes.first ∷ takes.later) m) (machine_same setup left.terminal)
     (subst (λ m. AreTakenFrom partner (texts_with rows partner number own) number m (takes.first ∷ takes.later) (machine_of setup left.terminal)) (machine_same setup now.terminal ∙ at.terminal)
     (subst (λ t. AreTakenFrom partner (texts_with rows partner number t) number (machine_of setup now.terminal) (takes.first ∷ takes.later) (machine_of setup left.terminal)) comes.text_is takes.taken)) in
-    let adds = next_adds content ds rows delivered partner number (takes.first ∷ takes.later) (machine_with content left.terminal) given after comes.is_for free number_is here in
-    let answer = (answers content ds rows delivered partner number after comes.is_for).next takes.first takes.later (machine_with content left.terminal) given free number_is here in
+    let adds = next_adds content es rows sent partner number (takes.first ∷ takes.later) (machine_with content left.terminal) given after comes.is_for free number_is here in
+    let answer = (answers content es rows sent partner number after comes.is_for).next takes.first takes.later (machine_with content left.terminal) given free number_is here in
     record {
       answers = takes.answers ∙ ap (told_answer code number) (sym answer);
       holds = record {
@@ -167,7 +168,7 @@ next_answers setup ds rows delivered text partner number next code response now 
         after = adds.rows_are;
         beside = record {
           terminal = adds.machine_is;
-          nexts = takes.raised ∙ nexts_raised content ds delivered now.nexts.items partner number (length (takes.first ∷ takes.later)) _ _ one number_is at.nexts adds;
+          nexts = takes.raised ∙ nexts_raised content es sent now.nexts.items partner number (length (takes.first ∷ takes.later)) _ _ one number_is at.nexts adds;
         };
       };
     }

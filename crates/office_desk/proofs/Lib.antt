@@ -7,3 +7,4 @@ pub mod DeliverLemmas
 pub mod PartLemmas
 pub mod OfficeLemmas
 pub mod ReportLemmas
+pub mod AlikeLemmas

@@ -10,6 +10,7 @@ use Rattle.std.proofs.lemmas.List.Sorted.{Contains-permutation, IsNonDecreasingB
 use Rattle.edi_messages.specs.declared.partner_kind.PartnerKind.{PartnerKind}
 use Rattle.partner_core.specs.Deliveries.{run}
 use Rattle.partner_core.specs.Numbered.{with_number}
+use Rattle.office_replies.specs.Events.{Event}
 use Rattle.office_rows.specs.Rows.{Partner, Rows}
 use Rattle.office_rows.specs.Shown.{AreNexts}
 use Rattle.office_setup.specs.Setups.{SetupContent}
@@ -164,15 +165,15 @@ nexts_by f [] all = refl
 nexts_by f (p ∷ ps) all = ap₂ ◌∷◌ (all p (head_in p ps)) (nexts_by f ps (λ q inside. all q (tail_in p q ps inside)))
 
 -- the numbers that the rows after deliveries have are those after them
-pub nexts_loaded : (content : SetupContent) (ds : List (List ℕ)) (rows : Rows) (nexts : List ℕ) → AreAfter content ds rows → AreNexts rows nexts → nexts ≡ nexts_after content ds
-nexts_loaded content ds rows nexts after are =
+pub nexts_loaded : (content : SetupContent) (es : List Event) (rows : Rows) (nexts : List ℕ) → AreAfter content es rows → AreNexts rows nexts → nexts ≡ nexts_after content es
+nexts_loaded content es rows nexts after are =
     let by_id = are.0 in
-    let f : ℕ → ℕ = λ p. run (delivered_to content ds) p + 1 in
+    let f : ℕ → ℕ = λ p. run (delivered_to content es) p + 1 in
     let placed : IsPermutation (map id_of rows.partners) (map id_of by_id) = IsPermutation-map id_of rows.partners by_id are.1 in
     let ids : map id_of by_id ≡ range_with_len 1 (length content.partners) =
     in_range (length content.partners) (map id_of by_id) (subst (λ l. IsPermutation l (map id_of by_id)) (ap (map id_of) after.partners ∙ ids_from 1 f content.partners) placed) are.2 in
     are.3
-    ∙ nexts_by f by_id (λ p inside. next_follows content ds rows p after (Contains-permutation by_id rows.partners p (IsPermutation-sym rows.partners by_id are.1) inside))
+    ∙ nexts_by f by_id (λ p inside. next_follows content es rows p after (Contains-permutation by_id rows.partners p (IsPermutation-sym rows.partners by_id are.1) inside))
     ∙ ap (map f) ids
 
 -- ---- a run

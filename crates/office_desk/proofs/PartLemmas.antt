@@ -11,6 +11,7 @@ use Rattle.partner_core.specs.Deliveries.{Delivery}
 use Rattle.partner_core.specs.Numbered.{with_number}
 use Rattle.partner_core.specs.Order.{state, state_after, order, text_under}
 use Rattle.terminal_core.specs.State.{TerminalState}
+use Rattle.office_replies.specs.Events.{Event}
 use Rattle.office_admission.specs.Admission.{admission, is_for}
 use Rattle.office_setup.specs.Given.{IsGiven}
 use Rattle.office_setup.specs.Setups.{SetupContent}
@@ -56,7 +57,7 @@ unfolding state
 set_state opening ds = set_run (text_under ds) (order ds) opening
 
 -- the terminal that is loaded is that after the deliveries, so the machine is
-pub beside_loaded : (content : SetupContent) (ds : List (List ℕ)) (rows : Rows) (db : Database) (other : SetupContent) (terminal : TerminalState) → IsGiven content → AreAfter content ds rows → HasRows rows db →
-    Loads db other terminal → machine_with content terminal ≡ machine_after content ds
-beside_loaded content ds rows db other terminal given after has loads =
-    ap (machine_with content) (state_given content ds rows db loads.0 other terminal given after has loads.1 loads.2) ∙ sym (set_state (opening_of content) (delivered_to content ds))
+pub beside_loaded : (content : SetupContent) (es : List Event) (rows : Rows) (db : Database) (other : SetupContent) (terminal : TerminalState) → IsGiven content → AreAfter content es rows → HasRows rows db →
+    Loads db other terminal → machine_with content terminal ≡ machine_after content es
+beside_loaded content es rows db other terminal given after has loads =
+    ap (machine_with content) (state_given content es rows db loads.0 other terminal given after has loads.1 loads.2) ∙ sym (set_state (opening_of content) (delivered_to content es))

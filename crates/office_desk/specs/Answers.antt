@@ -8,6 +8,7 @@ use Rattle.partner_core.specs.Deliveries.{Delivery, delivery}
 use Rattle.partner_core.specs.Answers.{Told, answer_of}
 use Rattle.partner_core.specs.Answers as told
 use Rattle.partner_core.specs.Numbered.{with_number}
+use Rattle.office_replies.specs.Events.{Event}
 use Rattle.office_replies.specs.Bodies.{answer_text, waiting_text, clash_text}
 use Rattle.office_replies.specs.Contents.{AnswerContent, answer_with, content_of}
 use Rattle.office_replies.specs.Kinds as kinds
@@ -45,13 +46,13 @@ answer_at parties taken opening before text (Err fault) = refusal_of parties (he
 answer_at parties taken opening before text (Ok place) =
     told_answer (code_of parties place.0) place.1 (answer_of taken opening before (delivery place.0 place.1 text))
 
--- AnswerOf: the answer to what is delivered after those before it
-abbrev pub answer_to : {S : Type 0} → Parties → Taking S → S → List (List ℕ) → List ℕ → AnswerContent
-answer_to parties taken opening ds delivered =
-    answer_at parties taken opening (deliveries_of parties ds) (interchange_of delivered)
-    (admission parties (interchange_of delivered))
+-- AnswerOf: the answer to a text that is delivered after those events
+abbrev pub answer_to : {S : Type 0} → Parties → Taking S → S → List Event → List ℕ → AnswerContent
+answer_to parties taken opening es sent =
+    answer_at parties taken opening (deliveries_of parties es) (interchange_of sent)
+    (admission parties (interchange_of sent))
 
--- from that opening state, after those deliveries, the response is the answer to the next, or NotNow if that may be
-abbrev pub AnswersNext : {S : Type 0} → Taking S → Parties → S → List (List ℕ) → List ℕ → Response → Type 0
-AnswersNext taken parties opening ds delivered response.NotNow = MayBeNotNow parties (interchange_of delivered)
-AnswersNext taken parties opening ds delivered given = content_of given ≡ answer_to parties taken opening ds delivered
+-- from that opening state, after those events, the response is the answer to the next, or NotNow if that may be
+abbrev pub AnswersNext : {S : Type 0} → Taking S → Parties → S → List Event → List ℕ → Response → Type 0
+AnswersNext taken parties opening es sent response.NotNow = MayBeNotNow parties (interchange_of sent)
+AnswersNext taken parties opening es sent given = content_of given ≡ answer_to parties taken opening es sent

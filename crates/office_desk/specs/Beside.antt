@@ -3,29 +3,30 @@ use Rattle.std.specs.Prelude.{◌≡◌, ℕ, ◌+◌, List, length, map, Option
 use Rattle.std.specs.List.{range_with_len}
 use Rattle.partner_core.specs.Deliveries.{run}
 use Rattle.terminal_core.specs.State.{TerminalState}
+use Rattle.office_replies.specs.Events.{Event}
 use Rattle.office_rows.specs.Rows.{Rows}
 use Rattle.office_rows.specs.Shown.{AreNexts}
 use Rattle.office_setup.specs.Setups.{SetupContent}
 use Rattle.office_history.specs.After.{delivered_to, machine_after, machine_with}
 use Rattle.office_desk.specs.declared.beside.Beside.{Beside}
 
--- after the deliveries, partner by partner in the order of their ids: the number after its unbroken run
-abbrev pub nexts_after : SetupContent → List (List ℕ) → List ℕ
-nexts_after content ds =
-    map (λ partner. run (delivered_to content ds) partner + 1) (range_with_len 1 (length content.partners))
+-- after the events, partner by partner in the order of their ids: the number after its unbroken run
+abbrev pub nexts_after : SetupContent → List Event → List ℕ
+nexts_after content es =
+    map (λ partner. run (delivered_to content es) partner + 1) (range_with_len 1 (length content.partners))
 
--- beside the rows after the deliveries: the set-up's machine over the terminal is that after them, and the numbers are
+-- beside the rows after the events: the set-up's machine over the terminal is that after them, and the numbers are
 -- theirs
-pub record IsAt (content : SetupContent) (ds : List (List ℕ)) (there : Beside) : Type 0 where
-  pub terminal : machine_with content there.terminal ≡ machine_after content ds
-  pub nexts : there.nexts.items ≡ nexts_after content ds
+pub record IsAt (content : SetupContent) (es : List Event) (there : Beside) : Type 0 where
+  pub terminal : machine_with content there.terminal ≡ machine_after content es
+  pub nexts : there.nexts.items ≡ nexts_after content es
 
--- it is at these deliveries, or there is none: then it has to be loaded
-abbrev pub IsBeside : SetupContent → List (List ℕ) → Option Beside → Type 0
-IsBeside content ds None = Unit {0}
-IsBeside content ds (Some there) = IsAt content ds there
+-- it is at these events, or there is none: then it has to be loaded
+abbrev pub IsBeside : SetupContent → List Event → Option Beside → Type 0
+IsBeside content es None = Unit {0}
+IsBeside content es (Some there) = IsAt content es there
 
--- beside the rows of an office, whether or not deliveries led to them: its terminal, and the numbers that they have
+-- beside the rows of an office, whether or not events led to them: its terminal, and the numbers that they have
 pub record IsOf (rows : Rows) (terminal : TerminalState) (there : Beside) : Type 0 where
   pub terminal_is : there.terminal ≡ terminal
   pub nexts : AreNexts rows there.nexts.items

@@ -5,3 +5,5 @@ pub mod Crashes
 pub mod Offices
 pub mod Desks
 pub mod Reports
+pub mod Noting
+pub mod Alike

@@ -1,5 +1,5 @@
--- A desk over the rows of an office, whether or not deliveries led to them.
-use Rattle.std.specs.Prelude.{◌≡◌, Option, Some}
+-- A desk over the rows of an office, whether or not events led to them.
+use Rattle.std.specs.Prelude.{◌≡◌, ◌⊎◌, Option, Some}
 use Rattle.sqlite.specs.Effect.{Database}
 use Rattle.sqlite.specs.Held.{state}
 use Rattle.sqlite.specs.State.{State, IsUnchanged}
@@ -8,7 +8,8 @@ use Rattle.terminal_core.specs.State.{TerminalState}
 use Rattle.office_rows.specs.Rows.{Rows}
 use Rattle.office_rows.specs.Stored.{HasRows}
 use Rattle.office_setup.specs.Setups.{SetupContent, setup_content}
-use Rattle.office_loading.specs.Tables.{Loads}
+use Rattle.office_loading.specs.Tables.{FailsToLoad, Loads}
+use Rattle.office_tables.specs.declared.table_fault.TableFault.{TableFault}
 use Rattle.office_desk.specs.Beside.{IsOrNone}
 use Rattle.office_desk.specs.declared.beside.Beside.{Beside}
 use Rattle.office_desk.specs.declared.desk.Desk.{Desk}
@@ -34,3 +35,9 @@ pub record OpensOffice {S : Type 0} (g : Ghosts S) (found : State) (desk : Desk 
   pub loads : Loads found.committed (setup_content desk.setup) there.terminal
   pub holds : (rows : Rows) → HasRows rows found.committed → DeskHolds g desk rows there.terminal
   pub unchanged : IsUnchanged found (state g desk.conn)
+
+-- why no desk is opened: the fault is the one that the tables deserve, if they show no office. Of tables that show one
+-- it isn't said here why their partners' numbers could not be read
+abbrev pub FailsToOpen : Database → TableFault → Type 0
+FailsToOpen db fault =
+    FailsToLoad db fault ⊎ ((content : SetupContent) × (terminal : TerminalState) × Loads db content terminal)

@@ -5,6 +5,7 @@ use Rattle.sqlite_trees.specs.declared.store.Store.{Ghosts}
 use Rattle.edi_messages.specs.Owned.{call_content}
 use Rattle.terminal_core.specs.Rows.{VisitContent}
 use Rattle.terminal_core.specs.State.{TerminalState}
+use Rattle.office_replies.specs.Events.{Event}
 use Rattle.office_replies.specs.Bodies.{answer_text, waiting_text}
 use Rattle.office_rows.specs.Rows.{Rows}
 use Rattle.office_setup.specs.Parties.{partner_from}
@@ -70,18 +71,18 @@ TellsOf content state rows (query.Ticket partner number) found =
 TellsOf content state rows (query.Reply partner number) found =
     TellsReplyOf rows (string_bytes partner) number (partner_called content (string_bytes partner)) found
 
--- what the rows after those deliveries tell
-pub record TellsAfter (content : SetupContent) (ds : List (List ℕ)) (query : Query)
+-- what the rows after those events tell
+pub record TellsAfter (content : SetupContent) (es : List Event) (query : Query)
     (found : Option (List ℕ)) : Type 0 where
   pub rows : Rows
-  pub after : AreAfter content ds rows
-  pub tells : TellsOf content (machine_after content ds).terminal rows query found
+  pub after : AreAfter content es rows
+  pub tells : TellsOf content (machine_after content es).terminal rows query found
 
--- what the desk tells, whatever rows it has: those after deliveries tell what the rows after that tell; those of any
+-- what the desk tells, whatever rows it has: those after events tell what the rows after that tell; those of any
 -- office tell what they are
 pub record DeskTells {S : Type 0} (g : Ghosts S) (desk : Desk S g) (query : Query)
     (found : Option (List ℕ)) : Type 0 where
-  pub after : (ds : List (List ℕ)) → Holds (setup_content desk.setup) ds (state g desk.conn).committed desk.beside →
-      TellsAfter (setup_content desk.setup) ds query found
+  pub after : (es : List Event) → Holds (setup_content desk.setup) es (state g desk.conn).committed desk.beside →
+      TellsAfter (setup_content desk.setup) es query found
   pub office : (rows : Rows) (terminal : TerminalState) → DeskHolds g desk rows terminal →
       TellsOf (setup_content desk.setup) terminal rows query found

@@ -5,6 +5,7 @@ use Rattle.sqlite.specs.State.{State}
 use Rattle.sqlite.specs.Tree.{Trees}
 use Rattle.edi_segments.specs.Interchange.{interchange_of}
 use Rattle.partner_core.specs.Answers.{Taken}
+use Rattle.office_replies.specs.Events.{Event, delivered}
 use Rattle.office_replies.specs.Contents.{content_of}
 use Rattle.office_replies.specs.declared.response.Response.{Response}
 use Rattle.office_rows.specs.Rows.{Rows}
@@ -40,20 +41,20 @@ pub record IsRunDone (rows : Rows) (partner number : ℕ) (text : List ℕ) (old
   pub are_taken : AreTakenFrom partner (texts_with rows partner number text) number old taken new
   pub are : StoresRows (with_run partner number text taken rows) db
 
--- the database has the rows after the deliveries, and what stands beside it is at them
-pub record Holds (content : SetupContent) (ds : List (List ℕ)) (db : Database) (there : Option Beside) : Type 0 where
+-- the database has the rows after the events, and what stands beside it is at them
+pub record Holds (content : SetupContent) (es : List Event) (db : Database) (there : Option Beside) : Type 0 where
   pub rows : Rows
   pub has : HasRows rows db
-  pub after : AreAfter content ds rows
-  pub beside : IsBeside content ds there
+  pub after : AreAfter content es rows
+  pub beside : IsBeside content es there
 
 -- the text is what was delivered, and admitted for that partner under that number
-pub record Comes (content : SetupContent) (delivered text : List ℕ) (partner number : ℕ) : Type 0 where
-  pub text_is : text ≡ interchange_of delivered
-  pub is_for : IsFor content delivered partner number
+pub record Comes (content : SetupContent) (sent text : List ℕ) (partner number : ℕ) : Type 0 where
+  pub text_is : text ≡ interchange_of sent
+  pub is_for : IsFor content sent partner number
 
 -- the response to the partner with a code is what is to be told, and these are held behind it
-pub record Answers (content : SetupContent) (ds : List (List ℕ)) (delivered : List ℕ) (partner number : ℕ)
+pub record Answers (content : SetupContent) (es : List Event) (sent : List ℕ) (partner number : ℕ)
     (code : List ℕ) (response : Response) (db : Database) (there : Option Beside) : Type 0 where
-  pub answers : content_of response ≡ told_answer code number (told_of content ds partner number delivered)
-  pub holds : Holds content (ds ++ delivered ∷ []) db there
+  pub answers : content_of response ≡ told_answer code number (told_of content es partner number sent)
+  pub holds : Holds content (es ++ delivered sent ∷ []) db there

@@ -1,11 +1,13 @@
-ghost use Rattle.std.specs.Prelude.{◌≡◌, ℕ, List, Some, false, IfOk};
+ghost use Rattle.std.specs.Prelude.{◌≡◌, ℕ, List, None, Some, false, IfOk, OnOk, OnErr, option_map};
 ghost use Rattle.edi_segments.specs.Interchange.{interchange_of};
 ghost use Rattle.office_replies.specs.Delivering.{Delivers};
+ghost use Rattle.office_replies.specs.Events.{Event};
 ghost use Rattle.office_setup.specs.Parties.{parties_of};
 ghost use Rattle.office_setup.specs.Given.{IsGiven};
-ghost use Rattle.office_setup.specs.Setups.{setup_content};
+ghost use Rattle.office_setup.specs.Setups.{SetupContent, setup_content};
 
 use crate::beside::Beside;
+use crate::noting::note_memory;
 use crate::reloading::{beside_of, load_beside};
 use crate::taking::take_in;
 use crate::telling::tell;
@@ -26,6 +28,8 @@ pub struct Desk<S: Alter> {
     setup: Setup,
     // What the rows say; none if it has to be loaded again.
     beside: Option<Beside>,
+    // Why it last answered NotNow.
+    last_fault: Option<TableFault>,
     ghost idle: { conn.in_transaction ≡ false },
     ghost given: { IsGiven (setup_content setup) },
 }
@@ -38,12 +42,21 @@ impl<S: Alter> Desk<S> {
         ensures conn { result.conn ≡ conn }
         ensures setup { result.setup ≡ setup }
         ensures beside { result.beside ≡ Some beside }
+        ensures no_fault { result.last_fault ≡ None }
     {
         Desk {
             conn,
             setup,
             beside: Some(beside),
+            last_fault: None,
         }
+    }
+
+    /// The fault for which it last answered NotNow, to a delivery or to a report; none if it never has.
+    pub fn last_fault(&self) -> Option<&TableFault>
+        ensures { option_map (λ fault. fault.now) result ≡ self.now.last_fault }
+    {
+        self.last_fault.as_ref()
     }
 
     /// The connection to its tables.
@@ -54,6 +67,7 @@ impl<S: Alter> Desk<S> {
             conn,
             setup: _,
             beside: _,
+            last_fault: _,
         } = self;
         conn
     }
@@ -62,7 +76,6 @@ impl<S: Alter> Desk<S> {
 impl<S: Alter + Drop> Desk<S> {
     ghost use Rattle.sqlite.specs.Held.{state};
     ghost use Rattle.sqlite.specs.State.{HasCleanDisk};
-    ghost use Rattle.office_setup.specs.Setups.{SetupContent};
     ghost use Rattle.office_rows.specs.Rows.{Rows};
     ghost use Rattle.office_rows.specs.Stored.{HasRows};
     ghost use Rattle.office_history.specs.After.{AreAfter};
@@ -71,13 +84,14 @@ impl<S: Alter + Drop> Desk<S> {
     ghost use Rattle.office_desk.specs.Offices.{OpensOffice};
 
     /// The desk of a store that holds an office: its set-up, its terminal and its partners' numbers are those that the
-    /// tables hold. If it is refused, the connection is given up.
+    /// tables hold. If it is refused, the connection is given up: `load_beside`, which it calls, says why, and that nothing is
+    /// written.
     pub fn open(alloc: Global, conn: Connection<S>) -> Result<Desk<S>, TableFault>
         requires idle { conn.in_transaction ≡ false }
         ensures opens { IfOk result
-            (λ desk. IsSound S.Store desk → (content : SetupContent) (ds : List (List ℕ)) (rows : Rows) →
-            IsGiven content → HasRows rows (state S.Store conn).committed → AreAfter content ds rows →
-            OpensAt S.Store content ds desk) }
+            (λ desk. IsSound S.Store desk → (content : SetupContent) (es : List Event) (rows : Rows) →
+            IsGiven content → HasRows rows (state S.Store conn).committed → AreAfter content es rows →
+            OpensAt S.Store content es desk) }
         ensures office { IfOk result
             (λ desk. IsSound S.Store desk → (state S.Store conn).committed.schema ≡ office_schema →
             OpensOffice S.Store (state S.Store conn) desk) }
@@ -100,7 +114,7 @@ impl<S: Alter + Drop> Desk<S> {
     ghost use Rattle.office_rows.specs.Rows.{Rows};
     ghost use Rattle.office_rows.specs.Tables.{office_schema};
     ghost use Rattle.office_desk.specs.Crashes.{LeavesNoMore};
-    ghost use Rattle.office_desk.specs.Desks.{IsSound, DeskStands};
+    ghost use Rattle.office_desk.specs.Desks.{IsSound, StandsFor};
     ghost use Rattle.office_desk.specs.Offices.{DeskHolds};
     ghost use Rattle.office_desk.specs.Reports.{DeskTells};
 
@@ -108,14 +122,15 @@ impl<S: Alter + Drop> Desk<S> {
     pub fn told(&mut self, alloc: Global, query: &Query) -> Result<Option<String>, TableFault>
         ensures told { IsSound S.Store self.new →
             IfOk result (λ found. DeskTells S.Store self.old query.now (option_map string_bytes found)) }
-        ensures same { IsSound S.Store self.new → (opening : Desk S S.Store) (ds : List (List ℕ)) →
-            DeskStands S.Store opening ds self.old → DeskStands S.Store opening ds self.new }
+        ensures same { IsSound S.Store self.new → (content : SetupContent) (es : List Event) →
+            StandsFor S.Store content es self.old → StandsFor S.Store content es self.new }
         ensures holds { IsSound S.Store self.new → (rows : Rows) (terminal : TerminalState) →
             DeskHolds S.Store self.old rows terminal → DeskHolds S.Store self.new rows terminal }
         ensures crash { IsSound S.Store self.old → HasCleanDisk (state S.Store self.new.conn) →
             (state S.Store self.old.conn).committed.schema ≡ office_schema →
             LeavesNoMore (state S.Store self.old.conn) (state S.Store self.new.conn) }
         ensures stays { IsSound S.Store self.new → IsSound S.Store self.old }
+        ensures last_fault { self.new.last_fault ≡ self.old.last_fault }
     {
         let is_idle = self.conn.is_autocommit();
         prove!(is_idle);
@@ -135,7 +150,8 @@ impl<S: Alter + Drop> Report for Desk<S> {
     ghost use Rattle.office_rows.specs.Rows.{Rows};
     ghost use Rattle.office_rows.specs.Tables.{office_schema};
     ghost use Rattle.office_desk.specs.Crashes.{LeavesNoMore};
-    ghost use Rattle.office_desk.specs.Desks.{IsSound, DeskStands};
+    ghost use Rattle.office_desk.specs.Desks.{IsSound, StandsFor};
+    ghost use Rattle.office_desk.specs.Noting.{HasFault};
     ghost use Rattle.office_desk.specs.Offices.{DeskHolds};
     ghost use Rattle.office_desk.specs.Reports.{DeskTells};
 
@@ -144,18 +160,23 @@ impl<S: Alter + Drop> Report for Desk<S> {
     fn report(&mut self, alloc: Global, query: &Query) -> Result<Option<String>, NotNow>
         ensures told { IsSound S.Store self.new →
             IfOk result (λ found. DeskTells S.Store self.old query.now (option_map string_bytes found)) }
-        ensures same { IsSound S.Store self.new → (opening : Desk S S.Store) (ds : List (List ℕ)) →
-            DeskStands S.Store opening ds self.old → DeskStands S.Store opening ds self.new }
+        ensures same { IsSound S.Store self.new → (content : SetupContent) (es : List Event) →
+            StandsFor S.Store content es self.old → StandsFor S.Store content es self.new }
         ensures holds { IsSound S.Store self.new → (rows : Rows) (terminal : TerminalState) →
             DeskHolds S.Store self.old rows terminal → DeskHolds S.Store self.new rows terminal }
         ensures crash { IsSound S.Store self.old → HasCleanDisk (state S.Store self.new.conn) →
             (state S.Store self.old.conn).committed.schema ≡ office_schema →
             LeavesNoMore (state S.Store self.old.conn) (state S.Store self.new.conn) }
         ensures stays { IsSound S.Store self.new → IsSound S.Store self.old }
+        ensures answered { OnOk result (self.new.last_fault ≡ self.old.last_fault) }
+        ensures not_now { OnErr result (HasFault self.new.last_fault) }
     {
         match self.told(alloc, query) {
             Ok(found) => Ok(found),
-            Err(_) => Err(NotNow),
+            Err(fault) => {
+                self.last_fault = Some(fault);
+                Err(NotNow)
+            }
         }
     }
 }
@@ -165,31 +186,39 @@ impl<S: Alter + Drop> Deliver for Desk<S> {
     ghost use Rattle.sqlite.specs.State.{HasCleanDisk};
     ghost use Rattle.office_admission.specs.Refusals.{RefusedSurely};
     ghost use Rattle.office_desk.specs.Crashes.{LeavesBehind};
-    ghost use Rattle.office_desk.specs.Desks.{IsSound, DeskStands, DeskAnswers, Refuses};
+    ghost use Rattle.office_desk.specs.Desks.{IsSound, StandsFor, answers_for, Refuses};
+    ghost use Rattle.office_desk.specs.Noting.{NotesFault};
 
     ghost clean = { IsSound S.Store };
 
-    ghost stands = { DeskStands S.Store };
+    ghost Opening = { SetupContent };
 
-    ghost answers = { DeskAnswers S.Store };
+    ghost stands = { StandsFor S.Store };
+
+    ghost answers = { answers_for };
 
     /// A refusal without a CONTRL takes no memory and no store, so it is never answered NotNow.
     fn deliver(&mut self, alloc: Global, delivered: &[u8]) -> Response
-        ensures delivers { IsSound S.Store self.new → (opening : Desk S S.Store) (ds : List (List ℕ)) →
-            DeskStands S.Store opening ds self.old →
-            Delivers (DeskStands S.Store opening) (DeskAnswers S.Store opening) ds delivered.now result self.new }
+        ensures delivers { IsSound S.Store self.new → (content : SetupContent) (es : List Event) →
+            StandsFor S.Store content es self.old →
+            Delivers (StandsFor S.Store content) (answers_for content) es delivered.now result self.new }
         ensures stays { IsSound S.Store self.new → IsSound S.Store self.old }
         ensures crash { IsSound S.Store self.old → HasCleanDisk (state S.Store self.new.conn) →
-            (opening : Desk S S.Store) (ds : List (List ℕ)) →
-            DeskStands S.Store opening ds self.old →
-            LeavesBehind (setup_content opening.setup) ds delivered.now result (state S.Store self.new.conn) }
+            (content : SetupContent) (es : List Event) →
+            StandsFor S.Store content es self.old →
+            LeavesBehind content es delivered.now result (state S.Store self.new.conn) }
         ensures refused { Refuses S.Store delivered.now self.old result self.new }
         ensures sure { RefusedSurely (parties_of self.old.setup) (interchange_of delivered.now) result }
+        ensures noted { NotesFault result self.old.last_fault self.new.last_fault }
     {
         let text = interchange_text(delivered);
         let admitted = match admit(&self.setup, text) {
             Ok(admitted) => admitted,
-            Err(refusal) => return refusal.answer(alloc),
+            Err(refusal) => {
+                let answer = refusal.answer(alloc);
+                note_memory(&mut self.last_fault, &answer);
+                return answer;
+            }
         };
         let number = admitted.envelope.head().number();
         let setup = &self.setup;
@@ -207,8 +236,14 @@ impl<S: Alter + Drop> Deliver for Desk<S> {
             text,
         );
         match taken {
-            Ok(response) => response,
-            Err(_) => Response::NotNow,
+            Ok(response) => {
+                note_memory(&mut self.last_fault, &response);
+                response
+            }
+            Err(fault) => {
+                self.last_fault = Some(fault);
+                Response::NotNow
+            }
         }
     }
 }

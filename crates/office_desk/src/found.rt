@@ -2,6 +2,7 @@ ghost use Rattle.std.specs.Prelude.{◌≡◌, ◌≤◌, ℕ, List, None, Some,
 ghost use Rattle.sqlite.specs.Held.{state};
 ghost use Rattle.sqlite.specs.State.{HasCleanDisk};
 ghost use Rattle.partner_core.specs.Numbered.{with_number};
+ghost use Rattle.office_replies.specs.Events.{Event};
 ghost use Rattle.office_rows.specs.Rows.{Rows};
 ghost use Rattle.office_rows.specs.Stored.{HasRows};
 ghost use Rattle.office_rows.specs.Tables.{office_schema};
@@ -45,14 +46,14 @@ pub(crate) fn look<S: Alter>(
     ensures next { IfOk result (λ found. with_number found.there.nexts.items partner ≡ Some found.next) }
     ensures known { IfOk result (λ found. partner ≤ length found.there.nexts.items) }
     ensures beside { HasCleanDisk (state S.Store conn.new) → IfOk result (λ found.
-        (content : SetupContent) (ds : List (List ℕ)) (rows : Rows) → IsGiven content →
-        HasRows rows (state S.Store conn.old).now → AreAfter content ds rows → IsBeside content ds beside.old →
-        IsBeside content ds (Some found.there)) }
+        (content : SetupContent) (es : List Event) (rows : Rows) → IsGiven content →
+        HasRows rows (state S.Store conn.old).now → AreAfter content es rows → IsBeside content es beside.old →
+        IsBeside content es (Some found.there)) }
     ensures out { OnOk result (beside.new ≡ None) }
     ensures err { HasCleanDisk (state S.Store conn.new) → OnErr result (
-        (content : SetupContent) (ds : List (List ℕ)) (rows : Rows) → IsGiven content →
-        HasRows rows (state S.Store conn.old).now → AreAfter content ds rows → IsBeside content ds beside.old →
-        IsBeside content ds beside.new) }
+        (content : SetupContent) (es : List Event) (rows : Rows) → IsGiven content →
+        HasRows rows (state S.Store conn.old).now → AreAfter content es rows → IsBeside content es beside.old →
+        IsBeside content es beside.new) }
     ensures same { HasCleanDisk (state S.Store conn.new) → (state S.Store conn.old).now.schema ≡ office_schema →
         OnOk result (IsSame (state S.Store conn.old) (state S.Store conn.new)) }
     ensures reads { OnlyReads (state S.Store conn.old) (state S.Store conn.new) }

@@ -1,6 +1,7 @@
-ghost use Rattle.std.specs.Prelude.{◌≡◌, ℕ, List, Some, IfOk, OnOk, false};
+ghost use Rattle.std.specs.Prelude.{◌≡◌, ℕ, List, Some, IfOk, IfErr, OnOk, false};
 ghost use Rattle.sqlite.specs.Held.{state};
 ghost use Rattle.sqlite.specs.State.{HasCleanDisk, IsUnchanged};
+ghost use Rattle.office_replies.specs.Events.{Event};
 ghost use Rattle.office_rows.specs.Rows.{Rows};
 ghost use Rattle.office_rows.specs.Shown.{AreNexts};
 ghost use Rattle.office_rows.specs.Stored.{HasRows};
@@ -12,7 +13,7 @@ ghost use Rattle.office_loading.specs.Tables.{Loads};
 ghost use Rattle.office_delivery.specs.Reading.{IsSame, OnlyReads};
 ghost use Rattle.terminal_core.specs.State.{TerminalState};
 ghost use Rattle.office_desk.specs.Beside.{IsBeside, IsOf};
-ghost use Rattle.office_desk.specs.Offices.{HoldsOffice};
+ghost use Rattle.office_desk.specs.Offices.{FailsToOpen, HoldsOffice};
 
 use crate::beside::Beside;
 use office_loading::{load, nexts};
@@ -21,8 +22,12 @@ use office_tables::TableFault;
 use sqlite::{Alter, Connection};
 use std::alloc::Global;
 
-/// The set-up that the tables hold, and what stands beside them. It changes nothing.
-pub(crate) fn load_beside<S: Alter>(
+/// The set-up that the tables hold, and what stands beside them: all that opening a desk does with its connection. It
+/// changes nothing.
+///
+/// Version if no setting names this version; Damaged if the rows are those of no office; Store and Memory say
+/// nothing of the rows.
+pub fn load_beside<S: Alter>(
     alloc: Global,
     conn: &mut Connection<S>,
 ) -> Result<(Setup, Beside), TableFault>
@@ -31,6 +36,8 @@ pub(crate) fn load_beside<S: Alter>(
     ensures nexts { HasCleanDisk (state S.Store conn.new) → IfOk result (λ p. (rows : Rows) →
         HasRows rows (state S.Store conn.old).now → AreNexts rows p.1.nexts.items) }
     ensures given { IfOk result (λ p. IsGiven (setup_content p.0)) }
+    ensures refused { HasCleanDisk (state S.Store conn.new) → (state S.Store conn.old).now.schema ≡ office_schema →
+        IfErr result (FailsToOpen (state S.Store conn.old).now) }
     ensures same { HasCleanDisk (state S.Store conn.new) → (state S.Store conn.old).now.schema ≡ office_schema →
         OnOk result (IsUnchanged (state S.Store conn.old) (state S.Store conn.new)) }
     ensures mode { conn.old.in_transaction ≡ false → conn.new.in_transaction ≡ false }
@@ -48,9 +55,9 @@ pub(crate) fn beside_of<S: Alter>(
     beside: Option<Beside>,
 ) -> Result<Beside, TableFault>
     ensures beside { HasCleanDisk (state S.Store conn.new) → IfOk result (λ now.
-        (content : SetupContent) (ds : List (List ℕ)) (rows : Rows) → IsGiven content →
-        HasRows rows (state S.Store conn.old).now → AreAfter content ds rows → IsBeside content ds beside →
-        IsBeside content ds (Some now)) }
+        (content : SetupContent) (es : List Event) (rows : Rows) → IsGiven content →
+        HasRows rows (state S.Store conn.old).now → AreAfter content es rows → IsBeside content es beside →
+        IsBeside content es (Some now)) }
     ensures office { HasCleanDisk (state S.Store conn.new) →
         IfOk result (λ now. (content : SetupContent) (rows : Rows) (terminal : TerminalState) →
         HoldsOffice content rows terminal (state S.Store conn.old).now beside → IsOf rows terminal now) }

@@ -3,6 +3,7 @@ ghost use Rattle.sqlite.specs.Held.{state};
 ghost use Rattle.sqlite.specs.State.{HasCleanDisk};
 ghost use Rattle.sqlite.specs.Tree.{Trees};
 ghost use Rattle.partner_core.specs.Deliveries.{run};
+ghost use Rattle.office_replies.specs.Events.{Event, delivered};
 ghost use Rattle.office_rows.specs.Rows.{Rows};
 ghost use Rattle.office_rows.specs.Stored.{HasRows};
 ghost use Rattle.office_setup.specs.Setups.{setup_content};
@@ -46,27 +47,27 @@ pub(crate) fn take_in<S: Alter>(
     ensures idle { (state S.Store conn.new).in_transaction ≡ false }
     ensures ok { HasCleanDisk (state S.Store conn.new) → IsTrue (state S.Store conn.new).is_open →
         IfOk result (λ response.
-        (ds : List (List ℕ)) (delivered : List ℕ) →
-        Holds (setup_content setup.now) ds (state S.Store conn.old).committed beside.old →
-        Comes (setup_content setup.now) delivered text.now admitted.now.partner number →
-        Answers (setup_content setup.now) ds delivered admitted.now.partner number code.now response
+        (es : List Event) (sent : List ℕ) →
+        Holds (setup_content setup.now) es (state S.Store conn.old).committed beside.old →
+        Comes (setup_content setup.now) sent text.now admitted.now.partner number →
+        Answers (setup_content setup.now) es sent admitted.now.partner number code.now response
         (state S.Store conn.new).committed beside.new) }
     ensures err { HasCleanDisk (state S.Store conn.new) → IsTrue (state S.Store conn.new).is_open →
-        OnErr result ((ds : List (List ℕ)) →
-        Holds (setup_content setup.now) ds (state S.Store conn.old).committed beside.old →
-        Holds (setup_content setup.now) ds (state S.Store conn.new).committed beside.new) }
+        OnErr result ((es : List Event) →
+        Holds (setup_content setup.now) es (state S.Store conn.old).committed beside.old →
+        Holds (setup_content setup.now) es (state S.Store conn.new).committed beside.new) }
     ensures leaves { HasCleanDisk (state S.Store conn.new) → IsTrue (state S.Store conn.old).is_open →
-        OnOk result ((ds : List (List ℕ)) (delivered : List ℕ) →
-        Holds (setup_content setup.now) ds (state S.Store conn.old).committed beside.old →
-        Leaves (setup_content setup.now) ds (state S.Store conn.old) →
-        Comes (setup_content setup.now) delivered text.now admitted.now.partner number →
-        Leaves (setup_content setup.now) (ds ++ delivered ∷ []) (state S.Store conn.new)) }
+        OnOk result ((es : List Event) (sent : List ℕ) →
+        Holds (setup_content setup.now) es (state S.Store conn.old).committed beside.old →
+        Leaves (setup_content setup.now) es (state S.Store conn.old) →
+        Comes (setup_content setup.now) sent text.now admitted.now.partner number →
+        Leaves (setup_content setup.now) (es ++ delivered sent ∷ []) (state S.Store conn.new)) }
     ensures crash { HasCleanDisk (state S.Store conn.new) → IsTrue (state S.Store conn.old).is_open →
-        OnErr result ((ds : List (List ℕ)) (delivered : List ℕ) →
-        Holds (setup_content setup.now) ds (state S.Store conn.old).committed beside.old →
-        Leaves (setup_content setup.now) ds (state S.Store conn.old) →
-        Comes (setup_content setup.now) delivered text.now admitted.now.partner number →
-        LeavesEither (setup_content setup.now) ds delivered (state S.Store conn.new)) }
+        OnErr result ((es : List Event) (sent : List ℕ) →
+        Holds (setup_content setup.now) es (state S.Store conn.old).committed beside.old →
+        Leaves (setup_content setup.now) es (state S.Store conn.old) →
+        Comes (setup_content setup.now) sent text.now admitted.now.partner number →
+        LeavesEither (setup_content setup.now) es sent (state S.Store conn.new)) }
     ensures was_open { HasCleanDisk (state S.Store conn.new) → IsTrue (state S.Store conn.new).is_open →
         IsTrue (state S.Store conn.old).is_open }
     ensures clean { HasCleanDisk (state S.Store conn.new) → HasCleanDisk (state S.Store conn.old) }
@@ -108,32 +109,32 @@ fn take_new<S: Alter>(
     ensures idle { (state S.Store conn.new).in_transaction ≡ false }
     ensures ok { HasCleanDisk (state S.Store conn.new) → IsTrue (state S.Store conn.new).is_open →
         IfOk result (λ response.
-        (ds : List (List ℕ)) (delivered : List ℕ) (rows : Rows) →
+        (es : List Event) (sent : List ℕ) (rows : Rows) →
         HasRows rows (state S.Store conn.old).now → (state S.Store conn.old).now ≡ (state S.Store conn.old).committed →
-        AreAfter (setup_content setup.now) ds rows → IsBeside (setup_content setup.now) ds (Some there) →
+        AreAfter (setup_content setup.now) es rows → IsBeside (setup_content setup.now) es (Some there) →
         text_in rows admitted.now.partner number ≡ None →
-        next ≡ run (delivered_to (setup_content setup.now) ds) admitted.now.partner + 1 →
-        Comes (setup_content setup.now) delivered text.now admitted.now.partner number →
-        Answers (setup_content setup.now) ds delivered admitted.now.partner number code.now response
+        next ≡ run (delivered_to (setup_content setup.now) es) admitted.now.partner + 1 →
+        Comes (setup_content setup.now) sent text.now admitted.now.partner number →
+        Answers (setup_content setup.now) es sent admitted.now.partner number code.now response
         (state S.Store conn.new).committed beside.new) }
     ensures err { HasCleanDisk (state S.Store conn.new) → IsTrue (state S.Store conn.new).is_open → OnErr result (
-        (ds : List (List ℕ)) (rows : Rows) →
+        (es : List Event) (rows : Rows) →
         HasRows rows (state S.Store conn.old).now → (state S.Store conn.old).now ≡ (state S.Store conn.old).committed →
-        AreAfter (setup_content setup.now) ds rows → IsBeside (setup_content setup.now) ds (Some there) →
-        Holds (setup_content setup.now) ds (state S.Store conn.new).committed beside.new) }
+        AreAfter (setup_content setup.now) es rows → IsBeside (setup_content setup.now) es (Some there) →
+        Holds (setup_content setup.now) es (state S.Store conn.new).committed beside.new) }
     ensures commits { HasCleanDisk (state S.Store conn.new) →
         OnOk result ((rows : Rows) → HasRows rows (state S.Store conn.old).now →
         (state S.Store conn.old).now ≡ (state S.Store conn.old).committed → IsNumbered admitted.now.partner rows →
         HasCommitted (state S.Store conn.new)) }
     ensures crash { HasCleanDisk (state S.Store conn.new) → OnErr result (
-        (ds : List (List ℕ)) (delivered : List ℕ) (rows : Rows) →
+        (es : List Event) (sent : List ℕ) (rows : Rows) →
         HasRows rows (state S.Store conn.old).now → (state S.Store conn.old).now ≡ (state S.Store conn.old).committed →
-        AreAfter (setup_content setup.now) ds rows → IsBeside (setup_content setup.now) ds (Some there) →
+        AreAfter (setup_content setup.now) es rows → IsBeside (setup_content setup.now) es (Some there) →
         text_in rows admitted.now.partner number ≡ None →
-        next ≡ run (delivered_to (setup_content setup.now) ds) admitted.now.partner + 1 →
-        Comes (setup_content setup.now) delivered text.now admitted.now.partner number →
+        next ≡ run (delivered_to (setup_content setup.now) es) admitted.now.partner + 1 →
+        Comes (setup_content setup.now) sent text.now admitted.now.partner number →
         (db : Trees) → (state S.Store conn.new).may_leave db →
-        (state S.Store conn.old).may_leave db ⊎ IsAfter (setup_content setup.now) (ds ++ delivered ∷ []) db) }
+        (state S.Store conn.old).may_leave db ⊎ IsAfter (setup_content setup.now) (es ++ delivered sent ∷ []) db) }
     ensures was_open { HasCleanDisk (state S.Store conn.new) → IsTrue (state S.Store conn.new).is_open →
         IsTrue (state S.Store conn.old).is_open }
     ensures clean { HasCleanDisk (state S.Store conn.new) → HasCleanDisk (state S.Store conn.old) }

@@ -46,7 +46,7 @@ use Rattle.office_replies.specs.declared.fault.Fault.{Fault}
 use Rattle.office_setup.specs.Parties.{Parties}
 use Rattle.office_setup.specs.Setups.{SetupContent}
 use Rattle.office_rows.specs.Office.{HasAccounts}
-use Rattle.office_taking.specs.Taking.{MachineState, line_taken, lines_taken, verdict_on, messages_taken, codes_for, source_in, nothing_taken, taken_at, taken_of, interchange_taken}
+use Rattle.office_taking.specs.Taking.{MachineState, cleared, cleared_for, list_replaced, line_taken, lines_taken, verdict_on, messages_taken, codes_for, source_in, nothing_taken, taken_at, taken_of, interchange_taken}
 use Rattle.office_history.specs.After.{parties_in, opening_of}
 use Rattle.office_history.proofs.Telling.{within}
 
@@ -128,8 +128,12 @@ module _ (count : ℕ) where
   lines_keep state source [] has are = are
   lines_keep state source (line ∷ lines) has are = lines_keep (line_taken state source line).0 source lines has (read_keeps state source line has are)
 
+  cleared_keeps : (state : TerminalState) (list : Option (CallContent × Side)) → AreAccounted state → AreAccounted (cleared state list).state
+  cleared_keeps state None are = are
+  cleared_keeps state (Some list) are = are
+
   verdict_keeps : (state : TerminalState) (source : Source) (read : Result MessageContent MessageFault) → source.partner ≤ count → AreAccounted state → AreAccounted (verdict_on state source read).0
-  verdict_keeps state source (Ok content) has are = lines_keep state source content.lines has are
+  verdict_keeps state source (Ok content) has are = lines_keep (cleared_for state content).state source content.lines has (cleared_keeps state (list_replaced content) are)
   verdict_keeps state source (Err fault) has are = are
 
   messages_keep : (state : TerminalState) (codes : Codes) (source : Source) (opened : CivilMoment) (messages : List Message) → source.partner ≤ count → AreAccounted state → AreAccounted (messages_taken state codes source opened messages).0

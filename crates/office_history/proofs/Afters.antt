@@ -25,6 +25,7 @@ use Rattle.terminal_core.proofs.Keeping.{empty_whole}
 use Rattle.terminal_core.proofs.Forming.{empty_formed}
 use Rattle.office_admission.specs.Admission.{admission, by_header}
 use Rattle.office_admission.specs.Deliveries.{with_delivery, deliveries_of}
+use Rattle.office_replies.specs.Events.{Event, delivered}
 use Rattle.office_replies.specs.declared.fault.Fault.{Fault}
 use Rattle.office_setup.specs.Parties.{Parties}
 use Rattle.office_setup.specs.Setups.{SetupContent}
@@ -47,21 +48,21 @@ added_on : (text : List ℕ) (place : Result (ℕ × ℕ) Fault) (later more : L
 added_on text (Ok place) later more = refl
 added_on text (Err fault) later more = refl
 
-pub deliveries_more : (P : Parties) (ds : List (List ℕ)) (delivered : List ℕ)
-    → deliveries_of P (ds ++ delivered ∷ []) ≡ deliveries_of P ds ++ with_delivery (interchange_of delivered) (admission P (interchange_of delivered)) []
-deliveries_more P [] delivered = refl
-deliveries_more P (first ∷ ds) delivered =
-    ap (with_delivery (interchange_of first) (admission P (interchange_of first))) (deliveries_more P ds delivered)
-    ∙ added_on (interchange_of first) (admission P (interchange_of first)) (deliveries_of P ds) _
+pub deliveries_more : (P : Parties) (es : List Event) (sent : List ℕ)
+    → deliveries_of P (es ++ delivered sent ∷ []) ≡ deliveries_of P es ++ with_delivery (interchange_of sent) (admission P (interchange_of sent)) []
+deliveries_more P [] sent = refl
+deliveries_more P (delivered first ∷ es) sent =
+    ap (with_delivery (interchange_of first) (admission P (interchange_of first))) (deliveries_more P es sent)
+    ∙ added_on (interchange_of first) (admission P (interchange_of first)) (deliveries_of P es) _
 
-pub admitted_more : (content : SetupContent) (ds : List (List ℕ)) (delivered : List ℕ) (p k : ℕ) → admission (parties_in content) (interchange_of delivered) ≡ Ok (p, k)
-    → delivered_to content (ds ++ delivered ∷ []) ≡ delivered_to content ds ++ delivery p k (interchange_of delivered) ∷ []
-admitted_more content ds delivered p k is = deliveries_more (parties_in content) ds delivered ∙ ap (λ place. delivered_to content ds ++ with_delivery (interchange_of delivered) place []) is
+pub admitted_more : (content : SetupContent) (es : List Event) (sent : List ℕ) (p k : ℕ) → admission (parties_in content) (interchange_of sent) ≡ Ok (p, k)
+    → delivered_to content (es ++ delivered sent ∷ []) ≡ delivered_to content es ++ delivery p k (interchange_of sent) ∷ []
+admitted_more content es sent p k is = deliveries_more (parties_in content) es sent ∙ ap (λ place. delivered_to content es ++ with_delivery (interchange_of sent) place []) is
 
-pub refused_more : (content : SetupContent) (ds : List (List ℕ)) (delivered : List ℕ) (fault : Fault) → admission (parties_in content) (interchange_of delivered) ≡ Err fault
-    → delivered_to content (ds ++ delivered ∷ []) ≡ delivered_to content ds
-refused_more content ds delivered fault is =
-    deliveries_more (parties_in content) ds delivered ∙ ap (λ place. delivered_to content ds ++ with_delivery (interchange_of delivered) place []) is ∙ append-nil (delivered_to content ds)
+pub refused_more : (content : SetupContent) (es : List Event) (sent : List ℕ) (fault : Fault) → admission (parties_in content) (interchange_of sent) ≡ Err fault
+    → delivered_to content (es ++ delivered sent ∷ []) ≡ delivered_to content es
+refused_more content es sent fault is =
+    deliveries_more (parties_in content) es sent ∙ ap (λ place. delivered_to content es ++ with_delivery (interchange_of sent) place []) is ∙ append-nil (delivered_to content es)
 
 -- ---- the rows after deliveries of partners
 
@@ -75,8 +76,8 @@ pub record AreAfterThese (content : SetupContent) (D : List Delivery) (rows : Ro
   pub settings : rows.settings ≡ settings_of content
   pub blocks : rows.blocks ≡ content.blocks
 
-pub these : (content : SetupContent) (ds : List (List ℕ)) (rows : Rows) → AreAfter content ds rows → AreAfterThese content (delivered_to content ds) rows
-these content ds rows are = record {
+pub these : (content : SetupContent) (es : List Event) (rows : Rows) → AreAfter content es rows → AreAfterThese content (delivered_to content es) rows
+these content es rows are = record {
   partners = are.partners;
   texts = are.texts;
   replies = are.replies;
@@ -86,8 +87,8 @@ these content ds rows are = record {
   blocks = are.blocks;
 }
 
-pub those : (content : SetupContent) (ds : List (List ℕ)) (rows : Rows) → AreAfterThese content (delivered_to content ds) rows → AreAfter content ds rows
-those content ds rows are = record {
+pub those : (content : SetupContent) (es : List Event) (rows : Rows) → AreAfterThese content (delivered_to content es) rows → AreAfter content es rows
+those content es rows are = record {
   partners = are.partners;
   texts = are.texts;
   replies = are.replies;

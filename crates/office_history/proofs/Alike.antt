@@ -1,6 +1,6 @@
 -- Set-ups that say the same take interchanges alike, whatever memory holds their codes.
 use Rattle.std.proofs.Common.{◌≡◌, ℕ, ◌+◌, List, [], ◌∷◌, map, Bool, true, false, cond, Option, None, Some, is_none, Ok, Err, refl, sym, ap, subst, ◌∙◌}
-use Rattle.std.specs.Prelude.{◌==◌, ◌&&◌, if◌then◌else◌}
+use Rattle.std.specs.Prelude.{◌==◌, ◌&&◌, ◌||◌, not, if◌then◌else◌}
 use Rattle.std.specs.Option.{option_map, option_and_then, option_map_or}
 use Rattle.std.specs.List.{find}
 use Rattle.std.specs.Str.{bytes_eq}
@@ -12,7 +12,7 @@ use Rattle.edi_syntax.specs.Envelope.{header_of, messages_of}
 use Rattle.edi_syntax.specs.Header.{preparation}
 use Rattle.edi_syntax.specs.Messages.{Message}
 use Rattle.edi_messages.specs.Codes.{code_text, table_texts, meanings, order_meant}
-use Rattle.edi_messages.specs.Faults.{beginning, document_name, order_kind_of, call_in, applies, message_faults}
+use Rattle.edi_messages.specs.Faults.{beginning, is_original, is_replacement, is_list, document_name, order_kind_of, call_in, applies, message_faults}
 use Rattle.edi_messages.specs.Types.{message_type_of}
 use Rattle.edi_messages.specs.Purposes.{purpose_with}
 use Rattle.edi_messages.specs.Message.{message_of, judged_message, reading}
@@ -36,6 +36,7 @@ use Rattle.terminal_core.specs.Changes.{rows_of}
 use Rattle.office_admission.specs.Deliveries.{deliveries_of}
 use Rattle.std.specs.FinMap as finite_map
 use Rattle.office_admission.specs.Admission.{admission, is_for}
+use Rattle.office_replies.specs.Events.{Event}
 use Rattle.office_replies.specs.Messages.{ReportContent}
 use Rattle.office_setup.specs.Given.{IsGiven}
 use Rattle.office_setup.specs.Setups.{SetupContent}
@@ -44,7 +45,7 @@ use Rattle.office_rows.specs.Rows.{Rows}
 use Rattle.office_rows.specs.Opened.{OpenedRows, Shows}
 use Rattle.office_rows.specs.Office.{IsOffice}
 use Rattle.office_rows.specs.Stored.{HasRows}
-use Rattle.office_rows.specs.Opening.{setting, settings_of, code_names, settings_named}
+use Rattle.office_rows.specs.Opening.{setting, settings_of, tables_version, code_names, settings_named}
 use Rattle.std.specs.Prelude.{codes, decimal}
 use Rattle.office_history.specs.After.{SaysSame, AreAfter, parties_in, opening_of, delivered_to, accounts_from}
 use Rattle.office_history.specs.Laws.{Reopens}
@@ -96,7 +97,8 @@ module _ (t u : CodeTable) (same : SameTexts t u) (kind : PartnerKind) where
   applies_same message fault.OtherType = refl
   applies_same message fault.NoBgm = refl
   applies_same message fault.Code = ap is_none (kind_same message)
-  applies_same message fault.Function = refl
+  applies_same message fault.Function = λ i.
+      not (option_map_or (λ segment. is_original segment || (is_replacement segment && option_map_or is_list (kind_same message i) false)) (beginning message) true)
   applies_same message fault.NoTransport = refl
   applies_same message fault.NoEquipment = refl
   applies_same message fault.EquipmentCount = refl
@@ -194,20 +196,20 @@ replies_like texts (e ∷ numbers) a b p k like =
     ∙ ap (λ o. if (e.0 == p) && (e.1 == k) then Some (interchange_taken b e.0 (texts e.0 e.1)).1 else o)
     (replies_like texts numbers (interchange_taken a e.0 (texts e.0 e.1)).0 (interchange_taken b e.0 (texts e.0 e.1)).0 p k (like_after a b like e.0 (texts e.0 e.1)))
 
-state_like : (a b : MachineState) (D : List Delivery) → IsLike a b → (state interchange_taken a D).terminal ≡ (state interchange_taken b D).terminal
+pub state_like : (a b : MachineState) (D : List Delivery) → IsLike a b → (state interchange_taken a D).terminal ≡ (state interchange_taken b D).terminal
 unfolding state
 state_like a b D like = (run_like (text_under D) (orders.order D) a b like).terminal
 
-reply_like : (a b : MachineState) (D : List Delivery) (p k : ℕ) → IsLike a b → reply_of interchange_taken a D p k ≡ reply_of interchange_taken b D p k
+pub reply_like : (a b : MachineState) (D : List Delivery) (p k : ℕ) → IsLike a b → reply_of interchange_taken a D p k ≡ reply_of interchange_taken b D p k
 unfolding reply_of
 reply_like a b D p k like = replies_like (text_under D) (orders.order D) a b p k like
 
 -- ---- set-ups that say the same
 
-parties_same : (other content : SetupContent) → SaysSame other content → parties_in other ≡ parties_in content
+pub parties_same : (other content : SetupContent) → SaysSame other content → parties_in other ≡ parties_in content
 parties_same other content says i = record { terminal = says.terminal i; partners = map (λ (account : List ℕ × PartnerKind). account.0) (says.partners i) }
 
-opening_like : (other content : SetupContent) → SaysSame other content → IsLike (opening_of other) (opening_of content)
+pub opening_like : (other content : SetupContent) → SaysSame other content → IsLike (opening_of other) (opening_of content)
 opening_like other content says = record {
   parties = parties_same other content says;
   codes = says.codes;
@@ -215,31 +217,31 @@ opening_like other content says = record {
   terminal = λ i. record { yard = record { plan = says.blocks i; boxes = finite_map.empty }; limit = says.limit i; visits = []; lines = finite_map.empty };
 }
 
-delivered_same : (other content : SetupContent) (ds : List (List ℕ)) → SaysSame other content → delivered_to other ds ≡ delivered_to content ds
-delivered_same other content ds says = ap (λ P. deliveries_of P ds) (parties_same other content says)
+pub delivered_same : (other content : SetupContent) (es : List Event) → SaysSame other content → delivered_to other es ≡ delivered_to content es
+delivered_same other content es says = ap (λ P. deliveries_of P es) (parties_same other content says)
 
 settings_same : (other content : SetupContent) → SaysSame other content → settings_of other ≡ settings_of content
 settings_same other content says i =
-    setting (codes "version") (codes "1") ∷ setting (codes "terminal") (says.terminal i) ∷ setting (codes "visits") (decimal (says.limit i)) ∷ settings_named code_names (says.codes i)
+    setting (codes "version") tables_version ∷ setting (codes "terminal") (says.terminal i) ∷ setting (codes "visits") (decimal (says.limit i)) ∷ settings_named code_names (says.codes i)
 
-pub after_same : (other content : SetupContent) (ds : List (List ℕ)) (rows : Rows) → SaysSame other content → AreAfter content ds rows → AreAfter other ds rows
-after_same other content ds rows says are =
-    let D = delivered_same other content ds says in
+pub after_same : (other content : SetupContent) (es : List Event) (rows : Rows) → SaysSame other content → AreAfter content es rows → AreAfter other es rows
+after_same other content es rows says are =
+    let D = delivered_same other content es says in
     let like = opening_like other content says in
     record {
       partners = are.partners ∙ sym (λ i. accounts_from 1 (λ p. run (D i) p + 1) (says.partners i));
       texts = λ p k. are.texts p k ∙ sym (ap (λ l. first_text l p k) D);
-      replies = λ p k. are.replies p k ∙ sym (ap (λ l. reply_of interchange_taken (opening_of content) l p k) D) ∙ sym (reply_like (opening_of other) (opening_of content) (delivered_to other ds) p k like);
+      replies = λ p k. are.replies p k ∙ sym (ap (λ l. reply_of interchange_taken (opening_of content) l p k) D) ∙ sym (reply_like (opening_of other) (opening_of content) (delivered_to other es) p k like);
       kept_once = are.kept_once;
-      terminal = are.terminal ∙ ap rows_of (sym (state_like (opening_of other) (opening_of content) (delivered_to other ds) like ∙ ap (λ l. (state interchange_taken (opening_of content) l).terminal) D));
+      terminal = are.terminal ∙ ap rows_of (sym (state_like (opening_of other) (opening_of content) (delivered_to other es) like ∙ ap (λ l. (state interchange_taken (opening_of content) l).terminal) D));
       placed_once = are.placed_once;
       listed_once = are.listed_once;
       settings = are.settings ∙ sym (settings_same other content says);
       blocks = are.blocks ∙ sym says.blocks;
     }
 
-pub reopens : (content : SetupContent) (ds : List (List ℕ)) (rows : Rows) (db : Database) (shown : OpenedRows) (other : SetupContent) (terminal : TerminalState)
-    → AreAfter content ds rows → IsGiven content → HasRows rows db → Shows db shown → IsOffice shown other terminal → Reopens content ds rows other
-reopens content ds rows db shown other terminal are given has shows office =
-    let says = says_same content ds rows db shown other terminal given are has shows office in
-    record { says = says; rows_are = after_same other content ds rows says are }
+pub reopens : (content : SetupContent) (es : List Event) (rows : Rows) (db : Database) (shown : OpenedRows) (other : SetupContent) (terminal : TerminalState)
+    → AreAfter content es rows → IsGiven content → HasRows rows db → Shows db shown → IsOffice shown other terminal → Reopens content es rows other
+reopens content es rows db shown other terminal are given has shows office =
+    let says = says_same content es rows db shown other terminal given are has shows office in
+    record { says = says; rows_are = after_same other content es rows says are }

@@ -20,7 +20,7 @@ use Rattle.edi_messages.specs.Purposes.{CallContent}
 use Rattle.terminal_core.specs.declared.line_state.LineState.TheVariants.{Pending, Done}
 use Rattle.terminal_core.specs.declared.side.Side.{Side}
 use Rattle.terminal_core.specs.declared.side.Side.TheVariants.{Load, Discharge}
-use Rattle.terminal_core.specs.Rows.{ChangeContent, visit_opened, visit_closed, placed_at, moved_to, removed_from, listed_on, line_done}
+use Rattle.terminal_core.specs.Rows.{ChangeContent, visit_opened, visit_closed, placed_at, moved_to, removed_from, listed_on, line_done, unlisted}
 use Rattle.terminal_core.specs.State.{LineContent, LineKey, Lines, line_key, side_code}
 use Rattle.terminal_core.specs.Changes.{Standing, standing_in, standing_elsewhere, TerminalRows, with_line_done, rows_with, all_changed, IsApplicable, AreApplicable}
 use Rattle.terminal_core.proofs.Boxes.{same_bytes}
@@ -130,7 +130,7 @@ left_out : (own here : Bool) (q : BoxNumber) (p : PlaceContent) (rest : List Pla
 left_out true here q p rest e = refl
 left_out false here q p rest e = head q p rest here e
 
-leaves : (own here is : Bool) (x f o : Option Standing) → f ≡ cond is None o → (own ≡ true → here ≡ is) → (is ≡ true → own ≡ here) → cond own f (cond here x f) ≡ cond is None (cond here x o)
+leaves : {A : Type 0} (own here is : Bool) (x f o : Option A) → f ≡ cond is None o → (own ≡ true → here ≡ is) → (is ≡ true → own ≡ here) → cond own f (cond here x f) ≡ cond is None (cond here x o)
 leaves true true true x f o e h k = e
 leaves true true false x f o e h k = let bad : true ≡ false = h refl in cc
 leaves true false true x f o e h k = let bad : false ≡ true = h refl in cc
@@ -140,7 +140,7 @@ leaves false true false x f o e h k = refl
 leaves false false true x f o e h k = e
 leaves false false false x f o e h k = e
 
-none_left : (b : Bool) → ◌≡◌ {A = Option Standing} None (cond b None None)
+none_left : {A : Type 0} (b : Bool) → ◌≡◌ {A = Option A} None (cond b None None)
 none_left true = refl
 none_left false = refl
 
@@ -282,6 +282,29 @@ module _ (call : CallContent) (side : Side) (container : BoxNumber) where
       ∙ ap (λ o. cond (eq_by_cmp order q key) (option_map as_done o) (finds q lines)) (sym (finite_map.get-from_entries keys_total (map line_entry lines) key) ∙ there)
       ∙ ap (cond (eq_by_cmp order q key) (Some (as_done line))) (sym (finite_map.get-from_entries keys_total (map line_entry lines) q))
       ∙ sym (finite_map.get-insert keys_total (lines_by lines) key (as_done line) q))
+
+  out : (own : Bool) (q : LineKey) (line : ListingContent) (rest : List ListingContent) → finds q (cond (not own) (line ∷ rest) rest) ≡ cond own (finds q rest) (cond (eq_by_cmp order q (key_of line)) (Some (said line)) (finds q rest))
+  out true q line rest = refl
+  out false q line rest = refl
+
+  left_at : (q : LineKey) (lines : List ListingContent) → finds q (filter (λ l. not (is_line call side container l)) lines) ≡ cond (eq_by_cmp order q key) None (finds q lines)
+  left_at q [] = none_left (eq_by_cmp order q key)
+  left_at q (line ∷ lines) =
+      let own = is_line call side container line in
+      let here = eq_by_cmp order q (key_of line) in
+      let is = eq_by_cmp order q key in
+      let rest = filter (λ l. not (is_line call side container l)) lines in
+      out own q line rest
+      ∙ leaves own here is (Some (said line)) (finds q rest) (finds q lines) (left_at q lines)
+      (λ e. ap (eq_by_cmp order q) (sym (same_key key (key_of line) (line_tied call side container line ∙ e))))
+      (λ e. sym (line_tied call side container line) ∙ ap (λ k. eq_by_cmp order k (key_of line)) (sym (same_key q key e)))
+
+  pub lines_left : (lines : List ListingContent) → lines_by (filter (λ l. not (is_line call side container l)) lines) ≡ finite_map.remove (lines_by lines) key
+  lines_left lines = finite_map.same_map keys_total keys_apart _ _
+      (λ q. finite_map.get-from_entries keys_total (map line_entry (filter (λ l. not (is_line call side container l)) lines)) q
+      ∙ left_at q lines
+      ∙ ap (cond (eq_by_cmp order q key) None) (sym (finite_map.get-from_entries keys_total (map line_entry lines) q))
+      ∙ sym (finite_map.get-remove keys_total (lines_by lines) key q))
 
 -- ---- no key twice
 
@@ -429,6 +452,14 @@ change_agrees rows (line_done call side container) placed listed fits = record {
     kept : (own : Bool) (c : CallContent) (s : Side) (b : BoxNumber) (line : ListingContent) → is_line c s b (cond own (record line { state = Done }) line) ≡ is_line c s b line
     kept true c s b line = refl
     kept false c s b line = refl
+change_agrees rows (unlisted call side container) placed listed fits = record {
+  same = ap (λ (l : Lines). record (terminal_rows rows) { lines = l }) (lines_left call side container rows.lines);
+  placed_once = placed;
+  listed_once = λ c s b.
+      let less : count_by (is_line c s b) (filter (λ l. not (is_line call side container l)) rows.lines) ≤ count_by (is_line c s b) rows.lines = count_left (is_line c s b) (λ l. not (is_line call side container l)) rows.lines in
+      let few : count_by (is_line c s b) rows.lines ≤ 1 = listed c s b in
+      omega arith;
+}
 
 pub changes_agree : (changes : List ChangeContent) (rows : Rows) (terminal : TerminalRows) → AreRowsByKey rows terminal → AreApplicable terminal changes → AreRowsByKey (with_changes changes rows) (all_changed terminal changes)
 changes_agree [] rows terminal are fits = are

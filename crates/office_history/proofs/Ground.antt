@@ -38,7 +38,7 @@ use Rattle.terminal_core.specs.State.{TerminalState, LineContent, line_of, is_in
 use Rattle.terminal_core.specs.Step.{Stepped, with_refusal, step, yard_with_entry, settled_in, with_slot, is_full, after_entry, entered_at, after_departure, departed_at, departure_by, moved_at, listed_at, then_line_done_at, by_line, by_state}
 use Rattle.terminal_core.proofs.Changing.{either}
 use Rattle.office_admission.specs.Admission.{admission, is_for}
-use Rattle.office_taking.specs.Taking.{MachineState, line_taken, lines_taken, verdict_on, messages_taken, codes_for, source_in, nothing_taken, taken_at, taken_of, interchange_taken}
+use Rattle.office_taking.specs.Taking.{MachineState, cleared, cleared_for, list_replaced, line_taken, lines_taken, verdict_on, messages_taken, codes_for, source_in, nothing_taken, taken_at, taken_of, interchange_taken}
 
 -- ---- the yard
 
@@ -173,8 +173,14 @@ lines_stay state source (line ∷ lines) =
     let next : TerminalState = (line_taken state source line).0 in
     on state next (lines_taken next source lines).0 (read_stays state source line) (lines_stay next source lines)
 
+cleared_stays : (state : TerminalState) (list : Option (CallContent × Side)) → OnGround state (cleared state list).state
+cleared_stays state None = still state
+cleared_stays state (Some list) = record { plan = refl; limit = refl }
+
 verdict_stays : (state : TerminalState) (source : Source) (read : Result MessageContent MessageFault) → OnGround state (verdict_on state source read).0
-verdict_stays state source (Ok content) = lines_stay state source content.lines
+verdict_stays state source (Ok content) =
+    let next : TerminalState = (cleared_for state content).state in
+    on state next (lines_taken next source content.lines).0 (cleared_stays state (list_replaced content)) (lines_stay next source content.lines)
 verdict_stays state source (Err fault) = still state
 
 messages_stay : (state : TerminalState) (codes : Codes) (source : Source) (opened : CivilMoment) (messages : List Message) → OnGround state (messages_taken state codes source opened messages).0

@@ -16,6 +16,7 @@ use Rattle.yard_core.specs.declared.placement.Placement.{Placement}
 use Rattle.terminal_core.specs.Step.{number_of_visit}
 use Rattle.terminal_core.specs.State.{open_visit}
 use Rattle.office_admission.specs.Admission.{admission}
+use Rattle.office_replies.specs.Events.{Event, delivered}
 use Rattle.office_replies.specs.declared.fault.Fault.{Fault}
 use Rattle.office_rows.specs.Rows.{Rows}
 use Rattle.office_rows.specs.Effects.{with_kept}
@@ -61,58 +62,58 @@ opening_after content = record {
 
 -- ---- one delivery more
 
-abbrev after_one : SetupContent → List (List ℕ) → List ℕ → ℕ → ℕ → List Delivery
-after_one content ds delivered p k = delivered_to content ds ++ delivery p k (interchange_of delivered) ∷ []
+abbrev after_one : SetupContent → List Event → List ℕ → ℕ → ℕ → List Delivery
+after_one content es sent p k = delivered_to content es ++ delivery p k (interchange_of sent) ∷ []
 
-pub refused_adds : (content : SetupContent) (ds : List (List ℕ)) (rows : Rows) (delivered : List ℕ) (fault : Fault) → AreAfter content ds rows → admission (parties_in content) (interchange_of delivered) ≡ Err fault
-    → AddsNoRow content ds delivered rows
-refused_adds content ds rows delivered fault are is =
-    let same = refused_more content ds delivered fault is in
+pub refused_adds : (content : SetupContent) (es : List Event) (rows : Rows) (sent : List ℕ) (fault : Fault) → AreAfter content es rows → admission (parties_in content) (interchange_of sent) ≡ Err fault
+    → AddsNoRow content es sent rows
+refused_adds content es rows sent fault are is =
+    let same = refused_more content es sent fault is in
     record {
-      rows_are = those content (ds ++ delivered ∷ []) rows (subst (λ D. AreAfterThese content D rows) (sym same) (these content ds rows are));
+      rows_are = those content (es ++ delivered sent ∷ []) rows (subst (λ D. AreAfterThese content D rows) (sym same) (these content es rows are));
       machine = ap (state interchange_taken (opening_of content)) same;
       runs = λ p. ap (λ D. run D p) same;
     }
 
-pub used_adds : (content : SetupContent) (ds : List (List ℕ)) (rows : Rows) (delivered : List ℕ) (p k : ℕ) (kept : List ℕ) → AreAfter content ds rows → IsFor content delivered p k
-    → text_in rows p k ≡ Some kept → AddsNoRow content ds delivered rows
-used_adds content ds rows delivered p k kept are for there =
-    let d = delivery p k (interchange_of delivered) in
-    let D = delivered_to content ds in
-    let same = admitted_more content ds delivered p k for in
+pub used_adds : (content : SetupContent) (es : List Event) (rows : Rows) (sent : List ℕ) (p k : ℕ) (kept : List ℕ) → AreAfter content es rows → IsFor content sent p k
+    → text_in rows p k ≡ Some kept → AddsNoRow content es sent rows
+used_adds content es rows sent p k kept are for there =
+    let d = delivery p k (interchange_of sent) in
+    let D = delivered_to content es in
+    let same = admitted_more content es sent p k for in
     let adds = adds_nothing interchange_taken (opening_of content) D d (ap is_some (sym (are.texts p k) ∙ there)) in
     record {
-      rows_are = those content (ds ++ delivered ∷ []) rows (subst (λ E. AreAfterThese content E rows) (sym same) (known_adds content D d rows kept (these content ds rows are) there));
+      rows_are = those content (es ++ delivered sent ∷ []) rows (subst (λ E. AreAfterThese content E rows) (sym same) (known_adds content D d rows kept (these content es rows are) there));
       machine = ap (state interchange_taken (opening_of content)) same ∙ adds.state_is;
       runs = λ q. ap (λ E. run E q) same ∙ adds.runs q;
     }
 
-pub early_adds : (content : SetupContent) (ds : List (List ℕ)) (rows : Rows) (delivered : List ℕ) (p k : ℕ) → AreAfter content ds rows → IsFor content delivered p k
-    → text_in rows p k ≡ None → run (delivered_to content ds) p + 1 < k → AddsWaiting content ds delivered (with_kept p k (interchange_of delivered) rows)
-early_adds content ds rows delivered p k are for free early =
-    let text = interchange_of delivered in
+pub early_adds : (content : SetupContent) (es : List Event) (rows : Rows) (sent : List ℕ) (p k : ℕ) → AreAfter content es rows → IsFor content sent p k
+    → text_in rows p k ≡ None → run (delivered_to content es) p + 1 < k → AddsWaiting content es sent (with_kept p k (interchange_of sent) rows)
+early_adds content es rows sent p k are for free early =
+    let text = interchange_of sent in
     let d = delivery p k text in
-    let D = delivered_to content ds in
-    let same = admitted_more content ds delivered p k for in
+    let D = delivered_to content es in
+    let same = admitted_more content es sent p k for in
     let adds = adds_text interchange_taken (opening_of content) D d (ap is_some (sym (are.texts p k) ∙ free)) early in
     record {
-      rows_are = those content (ds ++ delivered ∷ []) (with_kept p k text rows) (subst (λ E. AreAfterThese content E (with_kept p k text rows)) (sym same) (early_keeps content D p k text rows (these content ds rows are) free early));
+      rows_are = those content (es ++ delivered sent ∷ []) (with_kept p k text rows) (subst (λ E. AreAfterThese content E (with_kept p k text rows)) (sym same) (early_keeps content D p k text rows (these content es rows are) free early));
       machine = ap (state interchange_taken (opening_of content)) same ∙ adds.state_is;
       runs = λ q. ap (λ E. run E q) same ∙ adds.runs q;
     }
 
-pub next_adds : (content : SetupContent) (ds : List (List ℕ)) (rows : Rows) (delivered : List ℕ) (p k : ℕ) (taken : List TakenContent) (machine : MachineState)
-    → IsGiven content → AreAfter content ds rows → IsFor content delivered p k → text_in rows p k ≡ None → k ≡ run (delivered_to content ds) p + 1
-    → AreTakenFrom p (texts_with rows p k (interchange_of delivered)) k (machine_after content ds) taken machine
-    → AddsRun content ds delivered p (length taken) (with_run p k (interchange_of delivered) taken rows) machine
-next_adds content ds rows delivered p k taken machine given are for free is from =
-    let text = interchange_of delivered in
-    let D = delivered_to content ds in
-    let same = admitted_more content ds delivered p k for in
-    let more = run_more content D p k text rows taken machine given (these content ds rows are) free is from in
+pub next_adds : (content : SetupContent) (es : List Event) (rows : Rows) (sent : List ℕ) (p k : ℕ) (taken : List TakenContent) (machine : MachineState)
+    → IsGiven content → AreAfter content es rows → IsFor content sent p k → text_in rows p k ≡ None → k ≡ run (delivered_to content es) p + 1
+    → AreTakenFrom p (texts_with rows p k (interchange_of sent)) k (machine_after content es) taken machine
+    → AddsRun content es sent p (length taken) (with_run p k (interchange_of sent) taken rows) machine
+next_adds content es rows sent p k taken machine given are for free is from =
+    let text = interchange_of sent in
+    let D = delivered_to content es in
+    let same = admitted_more content es sent p k for in
+    let more = run_more content D p k text rows taken machine given (these content es rows are) free is from in
     let ends = more.ends in
     record {
-      rows_are = those content (ds ++ delivered ∷ []) (with_run p k text taken rows) (subst (λ E. AreAfterThese content E (with_run p k text taken rows)) (sym same) more.rows_are);
+      rows_are = those content (es ++ delivered sent ∷ []) (with_run p k text taken rows) (subst (λ E. AreAfterThese content E (with_run p k text taken rows)) (sym same) more.rows_are);
       machine_is = more.machine ∙ ap (state interchange_taken (opening_of content)) (sym same);
       run_is = ap (λ E. run E p) same ∙ omega (arith, ends, is);
       other_runs = λ q apart. ap (λ E. run E q) same ∙ other_run-stays D (delivery p k text) q apart;

@@ -40,6 +40,7 @@ use Rattle.terminal_core.specs.Step.{number_of_visit}
 use Rattle.terminal_core.proofs.Boxes.{same_self}
 use Rattle.terminal_core.proofs.Counted.{found_is}
 use Rattle.terminal_core.proofs.Formed.{state_of_rows}
+use Rattle.office_replies.specs.Events.{Event}
 use Rattle.office_setup.specs.Given.{IsGiven}
 use Rattle.office_setup.specs.Setups.{SetupContent}
 use Rattle.partner_core.specs.Deliveries.{run}
@@ -321,16 +322,16 @@ value_one name v w e = let same : setting name v ≡ setting name w = cc in ap (
 
 -- ---- all
 
-module _ (content : SetupContent) (ds : List (List ℕ)) (rows : Rows) (db : Database) (shown : OpenedRows) (other : SetupContent) (state : TerminalState)
-    (given : IsGiven content) (are : AreAfter content ds rows) (has : HasRows rows db) (shows : Shows db shown) (office : IsOffice shown other state) where
+module _ (content : SetupContent) (es : List Event) (rows : Rows) (db : Database) (shown : OpenedRows) (other : SetupContent) (state : TerminalState)
+    (given : IsGiven content) (are : AreAfter content es rows) (has : HasRows rows db) (shows : Shows db shown) (office : IsOffice shown other state) where
   abbrev own : TerminalState
-  own = (machine_after content ds).terminal
+  own = (machine_after content es).terminal
 
   sound_whole : IsWhole own
-  sound_whole = (state_sound content (delivered_to content ds) given).whole
+  sound_whole = (state_sound content (delivered_to content es) given).whole
 
   sound_formed : IsWellFormed own
-  sound_formed = (state_sound content (delivered_to content ds) given).formed
+  sound_formed = (state_sound content (delivered_to content es) given).formed
 
   visits_are : rows.visits ≡ own.visits
   visits_are = ap (λ (r : TerminalRows). r.visits) are.terminal
@@ -406,7 +407,7 @@ module _ (content : SetupContent) (ds : List (List ℕ)) (rows : Rows) (db : Dat
 
   partners_same : other.partners ≡ content.partners
   partners_same =
-      let next : ℕ → ℕ = λ p. run (delivered_to content ds) p + 1 in
+      let next : ℕ → ℕ = λ p. run (delivered_to content es) p + 1 in
       let in_order = shown_in partner (0 ∷ 1 ∷ 2 ∷ 3 ∷ []) (0 ∷ []) partner_values rows.partners db (map partner_values shown.partners) (λ p. refl) has.rows_are.partners shows.partners in
       let same : shown.partners ≡ in_order.0 = same_records (λ _. Unit {0}) partner_values partner_one shown.partners in_order.0 (λ _ _. tt) (λ _ _. tt) in_order.2 in
       let mine : Rises (λ (p : Partner). p.id) 0 rows.partners = subst (Rises (λ (p : Partner). p.id) 0) (sym are.partners) (accounts_rise 1 0 next content.partners refl) in
@@ -416,7 +417,7 @@ module _ (content : SetupContent) (ds : List (List ℕ)) (rows : Rows) (db : Dat
 
   pub state_given : state ≡ own
   state_given =
-      let ground = state_on_ground (opening_of content) (delivered_to content ds) in
+      let ground = state_on_ground (opening_of content) (delivered_to content es) in
       state_of_rows state own office.whole sound_whole (office.plan ∙ blocks_same ∙ sym ground.plan) (office.limit ∙ limit_same ∙ sym ground.limit)
       (sym office.terminal ∙ (λ i. record { visits = visits_same i; places = standing_same i; lines = listing_same i }) ∙ are.terminal)
 

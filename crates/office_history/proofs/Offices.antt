@@ -22,6 +22,7 @@ use Rattle.terminal_core.proofs.Numbered.{contained}
 use Rattle.terminal_core.specs.Changes.{TerminalRows}
 use Rattle.terminal_core.specs.Rows.{VisitContent}
 use Rattle.terminal_core.specs.State.{TerminalState}
+use Rattle.office_replies.specs.Events.{Event}
 use Rattle.office_setup.specs.Given.{IsGiven}
 use Rattle.office_setup.specs.Setups.{SetupContent}
 use Rattle.office_rows.specs.Rows.{Partner, Interchange, PlaceContent, ListingContent, Rows}
@@ -151,9 +152,9 @@ silent : (reply : List ℕ) → reply_if_any reply ≡ None → not (length repl
 silent [] e = refl
 silent (byte ∷ bytes) e = cc
 
-module _ (content : SetupContent) (ds : List (List ℕ)) (rows : Rows) (are : AreAfter content ds rows) where
+module _ (content : SetupContent) (es : List Event) (rows : Rows) (are : AreAfter content es rows) where
   abbrev D : List Delivery
-  D = delivered_to content ds
+  D = delivered_to content es
 
   abbrev runs : ℕ → ℕ
   runs p = run D p
@@ -178,14 +179,14 @@ module _ (content : SetupContent) (ds : List (List ℕ)) (rows : Rows) (are : Ar
 
   within_runs : (i : Interchange) → Contains rows.interchanges i → IsWithinRuns count runs (numbered i)
   within_runs i inside =
-      let range = text_within content ds rows i.partner i.number i.body are (own_text i inside) in
+      let range = text_within content es rows i.partner i.number i.body are (own_text i inside) in
       record {
         partner_low = range.0;
         partner_high = range.1;
         low = range.2;
         high = range.3;
         taken = λ within. replied i.reply (ap is_some (sym (own_reply i inside)) ∙ ap is_some (are.replies i.partner i.number) ∙ within_replied interchange_taken (opening_of content) D i.partner i.number range.2 within);
-        waits = λ beyond. (beyond_next i inside beyond, silent i.reply (sym (own_reply i inside) ∙ unreplied content D rows i.partner i.number (these content ds rows are) (omega arith)));
+        waits = λ beyond. (beyond_next i inside beyond, silent i.reply (sym (own_reply i inside) ∙ unreplied content D rows i.partner i.number (these content es rows are) (omega arith)));
       }
     where
       beyond_next : (i : Interchange) → Contains rows.interchanges i → runs i.partner < i.number → runs i.partner + 1 < i.number
@@ -265,22 +266,22 @@ settings_shuffled content = record {
 -- ---- accounts
 
 -- no run goes past the numbers of interchanges
-run_within : (content : SetupContent) (ds : List (List ℕ)) (p : ℕ) → run (delivered_to content ds) p ≤ 999999999
-run_within content ds p = elim (cases_order (run (delivered_to content ds) p) 0) [
+run_within : (content : SetupContent) (es : List Event) (p : ℕ) → run (delivered_to content es) p ≤ 999999999
+run_within content es p = elim (cases_order (run (delivered_to content es) p) 0) [
   | inl none ↦ omega arith
   | inr o ↦ elim o [
     | inl below ↦ absurd (omega arith)
     | inr some ↦
-        let last = some_of (first_text (delivered_to content ds) p (run (delivered_to content ds) p)) (used_within_run (delivered_to content ds) p (run (delivered_to content ds) p) (omega arith) (omega arith)) in
-        (delivered_within (parties_in content) ds p (run (delivered_to content ds) p) last.0 last.1).3
+        let last = some_of (first_text (delivered_to content es) p (run (delivered_to content es) p)) (used_within_run (delivered_to content es) p (run (delivered_to content es) p) (omega arith) (omega arith)) in
+        (delivered_within (parties_in content) es p (run (delivered_to content es) p) last.0 last.1).3
   ]
 ]
 
 -- ---- an office
 
-module _ (content : SetupContent) (ds : List (List ℕ)) (rows : Rows) (db : Database) (given : IsGiven content) (are : AreAfter content ds rows) (has : HasRows rows db) where
+module _ (content : SetupContent) (es : List Event) (rows : Rows) (db : Database) (given : IsGiven content) (are : AreAfter content es rows) (has : HasRows rows db) where
   abbrev own : TerminalState
-  own = (machine_after content ds).terminal
+  own = (machine_after content es).terminal
 
   visits_are : rows.visits ≡ own.visits
   visits_are = ap (λ (r : TerminalRows). r.visits) are.terminal
@@ -288,12 +289,12 @@ module _ (content : SetupContent) (ds : List (List ℕ)) (rows : Rows) (db : Dat
   partners_in_turn : InTurn (is_before (0 ∷ []) partner_values) rows.partners
   partners_in_turn =
       rising_in_turn (λ (p : Partner). p.id) (is_before (0 ∷ []) partner_values) (λ x y below. not_before y.id x.id Equal below) 0 rows.partners
-      (subst (Rises (λ (p : Partner). p.id) 0) (sym are.partners) (accounts_rise 1 0 (λ p. run (delivered_to content ds) p + 1) content.partners refl))
+      (subst (Rises (λ (p : Partner). p.id) 0) (sym are.partners) (accounts_rise 1 0 (λ p. run (delivered_to content es) p + 1) content.partners refl))
 
   visits_in_turn : InTurn (is_before (0 ∷ []) visit_values) rows.visits
   visits_in_turn =
       rising_in_turn (λ (v : VisitContent). v.number) (is_before (0 ∷ []) visit_values) (λ x y below. not_before y.number x.number Equal below) 0 rows.visits
-      (subst (Rises (λ (v : VisitContent). v.number) 0) (sym visits_are) (numbered_rise 1 0 own.visits refl (state_sound content (delivered_to content ds) given).whole.numbered))
+      (subst (Rises (λ (v : VisitContent). v.number) 0) (sym visits_are) (numbered_rise 1 0 own.visits refl (state_sound content (delivered_to content es) given).whole.numbered))
 
   blocks_in_turn : InTurn (is_before (0 ∷ []) block_values) rows.blocks
   blocks_in_turn =
@@ -337,19 +338,19 @@ module _ (content : SetupContent) (ds : List (List ℕ)) (rows : Rows) (db : Dat
 
     office : IsOffice shown content own
     office =
-        let ground = state_on_ground (opening_of content) (delivered_to content ds) in
-        let sound = state_sound content (delivered_to content ds) given in
+        let ground = state_on_ground (opening_of content) (delivered_to content es) in
+        let sound = state_sound content (delivered_to content es) given in
         record {
           given = given;
           settings = refl;
           blocks = are.blocks;
-          accounts = subst (λ l. AreAccounts 1 l content.partners) (sym are.partners) (accounts_are 1 (λ p. run (delivered_to content ds) p) content.partners (λ p. run_within content ds p));
-          kept = numbers_kept content ds rows are interchanges.0 interchanges.1 interchanges.2;
+          accounts = subst (λ l. AreAccounts 1 l content.partners) (sym are.partners) (accounts_are 1 (λ p. run (delivered_to content es) p) content.partners (λ p. run_within content es p));
+          kept = numbers_kept content es rows are interchanges.0 interchanges.1 interchanges.2;
           plan = ground.plan;
           limit = ground.limit;
           whole = sound.whole;
           formed = sound.formed;
-          accounted = state_accounted content (delivered_to content ds);
+          accounted = state_accounted content (delivered_to content es);
           placed_once = λ container. subst (λ n. n ≤ 1) (sym (sum_by-IsPermutation (λ p. cond (stands_for container p) 1 0) rows.places places.0 places.1)) (are.placed_once container);
           listed_once = λ call side container. subst (λ n. n ≤ 1) (sym (sum_by-IsPermutation (λ l. cond (is_line call side container l) 1 0) rows.lines lines.0 lines.1)) (are.listed_once call side container);
           terminal = (λ i. record { visits = rows.visits; places = places_same rows.places places.0 are.placed_once places.1 i; lines = lines_same rows.lines lines.0 are.listed_once lines.1 i }) ∙ are.terminal;

@@ -12,7 +12,7 @@ use Rattle.edi_syntax.specs.Header.{preparation}
 use Rattle.partner_core.specs.Numbered.{with_number}
 use Rattle.partner_core.specs.Cascade.{TakesTexts}
 use Rattle.partner_core.proofs.Cascades.{takes_one_more}
-use Rattle.terminal_core.specs.Rows.{ChangeContent, visit_opened, visit_closed, placed_at, moved_to, removed_from, listed_on, line_done}
+use Rattle.terminal_core.specs.Rows.{ChangeContent, visit_opened, visit_closed, placed_at, moved_to, removed_from, listed_on, line_done, unlisted}
 use Rattle.terminal_core.specs.State.{IsWhole}
 use Rattle.terminal_core.specs.Changes.{TerminalRows, rows_of, all_changed, AreApplicable}
 use Rattle.terminal_core.proofs.Counted.{found_is}
@@ -43,6 +43,7 @@ one_beside rows (moved_to container slot) = record { partners = refl; interchang
 one_beside rows (removed_from container) = record { partners = refl; interchanges = refl; settings = refl; blocks = refl }
 one_beside rows (listed_on call side container port) = record { partners = refl; interchanges = refl; settings = refl; blocks = refl }
 one_beside rows (line_done call side container) = record { partners = refl; interchanges = refl; settings = refl; blocks = refl }
+one_beside rows (unlisted call side container) = record { partners = refl; interchanges = refl; settings = refl; blocks = refl }
 
 changes_beside : (changes : List ChangeContent) (rows : Rows) → SameBeside rows (with_changes changes rows)
 changes_beside [] rows = record { partners = refl; interchanges = refl; settings = refl; blocks = refl }

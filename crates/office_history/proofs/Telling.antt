@@ -19,6 +19,7 @@ use Rattle.partner_core.specs.declared.standing.Standing.{Standing}
 use Rattle.partner_core.specs.declared.standing.Standing.TheVariants.{Known, Other, Early, Next}
 use Rattle.office_admission.specs.Admission.{admission, by_header, by_recipient, sender_of, number_in}
 use Rattle.office_admission.specs.Deliveries.{with_delivery, deliveries_of}
+use Rattle.office_replies.specs.Events.{Event, delivered}
 use Rattle.office_replies.specs.declared.fault.Fault.{Fault}
 use Rattle.office_replies.specs.declared.fault.Fault.TheVariants.{WrongRecipient}
 use Rattle.office_setup.specs.Parties.{Parties, partner_from}
@@ -98,14 +99,14 @@ first_of P text (Ok place) later p k t is e rest = at ((place.0 == p) && (place.
         subst (λ q. IsWithin (length P.partners) q k) one (subst (λ n. IsWithin (length P.partners) place.0 n) two own)
     at false here = rest (sym (ap (λ b. cond b (Some text) (first_text later p k)) here) ∙ e)
 
-pub delivered_within : (P : Parties) (ds : List (List ℕ)) (p k : ℕ) (t : List ℕ) → first_text (deliveries_of P ds) p k ≡ Some t → IsWithin (length P.partners) p k
+pub delivered_within : (P : Parties) (es : List Event) (p k : ℕ) (t : List ℕ) → first_text (deliveries_of P es) p k ≡ Some t → IsWithin (length P.partners) p k
 delivered_within P [] p k t e = cc
-delivered_within P (d ∷ ds) p k t e =
-    first_of P (interchange_of d) (admission P (interchange_of d)) (deliveries_of P ds) p k t refl e (λ rest. delivered_within P ds p k t rest)
+delivered_within P (delivered sent ∷ es) p k t e =
+    first_of P (interchange_of sent) (admission P (interchange_of sent)) (deliveries_of P es) p k t refl e (λ rest. delivered_within P es p k t rest)
 
-pub text_within : (content : SetupContent) (ds : List (List ℕ)) (rows : Rows) (p k : ℕ) (t : List ℕ) → AreAfter content ds rows → text_in rows p k ≡ Some t → IsWithin (length content.partners) p k
-text_within content ds rows p k t are e =
-    let found = delivered_within (parties_in content) ds p k t (sym (are.texts p k) ∙ e) in
+pub text_within : (content : SetupContent) (es : List Event) (rows : Rows) (p k : ℕ) (t : List ℕ) → AreAfter content es rows → text_in rows p k ≡ Some t → IsWithin (length content.partners) p k
+text_within content es rows p k t are e =
+    let found = delivered_within (parties_in content) es p k t (sym (are.texts p k) ∙ e) in
     subst (λ n. IsWithin n p k) (length-map content.partners _) found
 
 -- ---- accounts
@@ -116,9 +117,9 @@ next_in id f [] account i low e = absurd (omega arith)
 next_in id f (a ∷ accounts) account zero low e = ap (λ (p : Partner). p.next) (sym e) ∙ ap (λ (p : Partner). f p.id) e
 next_in id f (a ∷ accounts) account (suc i) low e = next_in (id + 1) f accounts account i (omega arith) e
 
-pub next_follows : (content : SetupContent) (ds : List (List ℕ)) (rows : Rows) (account : Partner) → AreAfter content ds rows → Contains rows.partners account → account.next ≡ run (delivered_to content ds) account.id + 1
-next_follows content ds rows account are there =
-    let f : ℕ → ℕ = λ p. run (delivered_to content ds) p + 1 in
+pub next_follows : (content : SetupContent) (es : List Event) (rows : Rows) (account : Partner) → AreAfter content es rows → Contains rows.partners account → account.next ≡ run (delivered_to content es) account.id + 1
+next_follows content es rows account are there =
+    let f : ℕ → ℕ = λ p. run (delivered_to content es) p + 1 in
     let here : Contains (accounts_from 1 f content.partners) account = subst (λ l. Contains l account) are.partners there in
     next_in 1 f content.partners account here.0 here.1 here.2
 
@@ -147,25 +148,25 @@ stands_next next k text is = ap (λ b. cond b Early Next) (not_less (nat_lt next
     not_less true e = absurd (omega (arith, ltb-true next k e, is))
     not_less false e = e
 
-module _ (content : SetupContent) (ds : List (List ℕ)) (rows : Rows) (delivered : List ℕ) (p k : ℕ) (are : AreAfter content ds rows) (for : IsFor content delivered p k) where
+module _ (content : SetupContent) (es : List Event) (rows : Rows) (sent : List ℕ) (p k : ℕ) (are : AreAfter content es rows) (for : IsFor content sent p k) where
   abbrev D : List Delivery
-  D = delivered_to content ds
+  D = delivered_to content es
 
   abbrev text : List ℕ
-  text = interchange_of delivered
+  text = interchange_of sent
 
   abbrev after : Option (List ℕ)
   after = reply_of interchange_taken (opening_of content) (D ++ delivery p k text ∷ []) p k
 
-  told : told_of content ds p k delivered ≡ answer_by (standing_of (run D p + 1) k (text_in rows p k) text) (run D p + 1) (reply_in rows p k) after
-  told = answered content D p k text rows (these content ds rows are) (within (parties_in content) text p k for).2
+  told : told_of content es p k sent ≡ answer_by (standing_of (run D p + 1) k (text_in rows p k) text) (run D p + 1) (reply_in rows p k) after
+  told = answered content D p k text rows (these content es rows are) (within (parties_in content) text p k for).2
 
   by_standing : (o : Option (List ℕ)) (standing : Standing) → text_in rows p k ≡ o → standing_of (run D p + 1) k o text ≡ standing
-      → told_of content ds p k delivered ≡ answer_by standing (run D p + 1) (reply_in rows p k) after
+      → told_of content es p k sent ≡ answer_by standing (run D p + 1) (reply_in rows p k) after
   by_standing o standing is stands =
       told ∙ ap (λ o. answer_by (standing_of (run D p + 1) k o text) (run D p + 1) (reply_in rows p k) after) is ∙ ap (λ s. answer_by s (run D p + 1) (reply_in rows p k) after) stands
 
-  pub answers : AnswersBy content ds rows delivered p k
+  pub answers : AnswersBy content es rows sent p k
   answers = record {
     clash = λ kept is apart. by_standing (Some kept) Other is (stands_other (run D p + 1) k kept text apart);
     repeat = λ reply is has. by_standing (Some text) Known is (stands_known (run D p + 1) k text) ∙ ap (λ o. answer_by Known (run D p + 1) o after) has;
@@ -177,6 +178,6 @@ module _ (content : SetupContent) (ds : List (List ℕ)) (rows : Rows) (delivere
   }
     where
       replied : (first : TakenContent) (later : List TakenContent) (machine : MachineState) → IsGiven content → text_in rows p k ≡ None → k ≡ run D p + 1
-          → AreTakenFrom p (texts_with rows p k text) k (machine_after content ds) (first ∷ later) machine → after ≡ Some first.reply
+          → AreTakenFrom p (texts_with rows p k text) k (machine_after content es) (first ∷ later) machine → after ≡ Some first.reply
       replied first later machine given is next from =
-          first_reply content D p k text rows first later machine given (these content ds rows are) is next from
+          first_reply content D p k text rows first later machine given (these content es rows are) is next from

@@ -1,4 +1,4 @@
--- Rows(ds): the rows after a list of deliveries.
+-- Rows(es): the rows after a list of events.
 use Rattle.std.specs.Prelude.{◌≡◌, ℕ, ◌+◌, ◌≤◌, List, [], ◌∷◌, map, find, count_by, Option, None, Some}
 use Rattle.std.specs.Option.{option_and_then}
 use Rattle.std.specs.FinMap as finite_map
@@ -11,6 +11,7 @@ use Rattle.terminal_core.specs.State.{TerminalState, empty_state}
 use Rattle.terminal_core.specs.Changes.{rows_of}
 use Rattle.office_setup.specs.Parties.{Parties}
 use Rattle.office_setup.specs.Setups.{SetupContent}
+use Rattle.office_replies.specs.Events.{Event}
 use Rattle.office_admission.specs.Deliveries.{deliveries_of}
 use Rattle.office_rows.specs.Rows.{Partner, Interchange, Rows}
 use Rattle.office_rows.specs.Effects.{is_pair}
@@ -52,13 +53,13 @@ pub record SaysSame (one other : SetupContent) : Type 0 where
   pub blocks : one.blocks ≡ other.blocks
   pub limit : one.visit_limit ≡ other.visit_limit
 
--- what was delivered, as deliveries of the partners
-abbrev pub delivered_to : SetupContent → List (List ℕ) → List Delivery
-delivered_to content ds = deliveries_of (parties_in content) ds
+-- the events, as deliveries of the partners
+abbrev pub delivered_to : SetupContent → List Event → List Delivery
+delivered_to content es = deliveries_of (parties_in content) es
 
--- State(ds)
-abbrev pub machine_after : SetupContent → List (List ℕ) → MachineState
-machine_after content ds = state interchange_taken (opening_of content) (delivered_to content ds)
+-- State(es)
+abbrev pub machine_after : SetupContent → List Event → MachineState
+machine_after content es = state interchange_taken (opening_of content) (delivered_to content es)
 
 -- ---- the rows
 
@@ -82,16 +83,16 @@ reply_in rows partner number =
 abbrev pub AreKeptOnce : List Interchange → Type 0
 AreKeptOnce interchanges = (partner number : ℕ) → count_by (is_pair partner number) interchanges ≤ 1
 
--- Rows(ds): each account with the number after its run, every First with its reply within the run, visits, places and
+-- Rows(es): each account with the number after its run, every First with its reply within the run, visits, places and
 -- lines of State, the settings and the blocks of the set-up
-pub record AreAfter (content : SetupContent) (ds : List (List ℕ)) (rows : Rows) : Type 0 where
-  pub partners : rows.partners ≡ accounts_from 1 (λ partner. run (delivered_to content ds) partner + 1) content.partners
-  pub texts : (partner number : ℕ) → text_in rows partner number ≡ first_text (delivered_to content ds) partner number
+pub record AreAfter (content : SetupContent) (es : List Event) (rows : Rows) : Type 0 where
+  pub partners : rows.partners ≡ accounts_from 1 (λ partner. run (delivered_to content es) partner + 1) content.partners
+  pub texts : (partner number : ℕ) → text_in rows partner number ≡ first_text (delivered_to content es) partner number
   pub replies : (partner number : ℕ) →
       reply_in rows partner number
-      ≡ reply_of interchange_taken (opening_of content) (delivered_to content ds) partner number
+      ≡ reply_of interchange_taken (opening_of content) (delivered_to content es) partner number
   pub kept_once : AreKeptOnce rows.interchanges
-  pub terminal : terminal_rows rows ≡ rows_of (machine_after content ds).terminal
+  pub terminal : terminal_rows rows ≡ rows_of (machine_after content es).terminal
   pub placed_once : ArePlacedOnce rows.places
   pub listed_once : AreListedOnce rows.lines
   pub settings : rows.settings ≡ settings_of content

@@ -1,4 +1,4 @@
--- What the rows are after deliveries: the laws.
+-- What the rows are after events: the laws.
 use Rattle.std.specs.Prelude.{◌≡◌, ℕ, ◌+◌, ◌<◌, ◌≤◌, List, [], ◌∷◌, ◌++◌, length, Contains, None, Some, Ok, Err}
 use Rattle.edi_segments.specs.Interchange.{interchange_of}
 use Rattle.partner_core.specs.Deliveries.{delivery, run}
@@ -6,6 +6,7 @@ use Rattle.partner_core.specs.Answers.{Told, answer_of, Taken, Repeat, Waiting, 
 use Rattle.terminal_core.specs.Rows.{ChangeContent}
 use Rattle.terminal_core.specs.Changes.{TerminalRows, all_changed, AreApplicable}
 use Rattle.office_admission.specs.Admission.{admission}
+use Rattle.office_replies.specs.Events.{Event, delivered}
 use Rattle.office_replies.specs.declared.fault.Fault.{Fault}
 use Rattle.sqlite.specs.Effect.{Database}
 use Rattle.terminal_core.specs.State.{TerminalState}
@@ -40,150 +41,150 @@ ChangesAgree =
 
 -- ---- before anything was delivered
 
--- the rows that opening writes are those after no delivery
+-- the rows that opening writes are those after no event
 abbrev pub OpeningIsAfterNone : Type 0
 OpeningIsAfterNone = (content : SetupContent) → AreAfter content [] (opening_rows content)
 
 -- what deliveries leave of a given set-up is sound
 abbrev pub DeliveriesLeaveSound : Type 0
 DeliveriesLeaveSound =
-    (content : SetupContent) (ds : List (List ℕ)) → IsGiven content → IsSoundMachine (machine_after content ds)
+    (content : SetupContent) (es : List Event) → IsGiven content → IsSoundMachine (machine_after content es)
 
 -- ---- what the rows tell
 
 -- a text is kept for an account, under a number of an interchange
 abbrev pub NumbersAreWithin : Type 0
 NumbersAreWithin =
-    (content : SetupContent) (ds : List (List ℕ)) (rows : Rows) (partner number : ℕ) (text : List ℕ) →
-    AreAfter content ds rows → text_in rows partner number ≡ Some text
+    (content : SetupContent) (es : List Event) (rows : Rows) (partner number : ℕ) (text : List ℕ) →
+    AreAfter content es rows → text_in rows partner number ≡ Some text
     → (1 ≤ partner) × (partner ≤ length content.partners) × (1 ≤ number) × (number ≤ 999999999)
 
 -- an account's next number is the one after its partner's run
 abbrev pub NextFollowsRun : Type 0
 NextFollowsRun =
-    (content : SetupContent) (ds : List (List ℕ)) (rows : Rows) (account : Partner) → AreAfter content ds rows →
+    (content : SetupContent) (es : List Event) (rows : Rows) (account : Partner) → AreAfter content es rows →
     Contains rows.partners account
-    → account.next ≡ run (delivered_to content ds) account.id + 1
+    → account.next ≡ run (delivered_to content es) account.id + 1
 
 -- ---- one delivery more
 
 -- the text is admitted for that partner under that number
 abbrev pub IsFor : SetupContent → List ℕ → ℕ → ℕ → Type 0
-IsFor content delivered partner number =
-    admission (parties_in content) (interchange_of delivered) ≡ Ok (partner, number)
+IsFor content sent partner number =
+    admission (parties_in content) (interchange_of sent) ≡ Ok (partner, number)
 
 -- the rows are those after the delivery too, and the terminal is as it was
-pub record AddsNoRow (content : SetupContent) (ds : List (List ℕ)) (delivered : List ℕ) (rows : Rows) : Type 0 where
-  pub rows_are : AreAfter content (ds ++ delivered ∷ []) rows
-  pub machine : machine_after content (ds ++ delivered ∷ []) ≡ machine_after content ds
+pub record AddsNoRow (content : SetupContent) (es : List Event) (sent : List ℕ) (rows : Rows) : Type 0 where
+  pub rows_are : AreAfter content (es ++ delivered sent ∷ []) rows
+  pub machine : machine_after content (es ++ delivered sent ∷ []) ≡ machine_after content es
   pub runs : (partner : ℕ) →
-      run (delivered_to content (ds ++ delivered ∷ [])) partner ≡ run (delivered_to content ds) partner
+      run (delivered_to content (es ++ delivered sent ∷ [])) partner ≡ run (delivered_to content es) partner
 
 -- what is refused adds nothing
 abbrev pub RefusedAddsNoRow : Type 0
 RefusedAddsNoRow =
-    (content : SetupContent) (ds : List (List ℕ)) (rows : Rows) (delivered : List ℕ) (fault : Fault) →
-    AreAfter content ds rows → admission (parties_in content) (interchange_of delivered) ≡ Err fault
-    → AddsNoRow content ds delivered rows
+    (content : SetupContent) (es : List Event) (rows : Rows) (sent : List ℕ) (fault : Fault) →
+    AreAfter content es rows → admission (parties_in content) (interchange_of sent) ≡ Err fault
+    → AddsNoRow content es sent rows
 
 -- a text under a number that is used adds nothing
 abbrev pub UsedAddsNoRow : Type 0
 UsedAddsNoRow =
-    (content : SetupContent) (ds : List (List ℕ)) (rows : Rows) (delivered : List ℕ) (partner number : ℕ)
-    (kept : List ℕ) → AreAfter content ds rows → IsFor content delivered partner number
-    → text_in rows partner number ≡ Some kept → AddsNoRow content ds delivered rows
+    (content : SetupContent) (es : List Event) (rows : Rows) (sent : List ℕ) (partner number : ℕ)
+    (kept : List ℕ) → AreAfter content es rows → IsFor content sent partner number
+    → text_in rows partner number ≡ Some kept → AddsNoRow content es sent rows
 
 -- a text before its time is kept
-pub record AddsWaiting (content : SetupContent) (ds : List (List ℕ)) (delivered : List ℕ) (rows : Rows) : Type 0 where
-  pub rows_are : AreAfter content (ds ++ delivered ∷ []) rows
-  pub machine : machine_after content (ds ++ delivered ∷ []) ≡ machine_after content ds
+pub record AddsWaiting (content : SetupContent) (es : List Event) (sent : List ℕ) (rows : Rows) : Type 0 where
+  pub rows_are : AreAfter content (es ++ delivered sent ∷ []) rows
+  pub machine : machine_after content (es ++ delivered sent ∷ []) ≡ machine_after content es
   pub runs : (partner : ℕ) →
-      run (delivered_to content (ds ++ delivered ∷ [])) partner ≡ run (delivered_to content ds) partner
+      run (delivered_to content (es ++ delivered sent ∷ [])) partner ≡ run (delivered_to content es) partner
 
 abbrev pub EarlyAddsWaiting : Type 0
 EarlyAddsWaiting =
-    (content : SetupContent) (ds : List (List ℕ)) (rows : Rows) (delivered : List ℕ) (partner number : ℕ) →
-    AreAfter content ds rows → IsFor content delivered partner number
-    → text_in rows partner number ≡ None → run (delivered_to content ds) partner + 1 < number
-    → AddsWaiting content ds delivered (with_kept partner number (interchange_of delivered) rows)
+    (content : SetupContent) (es : List Event) (rows : Rows) (sent : List ℕ) (partner number : ℕ) →
+    AreAfter content es rows → IsFor content sent partner number
+    → text_in rows partner number ≡ None → run (delivered_to content es) partner + 1 < number
+    → AddsWaiting content es sent (with_kept partner number (interchange_of sent) rows)
 
 -- the text that is next is taken, and each that becomes next by it
-pub record AddsRun (content : SetupContent) (ds : List (List ℕ)) (delivered : List ℕ) (partner count : ℕ) (rows : Rows)
+pub record AddsRun (content : SetupContent) (es : List Event) (sent : List ℕ) (partner count : ℕ) (rows : Rows)
     (machine : MachineState) : Type 0 where
-  pub rows_are : AreAfter content (ds ++ delivered ∷ []) rows
-  pub machine_is : machine ≡ machine_after content (ds ++ delivered ∷ [])
-  pub run_is : run (delivered_to content (ds ++ delivered ∷ [])) partner ≡ run (delivered_to content ds) partner + count
+  pub rows_are : AreAfter content (es ++ delivered sent ∷ []) rows
+  pub machine_is : machine ≡ machine_after content (es ++ delivered sent ∷ [])
+  pub run_is : run (delivered_to content (es ++ delivered sent ∷ [])) partner ≡ run (delivered_to content es) partner + count
   pub other_runs : (other : ℕ) → (other ≡ partner → ⊥) →
-      run (delivered_to content (ds ++ delivered ∷ [])) other ≡ run (delivered_to content ds) other
+      run (delivered_to content (es ++ delivered sent ∷ [])) other ≡ run (delivered_to content es) other
 
 abbrev pub NextAddsRun : Type 0
 NextAddsRun =
-    (content : SetupContent) (ds : List (List ℕ)) (rows : Rows) (delivered : List ℕ) (partner number : ℕ)
+    (content : SetupContent) (es : List Event) (rows : Rows) (sent : List ℕ) (partner number : ℕ)
     (taken : List TakenContent) (machine : MachineState)
-    → IsGiven content → AreAfter content ds rows → IsFor content delivered partner number
-    → text_in rows partner number ≡ None → number ≡ run (delivered_to content ds) partner + 1
-    → AreTakenFrom partner (texts_with rows partner number (interchange_of delivered)) number
-    (machine_after content ds) taken machine
-    → AddsRun content ds delivered partner (length taken)
-    (with_run partner number (interchange_of delivered) taken rows) machine
+    → IsGiven content → AreAfter content es rows → IsFor content sent partner number
+    → text_in rows partner number ≡ None → number ≡ run (delivered_to content es) partner + 1
+    → AreTakenFrom partner (texts_with rows partner number (interchange_of sent)) number
+    (machine_after content es) taken machine
+    → AddsRun content es sent partner (length taken)
+    (with_run partner number (interchange_of sent) taken rows) machine
 
 -- ---- answers
 
--- what is told of the text under that number, after those deliveries
-abbrev pub told_of : SetupContent → List (List ℕ) → ℕ → ℕ → List ℕ → Told
-told_of content ds partner number delivered =
-    answer_of interchange_taken (opening_of content) (delivered_to content ds)
-    (delivery partner number (interchange_of delivered))
+-- what is told of the text under that number, after those events
+abbrev pub told_of : SetupContent → List Event → ℕ → ℕ → List ℕ → Told
+told_of content es partner number sent =
+    answer_of interchange_taken (opening_of content) (delivered_to content es)
+    (delivery partner number (interchange_of sent))
 
 -- how the rows tell the answer
-pub record AnswersBy (content : SetupContent) (ds : List (List ℕ)) (rows : Rows) (delivered : List ℕ)
+pub record AnswersBy (content : SetupContent) (es : List Event) (rows : Rows) (sent : List ℕ)
     (partner number : ℕ) : Type 0 where
-  pub clash : (kept : List ℕ) → text_in rows partner number ≡ Some kept → (kept ≡ interchange_of delivered → ⊥) →
-      told_of content ds partner number delivered ≡ Clash
-  pub repeat : (reply : List ℕ) → text_in rows partner number ≡ Some (interchange_of delivered) →
+  pub clash : (kept : List ℕ) → text_in rows partner number ≡ Some kept → (kept ≡ interchange_of sent → ⊥) →
+      told_of content es partner number sent ≡ Clash
+  pub repeat : (reply : List ℕ) → text_in rows partner number ≡ Some (interchange_of sent) →
       reply_in rows partner number ≡ Some reply
-      → told_of content ds partner number delivered ≡ Repeat (Some reply)
-  pub waits : text_in rows partner number ≡ Some (interchange_of delivered) → reply_in rows partner number ≡ None
-      → told_of content ds partner number delivered ≡ Waiting (run (delivered_to content ds) partner + 1)
-  pub early : text_in rows partner number ≡ None → run (delivered_to content ds) partner + 1 < number
-      → told_of content ds partner number delivered ≡ Waiting (run (delivered_to content ds) partner + 1)
+      → told_of content es partner number sent ≡ Repeat (Some reply)
+  pub waits : text_in rows partner number ≡ Some (interchange_of sent) → reply_in rows partner number ≡ None
+      → told_of content es partner number sent ≡ Waiting (run (delivered_to content es) partner + 1)
+  pub early : text_in rows partner number ≡ None → run (delivered_to content es) partner + 1 < number
+      → told_of content es partner number sent ≡ Waiting (run (delivered_to content es) partner + 1)
   pub next : (first : TakenContent) (later : List TakenContent) (machine : MachineState) → IsGiven content
-      → text_in rows partner number ≡ None → number ≡ run (delivered_to content ds) partner + 1
-      → AreTakenFrom partner (texts_with rows partner number (interchange_of delivered)) number
-      (machine_after content ds) (first ∷ later) machine
-      → told_of content ds partner number delivered ≡ Taken (Some first.reply)
+      → text_in rows partner number ≡ None → number ≡ run (delivered_to content es) partner + 1
+      → AreTakenFrom partner (texts_with rows partner number (interchange_of sent)) number
+      (machine_after content es) (first ∷ later) machine
+      → told_of content es partner number sent ≡ Taken (Some first.reply)
 
 abbrev pub RowsAnswer : Type 0
 RowsAnswer =
-    (content : SetupContent) (ds : List (List ℕ)) (rows : Rows) (delivered : List ℕ) (partner number : ℕ) →
-    AreAfter content ds rows → IsFor content delivered partner number
-    → AnswersBy content ds rows delivered partner number
+    (content : SetupContent) (es : List Event) (rows : Rows) (sent : List ℕ) (partner number : ℕ) →
+    AreAfter content es rows → IsFor content sent partner number
+    → AnswersBy content es rows sent partner number
 
 -- ---- opening again
 
 -- what the queries of all rows show gives the terminal back that the deliveries left
 abbrev pub LoadingGivesState : Type 0
 LoadingGivesState =
-    (content : SetupContent) (ds : List (List ℕ)) (rows : Rows) (db : Database) (shown : OpenedRows)
+    (content : SetupContent) (es : List Event) (rows : Rows) (db : Database) (shown : OpenedRows)
     (other : SetupContent) (state : TerminalState)
-    → IsGiven content → AreAfter content ds rows → HasRows rows db → Shows db shown → IsOffice shown other state
-    → state ≡ (machine_after content ds).terminal
+    → IsGiven content → AreAfter content es rows → HasRows rows db → Shows db shown → IsOffice shown other state
+    → state ≡ (machine_after content es).terminal
 
--- and a set-up that says the same, after whose deliveries the rows are too
-pub record Reopens (content : SetupContent) (ds : List (List ℕ)) (rows : Rows) (other : SetupContent) : Type 0 where
+-- and a set-up that says the same, after whose events the rows are too
+pub record Reopens (content : SetupContent) (es : List Event) (rows : Rows) (other : SetupContent) : Type 0 where
   pub says : SaysSame other content
-  pub rows_are : AreAfter other ds rows
+  pub rows_are : AreAfter other es rows
 
 abbrev pub LoadingGivesSetup : Type 0
 LoadingGivesSetup =
-    (content : SetupContent) (ds : List (List ℕ)) (rows : Rows) (db : Database) (shown : OpenedRows)
+    (content : SetupContent) (es : List Event) (rows : Rows) (db : Database) (shown : OpenedRows)
     (other : SetupContent) (state : TerminalState)
-    → AreAfter content ds rows → IsGiven content → HasRows rows db → Shows db shown → IsOffice shown other state
-    → Reopens content ds rows other
+    → AreAfter content es rows → IsGiven content → HasRows rows db → Shows db shown → IsOffice shown other state
+    → Reopens content es rows other
 
 -- whatever was delivered, the queries of all rows show those of an office: its own rows are never found damaged
 abbrev pub RowsAreAnOffice : Type 0
 RowsAreAnOffice =
-    (content : SetupContent) (ds : List (List ℕ)) (rows : Rows) (db : Database) → IsGiven content →
-    AreAfter content ds rows → HasRows rows db
+    (content : SetupContent) (es : List Event) (rows : Rows) (db : Database) → IsGiven content →
+    AreAfter content es rows → HasRows rows db
     → (shown : OpenedRows) × (state : TerminalState) × Shows db shown × IsOffice shown content state

@@ -1,4 +1,4 @@
-//! What follows from the definitions of rows and deliveries alone. Each function has an empty body, and its contract is
+//! What follows from the definitions of rows and events alone. Each function has an empty body, and its contract is
 //! the law: a call brings it into the caller's proof.
 
 ghost use Rattle.office_history.specs.Laws.{ChangesAgree, OpeningIsAfterNone, DeliveriesLeaveSound, NumbersAreWithin, NextFollowsRun};
@@ -10,7 +10,7 @@ pub fn changes_agree()
     ensures { ChangesAgree }
 {}
 
-/// The rows that opening a store writes are those after no delivery.
+/// The rows that opening a store writes are those after no event.
 pub fn opening_is_after_none()
     ensures { OpeningIsAfterNone }
 {}
@@ -55,12 +55,12 @@ pub fn rows_answer()
     ensures { RowsAnswer }
 {}
 
-/// A store that is opened again, after whatever deliveries, gives the terminal that they left.
+/// A store that is opened again, after whatever events, gives the terminal that they left.
 pub fn loading_gives_state()
     ensures { LoadingGivesState }
 {}
 
-/// It gives a set-up that says the same, and its rows are those after the same deliveries to that set-up.
+/// It gives a set-up that says the same, and its rows are those after the same events at that set-up.
 pub fn loading_gives_setup()
     ensures { LoadingGivesSetup }
 {}

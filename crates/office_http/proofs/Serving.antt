@@ -3,14 +3,15 @@ use Rattle.std.proofs.Common.{ℕ, ◌+◌, ◌≤◌, List, [], ◌∷◌, ◌+
 use Rattle.std.proofs.lemmas.List.{length_push}
 use Rattle.office_replies.specs.declared.response.Response.{Response}
 use Rattle.office_stream.specs.Streams.{Answered}
-use Rattle.office_replies.specs.Delivering.{deliveries}
+use Rattle.office_replies.specs.Delivering.{events_behind}
+use Rattle.office_replies.specs.Events.{Event}
 use Rattle.office_stream.proofs.Answering.{answered_more}
 use Rattle.office_http.specs.Served.{AtMost, AtMostOne, Refuses}
 use Rattle.office_http.specs.declared.request.Request.{Request}
 use Rattle.office_http.specs.declared.request.Request.TheVariants.{Delivery, Report, Refused}
 
-module _ {D : Type 0} (stands : List (List ℕ) → D → Type 0) (answers : List (List ℕ) → List ℕ → Response → Type 0) (ds : List (List ℕ)) where
-  pub none_yet : (now : D) → stands ds now → AtMost stands answers ds 0 now
+module _ {D : Type 0} (stands : List Event → D → Type 0) (answers : List Event → List ℕ → Response → Type 0) (es : List Event) where
+  pub none_yet : (now : D) → stands es now → AtMost stands answers es 0 now
   none_yet now is = record {
     texts = [];
     responses = [];
@@ -18,8 +19,8 @@ module _ {D : Type 0} (stands : List (List ℕ) → D → Type 0) (answers : Lis
     answered = record { each = tt; stands_now = is };
   }
 
-  grown : (texts : List (List ℕ)) (responses : List Response) (count : ℕ) (old new : D) → length texts ≤ count → Answered stands answers ds texts responses old →
-      AtMostOne stands answers (deliveries ds texts responses) new → AtMost stands answers ds (count + 1) new
+  grown : (texts : List (List ℕ)) (responses : List Response) (count : ℕ) (old new : D) → length texts ≤ count → Answered stands answers es texts responses old →
+      AtMostOne stands answers (events_behind es texts responses) new → AtMost stands answers es (count + 1) new
   grown texts responses count old new few before (inl same) = record {
     texts = texts;
     responses = responses;
@@ -30,11 +31,11 @@ module _ {D : Type 0} (stands : List (List ℕ) → D → Type 0) (answers : Lis
     texts = texts ++ text ∷ [];
     responses = responses ++ response ∷ [];
     few = omega (arith, few, length_push texts text);
-    answered = answered_more stands answers ds texts responses old new text response before delivers;
+    answered = answered_more stands answers es texts responses old new text response before delivers;
   }
 
-  pub one_more : (count : ℕ) (old new : D) → AtMost stands answers ds count old → ((more : List (List ℕ)) → stands more old → AtMostOne stands answers more new) →
-      AtMost stands answers ds (count + 1) new
+  pub one_more : (count : ℕ) (old new : D) → AtMost stands answers es count old → ((more : List Event) → stands more old → AtMostOne stands answers more new) →
+      AtMost stands answers es (count + 1) new
   one_more count old new before next = grown before.texts before.responses count old new before.few before.answered (next _ before.answered.stands_now)
 
 -- a refusal, with other words of what is written

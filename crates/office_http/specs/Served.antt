@@ -4,6 +4,7 @@ use Rattle.std.specs.Io.KnownBytes.{Appends}
 use Rattle.office_replies.specs.declared.response.Response.{Response}
 use Rattle.office_replies.specs.Delivering.{Delivers}
 use Rattle.office_replies.specs.Responses.{body_of, status_of}
+use Rattle.office_replies.specs.Events.{Event}
 use Rattle.office_stream.specs.Streams.{Answered}
 use Rattle.office_queries.specs.declared.query.Query.{Query}
 use Rattle.office_queries.specs.declared.report_kind.ReportKind.{ReportKind}
@@ -38,15 +39,15 @@ answer_bytes response = response_bytes (status_of response) Json None (body_of r
 
 -- What is done at a request, and the bytes that answer it. A refusal doesn't touch the office. A report leaves it if
 -- it stood, also if it can't be given now.
-abbrev pub Does : {D : Type 0} → (List (List ℕ) → D → Type 0) → (List (List ℕ) → List ℕ → Response → Type 0)
-    → (D → Query → Option (List ℕ) → Type 0) → List (List ℕ) → Request → D → D → List ℕ → Type 0
-Does stands answers tells ds (Delivery body) old new bytes =
-    (response : Response) × Delivers stands answers ds body.items response new × (bytes ≡ answer_bytes response)
-Does stands answers tells ds (Report kind query) old new bytes =
-    stands ds new
+abbrev pub Does : {D : Type 0} → (List Event → D → Type 0) → (List Event → List ℕ → Response → Type 0)
+    → (D → Query → Option (List ℕ) → Type 0) → List Event → Request → D → D → List ℕ → Type 0
+Does stands answers tells es (Delivery body) old new bytes =
+    (response : Response) × Delivers stands answers es body.items response new × (bytes ≡ answer_bytes response)
+Does stands answers tells es (Report kind query) old new bytes =
+    stands es new
     × (((found : Option (List ℕ)) × tells old query found × (bytes ≡ report_bytes kind found))
     ⊎ (bytes ≡ refusal_bytes NotNow))
-Does stands answers tells ds (Refused refusal) old new bytes = (new ≡ old) × (bytes ≡ refusal_bytes refusal)
+Does stands answers tells es (Refused refusal) old new bytes = (new ≡ old) × (bytes ≡ refusal_bytes refusal)
 
 -- a refusal, whatever office it is: it isn't touched, and these bytes are written
 abbrev pub Refuses : {D : Type 0} → Request → D → D → (List ℕ → Type 0) → Type 0
@@ -55,35 +56,35 @@ Refuses (Report kind query) old new IsWritten = Unit {0}
 Refuses (Refused refusal) old new IsWritten = (new ≡ old) × IsWritten (refusal_bytes refusal)
 
 -- what a stream asks for was done
-pub record Serves {D : Type 0} (stands : List (List ℕ) → D → Type 0)
-    (answers : List (List ℕ) → List ℕ → Response → Type 0)
-    (tells : D → Query → Option (List ℕ) → Type 0) (ds : List (List ℕ)) (stream : List ℕ) (old new : D)
+pub record Serves {D : Type 0} (stands : List Event → D → Type 0)
+    (answers : List Event → List ℕ → Response → Type 0)
+    (tells : D → Query → Option (List ℕ) → Type 0) (es : List Event) (stream : List ℕ) (old new : D)
     (bytes : List ℕ) : Type 0 where
   pub request : Request
   pub asks : Asks stream request
-  pub does : Does stands answers tells ds request old new bytes
+  pub does : Does stands answers tells es request old new bytes
 
 -- what a stream asks for was done, and exactly its answer was written
-abbrev pub AnswersTo : {D : Type 0} → (List (List ℕ) → D → Type 0) → (List (List ℕ) → List ℕ → Response → Type 0)
-    → (D → Query → Option (List ℕ) → Type 0) → List (List ℕ) → List ℕ → D → D → Option (List ℕ) → Option (List ℕ) →
+abbrev pub AnswersTo : {D : Type 0} → (List Event → D → Type 0) → (List Event → List ℕ → Response → Type 0)
+    → (D → Query → Option (List ℕ) → Type 0) → List Event → List ℕ → D → D → Option (List ℕ) → Option (List ℕ) →
     Type 0
-AnswersTo stands answers tells ds stream old new written written' =
-    (bytes : List ℕ) × Serves stands answers tells ds stream old new bytes × Appends written written' bytes
+AnswersTo stands answers tells es stream old new written written' =
+    (bytes : List ℕ) × Serves stands answers tells es stream old new bytes × Appends written written' bytes
 
 -- at most one text was delivered
-abbrev pub AtMostOne : {D : Type 0} → (List (List ℕ) → D → Type 0) → (List (List ℕ) → List ℕ → Response → Type 0) →
-    List (List ℕ) → D → Type 0
-AtMostOne stands answers ds new =
-    stands ds new ⊎ ((text : List ℕ) × (response : Response) × Delivers stands answers ds text response new)
+abbrev pub AtMostOne : {D : Type 0} → (List Event → D → Type 0) → (List Event → List ℕ → Response → Type 0) →
+    List Event → D → Type 0
+AtMostOne stands answers es new =
+    stands es new ⊎ ((text : List ℕ) × (response : Response) × Delivers stands answers es text response new)
 
 -- at most so many texts were delivered, each answered at its place
-pub record AtMost {D : Type 0} (stands : List (List ℕ) → D → Type 0)
-    (answers : List (List ℕ) → List ℕ → Response → Type 0)
-    (ds : List (List ℕ)) (count : ℕ) (new : D) : Type 0 where
+pub record AtMost {D : Type 0} (stands : List Event → D → Type 0)
+    (answers : List Event → List ℕ → Response → Type 0)
+    (es : List Event) (count : ℕ) (new : D) : Type 0 where
   pub texts : List (List ℕ)
   pub responses : List Response
   pub few : length texts ≤ count
-  pub answered : Answered stands answers ds texts responses new
+  pub answered : Answered stands answers es texts responses new
 
 -- what holds after a failed read, and what after a failed write
 abbrev pub MatchFault : ServeFault → Type 0 → Type 0 → Type 0

@@ -1,5 +1,6 @@
 ghost use Rattle.std.specs.Prelude.{◌≡◌, ◌⊎◌, ◌≤◌, ◌+◌, ℕ, List, true, IfErr, OnOk, OnErr, IfSome, Err};
 ghost use Rattle.std.specs.Io.KnownBytes.{Appends};
+ghost use Rattle.office_replies.specs.Events.{Event};
 ghost use Rattle.office_http.specs.Requests.{Asks};
 ghost use Rattle.office_http.specs.Served.{AnswersTo, AtMostOne, content_of, Does, MatchFault, Refuses, Serves};
 ghost use Rattle.office_http.specs.declared.request.Request.{Request};
@@ -27,22 +28,22 @@ pub fn serve_one<R: Read, W: Write, D: Report>(
 ) -> Result<(), ServeFault>
     // What was asked for is done, and exactly its answer is written.
     ensures ok { OnOk result
-        (D.clean desk.new → (opening : D) (ds : List (List ℕ)) → D.stands opening ds desk.old
+        (D.clean desk.new → (opening : D.Opening) (es : List Event) → D.stands opening es desk.old
         → IfSome (R.remaining reader.old.inner) (λ stream.
-        AnswersTo (D.stands opening) (D.answers opening) D.tells ds stream desk.old desk.new
+        AnswersTo (D.stands opening) (D.answers opening) D.tells es stream desk.old desk.new
         (W.contents writer.old.inner) (W.contents writer.new.inner))) }
 
     // After a failed read nothing was delivered, and nothing written. After a failed write what was asked for is done.
     ensures err { IfErr result (λ fault. MatchFault fault
         ((reader.new.failed ≡ true) × (desk.new ≡ desk.old) × (writer.new ≡ writer.old))
         ((writer.new.failed ≡ true) × (reader.new.failed ≡ reader.old.failed)
-        × (D.clean desk.new → (opening : D) (ds : List (List ℕ)) → D.stands opening ds desk.old
+        × (D.clean desk.new → (opening : D.Opening) (es : List Event) → D.stands opening es desk.old
         → IfSome (R.remaining reader.old.inner) (λ stream. (bytes : List ℕ)
-        × Serves (D.stands opening) (D.answers opening) D.tells ds stream desk.old desk.new bytes)))) }
+        × Serves (D.stands opening) (D.answers opening) D.tells es stream desk.old desk.new bytes)))) }
 
     // Whatever the reader gives, at most one text is delivered.
-    ensures steps { D.clean desk.new → (opening : D) (ds : List (List ℕ)) → D.stands opening ds desk.old
-        → AtMostOne (D.stands opening) (D.answers opening) ds desk.new }
+    ensures steps { D.clean desk.new → (opening : D.Opening) (es : List Event) → D.stands opening es desk.old
+        → AtMostOne (D.stands opening) (D.answers opening) es desk.new }
 
     // A refusal leaves the desk as it was, whatever desk it is, and exactly its bytes are written.
     ensures refused { IfSome (R.remaining reader.old.inner) (λ stream. (result ≡ Err ServeFault.Read)
@@ -78,8 +79,8 @@ fn send_answer<W: Write, D: Report>(
     desk: &mut D,
     request: Request,
 ) -> io::Result<()>
-    ensures does { D.clean desk.new → (opening : D) (ds : List (List ℕ)) → D.stands opening ds desk.old
-        → (bytes : List ℕ) × Does (D.stands opening) (D.answers opening) D.tells ds request desk.old desk.new bytes
+    ensures does { D.clean desk.new → (opening : D.Opening) (es : List Event) → D.stands opening es desk.old
+        → (bytes : List ℕ) × Does (D.stands opening) (D.answers opening) D.tells es request desk.old desk.new bytes
         × OnOk result (Appends (W.contents writer.old.inner) (W.contents writer.new.inner) bytes) }
     ensures refused { Refuses request desk.old desk.new
         (λ bytes. OnOk result (Appends (W.contents writer.old.inner) (W.contents writer.new.inner) bytes)) }
@@ -99,8 +100,8 @@ fn answer<W: Write, D: Report>(
     desk: &mut D,
     request: Request,
 ) -> io::Result<()>
-    ensures does { D.clean desk.new → (opening : D) (ds : List (List ℕ)) → D.stands opening ds desk.old
-        → (bytes : List ℕ) × Does (D.stands opening) (D.answers opening) D.tells ds request desk.old desk.new bytes
+    ensures does { D.clean desk.new → (opening : D.Opening) (es : List Event) → D.stands opening es desk.old
+        → (bytes : List ℕ) × Does (D.stands opening) (D.answers opening) D.tells es request desk.old desk.new bytes
         × OnOk result (Appends (W.contents writer.old.inner) (W.contents writer.new.inner) bytes) }
     ensures refused { Refuses request desk.old desk.new
         (λ bytes. OnOk result (Appends (W.contents writer.old.inner) (W.contents writer.new.inner) bytes)) }
@@ -125,9 +126,9 @@ fn answer_report<W: Write, D: Report>(
     kind: ReportKind,
     query: &Query,
 ) -> io::Result<()>
-    ensures does { D.clean desk.new → (opening : D) (ds : List (List ℕ)) → D.stands opening ds desk.old
+    ensures does { D.clean desk.new → (opening : D.Opening) (es : List Event) → D.stands opening es desk.old
         → (bytes : List ℕ)
-        × Does (D.stands opening) (D.answers opening) D.tells ds (Report kind query.now) desk.old desk.new bytes
+        × Does (D.stands opening) (D.answers opening) D.tells es (Report kind query.now) desk.old desk.new bytes
         × OnOk result (Appends (W.contents writer.old.inner) (W.contents writer.new.inner) bytes) }
     ensures kept { OnOk result (writer.new.failed ≡ writer.old.failed) }
     ensures fails { OnErr result (writer.new.failed ≡ true) }

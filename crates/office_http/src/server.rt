@@ -1,8 +1,12 @@
 ghost use Rattle.std.specs.Prelude.{ℕ, List};
+ghost use Rattle.office_replies.specs.Events.{Event};
 ghost use Rattle.office_http.specs.Served.{AtMost, AtMostOne};
 
+use crate::overheard::Overheard;
+use crate::seen::Seen;
 use crate::serve::serve_one;
 use crate::timed_stream::TimedStream;
+use crate::watch::Watch;
 use office_queries::Report;
 use office_stream::{Gathered, Port};
 use std::alloc::Global;
@@ -11,40 +15,51 @@ use std::net::{Shutdown, TcpListener, TcpStream};
 use std::rt::Clock;
 
 /// Accepts so many connections, one after the other, and answers one request of each. A connection that fails is passed
-/// over, and so is one that gives or takes nothing for ten seconds or is not done with within a minute.
-pub fn serve_on<C: Clock, D: Report>(
+/// over, and so is one that gives or takes nothing for ten seconds or is not done with within a minute. What watches is
+/// told of each connection as soon as it is answered.
+pub fn serve_on<C: Clock, D: Report, H: Watch>(
     alloc: Global,
     clock: &C,
     listener: &TcpListener,
     count: u32,
     desk: &mut D,
+    watch: &mut H,
 )
     // At most so many texts are delivered, each answered at its place.
-    ensures steps { D.clean desk.new → (opening : D) (ds : List (List ℕ)) → D.stands opening ds desk.old
-        → AtMost (D.stands opening) (D.answers opening) ds count desk.new }
+    ensures steps { D.clean desk.new → (opening : D.Opening) (es : List Event) → D.stands opening es desk.old
+        → AtMost (D.stands opening) (D.answers opening) es count desk.new }
 
     // Nothing is said of a desk whose records have not told the truth.
     ensures stays { D.clean desk.new → D.clean desk.old }
 {
     'connections: for _ in 0..count {
         if let Ok((stream, _)) = listener.accept() {
-            serve_stream(alloc, clock, &stream, desk);
+            serve_stream(alloc, clock, &stream, desk, watch);
         }
     }
 }
 
 /// Answers one request, in one write if the response is small, and then takes leave of the peer.
-fn serve_stream<C: Clock, D: Report>(alloc: Global, clock: &C, stream: &TcpStream, desk: &mut D)
-    ensures steps { D.clean desk.new → (opening : D) (ds : List (List ℕ)) → D.stands opening ds desk.old
-        → AtMostOne (D.stands opening) (D.answers opening) ds desk.new }
+fn serve_stream<C: Clock, D: Report, H: Watch>(
+    alloc: Global,
+    clock: &C,
+    stream: &TcpStream,
+    desk: &mut D,
+    watch: &mut H,
+)
+    ensures steps { D.clean desk.new → (opening : D.Opening) (es : List Event) → D.stands opening es desk.old
+        → AtMostOne (D.stands opening) (D.answers opening) es desk.new }
     ensures stays { D.clean desk.new → D.clean desk.old }
 {
     let Ok(timed) = TimedStream::new(stream, clock) else {
         return;
     };
-    let mut writer = Port::new(Gathered::new(&timed));
-    let _ = serve_one(alloc, &mut Port::new(&timed), &mut writer, desk);
+    let mut asked = Overheard::new(&timed);
+    let mut told = Overheard::new(&timed);
+    let mut writer = Port::new(Gathered::new(&mut told));
+    let _ = serve_one(alloc, &mut Port::new(&mut asked), &mut writer, desk);
     let _ = stream.shutdown(Shutdown::Write);
+    watch.served(&Seen::new(asked.front(), told.front(), told.count()));
     drain(&timed.parting());
 }
 

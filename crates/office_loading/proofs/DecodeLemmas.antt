@@ -23,3 +23,10 @@ all_refused is_said rows i row Damaged within is h = (row, (i, within, sym is), 
 all_refused is_said rows i row Memory within is h = h
 all_refused is_said rows i row Version within is h = h
 all_refused is_said rows i row (Store error) within is h = h
+
+-- the same of what a part of a row says
+pub one_refused : {A B : Type 0} (part : A → B) (is_said : B → Type 0) (rows : List A) (i : ℕ) (row : A) (fault : TableFault) → i < length rows → row ≡ get_or rows i row → Fails is_said (part row) fault → FailsOne (λ r. is_said (part r)) rows fault
+one_refused part is_said rows i row Damaged within is h = (row, (i, within, sym is), h)
+one_refused part is_said rows i row Memory within is h = h
+one_refused part is_said rows i row Version within is h = h
+one_refused part is_said rows i row (Store error) within is h = h

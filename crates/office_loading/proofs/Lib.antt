@@ -13,3 +13,4 @@ pub mod NumberLemmas
 pub mod PlaceLemmas
 pub mod LineLemmas
 pub mod OfficeLemmas
+pub mod NextLemmas

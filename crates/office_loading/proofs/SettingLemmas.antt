@@ -19,7 +19,7 @@ use Rattle.sqlite_rules.specs.Lists.{Has}
 use Rattle.office_setup.specs.Setups.{SetupContent}
 use Rattle.office_setup.specs.Given.{IsGiven}
 use Rattle.office_rows.specs.Rows.{Setting}
-use Rattle.office_rows.specs.Opening.{setting}
+use Rattle.office_rows.specs.Opening.{setting, tables_version}
 use Rattle.office_rows.specs.Values.{setting_values}
 use Rattle.office_rows.specs.Office.{settings_by_name}
 use Rattle.office_loading.specs.Fits.{FitsSetting}
@@ -67,7 +67,7 @@ settings_fit content given =
                 (
                   named _ _ refl (party_text content.terminal given.terminal),
                   (
-                    named _ _ refl (utf8_from is_printable printable_small (codes "1") refl),
+                    named _ _ refl (utf8_from is_printable printable_small tables_version refl),
                     (
                       named _ _ refl (IsUtf8-from_ascii (decimal content.visit_limit) (IsAscii-decimal content.visit_limit limit)),
                       (

@@ -13,7 +13,7 @@ use Rattle.sqlite_rules.specs.Lists.{Has}
 use Rattle.sqlite_rules.proofs.ListLemmas.{has_contained, contains_had, some_has, some_from}
 use Rattle.office_rows.specs.Tables.{setting}
 use Rattle.office_rows.specs.Rows.{Setting}
-use Rattle.office_rows.specs.Opening.{setting as setting_of}
+use Rattle.office_rows.specs.Opening.{setting as setting_of, tables_version}
 use Rattle.office_rows.specs.Values.{setting_values}
 use Rattle.office_rows.specs.Stored.{columns_of}
 use Rattle.office_rows.specs.Shown.{columns_at, ShowsTable}
@@ -26,7 +26,7 @@ use Rattle.office_loading.specs.Tables.{HasVersion, FailsSettings, ReadsTable, R
 use Rattle.office_loading.proofs.TableLemmas.{has_mapped, mapped_has}
 
 abbrev version : Setting
-version = setting_of (codes "version") (codes "1")
+version = setting_of (codes "version") tables_version
 
 text_is : (text : List ℕ) (value : Value) → is_text text value ≡ true → value ≡ Text text
 text_is text (Text other) holds = ap Text ((bytes_eq-Decides other text).0 holds)
@@ -49,7 +49,7 @@ module _ (db : Database) (answer : List Row) (it : ShowsTable setting (0 ∷ 1 �
       let tests = and_parts _ _ one.2 in
       let whole : one.0 ≡ r.0 = r.2 ∙ full r.0 r.1 in
       let first : column r.0 0 ≡ Text (codes "version") = ap (λ l. column l 0) (sym whole) ∙ text_is _ (column one.0 0) tests.0 in
-      let second : column r.0 1 ≡ Text (codes "1") = ap (λ l. column l 1) (sym whole) ∙ text_is _ (column one.0 1) tests.1 in
+      let second : column r.0 1 ≡ Text tables_version = ap (λ l. column l 1) (sym whole) ∙ text_is _ (column one.0 1) tests.1 in
       let is : r.0 ≡ setting_values version = sym (full r.0 r.1) ∙ ap₂ (λ a b. a ∷ b ∷ []) first second in
       subst (Contains (map (columns_of setting) (db.trees setting.tree))) is (Contains-permutation _ _ r.0 (IsPermutation-sym _ _ it.same) (contains_had it.by_key r.0 r.1))
 

@@ -20,6 +20,7 @@ use Rattle.terminal_core.specs.Rows.{VisitContent}
 use Rattle.terminal_core.specs.State.{side_code}
 use Rattle.yard_core.specs.declared.block.Block.{Block}
 use Rattle.office_rows.specs.Rows.{Partner, Interchange, PlaceContent, ListingContent, Setting}
+use Rattle.office_rows.specs.Opening.{tables_version}
 use Rattle.office_rows.specs.Values.{number, kind_code, way_code, laden_code, state_code, out_by, out_partner, out_number, out_at, partner_values, visit_values, place_values, line_values, setting_values, block_values}
 use Rattle.office_rows.specs.Opened.{Numbered, numbered, reply_values}
 use Rattle.office_rows.specs.Shown.{columns_at}
@@ -128,4 +129,4 @@ is_text text value = false
 
 -- the setting that names the version of these tables
 abbrev pub is_version : Row → Bool
-is_version row = is_text (codes "version") (column row 0) && is_text (codes "1") (column row 1)
+is_version row = is_text (codes "version") (column row 0) && is_text tables_version (column row 1)

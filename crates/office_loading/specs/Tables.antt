@@ -1,5 +1,5 @@
 -- What reading the tables answers.
-use Rattle.std.specs.Prelude.{List, [], ◌∷◌, map, Contains, codes, Result, Ok, Err, Vec}
+use Rattle.std.specs.Prelude.{◌<◌, ◌^◌, List, [], ◌∷◌, map, Contains, codes, Result, Ok, Err, Vec}
 use Rattle.std.specs.List.{AllByRecursion}
 use Rattle.sqlite.specs.Effect.{Database}
 use Rattle.terminal_core.specs.Rows.{VisitContent}
@@ -7,9 +7,9 @@ use Rattle.terminal_core.specs.State.{TerminalState}
 use Rattle.yard_core.specs.declared.block.Block.{Block}
 use Rattle.office_setup.specs.Setups.{SetupContent}
 use Rattle.office_rows.specs.Tables as table
-use Rattle.office_rows.specs.Rows.{Partner, PlaceContent, ListingContent, Setting}
+use Rattle.office_rows.specs.Rows.{Partner, PlaceContent, ListingContent, Setting, Rows}
 use Rattle.office_rows.specs.Values.{partner_values, visit_values, place_values, line_values, setting_values, block_values}
-use Rattle.office_rows.specs.Opening.{setting}
+use Rattle.office_rows.specs.Opening.{setting, tables_version}
 use Rattle.office_rows.specs.Stored.{columns_of}
 use Rattle.office_rows.specs.Shown.{ShowsTable}
 use Rattle.office_rows.specs.Opened.{OpenedRows, Shows}
@@ -59,7 +59,7 @@ ReadsTable content Fits Shown (Err fault) = FailsTable Fits Shown fault
 -- the table of settings has the version that this office reads
 abbrev pub HasVersion : Database → Type 0
 HasVersion db = Contains (map (columns_of table.setting) (db.trees table.setting.tree))
-    (setting_values (setting (codes "version") (codes "1")))
+    (setting_values (setting (codes "version") tables_version))
 
 -- the version is another one, or it is this and the settings can't be read
 abbrev pub FailsSettings : Database → TableFault → Type 0
@@ -110,3 +110,9 @@ FailsToLoad db Version = ¬ HasVersion db
 FailsToLoad db Damaged = HasVersion db × ShowsNoOffice db
 FailsToLoad db Memory = Unit {0}
 FailsToLoad db (Store error) = Unit {0}
+
+-- ---- the next numbers
+
+-- an account has a next number of more than 32 bits
+abbrev pub HasHighNext : Rows → Type 0
+HasHighNext rows = (p : Partner) × Contains rows.partners p × ¬ (p.next < 2 ^ 32)

@@ -1,4 +1,4 @@
-ghost use Rattle.std.specs.Prelude.{◌≡◌, IfOk, OnOk, IsTrue, false, map};
+ghost use Rattle.std.specs.Prelude.{◌≡◌, ◌^◌, ⊤, IfOk, IfErr, OnOk, IsTrue, false, map};
 ghost use Rattle.sqlite.specs.Order.{column};
 ghost use Rattle.sqlite.specs.Held.{state};
 ghost use Rattle.sqlite.specs.State.{HasCleanDisk, IsUnchanged, KeepsCommit, Survives};
@@ -6,6 +6,10 @@ ghost use Rattle.office_rows.specs.Tables.{office_schema};
 ghost use Rattle.office_rows.specs.Stored.{HasRows};
 ghost use Rattle.office_rows.specs.Values.{number};
 ghost use Rattle.office_rows.specs.Shown.{AreNexts};
+ghost use Rattle.office_tables.specs.Faults.{IsOfStoreOr};
+ghost use Rattle.office_loading.specs.Columns.{SaysNumber};
+ghost use Rattle.office_loading.specs.Decoded.{Said, FailsOne};
+ghost use Rattle.office_loading.specs.Tables.{HasHighNext};
 
 use crate::columns::number_at;
 use crate::record::append;
@@ -15,9 +19,15 @@ use sqlite::{Alter, Connection, Row};
 use std::alloc::Global;
 
 /// The number that each partner's next interchange has, in the order of the accounts' ids. It changes nothing.
+///
+/// Damaged if one has more than 32 bits; Store and Memory say nothing of the rows.
 pub fn nexts<S: Alter>(alloc: Global, conn: &mut Connection<S>) -> Result<Vec<u32>, TableFault>
     ensures answer { HasCleanDisk (state S.Store conn.new) →
         IfOk result (λ nexts. (rows : _) → HasRows rows (state S.Store conn.old).now → AreNexts rows nexts.items) }
+    ensures fault { HasCleanDisk (state S.Store conn.new) →
+        IfErr result (λ fault. (rows : _) → HasRows rows (state S.Store conn.old).now →
+        IsOfStoreOr (HasHighNext rows) fault) }
+    ensures version { IfErr result (IsOfStoreOr ⊤) }
     ensures same { HasCleanDisk (state S.Store conn.new) → (state S.Store conn.old).now.schema ≡ office_schema →
         OnOk result (IsUnchanged (state S.Store conn.old) (state S.Store conn.new)) }
     ensures keeps { HasCleanDisk (state S.Store conn.new) → (state S.Store conn.old).now.schema ≡ office_schema →
@@ -34,7 +44,8 @@ pub fn nexts<S: Alter>(alloc: Global, conn: &mut Connection<S>) -> Result<Vec<u3
 }
 
 fn read_nexts(alloc: Global, rows: &[Row]) -> Result<Vec<u32>, TableFault>
-    ensures { IfOk result (λ nexts. map number nexts.items ≡ map (λ row. column row 3) rows.now) }
+    ensures ok { IfOk result (λ nexts. map number nexts.items ≡ map (λ row. column row 3) rows.now) }
+    ensures err { IfErr result (FailsOne (λ row. Said (SaysNumber (2 ^ 32)) (column row 3)) rows.now) }
 {
     let mut nexts = Vec::new(alloc);
     for row in rows {

@@ -1,5 +1,6 @@
 ghost use Rattle.std.specs.Prelude.{ℕ, List, Option, IfOk, string_bytes};
 ghost use Rattle.std.specs.Option.{option_map};
+ghost use Rattle.office_replies.specs.Events.{Event};
 ghost use Rattle.office_queries.specs.declared.query.Query.{Query};
 
 use crate::not_now::NotNow;
@@ -12,11 +13,11 @@ pub trait Report: Deliver {
     /// The text, if there is one, is what it has to tell at the query.
     ghost tells: { Self → Query → Option (List ℕ) → Type 0 };
 
-    /// The report, if there is something to tell. It stands at the deliveries at which it stood.
+    /// The report, if there is something to tell. It stands at the events at which it stood.
     fn report(&mut self, alloc: Global, query: &Query) -> Result<Option<String>, NotNow>
         ensures told { Self.clean self.new
             → IfOk result (λ found. tells self.old query.now (option_map string_bytes found)) }
-        ensures same { Self.clean self.new → (opening : Self) (ds : List (List ℕ)) → Self.stands opening ds self.old
-            → Self.stands opening ds self.new }
+        ensures same { Self.clean self.new → (opening : Self.Opening) (es : List Event) → Self.stands opening es self.old
+            → Self.stands opening es self.new }
         ensures stays { Self.clean self.new → Self.clean self.old };
 }

@@ -48,7 +48,8 @@ lines_have_no_float line [] = refl
 lines_have_no_float line (report ∷ reports) = rw (outcome_has_no_float _ line report.outcome) (lines_have_no_float (line + 1) reports)
 
 verdict_has_no_float : (reference : List ℕ) (verdict : VerdictContent) → has_float (verdict_data reference verdict) ≡ false
-verdict_has_no_float reference (accepted lines) = rw (lines_have_no_float 1 lines) refl
+verdict_has_no_float reference (accepted None lines) = rw (lines_have_no_float 1 lines) refl
+verdict_has_no_float reference (accepted (Some count) lines) = rw (lines_have_no_float 1 lines) refl
 verdict_has_no_float reference (rejected fault code) = refl
 
 reports_have_no_float : (reports : List ReportContent) → items_have_float (items_of (map report_data reports)) ≡ false

@@ -1,29 +1,29 @@
 -- Deliveries one after the other.
 use Rattle.std.specs.Prelude.{ℕ, List, [], ◌∷◌, ◌++◌}
+use Rattle.office_replies.specs.Events.{Event, delivered}
 use Rattle.office_replies.specs.declared.response.Response.{Response}
 use Rattle.office_replies.specs.declared.response.Response.TheVariants.{NotNow}
 
--- the deliveries behind a text and its response: one that was answered NotNow is none
-abbrev pub with_answered : List (List ℕ) → List ℕ → Response → List (List ℕ)
-with_answered ds text NotNow = ds
-with_answered ds text response = ds ++ text ∷ []
+-- the events behind a text and its response: one that was answered NotNow is none
+abbrev pub with_answered : List Event → List ℕ → Response → List Event
+with_answered es text NotNow = es
+with_answered es text response = es ++ delivered text ∷ []
 
--- behind those deliveries it is answered so, and then this stands
-abbrev pub Delivers : {D : Type 0} → (List (List ℕ) → D → Type 0) → (List (List ℕ) → List ℕ → Response → Type 0) →
-    List (List ℕ) → List ℕ → Response → D → Type 0
-Delivers stands answers ds text response new = answers ds text response × stands (with_answered ds text response) new
+-- behind those events it is answered so, and then this stands
+abbrev pub Delivers : {D : Type 0} → (List Event → D → Type 0) → (List Event → List ℕ → Response → Type 0) → List Event →
+    List ℕ → Response → D → Type 0
+Delivers stands answers es text response new = answers es text response × stands (with_answered es text response) new
 
 -- each response answers its text at its place
-abbrev pub AnswersEach : (List (List ℕ) → List ℕ → Response → Type 0) → List (List ℕ) → List (List ℕ) → List Response →
-    Type 0
-AnswersEach answers ds [] [] = Unit {0}
-AnswersEach answers ds [] (response ∷ responses) = ⊥
-AnswersEach answers ds (text ∷ texts) [] = ⊥
-AnswersEach answers ds (text ∷ texts) (response ∷ responses) =
-    answers ds text response × AnswersEach answers (with_answered ds text response) texts responses
+abbrev pub AnswersEach : (List Event → List ℕ → Response → Type 0) → List Event → List (List ℕ) → List Response → Type 0
+AnswersEach answers es [] [] = Unit {0}
+AnswersEach answers es [] (response ∷ responses) = ⊥
+AnswersEach answers es (text ∷ texts) [] = ⊥
+AnswersEach answers es (text ∷ texts) (response ∷ responses) =
+    answers es text response × AnswersEach answers (with_answered es text response) texts responses
 
--- the deliveries behind those texts
-abbrev pub deliveries : List (List ℕ) → List (List ℕ) → List Response → List (List ℕ)
-deliveries ds [] responses = ds
-deliveries ds (text ∷ texts) [] = ds
-deliveries ds (text ∷ texts) (response ∷ responses) = deliveries (with_answered ds text response) texts responses
+-- the events behind those texts
+abbrev pub events_behind : List Event → List (List ℕ) → List Response → List Event
+events_behind es [] responses = es
+events_behind es (text ∷ texts) [] = es
+events_behind es (text ∷ texts) (response ∷ responses) = events_behind (with_answered es text response) texts responses

@@ -7,4 +7,5 @@ pub mod Responses
 pub mod Messages
 pub mod Kinds
 pub mod Contents
+pub mod Events
 pub mod Delivering

@@ -1,6 +1,6 @@
 -- The JSON of a reply: the text that is kept of an interchange.
-use Rattle.std.specs.Prelude.{ℕ, List, map, string_bytes, codes}
-use Rattle.serde_json.specs.Data.{Data, array, object, member, no_members}
+use Rattle.std.specs.Prelude.{ℕ, List, Option, None, Some, map, string_bytes, codes}
+use Rattle.serde_json.specs.Data.{Data, array, object, number, unsigned, Members, member, no_members}
 use Rattle.serde_json.specs.View.{items_of}
 use Rattle.serde_json.specs.Written.{compact_text}
 use Rattle.edi_messages.specs.declared.message_fault.MessageFault.{MessageFault}
@@ -12,9 +12,10 @@ use Rattle.office_replies.specs.Names.{message_fault_name}
 use Rattle.office_replies.specs.Members.{text_member}
 use Rattle.office_replies.specs.Lines.{lines_from}
 
--- what became of a message's lines, or why it gave no orders, with the code of the error (0085)
+-- what became of a message's lines, behind how many lines were dropped, if it replaced a list; or why it gave no orders,
+-- with the code of the error (0085)
 pub data VerdictContent : Type 0 where
-  accepted : List LineReport → VerdictContent
+  accepted : Option ℕ → List LineReport → VerdictContent
   rejected : MessageFault → ℕ → VerdictContent
 
 -- a message's reference, and what became of it
@@ -23,16 +24,24 @@ pub record ReportContent : Type 0 where
   pub verdict : VerdictContent
 
 abbrev pub verdict_content : MessageVerdict → VerdictContent
-verdict_content (verdict.Accepted lines) = accepted lines.items
+verdict_content (verdict.Accepted dropped lines) = accepted dropped lines.items
 verdict_content (verdict.Rejected rejection) = rejected rejection.fault rejection.code
 
 abbrev pub report_content : MessageReport → ReportContent
 report_content report = record { reference = string_bytes report.reference; verdict = verdict_content report.verdict }
 
+abbrev pub line_members : List ℕ → List LineReport → Members
+line_members reference lines =
+    member (codes "lines") (array (items_of (lines_from 1 lines)))
+    (text_member (codes "reference") reference (text_member (codes "result") (codes "accepted") no_members))
+
+abbrev pub accepted_members : List ℕ → Option ℕ → List LineReport → Members
+accepted_members reference None lines = line_members reference lines
+accepted_members reference (Some count) lines =
+    member (codes "dropped") (number (unsigned count)) (line_members reference lines)
+
 abbrev pub verdict_data : List ℕ → VerdictContent → Data
-verdict_data reference (accepted lines) =
-    object (member (codes "lines") (array (items_of (lines_from 1 lines)))
-    (text_member (codes "reference") reference (text_member (codes "result") (codes "accepted") no_members)))
+verdict_data reference (accepted dropped lines) = object (accepted_members reference dropped lines)
 verdict_data reference (rejected fault code) =
     object (text_member (codes "fault") (message_fault_name fault)
     (text_member (codes "reference") reference (text_member (codes "result") (codes "rejected") no_members)))

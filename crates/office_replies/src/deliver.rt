@@ -1,6 +1,7 @@
 ghost use Rattle.std.specs.Prelude.{ℕ, List};
 ghost use Rattle.office_replies.specs.declared.response.Response.{Response};
 ghost use Rattle.office_replies.specs.Delivering.{Delivers};
+ghost use Rattle.office_replies.specs.Events.{Event};
 
 use crate::response::Response;
 use std::alloc::Global;
@@ -11,16 +12,19 @@ pub trait Deliver: Drop {
     /// stays so.
     ghost clean: { Self → Type 0 };
 
-    /// From that opening, after those deliveries, it is this. A delivery that was answered NotNow is none.
-    ghost stands: { Self → List (List ℕ) → Self → Type 0 };
+    /// What it begins from.
+    ghost Opening: { Type 0 };
 
-    /// From that opening, after those deliveries, an answer to the next text. It tells also when that may be NotNow.
-    ghost answers: { Self → List (List ℕ) → List ℕ → Response → Type 0 };
+    /// From that opening, after those events, it is this. A delivery that was answered NotNow is no event.
+    ghost stands: { Opening → List Event → Self → Type 0 };
+
+    /// From that opening, after those events, an answer to the next text. It tells also when that may be NotNow.
+    ghost answers: { Opening → List Event → List ℕ → Response → Type 0 };
 
     /// Delivers a text, and answers it. A text that is answered NotNow is no delivery: the next is answered as if it
     /// had not come.
     fn deliver(&mut self, alloc: Global, delivered: &[u8]) -> Response
-        ensures delivers { clean self.new → (opening : Self) (ds : List (List ℕ)) → stands opening ds self.old
-            → Delivers (stands opening) (answers opening) ds delivered.now result self.new }
+        ensures delivers { clean self.new → (opening : Opening) (es : List Event) → stands opening es self.old
+            → Delivers (stands opening) (answers opening) es delivered.now result self.new }
         ensures stays { clean self.new → clean self.old };
 }

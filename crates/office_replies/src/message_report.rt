@@ -1,9 +1,9 @@
 ghost use Rattle.std.specs.Prelude.{◌≡◌, ◌+◌, ◌≤◌, ◌<◌, ◌^◌, IfOk, length, map};
 ghost use Rattle.serde_json.specs.View.{view};
-ghost use Rattle.serde_json.specs.Data.{array};
+ghost use Rattle.serde_json.specs.Data.{array, object};
 ghost use Rattle.serde_json.specs.View.{items_of};
 ghost use Rattle.office_replies.specs.Lines.{lines_from};
-ghost use Rattle.office_replies.specs.Messages.{message_data, messages_data};
+ghost use Rattle.office_replies.specs.Messages.{accepted_members, message_data, messages_data};
 
 use crate::line_report::{LineReport, line_value};
 use crate::message_verdict::MessageVerdict;
@@ -25,14 +25,32 @@ fn message_value(alloc: Global, report: &MessageReport) -> Result<Value, AllocEr
 {
     let reference = report.reference.as_str();
     match &report.verdict {
-        MessageVerdict::Accepted(lines) => {
-            let lines = lines_value(alloc, lines.as_slice())?;
-            json!(in alloc; {"lines": lines, "reference": reference, "result": "accepted"})
+        MessageVerdict::Accepted { dropped, lines } => {
+            accepted_value(alloc, reference, *dropped, lines.as_slice())
         }
         MessageVerdict::Rejected(rejection) => {
             let fault = message_fault_name(rejection.fault);
             json!(in alloc; {"fault": fault, "reference": reference, "result": "rejected"})
         }
+    }
+}
+
+/// The JSON of a message that is accepted.
+fn accepted_value(
+    alloc: Global,
+    reference: &str,
+    dropped: Option<u32>,
+    lines: &[LineReport],
+) -> Result<Value, AllocError>
+    ensures { IfOk result (λ v. view v ≡ object (accepted_members reference.now dropped lines.now)) }
+{
+    let lines = lines_value(alloc, lines)?;
+    match dropped {
+        Some(count) => {
+            json!(in alloc; {"dropped": count, "lines": lines, "reference": reference,
+                "result": "accepted"})
+        }
+        None => json!(in alloc; {"lines": lines, "reference": reference, "result": "accepted"}),
     }
 }
 

@@ -215,3 +215,20 @@ delete_place_is = refl
 pub delete_place_plain : IsPlain (understood office_schema delete_place)
 unfolding understood everything
 delete_place_plain = (refl, refl)
+
+abbrev pub delete_line : List ℕ
+delete_line = codes "DELETE FROM listed WHERE vessel = ?1 AND voyage = ?2 AND side = ?3 AND box = ?4"
+
+abbrev pub delete_line_tests : List Term
+delete_line_tests = update_done_tests
+
+abbrev pub delete_line_shown : List Term
+delete_line_shown = col 1 0 ∷ []
+
+pub delete_line_is : command_of (understood office_schema delete_line) ≡ Delete 4 (record { lets = []; body = rows_of 9 delete_line_tests delete_line_shown })
+unfolding understood everything
+delete_line_is = refl
+
+pub delete_line_plain : IsPlain (understood office_schema delete_line)
+unfolding understood everything
+delete_line_plain = (refl, refl)

@@ -9,7 +9,7 @@ use Rattle.yard_core.specs.declared.block.Block.{Block}
 use Rattle.terminal_core.specs.declared.departure.Departure.{Departure}
 use Rattle.terminal_core.specs.declared.line_state.LineState.TheVariants.{Done}
 use Rattle.terminal_core.specs.declared.side.Side.{Side}
-use Rattle.terminal_core.specs.Rows.{VisitContent, visit_closed, moved_to, removed_from, line_done}
+use Rattle.terminal_core.specs.Rows.{VisitContent, visit_closed, moved_to, removed_from, line_done, unlisted}
 use Rattle.terminal_core.specs.State.{side_code}
 use Rattle.sqlite.specs.declared.types.Value.TheVariants.{Null, Text, Blob}
 use Rattle.sqlite.specs.Order.{Row, column}
@@ -194,3 +194,14 @@ module _ (old new : State) (rows : Rows) (count : ℕ) (has : HasRows rows old.n
       (holds_deleted place place_values rows.places old.now new.now has.rows_are.places params texts.delete_place_tests texts.delete_place_shown
       (λ c. reads c 0 container && true) (stands_for container)
       (λ r. refl) (λ r. refl) (λ a. and_true _ ∙ equal_texts a.container container) it)
+
+  pub delete_lined : (call : CallContent) (side : Side) (container : BoxNumber) → Executes texts.delete_line (Text call.vessel ∷ Text call.voyage ∷ number (side_code side) ∷ Text container ∷ []) old new (Ok count) → HasRows (with_change (unlisted call side container) rows) new.now
+  delete_lined call side container h =
+      let params = Text call.vessel ∷ Text call.voyage ∷ number (side_code side) ∷ Text container ∷ [] in
+      let text = statement_of texts.delete_line (understood office_schema texts.delete_line) in
+      let w = runs_as texts.delete_line params old new office_schema has.schema (Delete 4 (record { lets = []; body = rows_of 9 texts.delete_line_tests texts.delete_line_shown })) texts.delete_line_is texts.delete_line_plain count h in
+      let it = deletes old new has.schema 4 listed refl refl params text count texts.delete_line_tests texts.delete_line_shown (λ trees. refl) w in
+      only_lines rows old.now new.now has (ids_of it.answer) Given 0 [] (filter (λ l. not (is_line call side container l)) rows.lines) it.edits
+      (holds_deleted listed line_values rows.lines old.now new.now has.rows_are.lines params texts.delete_line_tests texts.delete_line_shown
+      (λ c. reads c 0 call.vessel && (reads c 1 call.voyage && (equals c 2 (side_code side) && (reads c 3 container && true)))) (is_line call side container)
+      (λ r. refl) (λ r. refl) (λ a. ap₂ ◌&&◌ (equal_texts a.call.vessel call.vessel) (ap₂ ◌&&◌ (equal_texts a.call.voyage call.voyage) (ap₂ ◌&&◌ (equal_numbers (side_code a.side) (side_code side)) (and_true _ ∙ equal_texts a.container container)))) it)

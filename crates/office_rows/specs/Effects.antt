@@ -6,7 +6,7 @@ use Rattle.edi_messages.specs.declared.partner_kind.PartnerKind.{PartnerKind}
 use Rattle.edi_messages.specs.Purposes.{CallContent}
 use Rattle.terminal_core.specs.declared.line_state.LineState.TheVariants.{Pending, Done}
 use Rattle.terminal_core.specs.declared.side.Side.{Side}
-use Rattle.terminal_core.specs.Rows.{ChangeContent, visit_opened, visit_closed, placed_at, moved_to, removed_from, listed_on, line_done}
+use Rattle.terminal_core.specs.Rows.{ChangeContent, visit_opened, visit_closed, placed_at, moved_to, removed_from, listed_on, line_done, unlisted}
 use Rattle.terminal_core.specs.State.{side_code}
 use Rattle.terminal_core.specs.Changes.{closed_as}
 use Rattle.office_rows.specs.Rows.{Partner, Interchange, PlaceContent, ListingContent, Rows}
@@ -84,3 +84,5 @@ with_change (line_done call side container) rows =
       lines = map
           (λ (l : ListingContent). if is_line call side container l then record l { state = Done } else l) rows.lines;
     }
+with_change (unlisted call side container) rows =
+    record rows { lines = filter (λ l. not (is_line call side container l)) rows.lines }

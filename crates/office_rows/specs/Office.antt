@@ -11,7 +11,7 @@ use Rattle.terminal_core.specs.State.{TerminalState, IsWhole}
 use Rattle.office_setup.specs.Setups.{SetupContent}
 use Rattle.office_setup.specs.Given.{IsGiven}
 use Rattle.office_rows.specs.Rows.{Partner, Setting}
-use Rattle.office_rows.specs.Opening.{setting}
+use Rattle.office_rows.specs.Opening.{setting, tables_version}
 use Rattle.office_rows.specs.Opened.{Numbered, OpenedRows}
 use Rattle.office_rows.specs.ByKey.{standing_by, lines_by, ArePlacedOnce, AreListedOnce}
 
@@ -24,7 +24,7 @@ settings_with content
     setting (codes "discharge-list") discharge_list ∷ setting (codes "discharge-report") discharge_report
     ∷ setting (codes "gate-in") gate_in ∷ setting (codes "gate-out") gate_out
     ∷ setting (codes "load-list") load_list ∷ setting (codes "load-report") load_report
-    ∷ setting (codes "terminal") content.terminal ∷ setting (codes "version") (codes "1")
+    ∷ setting (codes "terminal") content.terminal ∷ setting (codes "version") tables_version
     ∷ setting (codes "visits") (decimal content.visit_limit) ∷ setting (codes "yard-move") yard_move ∷ []
 settings_with content others = []
 

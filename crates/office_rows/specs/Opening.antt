@@ -31,10 +31,14 @@ settings_named (name ∷ names) (value ∷ values) = setting name value ∷ sett
 abbrev pub code_settings : CodeTable → List Setting
 code_settings table = settings_named code_names (table_texts table)
 
+-- the version of these tables
+abbrev pub tables_version : List ℕ
+tables_version = codes "2"
+
 -- the version of the tables, the terminal's code, the limit of visits, and the codes of document names
 abbrev pub settings_of : SetupContent → List Setting
 settings_of content =
-    setting (codes "version") (codes "1") ∷ setting (codes "terminal") content.terminal
+    setting (codes "version") tables_version ∷ setting (codes "terminal") content.terminal
     ∷ setting (codes "visits") (decimal content.visit_limit) ∷ code_settings content.codes
 
 -- ---- rows that are added

@@ -1,3 +1,4 @@
 pub mod Lists
 pub mod Numerals
 pub mod Givens
+pub mod Wrong

@@ -99,7 +99,10 @@ fn setup_of(
     })
 }
 
-fn terminal_in(alloc: Global, rows: &[StringRecord]) -> Result<Option<String>, AllocError>
+pub(crate) fn terminal_in(
+    alloc: Global,
+    rows: &[StringRecord],
+) -> Result<Option<String>, AllocError>
     ensures { IfOk result (λ answer. option_map (λ code. string_bytes code) answer
         ≡ terminal_said (section (codes "terminal") (map fields_of rows.now))) }
 {
@@ -110,7 +113,10 @@ fn terminal_in(alloc: Global, rows: &[StringRecord]) -> Result<Option<String>, A
     }
 }
 
-fn partners_in(alloc: Global, rows: &[StringRecord]) -> Result<Option<Accounts>, AllocError>
+pub(crate) fn partners_in(
+    alloc: Global,
+    rows: &[StringRecord],
+) -> Result<Option<Accounts>, AllocError>
     ensures { IfOk result (λ answer. MatchOption answer
         (AreNoPartners (section (codes "partner") (map fields_of rows.now)))
         (λ accounts. ArePartners (section (codes "partner") (map fields_of rows.now))
@@ -123,7 +129,10 @@ fn partners_in(alloc: Global, rows: &[StringRecord]) -> Result<Option<Accounts>,
     }
 }
 
-fn codes_in(alloc: Global, rows: &[StringRecord]) -> Result<Option<CodeTable>, AllocError>
+pub(crate) fn codes_in(
+    alloc: Global,
+    rows: &[StringRecord],
+) -> Result<Option<CodeTable>, AllocError>
     ensures { IfOk result (λ answer. MatchOption answer
         (¬ AreCodes (section (codes "code") (map fields_of rows.now)))
         (λ table. AreCodes (section (codes "code") (map fields_of rows.now)) ×
@@ -133,7 +142,7 @@ fn codes_in(alloc: Global, rows: &[StringRecord]) -> Result<Option<CodeTable>, A
     Ok(codes_of(&entries))
 }
 
-fn limit_in(alloc: Global, rows: &[StringRecord]) -> Result<Option<u32>, AllocError>
+pub(crate) fn limit_in(alloc: Global, rows: &[StringRecord]) -> Result<Option<u32>, AllocError>
     ensures { IfOk result (λ answer. answer ≡ limit_said (section (codes "limit") (map fields_of rows.now))) }
 {
     let entries = section(alloc, rows, "limit")?;

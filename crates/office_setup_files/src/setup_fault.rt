@@ -44,6 +44,12 @@ impl SetupFault {
 }
 
 impl fmt::Display for SetupFault {
+    ghost use Rattle.std.specs.Prelude.{Some};
+    ghost use Rattle.office_setup_files.specs.Said.{fault_name};
+
+    // Its name is what is printed.
+    ghost output = { λ fault. Some (fault_name fault) };
+
     fn fmt<W: fmt::Write>(&self, f: &mut fmt::Formatter<W>) -> fmt::Result {
         f.write_str(self.name())
     }

@@ -1,35 +1,75 @@
-use crate::blocks::blocks_of;
-use crate::codes::codes_of;
-use crate::entry::section;
-use crate::forms::{is_block_file, is_partner_file};
-use crate::partners::partners_of;
+ghost use Rattle.std.specs.Prelude.{◌≡◌, ◌<◌, ◌+◌, true, IfOk, IfSome, MatchOption, length, map};
+ghost use Rattle.csv.specs.Records.{fields_of};
+ghost use Rattle.office_setup_files.specs.Wrong.{AreTexts, Brings, IsRight, IsWrong, IsWrongOf, Shows, Tells};
+ghost use Rattle.office_setup_files.specs.declared.setup_fault.SetupFault.TheVariants.{Code, Csv};
+ghost use Rattle.office_setup_files.specs.declared.setup_file.SetupFile.TheVariants.{Partners, Blocks};
+
+use crate::fronts::{is_of, shows};
 use crate::rows::read_rows;
 use crate::setup_fault::SetupFault;
-use crate::terminal::{limit_of, terminal_of};
+use crate::setup_file::SetupFile;
 use crate::wrong_record::WrongRecord;
 use csv::{ByteRecord, StringRecord};
 use std::alloc::{AllocError, Global};
 
-/// Which record of the two files shows a fault of theirs, for a person to look at: from it on each front of its file
-/// has that fault. `None`: no record does, since one is missing.
+/// After so many codes a fault of theirs stays: one has no name of a code, or that of another.
+const CODES: u32 = 8;
+
+/// Which record of the two files shows a fault of theirs, for a person to look at: the records of its file up to it show
+/// the fault, those before it don't. `None`: no record does, since one is missing.
 pub fn first_wrong(
     alloc: Global,
     partners: &[u8],
     blocks: &[u8],
     fault: SetupFault,
-) -> Result<Option<WrongRecord>, AllocError> {
+) -> Result<Option<WrongRecord>, AllocError>
+    ensures { IfOk result (λ answer. Tells partners.now blocks.now (λ p b. MatchOption answer
+        (IsRight Partners fault p × IsRight Blocks fault b) (IsWrongOf fault p b))) }
+{
     let (Ok(partners), Ok(blocks)) = (read_rows(alloc, partners), read_rows(alloc, blocks)) else {
         return Err(AllocError);
     };
-    if let Some(number) = wrong_partner(alloc, partners, fault)? {
+    if let Some(number) = wrong_in(alloc, SetupFile::Partners, partners, fault)? {
         return Ok(Some(WrongRecord::OfPartners(number)));
     }
-    let number = wrong_block(alloc, blocks, fault)?;
-    Ok(number.map(WrongRecord::OfBlocks))
+    match wrong_in(alloc, SetupFile::Blocks, blocks, fault)? {
+        Some(number) => Ok(Some(WrongRecord::OfBlocks(number))),
+        None => Ok(None),
+    }
+}
+
+/// The record of one file.
+fn wrong_in(
+    alloc: Global,
+    file: SetupFile,
+    rows: Vec<ByteRecord>,
+    fault: SetupFault,
+) -> Result<Option<usize>, AllocError>
+    ensures { IfOk result (λ answer. MatchOption answer
+        (IsRight file fault (map fields_of rows.items)) (IsWrong file fault (map fields_of rows.items))) }
+{
+    let count = rows.len();
+    let texts = texts_of(alloc, rows)?;
+    match wrong_text(alloc, file, &texts, fault)? {
+        Some(number) => Ok(Some(number)),
+        None => Ok(behind(fault, texts.len(), count)),
+    }
+}
+
+/// The record behind those that are text, if that is the fault and there is one.
+fn behind(fault: SetupFault, texts: usize, count: usize) -> Option<usize>
+    ensures { IfSome result (λ number. (fault ≡ Csv) × (texts < count) × (number ≡ texts + 1)) }
+{
+    match fault {
+        SetupFault::Csv if texts < count => Some(texts + 1),
+        _ => None,
+    }
 }
 
 /// The records up to the first that is no text.
-fn texts_of(alloc: Global, rows: Vec<ByteRecord>) -> Result<Vec<StringRecord>, AllocError> {
+fn texts_of(alloc: Global, rows: Vec<ByteRecord>) -> Result<Vec<StringRecord>, AllocError>
+    ensures { IfOk result (λ texts. AreTexts (map fields_of rows.items) (map fields_of texts.items)) }
+{
     let mut texts = Vec::with_capacity(alloc, rows.len())?;
     for row in rows {
         match StringRecord::from_byte_record(row) {
@@ -40,95 +80,90 @@ fn texts_of(alloc: Global, rows: Vec<ByteRecord>) -> Result<Vec<StringRecord>, A
     Ok(texts)
 }
 
-fn wrong_partner(
+/// The record among those that are text. Of codes the last that brings the fault, since a code may also take it away.
+fn wrong_text(
     alloc: Global,
-    rows: Vec<ByteRecord>,
+    file: SetupFile,
+    texts: &[StringRecord],
     fault: SetupFault,
-) -> Result<Option<usize>, AllocError> {
-    let count = rows.len();
-    let texts = texts_of(alloc, rows)?;
-    let mut wrong = None;
-    for number in 1..=texts.len() {
-        let (front, _) = texts.split_at(number);
-        wrong = from_here(wrong, number, is_partner_fault(alloc, front, fault)?);
+) -> Result<Option<usize>, AllocError>
+    ensures { IfOk result (λ answer. MatchOption answer
+        (¬ Shows file fault (map fields_of texts.now)) (Brings (Shows file fault) (map fields_of texts.now))) }
+{
+    if !shows(alloc, file, texts, fault)? {
+        return Ok(None);
     }
+    let number = halved(alloc, file, texts, fault)?;
     match fault {
-        SetupFault::Csv => Ok(wrong.or(behind(&texts, count))),
-        _ => Ok(wrong),
+        SetupFault::Code => Ok(Some(last_code(alloc, file, texts, number)?)),
+        _ => Ok(Some(number)),
     }
 }
 
-fn wrong_block(
+/// A record that brings the fault, found by halving.
+fn halved(
     alloc: Global,
-    rows: Vec<ByteRecord>,
+    file: SetupFile,
+    texts: &[StringRecord],
     fault: SetupFault,
-) -> Result<Option<usize>, AllocError> {
-    let count = rows.len();
-    let texts = texts_of(alloc, rows)?;
-    let mut wrong = None;
-    for number in 1..=texts.len() {
-        let (front, _) = texts.split_at(number);
-        wrong = from_here(wrong, number, is_block_fault(alloc, front, fault)?);
+) -> Result<usize, AllocError>
+    requires { Shows file fault (map fields_of texts.now) }
+    ensures { IfOk result (Brings (Shows file fault) (map fields_of texts.now)) }
+{
+    let mut right = 0;
+    let mut wrong = texts.len();
+    while right + 1 < wrong {
+        let middle = right + (wrong - right) / 2;
+        let (front, _) = texts.split_at(middle);
+        if shows(alloc, file, front, fault)? {
+            wrong = middle;
+        } else {
+            right = middle;
+        }
     }
-    match fault {
-        SetupFault::Csv => Ok(wrong.or(behind(&texts, count))),
-        _ => Ok(wrong),
-    }
+    Ok(wrong)
 }
 
-/// The record behind those that are texts, if there is one.
-fn behind(texts: &[StringRecord], count: usize) -> Option<usize> {
-    if texts.len() < count {
-        Some(texts.len() + 1)
-    } else {
-        None
-    }
-}
-
-/// The first record from which on each front of the file is at fault, one front more being looked at.
-fn from_here(wrong: Option<usize>, number: usize, is_fault: bool) -> Option<usize> {
-    if is_fault {
-        wrong.or(Some(number))
-    } else {
-        None
-    }
-}
-
-/// Whether the front of a file of partners has that fault, and not for want of a record.
-fn is_partner_fault(
+/// The last record of a code that brings the fault of codes, else the given one.
+fn last_code(
     alloc: Global,
-    front: &[StringRecord],
-    fault: SetupFault,
-) -> Result<bool, AllocError> {
-    let what = match fault {
-        SetupFault::Csv => return Ok(!is_partner_file(front)),
-        SetupFault::Terminal => "terminal",
-        SetupFault::Partner => "partner",
-        SetupFault::Code => "code",
-        SetupFault::Limit => "limit",
-        SetupFault::Block | SetupFault::Memory => return Ok(false),
-    };
-    let entries = section(alloc, front, what)?;
-    if entries.is_empty() {
+    file: SetupFile,
+    texts: &[StringRecord],
+    given: usize,
+) -> Result<usize, AllocError>
+    requires { Brings (Shows file Code) (map fields_of texts.now) given }
+    ensures { IfOk result (Brings (Shows file Code) (map fields_of texts.now)) }
+{
+    let mut wrong = given;
+    let mut codes = 0;
+    for (index, row) in texts.iter().enumerate() {
+        if codes == CODES {
+            return Ok(wrong);
+        }
+        if is_of(row, "code") {
+            codes += 1;
+            if brings_code(alloc, file, texts, index)? {
+                wrong = index + 1;
+            }
+        }
+    }
+    Ok(wrong)
+}
+
+/// Whether the record at an index brings the fault of codes.
+fn brings_code(
+    alloc: Global,
+    file: SetupFile,
+    texts: &[StringRecord],
+    index: usize,
+) -> Result<bool, AllocError>
+    requires { index < length texts.now }
+    ensures { IfOk result (λ is. is ≡ true → Brings (Shows file Code) (map fields_of texts.now) (index + 1)) }
+{
+    let (before, _) = texts.split_at(index);
+    let (front, _) = texts.split_at(index + 1);
+    if shows(alloc, file, before, SetupFault::Code)? {
         return Ok(false);
     }
-    Ok(match fault {
-        SetupFault::Terminal => terminal_of(&entries).is_none(),
-        SetupFault::Partner => partners_of(alloc, &entries)?.is_none(),
-        SetupFault::Code => codes_of(&entries).is_none(),
-        _ => limit_of(&entries).is_none(),
-    })
-}
-
-/// Whether the front of a file of blocks has that fault, and not for want of a record.
-fn is_block_fault(
-    alloc: Global,
-    front: &[StringRecord],
-    fault: SetupFault,
-) -> Result<bool, AllocError> {
-    match fault {
-        SetupFault::Csv => Ok(!is_block_file(front)),
-        SetupFault::Block if front.len() > 1 => Ok(blocks_of(alloc, front)?.is_none()),
-        _ => Ok(false),
-    }
+    shows(alloc, file, front, SetupFault::Code)
 }

@@ -4,47 +4,48 @@ use Rattle.office_replies.specs.declared.response.Response.{Response}
 use Rattle.office_replies.specs.declared.worst.Worst.{Worst}
 use Rattle.office_replies.specs.declared.worst.Worst.TheVariants.{Fine, Refused, NotNow}
 use Rattle.office_replies.specs.Responses.{worst_of, worse_of}
-use Rattle.office_replies.specs.Delivering.{Delivers, with_answered, AnswersEach, deliveries}
+use Rattle.office_replies.specs.Delivering.{Delivers, with_answered, AnswersEach, events_behind}
+use Rattle.office_replies.specs.Events.{Event}
 use Rattle.office_stream.specs.Lines.{worst_of_all}
 use Rattle.office_stream.specs.Streams.{Answered}
 
-module _ {D : Type 0} (stands : List (List ℕ) → D → Type 0) (answers : List (List ℕ) → List ℕ → Response → Type 0) where
-  one_more : (ds texts : List (List ℕ)) (responses : List Response) (text : List ℕ) (response : Response) → AnswersEach answers ds texts responses →
-      answers (deliveries ds texts responses) text response →
-      AnswersEach answers ds (texts ++ text ∷ []) (responses ++ response ∷ [])
-      × (deliveries ds (texts ++ text ∷ []) (responses ++ response ∷ []) ≡ with_answered (deliveries ds texts responses) text response)
-  one_more ds [] [] text response each next = ((next, tt), refl)
-  one_more ds [] (other ∷ responses) text response each next = absurd each
-  one_more ds (other ∷ texts) [] text response each next = absurd each
-  one_more ds (first ∷ texts) (answer ∷ responses) text response each next =
-      let behind = one_more (with_answered ds first answer) texts responses text response each.1 next in
+module _ {D : Type 0} (stands : List Event → D → Type 0) (answers : List Event → List ℕ → Response → Type 0) where
+  one_more : (es : List Event) (texts : List (List ℕ)) (responses : List Response) (text : List ℕ) (response : Response) → AnswersEach answers es texts responses →
+      answers (events_behind es texts responses) text response →
+      AnswersEach answers es (texts ++ text ∷ []) (responses ++ response ∷ [])
+      × (events_behind es (texts ++ text ∷ []) (responses ++ response ∷ []) ≡ with_answered (events_behind es texts responses) text response)
+  one_more es [] [] text response each next = ((next, tt), refl)
+  one_more es [] (other ∷ responses) text response each next = absurd each
+  one_more es (other ∷ texts) [] text response each next = absurd each
+  one_more es (first ∷ texts) (answer ∷ responses) text response each next =
+      let behind = one_more (with_answered es first answer) texts responses text response each.1 next in
       ((each.0, behind.0), behind.1)
 
-  pub answered_more : (ds texts : List (List ℕ)) (responses : List Response) (old new : D) (text : List ℕ) (response : Response) →
-      Answered stands answers ds texts responses old → Delivers stands answers (deliveries ds texts responses) text response new →
-      Answered stands answers ds (texts ++ text ∷ []) (responses ++ response ∷ []) new
-  answered_more ds texts responses old new text response before delivers =
-      let both = one_more ds texts responses text response before.each delivers.0 in
+  pub answered_more : (es : List Event) (texts : List (List ℕ)) (responses : List Response) (old new : D) (text : List ℕ) (response : Response) →
+      Answered stands answers es texts responses old → Delivers stands answers (events_behind es texts responses) text response new →
+      Answered stands answers es (texts ++ text ∷ []) (responses ++ response ∷ []) new
+  answered_more es texts responses old new text response before delivers =
+      let both = one_more es texts responses text response before.each delivers.0 in
       record {
         each = both.0;
         stands_now = subst (λ others. stands others new) (sym both.1) delivers.1;
       }
 
-  both_each : (ds texts more : List (List ℕ)) (responses others : List Response) → AnswersEach answers ds texts responses →
-      AnswersEach answers (deliveries ds texts responses) more others →
-      AnswersEach answers ds (texts ++ more) (responses ++ others)
-      × (deliveries ds (texts ++ more) (responses ++ others) ≡ deliveries (deliveries ds texts responses) more others)
-  both_each ds [] more [] others each then = (then, refl)
-  both_each ds [] more (response ∷ responses) others each then = absurd each
-  both_each ds (text ∷ texts) more [] others each then = absurd each
-  both_each ds (text ∷ texts) more (response ∷ responses) others each then =
-      let behind = both_each (with_answered ds text response) texts more responses others each.1 then in
+  both_each : (es : List Event) (texts more : List (List ℕ)) (responses others : List Response) → AnswersEach answers es texts responses →
+      AnswersEach answers (events_behind es texts responses) more others →
+      AnswersEach answers es (texts ++ more) (responses ++ others)
+      × (events_behind es (texts ++ more) (responses ++ others) ≡ events_behind (events_behind es texts responses) more others)
+  both_each es [] more [] others each then = (then, refl)
+  both_each es [] more (response ∷ responses) others each then = absurd each
+  both_each es (text ∷ texts) more [] others each then = absurd each
+  both_each es (text ∷ texts) more (response ∷ responses) others each then =
+      let behind = both_each (with_answered es text response) texts more responses others each.1 then in
       ((each.0, behind.0), behind.1)
 
-  pub answered_both : (ds texts more : List (List ℕ)) (responses others : List Response) (old new : D) → Answered stands answers ds texts responses old →
-      Answered stands answers (deliveries ds texts responses) more others new → Answered stands answers ds (texts ++ more) (responses ++ others) new
-  answered_both ds texts more responses others old new before then =
-      let both = both_each ds texts more responses others before.each then.each in
+  pub answered_both : (es : List Event) (texts more : List (List ℕ)) (responses others : List Response) (old new : D) → Answered stands answers es texts responses old →
+      Answered stands answers (events_behind es texts responses) more others new → Answered stands answers es (texts ++ more) (responses ++ others) new
+  answered_both es texts more responses others old new before then =
+      let both = both_each es texts more responses others before.each then.each in
       record { each = both.0; stands_now = subst (λ at. stands at new) (sym both.1) then.stands_now }
 
 -- ---- the worst of the answers

@@ -11,7 +11,8 @@ use Rattle.edi_cutter.specs.declared.cut_fault.CutFault.TheVariants.{TooLong, Se
 use Rattle.office_replies.specs.declared.response.Response.{Response}
 use Rattle.office_replies.specs.declared.worst.Worst.{Worst}
 use Rattle.office_replies.specs.Responses.{body_of, worst_of, worse_of}
-use Rattle.office_replies.specs.Delivering.{deliveries}
+use Rattle.office_replies.specs.Delivering.{events_behind}
+use Rattle.office_replies.specs.Events.{Event}
 use Rattle.office_stream.specs.Lines.{line, response_lines, worst_of_all}
 use Rattle.edi_cutter.specs.Streams.{CutsFrom}
 use Rattle.office_stream.specs.Streams.{IsCutBy, GoesOnAnyhow, LineCutShort}
@@ -52,11 +53,11 @@ used_cuts P q rest n text used then stream left = (
   then,
 )
 
-module _ {D : Type 0} (stands : List (List ℕ) → D → Type 0) (answers : List (List ℕ) → List ℕ → Response → Type 0) where
+module _ {D : Type 0} (stands : List Event → D → Type 0) (answers : List Event → List ℕ → Response → Type 0) where
   -- before the first interchange
-  pub nothing_done : (ds : List (List ℕ)) (q piece : List ℕ) (desk : D) (before : Worst) (a : Option (List ℕ)) → stands ds desk →
-      PieceAnswered stands answers ds (IsLeft q piece) (q ++ piece) desk before before a a
-  nothing_done ds q piece desk before a at = record {
+  pub nothing_done : (es : List Event) (q piece : List ℕ) (desk : D) (before : Worst) (a : Option (List ℕ)) → stands es desk →
+      PieceAnswered stands answers es (IsLeft q piece) (q ++ piece) desk before before a a
+  nothing_done es q piece desk before a at = record {
     texts = [];
     responses = [];
     cuts = refl;
@@ -65,30 +66,30 @@ module _ {D : Type 0} (stands : List (List ℕ) → D → Type 0) (answers : Lis
     writes = Appends-nil a;
   }
 
-  pub piece_more : (ds : List (List ℕ)) (stream q rest text q' rest' : List ℕ) (n : ℕ) (old new : D) (before worst one : Worst) (a b c : Option (List ℕ)) →
-      PieceAnswered stands answers ds (IsLeft q rest) stream old before worst a b → Used q rest n text →
-      ((others : List (List ℕ)) → stands others old → AnsweredOne stands answers others text new one b c) →
-      [] ≡ q' → drop n rest ≡ rest' → PieceAnswered stands answers ds (IsLeft q' rest') stream new before (worse_of worst one) a c
-  piece_more ds stream q rest text q' rest' n old new before worst one a b c done used next none behind =
-      let ans = next (deliveries ds done.texts done.responses) done.answered.stands_now in
+  pub piece_more : (es : List Event) (stream q rest text q' rest' : List ℕ) (n : ℕ) (old new : D) (before worst one : Worst) (a b c : Option (List ℕ)) →
+      PieceAnswered stands answers es (IsLeft q rest) stream old before worst a b → Used q rest n text →
+      ((others : List Event) → stands others old → AnsweredOne stands answers others text new one b c) →
+      [] ≡ q' → drop n rest ≡ rest' → PieceAnswered stands answers es (IsLeft q' rest') stream new before (worse_of worst one) a c
+  piece_more es stream q rest text q' rest' n old new before worst one a b c done used next none behind =
+      let ans = next (events_behind es done.texts done.responses) done.answered.stands_now in
       let left : IsLeft q' rest' (without_breaks (drop n rest)) =
       subst (λ p. without_breaks (drop n rest) ≡ without_breaks (p ++ rest')) none (ap without_breaks behind) in
       record {
         texts = done.texts ++ text ∷ [];
         responses = done.responses ++ ans.response ∷ [];
         cuts = cuts_more (IsLeft q rest) (IsLeft q' rest') (text ∷ []) (used_cuts (IsLeft q' rest') q rest n text used left) stream done.texts done.cuts;
-        answered = answered_more stands answers ds done.texts done.responses old new text ans.response done.answered ans.delivers;
+        answered = answered_more stands answers es done.texts done.responses old new text ans.response done.answered ans.delivers;
         is_worst = worst_more before worst one done.responses ans.response done.is_worst ans.is_worst;
         writes = subst (Appends a c) (sym (lines_more done.responses ans.response)) (Appends-trans a b c (response_lines done.responses) (line (body_of ans.response)) done.writes ans.writes);
       }
 
   -- a write that failed
-  pub piece_cut_short : (ds : List (List ℕ)) (stream q rest text : List ℕ) (n : ℕ) (old new : D) (before worst : Worst) (a b c : Option (List ℕ)) →
-      PieceAnswered stands answers ds (IsLeft q rest) stream old before worst a b → Used q rest n text →
-      ((others : List (List ℕ)) → stands others old → DeliveredOne stands answers others text new b c) →
-      LineCutShort stands answers ds stream a c new
-  piece_cut_short ds stream q rest text n old new before worst a b c done used next =
-      let ans = next (deliveries ds done.texts done.responses) done.answered.stands_now in
+  pub piece_cut_short : (es : List Event) (stream q rest text : List ℕ) (n : ℕ) (old new : D) (before worst : Worst) (a b c : Option (List ℕ)) →
+      PieceAnswered stands answers es (IsLeft q rest) stream old before worst a b → Used q rest n text →
+      ((others : List Event) → stands others old → DeliveredOne stands answers others text new b c) →
+      LineCutShort stands answers es stream a c new
+  piece_cut_short es stream q rest text n old new before worst a b c done used next =
+      let ans = next (events_behind es done.texts done.responses) done.answered.stands_now in
       record {
         texts = done.texts;
         last = text;
@@ -96,16 +97,16 @@ module _ {D : Type 0} (stands : List (List ℕ) → D → Type 0) (answers : Lis
         response = ans.response;
         part = ans.writes.0;
         cuts = cuts_more (IsLeft q rest) GoesOnAnyhow (text ∷ []) (used_cuts GoesOnAnyhow q rest n text used tt) stream done.texts done.cuts;
-        answered = answered_more stands answers ds done.texts done.responses old new text ans.response done.answered ans.delivers;
+        answered = answered_more stands answers es done.texts done.responses old new text ans.response done.answered ans.delivers;
         front = ans.writes.1;
         writes = Appends-trans a b c (response_lines done.responses) ans.writes.0 done.writes ans.writes.2;
       }
 
   -- another end
-  pub piece_ends : (ds : List (List ℕ)) (P Q : List ℕ → Type 0) (stream : List ℕ) (new : D) (before worst : Worst) (a b : Option (List ℕ)) →
+  pub piece_ends : (es : List Event) (P Q : List ℕ → Type 0) (stream : List ℕ) (new : D) (before worst : Worst) (a b : Option (List ℕ)) →
       ((rest : List ℕ) → P rest → Q rest) →
-      PieceAnswered stands answers ds P stream new before worst a b → PieceAnswered stands answers ds Q stream new before worst a b
-  piece_ends ds P Q stream new before worst a b on done = record {
+      PieceAnswered stands answers es P stream new before worst a b → PieceAnswered stands answers es Q stream new before worst a b
+  piece_ends es P Q stream new before worst a b on done = record {
     texts = done.texts;
     responses = done.responses;
     cuts = cuts_weaker P Q on stream done.texts done.cuts;

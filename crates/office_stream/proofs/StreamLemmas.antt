@@ -11,7 +11,8 @@ use Rattle.office_replies.specs.declared.response.Response.{Response}
 use Rattle.office_replies.specs.declared.worst.Worst.{Worst}
 use Rattle.office_replies.specs.declared.worst.Worst.TheVariants.{Fine}
 use Rattle.office_replies.specs.Responses.{worse_of}
-use Rattle.office_replies.specs.Delivering.{deliveries}
+use Rattle.office_replies.specs.Delivering.{events_behind}
+use Rattle.office_replies.specs.Events.{Event}
 use Rattle.office_stream.specs.Fronts.{AppendsFront}
 use Rattle.office_stream.specs.Lines.{response_lines, worst_of_all, end_text, end_worst}
 use Rattle.edi_cutter.specs.Streams.{CutsFrom}
@@ -27,19 +28,19 @@ use Rattle.office_stream.proofs.PieceLemmas.{piece_ends}
 use Rattle.office_stream.proofs.Cutting.{cuts_join, cuts_weaker, nothing_pending}
 
 -- The interchanges of what was read were answered by their lines, and less than one is pending.
-pub record Sofar {D : Type 0} (stands : List (List ℕ) → D → Type 0) (answers : List (List ℕ) → List ℕ → Response → Type 0)
-    (ds : List (List ℕ)) (left left' : Option (List ℕ)) (pending : List ℕ) (desk : D) (worst : Worst) (written written' : Option (List ℕ)) : Type 0 where
+pub record Sofar {D : Type 0} (stands : List Event → D → Type 0) (answers : List Event → List ℕ → Response → Type 0)
+    (es : List Event) (left left' : Option (List ℕ)) (pending : List ℕ) (desk : D) (worst : Worst) (written written' : Option (List ℕ)) : Type 0 where
   pub bytes : List ℕ
   pub reads : Consumes left left' bytes
-  pub piece : PieceAnswered stands answers ds (LeavesOver pending) bytes desk Fine worst written written'
+  pub piece : PieceAnswered stands answers es (LeavesOver pending) bytes desk Fine worst written written'
 
 -- They are all that is to be answered: nothing but the cut line is to be written.
-pub record AtEnd {D : Type 0} (stands : List (List ℕ) → D → Type 0) (answers : List (List ℕ) → List ℕ → Response → Type 0)
-    (ds : List (List ℕ)) (left left' : Option (List ℕ)) (end : StreamEnd) (desk : D) (worst : Worst) (written written' : Option (List ℕ)) : Type 0 where
+pub record AtEnd {D : Type 0} (stands : List Event → D → Type 0) (answers : List Event → List ℕ → Response → Type 0)
+    (es : List Event) (left left' : Option (List ℕ)) (end : StreamEnd) (desk : D) (worst : Worst) (written written' : Option (List ℕ)) : Type 0 where
   pub bytes : List ℕ
   pub reads : Consumes left left' bytes
   pub ended : ReadsTo end left'
-  pub piece : PieceAnswered stands answers ds (EndsAs end) bytes desk Fine worst written written'
+  pub piece : PieceAnswered stands answers es (EndsAs end) bytes desk Fine worst written written'
 
 same_bytes : (a b c : Option (List ℕ)) (bytes : List ℕ) → Consumes a b bytes → Consumes b c [] → Consumes a c bytes
 same_bytes a b c bytes reads more = subst (Consumes a c) (append-nil bytes) (Consumes-trans a b c bytes [] reads more)
@@ -58,35 +59,35 @@ not_both b holds fails = cc
 pub nil_is_not : (q : List ℕ) → is_nil q ≡ false → q ≢ []
 nil_is_not q e none = not_both (is_nil q) (ap is_nil none) e
 
-module _ {D : Type 0} (stands : List (List ℕ) → D → Type 0) (answers : List (List ℕ) → List ℕ → Response → Type 0) where
+module _ {D : Type 0} (stands : List Event → D → Type 0) (answers : List Event → List ℕ → Response → Type 0) where
   -- a piece behind what was read before
-  pieces_join : (P : List ℕ → Type 0) (ds : List (List ℕ)) (bytes q piece : List ℕ) (old new : D) (worst worst' : Worst) (a b c : Option (List ℕ)) →
-      (before : PieceAnswered stands answers ds (LeavesOver q) bytes old Fine worst a b) →
-      PieceAnswered stands answers (deliveries ds before.texts before.responses) P (q ++ piece) new worst worst' b c →
-      PieceAnswered stands answers ds P (bytes ++ piece) new Fine worst' a c
-  pieces_join P ds bytes q piece old new worst worst' a b c before then = record {
+  pieces_join : (P : List ℕ → Type 0) (es : List Event) (bytes q piece : List ℕ) (old new : D) (worst worst' : Worst) (a b c : Option (List ℕ)) →
+      (before : PieceAnswered stands answers es (LeavesOver q) bytes old Fine worst a b) →
+      PieceAnswered stands answers (events_behind es before.texts before.responses) P (q ++ piece) new worst worst' b c →
+      PieceAnswered stands answers es P (bytes ++ piece) new Fine worst' a c
+  pieces_join P es bytes q piece old new worst worst' a b c before then = record {
     texts = before.texts ++ then.texts;
     responses = before.responses ++ then.responses;
     cuts = cuts_join P q piece bytes before.texts then.texts before.cuts then.cuts;
-    answered = answered_both stands answers ds before.texts then.texts before.responses then.responses old new before.answered then.answered;
+    answered = answered_both stands answers es before.texts then.texts before.responses then.responses old new before.answered then.answered;
     is_worst = then.is_worst ∙ ap (λ w. worse_of w (worst_of_all then.responses)) before.is_worst ∙ sym (worst_of_both before.responses then.responses);
     writes = subst (Appends a c) (sym (flat_map-append _ before.responses then.responses)) (Appends-trans a b c (response_lines before.responses) (response_lines then.responses) before.writes then.writes);
   }
 
-  pub sofar_more : (ds : List (List ℕ)) (left mid left' : Option (List ℕ)) (q q' piece : List ℕ) (old new : D) (worst worst' : Worst) (a b c : Option (List ℕ)) →
-      Sofar stands answers ds left mid q old worst a b → Consumes mid left' piece →
-      ((others : List (List ℕ)) → stands others old → PieceAnswered stands answers others (EndsPiece None q') (q ++ piece) new worst worst' b c) →
-      Sofar stands answers ds left left' q' new worst' a c
-  sofar_more ds left mid left' q q' piece old new worst worst' a b c before reads next = record {
+  pub sofar_more : (es : List Event) (left mid left' : Option (List ℕ)) (q q' piece : List ℕ) (old new : D) (worst worst' : Worst) (a b c : Option (List ℕ)) →
+      Sofar stands answers es left mid q old worst a b → Consumes mid left' piece →
+      ((others : List Event) → stands others old → PieceAnswered stands answers others (EndsPiece None q') (q ++ piece) new worst worst' b c) →
+      Sofar stands answers es left left' q' new worst' a c
+  sofar_more es left mid left' q q' piece old new worst worst' a b c before reads next = record {
     bytes = before.bytes ++ piece;
     reads = Consumes-trans left mid left' before.bytes piece before.reads reads;
-    piece = pieces_join (EndsPiece None q') ds before.bytes q piece old new worst worst' a b c before.piece
-        (next (deliveries ds before.piece.texts before.piece.responses) before.piece.answered.stands_now);
+    piece = pieces_join (EndsPiece None q') es before.bytes q piece old new worst worst' a b c before.piece
+        (next (events_behind es before.piece.texts before.piece.responses) before.piece.answered.stands_now);
   }
 
   -- before the first read
-  pub nothing_read : (ds : List (List ℕ)) (left : Option (List ℕ)) (q : List ℕ) (desk : D) (a : Option (List ℕ)) → q ≡ [] → stands ds desk → Sofar stands answers ds left left q desk Fine a a
-  nothing_read ds left q desk a none at = record {
+  pub nothing_read : (es : List Event) (left : Option (List ℕ)) (q : List ℕ) (desk : D) (a : Option (List ℕ)) → q ≡ [] → stands es desk → Sofar stands answers es left left q desk Fine a a
+  nothing_read es left q desk a none at = record {
     bytes = [];
     reads = Consumes-nil left;
     piece = record {
@@ -100,9 +101,9 @@ module _ {D : Type 0} (stands : List (List ℕ) → D → Type 0) (answers : Lis
   }
 
   -- a read that failed
-  pub began : (ds : List (List ℕ)) (left mid left' : Option (List ℕ)) (q : List ℕ) (desk : D) (worst : Worst) (a b : Option (List ℕ)) →
-      Sofar stands answers ds left mid q desk worst a b → Keeps mid left' → Began stands answers ds (port_bytes left left' a b) desk
-  began ds left mid left' q desk worst a b before same = record {
+  pub began : (es : List Event) (left mid left' : Option (List ℕ)) (q : List ℕ) (desk : D) (worst : Worst) (a b : Option (List ℕ)) →
+      Sofar stands answers es left mid q desk worst a b → Keeps mid left' → Began stands answers es (port_bytes left left' a b) desk
+  began es left mid left' q desk worst a b before same = record {
     bytes = before.bytes;
     texts = before.piece.texts;
     responses = before.piece.responses;
@@ -113,17 +114,17 @@ module _ {D : Type 0} (stands : List (List ℕ) → D → Type 0) (answers : Lis
   }
 
   -- too many reads
-  pub began_now : (ds : List (List ℕ)) (left left' : Option (List ℕ)) (q : List ℕ) (desk : D) (worst : Worst) (a b : Option (List ℕ)) →
-      Sofar stands answers ds left left' q desk worst a b → Began stands answers ds (port_bytes left left' a b) desk
-  began_now ds left left' q desk worst a b before = began ds left left' left' q desk worst a b before (Keeps-refl left')
+  pub began_now : (es : List Event) (left left' : Option (List ℕ)) (q : List ℕ) (desk : D) (worst : Worst) (a b : Option (List ℕ)) →
+      Sofar stands answers es left left' q desk worst a b → Began stands answers es (port_bytes left left' a b) desk
+  began_now es left left' q desk worst a b before = began es left left' left' q desk worst a b before (Keeps-refl left')
 
   -- a write that failed, in the middle of a piece
-  pub cut_short : (ds : List (List ℕ)) (left mid left' : Option (List ℕ)) (q piece : List ℕ) (old new : D) (worst : Worst) (a b c : Option (List ℕ)) →
-      Sofar stands answers ds left mid q old worst a b → Consumes mid left' piece →
-      ((others : List (List ℕ)) → stands others old → LineCutShort stands answers others (q ++ piece) b c new) →
-      Delivered stands answers ds (port_bytes left left' a c) new
-  cut_short ds left mid left' q piece old new worst a b c before reads next =
-      let then = next (deliveries ds before.piece.texts before.piece.responses) before.piece.answered.stands_now in
+  pub cut_short : (es : List Event) (left mid left' : Option (List ℕ)) (q piece : List ℕ) (old new : D) (worst : Worst) (a b c : Option (List ℕ)) →
+      Sofar stands answers es left mid q old worst a b → Consumes mid left' piece →
+      ((others : List Event) → stands others old → LineCutShort stands answers others (q ++ piece) b c new) →
+      Delivered stands answers es (port_bytes left left' a c) new
+  cut_short es left mid left' q piece old new worst a b c before reads next =
+      let then = next (events_behind es before.piece.texts before.piece.responses) before.piece.answered.stands_now in
       let texts = before.piece.texts ++ (then.texts ++ then.last ∷ []) in
       let texts_are : texts ≡ (before.piece.texts ++ then.texts) ++ then.last ∷ [] = sym (append_assoc before.piece.texts then.texts (then.last ∷ [])) in
       let responses_are : before.piece.responses ++ (then.responses ++ then.response ∷ []) ≡ (before.piece.responses ++ then.responses) ++ then.response ∷ [] =
@@ -139,9 +140,9 @@ module _ {D : Type 0} (stands : List (List ℕ) → D → Type 0) (answers : Lis
           part = then.part;
           cuts = subst (CutsFrom GoesOnAnyhow (before.bytes ++ piece)) texts_are
               (cuts_join GoesOnAnyhow q piece before.bytes before.piece.texts (then.texts ++ then.last ∷ []) before.piece.cuts then.cuts);
-          answered = subst (λ all. Answered stands answers ds all ((before.piece.responses ++ then.responses) ++ then.response ∷ []) new) texts_are
-              (subst (λ all. Answered stands answers ds texts all new) responses_are
-              (answered_both stands answers ds before.piece.texts (then.texts ++ then.last ∷ []) before.piece.responses (then.responses ++ then.response ∷ []) old new before.piece.answered then.answered));
+          answered = subst (λ all. Answered stands answers es all ((before.piece.responses ++ then.responses) ++ then.response ∷ []) new) texts_are
+              (subst (λ all. Answered stands answers es texts all new) responses_are
+              (answered_both stands answers es before.piece.texts (then.texts ++ then.last ∷ []) before.piece.responses (then.responses ++ then.response ∷ []) old new before.piece.answered then.answered));
           front = then.front;
           writes = subst (Appends a c) (lines_both before.piece.responses then.responses then.part)
               (Appends-trans a b c (response_lines before.piece.responses) (response_lines then.responses ++ then.part) before.piece.writes then.writes);
@@ -149,45 +150,45 @@ module _ {D : Type 0} (stands : List (List ℕ) → D → Type 0) (answers : Lis
       }
 
   -- the end of the input
-  pub input_ends : (ds : List (List ℕ)) (left mid left' : Option (List ℕ)) (q : List ℕ) (end : StreamEnd) (desk : D) (worst : Worst) (a b : Option (List ℕ)) →
-      Sofar stands answers ds left mid q desk worst a b → Consumes mid left' [] → IsAtEnd left' →
-      ((end ≡ Whole) × (q ≡ [])) ⊎ ((end ≡ Open) × (q ≢ [])) → AtEnd stands answers ds left left' end desk worst a b
-  input_ends ds left mid left' q end desk worst a b before reads ended how =
+  pub input_ends : (es : List Event) (left mid left' : Option (List ℕ)) (q : List ℕ) (end : StreamEnd) (desk : D) (worst : Worst) (a b : Option (List ℕ)) →
+      Sofar stands answers es left mid q desk worst a b → Consumes mid left' [] → IsAtEnd left' →
+      ((end ≡ Whole) × (q ≡ [])) ⊎ ((end ≡ Open) × (q ≢ [])) → AtEnd stands answers es left left' end desk worst a b
+  input_ends es left mid left' q end desk worst a b before reads ended how =
       let all = same_bytes left mid left' before.bytes before.reads reads in
       elim how [
-        | inl whole ↦ subst (λ e. AtEnd stands answers ds left left' e desk worst a b) (sym whole.0) (record {
+        | inl whole ↦ subst (λ e. AtEnd stands answers es left left' e desk worst a b) (sym whole.0) (record {
           bytes = before.bytes;
           reads = all;
           ended = ended;
-          piece = piece_ends stands answers ds (LeavesOver q) (EndsAs Whole) before.bytes desk Fine worst a b (λ rest at. at.0 ∙ whole.1) before.piece;
+          piece = piece_ends stands answers es (LeavesOver q) (EndsAs Whole) before.bytes desk Fine worst a b (λ rest at. at.0 ∙ whole.1) before.piece;
         })
-        | inr less ↦ subst (λ e. AtEnd stands answers ds left left' e desk worst a b) (sym less.0) (record {
+        | inr less ↦ subst (λ e. AtEnd stands answers es left left' e desk worst a b) (sym less.0) (record {
           bytes = before.bytes;
           reads = all;
           ended = ended;
-          piece = piece_ends stands answers ds (LeavesOver q) (EndsAs Open) before.bytes desk Fine worst a b
+          piece = piece_ends stands answers es (LeavesOver q) (EndsAs Open) before.bytes desk Fine worst a b
               (λ rest at. (subst IsPending (sym at.0) at.1, λ none. less.1 (sym at.0 ∙ none))) before.piece;
         })
       ]
 
   -- a stream that can't be cut further
-  pub stream_cut : (ds : List (List ℕ)) (left mid left' : Option (List ℕ)) (q q' piece : List ℕ) (fault : CutFault) (old new : D) (worst worst' : Worst) (a b c : Option (List ℕ)) →
-      Sofar stands answers ds left mid q old worst a b → Consumes mid left' piece →
-      ((others : List (List ℕ)) → stands others old → PieceAnswered stands answers others (EndsPiece (Some fault) q') (q ++ piece) new worst worst' b c) →
-      AtEnd stands answers ds left left' (Cut fault) new worst' a c
-  stream_cut ds left mid left' q q' piece fault old new worst worst' a b c before reads next = record {
+  pub stream_cut : (es : List Event) (left mid left' : Option (List ℕ)) (q q' piece : List ℕ) (fault : CutFault) (old new : D) (worst worst' : Worst) (a b c : Option (List ℕ)) →
+      Sofar stands answers es left mid q old worst a b → Consumes mid left' piece →
+      ((others : List Event) → stands others old → PieceAnswered stands answers others (EndsPiece (Some fault) q') (q ++ piece) new worst worst' b c) →
+      AtEnd stands answers es left left' (Cut fault) new worst' a c
+  stream_cut es left mid left' q q' piece fault old new worst worst' a b c before reads next = record {
     bytes = before.bytes ++ piece;
     reads = Consumes-trans left mid left' before.bytes piece before.reads reads;
     ended = tt;
-    piece = pieces_join (EndsPiece (Some fault) q') ds before.bytes q piece old new worst worst' a b c before.piece
-        (next (deliveries ds before.piece.texts before.piece.responses) before.piece.answered.stands_now);
+    piece = pieces_join (EndsPiece (Some fault) q') es before.bytes q piece old new worst worst' a b c before.piece
+        (next (events_behind es before.piece.texts before.piece.responses) before.piece.answered.stands_now);
   }
 
   -- the last line
-  pub streamed : (ds : List (List ℕ)) (left left' : Option (List ℕ)) (end : StreamEnd) (desk : D) (worst all : Worst) (a b c : Option (List ℕ)) →
-      AtEnd stands answers ds left left' end desk worst a b → Appends b c (end_text end) → all ≡ worse_of worst (end_worst end) →
-      Streamed stands answers ds (port_bytes left left' a c) desk all
-  streamed ds left left' end desk worst all a b c at writes is = record {
+  pub streamed : (es : List Event) (left left' : Option (List ℕ)) (end : StreamEnd) (desk : D) (worst all : Worst) (a b c : Option (List ℕ)) →
+      AtEnd stands answers es left left' end desk worst a b → Appends b c (end_text end) → all ≡ worse_of worst (end_worst end) →
+      Streamed stands answers es (port_bytes left left' a c) desk all
+  streamed es left left' end desk worst all a b c at writes is = record {
     bytes = at.bytes;
     texts = at.piece.texts;
     responses = at.piece.responses;
@@ -201,9 +202,9 @@ module _ {D : Type 0} (stands : List (List ℕ) → D → Type 0) (answers : Lis
   }
 
   -- a write of it that failed
-  pub end_cut_short : (ds : List (List ℕ)) (left left' : Option (List ℕ)) (end : StreamEnd) (desk : D) (worst : Worst) (a b c : Option (List ℕ)) →
-      AtEnd stands answers ds left left' end desk worst a b → AppendsFront b c (end_text end) → Delivered stands answers ds (port_bytes left left' a c) desk
-  end_cut_short ds left left' end desk worst a b c at (part, front, writes) = record {
+  pub end_cut_short : (es : List Event) (left left' : Option (List ℕ)) (end : StreamEnd) (desk : D) (worst : Worst) (a b c : Option (List ℕ)) →
+      AtEnd stands answers es left left' end desk worst a b → AppendsFront b c (end_text end) → Delivered stands answers es (port_bytes left left' a c) desk
+  end_cut_short es left left' end desk worst a b c at (part, front, writes) = record {
     bytes = at.bytes;
     reads = at.reads;
     cut_short = inr (record {
@@ -219,10 +220,10 @@ module _ {D : Type 0} (stands : List (List ℕ) → D → Type 0) (answers : Lis
     });
   }
 
-  pub piece_at : (ds : List (List ℕ)) (cut cut' : Option CutFault) (q' stream : List ℕ) (desk : D) (before worst : Worst) (a b : Option (List ℕ)) → cut ≡ cut' →
-      PieceAnswered stands answers ds (EndsPiece cut q') stream desk before worst a b → PieceAnswered stands answers ds (EndsPiece cut' q') stream desk before worst a b
-  piece_at ds cut cut' q' stream desk before worst a b is done =
-      subst (λ c. PieceAnswered stands answers ds (EndsPiece c q') stream desk before worst a b) is done
+  pub piece_at : (es : List Event) (cut cut' : Option CutFault) (q' stream : List ℕ) (desk : D) (before worst : Worst) (a b : Option (List ℕ)) → cut ≡ cut' →
+      PieceAnswered stands answers es (EndsPiece cut q') stream desk before worst a b → PieceAnswered stands answers es (EndsPiece cut' q') stream desk before worst a b
+  piece_at es cut cut' q' stream desk before worst a b is done =
+      subst (λ c. PieceAnswered stands answers es (EndsPiece c q') stream desk before worst a b) is done
 
 -- ---- faults
 

@@ -8,7 +8,8 @@ use Rattle.edi_cutter.specs.declared.cut_fault.CutFault.TheVariants.{TooLong, Se
 use Rattle.office_replies.specs.declared.response.Response.{Response}
 use Rattle.office_replies.specs.declared.worst.Worst.{Worst}
 use Rattle.office_replies.specs.Responses.{body_of, worse_of}
-use Rattle.office_replies.specs.Delivering.{AnswersEach, deliveries}
+use Rattle.office_replies.specs.Delivering.{AnswersEach, events_behind}
+use Rattle.office_replies.specs.Events.{Event}
 use Rattle.office_stream.specs.Fronts.{IsFront}
 use Rattle.office_stream.specs.Lines.{line, end_text, end_worst, response_lines, worst_of_all}
 use Rattle.office_stream.specs.declared.stream_end.StreamEnd.{StreamEnd}
@@ -64,16 +65,16 @@ port_bytes left left' written written' =
     record { left_before = left; left_after = left'; written_before = written; written_after = written' }
 
 -- Each interchange was delivered and answered at its place.
-pub record Answered {D : Type 0} (stands : List (List ℕ) → D → Type 0)
-    (answers : List (List ℕ) → List ℕ → Response → Type 0)
-    (ds texts : List (List ℕ)) (responses : List Response) (desk : D) : Type 0 where
-  pub each : AnswersEach answers ds texts responses
-  pub stands_now : stands (deliveries ds texts responses) desk
+pub record Answered {D : Type 0} (stands : List Event → D → Type 0)
+    (answers : List Event → List ℕ → Response → Type 0)
+    (es : List Event) (texts : List (List ℕ)) (responses : List Response) (desk : D) : Type 0 where
+  pub each : AnswersEach answers es texts responses
+  pub stands_now : stands (events_behind es texts responses) desk
 
 -- The bytes that were read are cut to their end, each interchange answered by its line, and the end by the cut line.
-pub record Streamed {D : Type 0} (stands : List (List ℕ) → D → Type 0)
-    (answers : List (List ℕ) → List ℕ → Response → Type 0)
-    (ds : List (List ℕ)) (ports : PortBytes) (desk : D) (worst : Worst) : Type 0 where
+pub record Streamed {D : Type 0} (stands : List Event → D → Type 0)
+    (answers : List Event → List ℕ → Response → Type 0)
+    (es : List Event) (ports : PortBytes) (desk : D) (worst : Worst) : Type 0 where
   pub bytes : List ℕ
   pub texts : List (List ℕ)
   pub responses : List Response
@@ -81,60 +82,60 @@ pub record Streamed {D : Type 0} (stands : List (List ℕ) → D → Type 0)
   pub reads : Consumes ports.left_before ports.left_after bytes
   pub ended : ReadsTo end ports.left_after
   pub cuts : Cuts bytes texts end
-  pub answered : Answered stands answers ds texts responses desk
+  pub answered : Answered stands answers es texts responses desk
   pub writes : Appends ports.written_before ports.written_after (response_lines responses ++ end_text end)
   pub is_worst : worst ≡ worse_of (worst_of_all responses) (end_worst end)
 
 -- All interchanges of the bytes that were read were answered by their lines, and less than one is left over.
-pub record Began {D : Type 0} (stands : List (List ℕ) → D → Type 0)
-    (answers : List (List ℕ) → List ℕ → Response → Type 0)
-    (ds : List (List ℕ)) (ports : PortBytes) (desk : D) : Type 0 where
+pub record Began {D : Type 0} (stands : List Event → D → Type 0)
+    (answers : List Event → List ℕ → Response → Type 0)
+    (es : List Event) (ports : PortBytes) (desk : D) : Type 0 where
   pub bytes : List ℕ
   pub texts : List (List ℕ)
   pub responses : List Response
   pub reads : Consumes ports.left_before ports.left_after bytes
   pub cuts : CutsFrom IsPending bytes texts
-  pub answered : Answered stands answers ds texts responses desk
+  pub answered : Answered stands answers es texts responses desk
   pub writes : Appends ports.written_before ports.written_after (response_lines responses)
 
 -- ---- a write that failed
 
 -- A stream begins with these interchanges, and each of them was answered. A front of the last one's line was written,
 -- behind the lines of those before.
-pub record LineCutShort {D : Type 0} (stands : List (List ℕ) → D → Type 0)
-    (answers : List (List ℕ) → List ℕ → Response → Type 0)
-    (ds : List (List ℕ)) (stream : List ℕ) (written written' : Option (List ℕ)) (desk : D) : Type 0 where
+pub record LineCutShort {D : Type 0} (stands : List Event → D → Type 0)
+    (answers : List Event → List ℕ → Response → Type 0)
+    (es : List Event) (stream : List ℕ) (written written' : Option (List ℕ)) (desk : D) : Type 0 where
   pub texts : List (List ℕ)
   pub last : List ℕ
   pub responses : List Response
   pub response : Response
   pub part : List ℕ
   pub cuts : CutsFrom GoesOnAnyhow stream (texts ++ last ∷ [])
-  pub answered : Answered stands answers ds (texts ++ last ∷ []) (responses ++ response ∷ []) desk
+  pub answered : Answered stands answers es (texts ++ last ∷ []) (responses ++ response ∷ []) desk
   pub front : IsFront part (line (body_of response))
   pub writes : Appends written written' (response_lines responses ++ part)
 
 -- A stream is cut to its end, and each interchange answered by its line. A front of the cut line was written behind
 -- them.
-pub record EndCutShort {D : Type 0} (stands : List (List ℕ) → D → Type 0)
-    (answers : List (List ℕ) → List ℕ → Response → Type 0)
-    (ds : List (List ℕ)) (stream : List ℕ) (ports : PortBytes) (desk : D) : Type 0 where
+pub record EndCutShort {D : Type 0} (stands : List Event → D → Type 0)
+    (answers : List Event → List ℕ → Response → Type 0)
+    (es : List Event) (stream : List ℕ) (ports : PortBytes) (desk : D) : Type 0 where
   pub texts : List (List ℕ)
   pub responses : List Response
   pub end : StreamEnd
   pub part : List ℕ
   pub ended : ReadsTo end ports.left_after
   pub cuts : Cuts stream texts end
-  pub answered : Answered stands answers ds texts responses desk
+  pub answered : Answered stands answers es texts responses desk
   pub front : IsFront part (end_text end)
   pub writes : Appends ports.written_before ports.written_after (response_lines responses ++ part)
 
 -- A write failed. The line of an interchange of what was read was cut short, or the cut line, and nothing was done
 -- behind it.
-pub record Delivered {D : Type 0} (stands : List (List ℕ) → D → Type 0)
-    (answers : List (List ℕ) → List ℕ → Response → Type 0)
-    (ds : List (List ℕ)) (ports : PortBytes) (desk : D) : Type 0 where
+pub record Delivered {D : Type 0} (stands : List Event → D → Type 0)
+    (answers : List Event → List ℕ → Response → Type 0)
+    (es : List Event) (ports : PortBytes) (desk : D) : Type 0 where
   pub bytes : List ℕ
   pub reads : Consumes ports.left_before ports.left_after bytes
-  pub cut_short : LineCutShort stands answers ds bytes ports.written_before ports.written_after desk
-      ⊎ EndCutShort stands answers ds bytes ports desk
+  pub cut_short : LineCutShort stands answers es bytes ports.written_before ports.written_after desk
+      ⊎ EndCutShort stands answers es bytes ports desk

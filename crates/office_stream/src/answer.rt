@@ -2,6 +2,7 @@ ghost use Rattle.std.specs.Prelude.{◌≡◌, ◌++◌, ℕ, List, [], ◌∷�
 ghost use Rattle.std.specs.Io.KnownBytes.{Appends};
 ghost use Rattle.edi_cutter.specs.Cuts.{pending};
 ghost use Rattle.office_replies.specs.Responses.{body_of, worst_of};
+ghost use Rattle.office_replies.specs.Events.{Event};
 ghost use Rattle.office_stream.specs.Fronts.{AppendsFront};
 ghost use Rattle.office_stream.specs.Lines.{line};
 ghost use Rattle.office_stream.specs.Pieces.{AnsweredOne, DeliveredOne, EndsPiece, PieceAnswered};
@@ -39,8 +40,8 @@ fn answer_one<W: Write, D: Deliver>(
     desk: &mut D,
 ) -> Result<Worst, StreamFault>
     ensures ok { IfOk result
-        (λ worst. D.clean desk.new → (opening : D) (ds : List (List ℕ)) → D.stands opening ds desk.old
-        → AnsweredOne (D.stands opening) (D.answers opening) ds text.now desk.new worst
+        (λ worst. D.clean desk.new → (opening : D.Opening) (es : List Event) → D.stands opening es desk.old
+        → AnsweredOne (D.stands opening) (D.answers opening) es text.now desk.new worst
         (W.contents writer.old.inner) (W.contents writer.new.inner)) }
     ensures kept { OnOk result (writer.new.failed ≡ writer.old.failed) }
     ensures flushed { OnOk result (writer.new.flushed ≡ true) }
@@ -48,8 +49,8 @@ fn answer_one<W: Write, D: Deliver>(
         (λ fault. (fault ≡ StreamFault.Write) × (writer.new.failed ≡ true)) }
     ensures stays { D.clean desk.new → D.clean desk.old }
     ensures delivered { IfErr result
-        (λ fault. D.clean desk.new → (opening : D) (ds : List (List ℕ)) → D.stands opening ds desk.old
-        → DeliveredOne (D.stands opening) (D.answers opening) ds text.now desk.new
+        (λ fault. D.clean desk.new → (opening : D.Opening) (es : List Event) → D.stands opening es desk.old
+        → DeliveredOne (D.stands opening) (D.answers opening) es text.now desk.new
         (W.contents writer.old.inner) (W.contents writer.new.inner)) }
 {
     let response = desk.deliver(alloc, text);
@@ -71,8 +72,8 @@ pub(crate) fn answer_piece<W: Write, D: Deliver>(
 ) -> Result<(Worst, Option<CutFault>), StreamFault>
     requires { cutter.old.fault ≡ None }
     ensures ok { IfOk result
-        (λ done. D.clean desk.new → (opening : D) (ds : List (List ℕ)) → D.stands opening ds desk.old
-        → PieceAnswered (D.stands opening) (D.answers opening) ds
+        (λ done. D.clean desk.new → (opening : D.Opening) (es : List Event) → D.stands opening es desk.old
+        → PieceAnswered (D.stands opening) (D.answers opening) es
         (EndsPiece done.1 (pending cutter.new)) (pending cutter.old ++ piece.now) desk.new before done.0
         (W.contents writer.old.inner) (W.contents writer.new.inner)) }
     ensures running { IfOk result (λ done. done.1 ≡ None → cutter.new.fault ≡ None) }
@@ -82,8 +83,8 @@ pub(crate) fn answer_piece<W: Write, D: Deliver>(
         (λ fault. (fault ≡ StreamFault.Write) × (writer.new.failed ≡ true)) }
     ensures stays { D.clean desk.new → D.clean desk.old }
     ensures cut_short { IfErr result
-        (λ fault. D.clean desk.new → (opening : D) (ds : List (List ℕ)) → D.stands opening ds desk.old
-        → LineCutShort (D.stands opening) (D.answers opening) ds (pending cutter.old ++ piece.now)
+        (λ fault. D.clean desk.new → (opening : D.Opening) (es : List Event) → D.stands opening es desk.old
+        → LineCutShort (D.stands opening) (D.answers opening) es (pending cutter.old ++ piece.now)
         (W.contents writer.old.inner) (W.contents writer.new.inner) desk.new) }
 {
     let mut worst = before;

@@ -7,13 +7,14 @@ ghost use Rattle.office_stream.specs.Fronts.{AppendsFront};
 use std::io::{Error, ErrorKind, Read, Result, Write};
 
 /// A reader or a writer, whether a read or a write of it has failed, how many reads were made, whether the last of them
-/// found the end, and whether all that was written was flushed.
+/// found the end, whether one was made behind that, and whether all that was written was flushed.
 #[derive(Drop)]
 pub struct Port<T> {
     inner: T,
     failed: bool,
     reads: u64,
     ended: bool,
+    read_behind_end: bool,
     flushed: bool,
 }
 
@@ -24,6 +25,7 @@ impl<T> Port<T> {
         ensures fresh { result.failed ≡ false }
         ensures unread { result.reads ≡ 0 }
         ensures going { result.ended ≡ false }
+        ensures in_time { result.read_behind_end ≡ false }
         ensures flushed { result.flushed ≡ true }
     {
         Port {
@@ -31,6 +33,7 @@ impl<T> Port<T> {
             failed: false,
             reads: 0,
             ended: false,
+            read_behind_end: false,
             flushed: true,
         }
     }
@@ -44,6 +47,7 @@ impl<T> Port<T> {
             failed: _,
             reads: _,
             ended: _,
+            read_behind_end: _,
             flushed: _,
         } = self;
         inner
@@ -58,6 +62,7 @@ impl<T> Port<T> {
             failed,
             reads: _,
             ended: _,
+            read_behind_end: _,
             flushed: _,
         } = self;
         *failed
@@ -75,6 +80,13 @@ impl<T> Port<T> {
         ensures { result ≡ self.now.ended }
     {
         self.ended
+    }
+
+    /// Whether a read was made behind one that had found the end.
+    pub fn read_behind_end(&self) -> bool
+        ensures { result ≡ self.now.read_behind_end }
+    {
+        self.read_behind_end
     }
 
     /// Whether nothing was written since the last flush that succeeded.
@@ -95,8 +107,13 @@ impl<R: Read> Read for Port<R> {
         ensures fails { OnErr result (self.new.failed ≡ true) }
         ensures counted { self.new.reads ≡ min (self.old.reads + 1) (2 ^ 64 - 1) }
         ensures ended { IfOk result (λ count. self.new.ended ≡ (count == 0)) }
+        ensures in_time { self.old.ended ≡ false → self.new.read_behind_end ≡ self.old.read_behind_end }
+        ensures behind { self.old.ended ≡ true → self.new.read_behind_end ≡ true }
     {
         self.reads = self.reads.saturating_add(1);
+        if self.ended {
+            self.read_behind_end = true;
+        }
         match self.inner.read(buf) {
             Ok(count) => {
                 self.ended = count == 0;

@@ -2,6 +2,7 @@ ghost use Rattle.std.specs.Prelude.{◌≡◌, ◌≢◌, ℕ, ◌+◌, ◌-◌,
 ghost use Rattle.std.specs.Prelude.{IfOk, IfErr, OnOk, OnErr};
 ghost use Rattle.std.specs.Io.KnownBytes.{Appends};
 ghost use Rattle.office_replies.specs.Responses.{worse_of};
+ghost use Rattle.office_replies.specs.Events.{Event};
 ghost use Rattle.office_stream.specs.Fronts.{AppendsFront};
 ghost use Rattle.office_stream.specs.Lines.{end_text, end_worst};
 ghost use Rattle.office_stream.specs.Streams.{Streamed, Began, Delivered, port_bytes};
@@ -29,8 +30,8 @@ pub fn run_stream<R: Read, W: Write, D: Deliver>(
     turns: u64,
 ) -> Result<Worst, StreamFault>
     ensures ok { IfOk result
-        (λ worst. D.clean desk.new → (opening : D) (ds : List (List ℕ)) → D.stands opening ds desk.old
-        → Streamed (D.stands opening) (D.answers opening) ds
+        (λ worst. D.clean desk.new → (opening : D.Opening) (es : List Event) → D.stands opening es desk.old
+        → Streamed (D.stands opening) (D.answers opening) es
         (port_bytes (R.remaining reader.old.inner) (R.remaining reader.new.inner)
         (W.contents writer.old.inner) (W.contents writer.new.inner)) desk.new worst) }
 
@@ -38,20 +39,23 @@ pub fn run_stream<R: Read, W: Write, D: Deliver>(
     // read are answered by their lines. After a failed write the lines end where it failed, and nothing was delivered
     // behind it.
     ensures err { IfErr result
-        (λ fault. D.clean desk.new → (opening : D) (ds : List (List ℕ)) → D.stands opening ds desk.old →
+        (λ fault. D.clean desk.new → (opening : D.Opening) (es : List Event) → D.stands opening es desk.old →
         MatchFault fault
-        (Began (D.stands opening) (D.answers opening) ds
+        (Began (D.stands opening) (D.answers opening) es
         (port_bytes (R.remaining reader.old.inner) (R.remaining reader.new.inner)
         (W.contents writer.old.inner) (W.contents writer.new.inner)) desk.new)
-        (Delivered (D.stands opening) (D.answers opening) ds
+        (Delivered (D.stands opening) (D.answers opening) es
         (port_bytes (R.remaining reader.old.inner) (R.remaining reader.new.inner)
         (W.contents writer.old.inner) (W.contents writer.new.inner)) desk.new)
-        (Began (D.stands opening) (D.answers opening) ds
+        (Began (D.stands opening) (D.answers opening) es
         (port_bytes (R.remaining reader.old.inner) (R.remaining reader.new.inner)
         (W.contents writer.old.inner) (W.contents writer.new.inner)) desk.new)) }
 
     // Nothing is said of a desk whose records have not told the truth.
     ensures stays { D.clean desk.new → D.clean desk.old }
+
+    // No read is made behind one that found the end.
+    ensures in_time { reader.old.ended ≡ false → reader.new.read_behind_end ≡ reader.old.read_behind_end }
 
     // No more reads are made than turns.
     ensures reads { reader.new.reads ≤ reader.old.reads + turns }

@@ -1,2 +1,5 @@
 pub mod OpenedLemmas
 pub mod OpenLemmas
+pub mod FaultLemmas
+pub mod MadeLemmas
+pub mod MadeTexts

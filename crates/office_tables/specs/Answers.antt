@@ -1,5 +1,5 @@
 -- What the calls that read answer.
-use Rattle.std.specs.Prelude.{◌≡◌, ◌≢◌, ◌==◌, ℕ, Bool, List, [], filter, Contains, Option, Some, None, String, string_bytes}
+use Rattle.std.specs.Prelude.{◌≡◌, ◌≢◌, ◌==◌, ◌<◌, ◌^◌, ◌⊎◌, ℕ, Bool, List, [], filter, Contains, Option, Some, None, String, string_bytes, IsUtf8}
 use Rattle.office_rows.specs.Rows.{Partner, Interchange, Rows}
 use Rattle.office_rows.specs.Effects.{is_pair}
 use Rattle.office_tables.specs.declared.kept_interchange.Kept.{Kept}
@@ -20,9 +20,19 @@ IsKept partner number rows (Some kept) =
     (i : Interchange) × Contains (pair_of partner number rows) i × (kept.text.items ≡ i.body)
     × RepliesAs kept.reply i.reply
 
+-- an interchange of the pair has a reply that is no text
+abbrev pub HasUnfitReply : ℕ → ℕ → Rows → Type 0
+HasUnfitReply partner number rows = (i : Interchange) × Contains (pair_of partner number rows) i × ¬ IsUtf8 i.reply
+
 abbrev pub has_id : ℕ → Partner → Bool
 has_id id partner = partner.id == id
 
 -- the next number of the account of this id
 abbrev pub IsNextOf : ℕ → Rows → ℕ → Type 0
 IsNextOf id rows next = (p : Partner) × Contains (filter (has_id id) rows.partners) p × (p.next ≡ next)
+
+-- no account has this id, or one that has it has a next number of more than 32 bits
+abbrev pub LacksNext : ℕ → Rows → Type 0
+LacksNext id rows =
+    (filter (has_id id) rows.partners ≡ [])
+    ⊎ ((p : Partner) × Contains (filter (has_id id) rows.partners) p × ¬ (p.next < 2 ^ 32))

@@ -16,3 +16,10 @@ IsOfStore (Store error) = Unit {0}
 IsOfStore Memory = Unit {0}
 IsOfStore Damaged = ⊥
 IsOfStore Version = ⊥
+
+-- the store failed, or memory was refused; or the rows are damaged in this way
+abbrev pub IsOfStoreOr : Type 0 → TableFault → Type 0
+IsOfStoreOr damage (Store error) = Unit {0}
+IsOfStoreOr damage Memory = Unit {0}
+IsOfStoreOr damage Damaged = damage
+IsOfStoreOr damage Version = ⊥

@@ -1,5 +1,9 @@
 -- What making the tables commits.
-use Rattle.std.specs.Prelude.{◌≡◌, IsTrue}
+use Rattle.std.specs.Prelude.{◌≡◌, ℕ, false, List, IsTrue}
+use Rattle.std.specs.List.{AllByRecursion}
+use Rattle.sqlite.specs.Table.{Table}
+use Rattle.sqlite.specs.Schema.{Schema}
+use Rattle.sqlite_catalog.specs.Change.{is_used}
 use Rattle.sqlite.specs.State.{State}
 use Rattle.sqlite.specs.Tree.{Trees}
 use Rattle.office_setup.specs.Setups.{SetupContent}
@@ -17,3 +21,12 @@ pub record Opens (setup : SetupContent) (old new : State) : Type 0 where
 -- these are the rows of the set-up, whole
 abbrev pub IsOpening : SetupContent → State → Trees → Type 0
 IsOpening setup old db = old.committed.schema ≡ no_schema → StoresRows (opening_rows setup) db
+
+-- nothing has the name of one of these tables
+abbrev pub AreMissing : List Table → Schema → Type 0
+AreMissing tables schema = AllByRecursion (λ (t : Table). is_used schema t.name ≡ false) tables
+
+-- these tables are new, and what had a name has it still
+pub record MakesTables (tables : List Table) (old new : Schema) : Type 0 where
+  pub missing : AreMissing tables old
+  pub keeps : (name : List ℕ) → is_used new name ≡ false → is_used old name ≡ false

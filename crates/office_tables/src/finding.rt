@@ -1,4 +1,4 @@
-ghost use Rattle.std.specs.Prelude.{◌≡◌, IfOk, OnOk, IsTrue, false, map, filter};
+ghost use Rattle.std.specs.Prelude.{◌≡◌, ◌≢◌, ◌<◌, ◌^◌, ⊤, IfOk, IfErr, OnOk, IsTrue, IsUtf8, false, map, filter};
 ghost use Rattle.std.specs.List.Sorted.{IsPermutation};
 ghost use Rattle.sqlite.specs.declared.types.Value.TheVariants.{Text, Blob};
 ghost use Rattle.sqlite.specs.Order.{column};
@@ -6,8 +6,12 @@ ghost use Rattle.sqlite.specs.Held.{state};
 ghost use Rattle.sqlite.specs.State.{HasCleanDisk, IsUnchanged, KeepsCommit, Survives};
 ghost use Rattle.office_rows.specs.Tables.{office_schema};
 ghost use Rattle.office_rows.specs.Stored.{HasRows};
+ghost use Rattle.sqlite.specs.declared.error.Error.TheVariants.{SqliteFailure};
+ghost use Rattle.sqlite.specs.declared.error.ErrorCode.TheVariants.{OutOfMemory};
+ghost use Rattle.office_rows.specs.Rows.{Interchange, Partner};
 ghost use Rattle.office_rows.specs.Values.{number, kept_values, next_values};
-ghost use Rattle.office_tables.specs.Answers.{IsKept, IsNextOf, RepliesAs, has_id, pair_of};
+ghost use Rattle.office_tables.specs.Answers.{IsKept, IsNextOf, RepliesAs, HasUnfitReply, LacksNext, has_id, pair_of};
+ghost use Rattle.office_tables.specs.Faults.{IsOfStore, IsOfStoreOr};
 
 use crate::kept_interchange::Kept;
 use crate::table_fault::TableFault;
@@ -15,6 +19,8 @@ use crate::values::integer;
 use sqlite::{Alter, Connection, Error, ErrorCode, Row};
 
 /// The interchange that is kept for a partner and a number. It changes nothing.
+///
+/// Damaged if its reply is no text; Store and Memory say nothing of the rows.
 pub fn kept<S: Alter>(
     conn: &mut Connection<S>,
     partner: u16,
@@ -23,6 +29,10 @@ pub fn kept<S: Alter>(
     ensures answer { HasCleanDisk (state S.Store conn.new) →
         IfOk result (λ answer. (rows : _) → HasRows rows (state S.Store conn.old).now →
         IsKept partner number rows answer) }
+    ensures fault { HasCleanDisk (state S.Store conn.new) →
+        IfErr result (λ fault. (rows : _) → HasRows rows (state S.Store conn.old).now →
+        IsOfStoreOr (HasUnfitReply partner number rows) fault) }
+    ensures version { IfErr result (IsOfStoreOr ⊤) }
     ensures same { HasCleanDisk (state S.Store conn.new) → (state S.Store conn.old).now.schema ≡ office_schema →
         OnOk result (IsUnchanged (state S.Store conn.old) (state S.Store conn.new)) }
     ensures keeps { HasCleanDisk (state S.Store conn.new) → (state S.Store conn.old).now.schema ≡ office_schema →
@@ -52,6 +62,7 @@ fn select_kept<S: Alter>(
     ensures shown { HasCleanDisk (state S.Store conn.new) →
         IfOk result (λ answer. (rows : _) → HasRows rows (state S.Store conn.old).now →
         IsPermutation (map kept_values (pair_of partner number rows)) answer.items) }
+    ensures fault { IfErr result IsOfStore }
     ensures same { HasCleanDisk (state S.Store conn.new) → (state S.Store conn.old).now.schema ≡ office_schema →
         OnOk result (IsUnchanged (state S.Store conn.old) (state S.Store conn.new)) }
     ensures keeps { HasCleanDisk (state S.Store conn.new) → (state S.Store conn.old).now.schema ≡ office_schema →
@@ -70,7 +81,9 @@ fn select_kept<S: Alter>(
 }
 
 /// What a column that can't be read is to a caller: its row is that of no office, if memory wasn't refused.
-fn column_fault(error: Error) -> TableFault {
+fn column_fault(error: Error) -> TableFault
+    ensures { IsOfStoreOr (error ≢ SqliteFailure OutOfMemory) result }
+{
     match error {
         Error::SqliteFailure(ErrorCode::OutOfMemory) => TableFault::Memory,
         _ => TableFault::Damaged,
@@ -78,9 +91,11 @@ fn column_fault(error: Error) -> TableFault {
 }
 
 fn read_kept(row: &Row) -> Result<Kept, Error>
-    ensures { IfOk result
+    ensures ok { IfOk result
         (λ kept. (column row.now 0 ≡ Blob kept.text.items)
         × ((reply : _) × (column row.now 1 ≡ Text reply) × RepliesAs kept.reply reply)) }
+    ensures err { IfErr result (λ error. error ≢ SqliteFailure OutOfMemory →
+        (i : Interchange) → IsUtf8 i.reply → row.now ≢ kept_values i) }
 {
     let text = row.get(0)?;
     let reply: String = row.get(1)?;
@@ -89,9 +104,16 @@ fn read_kept(row: &Row) -> Result<Kept, Error>
 }
 
 /// The number that the next interchange of a partner has. It changes nothing.
+///
+/// Damaged if no account has this id, or its next number has more than 32 bits; Store and Memory say nothing of the
+/// rows.
 pub fn next_of<S: Alter>(conn: &mut Connection<S>, partner: u16) -> Result<u32, TableFault>
     ensures answer { HasCleanDisk (state S.Store conn.new) →
         IfOk result (λ next. (rows : _) → HasRows rows (state S.Store conn.old).now → IsNextOf partner rows next) }
+    ensures fault { HasCleanDisk (state S.Store conn.new) →
+        IfErr result (λ fault. (rows : _) → HasRows rows (state S.Store conn.old).now →
+        IsOfStoreOr (LacksNext partner rows) fault) }
+    ensures version { IfErr result (IsOfStoreOr ⊤) }
     ensures same { HasCleanDisk (state S.Store conn.new) → (state S.Store conn.old).now.schema ≡ office_schema →
         OnOk result (IsUnchanged (state S.Store conn.old) (state S.Store conn.new)) }
     ensures keeps { HasCleanDisk (state S.Store conn.new) → (state S.Store conn.old).now.schema ≡ office_schema →
@@ -114,6 +136,7 @@ fn select_next<S: Alter>(conn: &mut Connection<S>, partner: u16) -> Result<Vec<R
     ensures shown { HasCleanDisk (state S.Store conn.new) →
         IfOk result (λ answer. (rows : _) → HasRows rows (state S.Store conn.old).now →
         IsPermutation (map next_values (filter (has_id partner) rows.partners)) answer.items) }
+    ensures fault { IfErr result IsOfStore }
     ensures same { HasCleanDisk (state S.Store conn.new) → (state S.Store conn.old).now.schema ≡ office_schema →
         OnOk result (IsUnchanged (state S.Store conn.old) (state S.Store conn.new)) }
     ensures keeps { HasCleanDisk (state S.Store conn.new) → (state S.Store conn.old).now.schema ≡ office_schema →
@@ -132,7 +155,8 @@ fn select_next<S: Alter>(conn: &mut Connection<S>, partner: u16) -> Result<Vec<R
 }
 
 fn read_number(row: &Row) -> Result<u32, TableFault>
-    ensures { IfOk result (λ read. column row.now 0 ≡ number read) }
+    ensures ok { IfOk result (λ read. column row.now 0 ≡ number read) }
+    ensures err { IfErr result (IsOfStoreOr ((p : Partner) → p.next < 2 ^ 32 → row.now ≢ next_values p)) }
 {
     match row.get(0) {
         Ok(next) => Ok(next),

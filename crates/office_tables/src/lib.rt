@@ -19,7 +19,7 @@ mod visits;
 pub use finding::{kept, next_of};
 pub use interchanges::{keep, set_reply};
 pub use kept_interchange::Kept;
-pub use lines::{insert_line, set_done};
+pub use lines::{delete_line, insert_line, set_done};
 pub use opening::create;
 pub use partners::set_next;
 pub use places::{delete_place, insert_place, set_slot};

@@ -2,7 +2,7 @@ ghost use Rattle.std.specs.Prelude.{◌≡◌, OnOk, IfErr, IsTrue};
 ghost use Rattle.sqlite.specs.Held.{state};
 ghost use Rattle.sqlite.specs.State.{HasCleanDisk, Survives, KeepsCommit};
 ghost use Rattle.edi_messages.specs.Owned.{call_content};
-ghost use Rattle.terminal_core.specs.Rows.{listed_on, line_done};
+ghost use Rattle.terminal_core.specs.Rows.{listed_on, line_done, unlisted};
 ghost use Rattle.office_rows.specs.Effects.{with_change};
 ghost use Rattle.office_rows.specs.Steps.{Steps};
 ghost use Rattle.office_tables.specs.Faults.{IsOfStore};
@@ -66,6 +66,35 @@ pub fn set_done<S: Alter>(
     let container = container.text();
     tx.execute(
         "UPDATE listed SET done = 1 WHERE vessel = ?1 AND voyage = ?2 AND side = ?3 AND box = ?4",
+        &[
+            characters(call.vessel.as_bytes()),
+            characters(call.voyage.as_bytes()),
+            integer(side_code(side)),
+            characters(&container),
+        ],
+    )?;
+    Ok(())
+}
+
+/// Removes the row of an open line that was dropped.
+pub fn delete_line<S: Alter>(
+    tx: &mut Transaction<'_, S>,
+    call: &Call,
+    side: Side,
+    container: BoxNumber,
+) -> Result<(), TableFault>
+    ensures same_reference { tx.new.conn.ghost_name ≡ tx.old.conn.ghost_name }
+    ensures steps { HasCleanDisk (state S.Store tx.new.conn.now) → IsTrue (state S.Store tx.old.conn.now).in_transaction
+        → OnOk result (Steps (with_change (unlisted (call_content call.now) side container))
+        (state S.Store tx.old.conn.now) (state S.Store tx.new.conn.now)) }
+    ensures keeps { HasCleanDisk (state S.Store tx.new.conn.now) → IsTrue (state S.Store tx.old.conn.now).in_transaction
+        → KeepsCommit (state S.Store tx.old.conn.now) (state S.Store tx.new.conn.now) }
+    ensures survives { Survives (state S.Store tx.old.conn.now) (state S.Store tx.new.conn.now) (λ _. ⊥) }
+    ensures fault { IfErr result IsOfStore }
+{
+    let container = container.text();
+    tx.execute(
+        "DELETE FROM listed WHERE vessel = ?1 AND voyage = ?2 AND side = ?3 AND box = ?4",
         &[
             characters(call.vessel.as_bytes()),
             characters(call.voyage.as_bytes()),

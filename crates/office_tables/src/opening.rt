@@ -7,7 +7,7 @@ ghost use Rattle.office_rows.specs.Stored.{HasRows, HasEmpty};
 ghost use Rattle.office_rows.specs.Steps.{Turns};
 ghost use Rattle.office_rows.specs.Opening.{opening_rows};
 ghost use Rattle.office_setup.specs.Setups.{setup_content};
-ghost use Rattle.office_tables.specs.Opened.{Opens, IsOpening};
+ghost use Rattle.office_tables.specs.Opened.{Opens, IsOpening, AreMissing};
 ghost use Rattle.office_tables.specs.Faults.{IsOfStore};
 
 use crate::blocks::insert_blocks;
@@ -19,12 +19,16 @@ use office_setup::Setup;
 use sqlite::{Alter, Connection, Transaction};
 
 /// Makes the tables of an empty database, with the rows of a set-up, wholly or not at all.
+///
+/// It fails where anything has the name of one of them.
 pub fn create<S: Alter>(conn: &mut Connection<S>, setup: &Setup) -> Result<(), TableFault>
     requires idle { (state S.Store conn.old).in_transaction ≡ false }
     requires counted { length setup.now.partners.items ≤ 999 }
     ensures idle { (state S.Store conn.new).in_transaction ≡ false }
     ensures ok { HasCleanDisk (state S.Store conn.new) →
         OnOk result (Opens (setup_content setup.now) (state S.Store conn.old) (state S.Store conn.new)) }
+    ensures new { HasCleanDisk (state S.Store conn.new) →
+        OnOk result (AreMissing office_tables (state S.Store conn.old).committed.schema) }
     ensures err { HasCleanDisk (state S.Store conn.new) → IsTrue (state S.Store conn.new).is_open
         → OnErr result (((state S.Store conn.new).now ≡ (state S.Store conn.old).committed)
         × ((state S.Store conn.new).committed ≡ (state S.Store conn.old).committed)) }
@@ -47,6 +51,8 @@ fn write_opening<S: Alter>(tx: &mut Transaction<'_, S>, setup: &Setup) -> Result
     ensures made { HasCleanDisk (state S.Store tx.new.conn.now) → IsTrue (state S.Store tx.old.conn.now).in_transaction
         → OnOk result (Turns (HasEmpty (take 0 office_tables)) (HasRows (opening_rows (setup_content setup.now)))
         (state S.Store tx.old.conn.now) (state S.Store tx.new.conn.now)) }
+    ensures new { HasCleanDisk (state S.Store tx.new.conn.now) → IsTrue (state S.Store tx.old.conn.now).in_transaction
+        → OnOk result (AreMissing office_tables (state S.Store tx.old.conn.now).now.schema) }
     ensures keeps { HasCleanDisk (state S.Store tx.new.conn.now) → IsTrue (state S.Store tx.old.conn.now).in_transaction
         → KeepsCommit (state S.Store tx.old.conn.now) (state S.Store tx.new.conn.now) }
     ensures survives { Survives (state S.Store tx.old.conn.now) (state S.Store tx.new.conn.now) (λ _. ⊥) }

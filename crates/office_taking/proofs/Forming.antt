@@ -17,19 +17,22 @@ use Rattle.edi_segments.specs.declared.syntax_fault.SyntaxFault.{SyntaxFault}
 use Rattle.edi_segments.specs.declared.syntax_fault.SyntaxFault.TheVariants.{TooLong, Service, Segment, NoEnvelope, Group, Version, Number}
 use Rattle.edi_messages.specs.Forms.{OrdersWell}
 use Rattle.edi_messages.specs.Message.{LineContent, ordered, refused, MessageContent, reading}
+use Rattle.edi_messages.specs.Purposes.{CallContent}
 use Rattle.edi_messages.specs.declared.codes.Codes.{Codes}
 use Rattle.edi_messages.specs.declared.message_fault.MessageFault.{MessageFault}
 use Rattle.edi_messages.specs.declared.partner_kind.PartnerKind.{PartnerKind}
 use Rattle.edi_messages.proofs.OrderForms.{IfThere, IsCivil, text_civil, if_civil, orders_are_formed}
 use Rattle.partner_core.specs.Numbered.{with_number}
+use Rattle.terminal_core.specs.declared.side.Side.{Side}
 use Rattle.terminal_core.specs.declared.source.Source.{Source}
 use Rattle.terminal_core.specs.Forms.{IsSource, IsWellFormed}
 use Rattle.terminal_core.specs.State.{TerminalState, IsWhole}
 use Rattle.terminal_core.proofs.Forming.{formed_step}
+use Rattle.terminal_core.proofs.Dropping.{drop_formed}
 use Rattle.office_setup.specs.Parties.{Parties}
 use Rattle.office_admission.specs.Admission.{admission, by_header, is_for}
-use Rattle.office_taking.specs.Taking.{MachineState, line_taken, lines_taken, verdict_on, messages_taken, codes_for, source_in, nothing_taken, taken_at, taken_of, interchange_taken}
-use Rattle.office_taking.proofs.Turning.{line_leads, verdict_leads}
+use Rattle.office_taking.specs.Taking.{MachineState, cleared, cleared_for, list_replaced, line_taken, lines_taken, verdict_on, messages_taken, codes_for, source_in, nothing_taken, taken_at, taken_of, interchange_taken}
+use Rattle.office_taking.proofs.Turning.{line_leads, clearing_leads, verdict_leads}
 
 -- ---- the header
 
@@ -98,9 +101,14 @@ lines_formed state source (line ∷ lines) whole formed from its =
     lines_formed (line_taken state source line).0 source lines (line_leads state source line whole).whole (line_formed state source line whole formed from (All-head OrdersWell line lines its)) from
     (All-tail OrdersWell line lines its)
 
+cleared_formed : (state : TerminalState) (list : Option (CallContent × Side)) → IsWellFormed state → IsWellFormed (cleared state list).state
+cleared_formed state None formed = formed
+cleared_formed state (Some list) formed = drop_formed state list.0 list.1 formed
+
 verdict_formed : (state : TerminalState) (codes : Codes) (source : Source) (opened : CivilMoment) (message : Message) (read : Result MessageContent MessageFault) → reading codes opened message ≡ read → IsWhole state → IsWellFormed state → IsSource source
     → IsCivil opened → IsWellFormed (verdict_on state source read).0
-verdict_formed state codes source opened message (Ok content) e whole formed from civil = lines_formed state source content.lines whole formed from (orders_are_formed codes opened message content civil e)
+verdict_formed state codes source opened message (Ok content) e whole formed from civil =
+    lines_formed (cleared_for state content).state source content.lines (clearing_leads state content whole).whole (cleared_formed state (list_replaced content) formed) from (orders_are_formed codes opened message content civil e)
 verdict_formed state codes source opened message (Err fault) e whole formed from civil = formed
 
 messages_formed : (state : TerminalState) (codes : Codes) (source : Source) (opened : CivilMoment) (messages : List Message) → IsWhole state → IsWellFormed state → IsSource source → IsCivil opened

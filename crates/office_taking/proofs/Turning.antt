@@ -7,19 +7,22 @@ use Rattle.edi_syntax.specs.Envelope.{header_of, messages_of}
 use Rattle.edi_syntax.specs.Header.{preparation}
 use Rattle.edi_syntax.specs.Messages.{Message}
 use Rattle.edi_messages.specs.Message.{LineContent, ordered, refused, MessageContent, reading}
+use Rattle.edi_messages.specs.Purposes.{CallContent}
 use Rattle.edi_messages.specs.declared.codes.Codes.{Codes}
 use Rattle.edi_messages.specs.declared.message_fault.MessageFault.{MessageFault}
 use Rattle.edi_messages.specs.declared.partner_kind.PartnerKind.{PartnerKind}
 use Rattle.partner_core.specs.Numbered.{with_number}
+use Rattle.terminal_core.specs.declared.side.Side.{Side}
 use Rattle.terminal_core.specs.declared.source.Source.{Source}
 use Rattle.terminal_core.specs.Rows.{ChangeContent}
 use Rattle.terminal_core.specs.State.{TerminalState, IsWhole}
 use Rattle.terminal_core.specs.Changes.{TerminalRows, rows_of, all_changed, AreApplicable}
 use Rattle.terminal_core.proofs.Applying.{all_appended, applicable_joined, applicable_step}
 use Rattle.terminal_core.proofs.Changing.{turned_step}
+use Rattle.terminal_core.proofs.Dropping.{drop_turned, drop_applicable, drop_whole}
 use Rattle.terminal_core.proofs.Keeping.{whole_step}
 use Rattle.office_admission.specs.Admission.{admission, is_for}
-use Rattle.office_taking.specs.Taking.{MachineState, line_taken, line_changes, lines_taken, lines_changes, verdict_on, verdict_changes, messages_taken, messages_changes, codes_for, source_in, nothing_taken, taken_at, taken_of, interchange_taken, changes_at, changes_of, interchange_changes}
+use Rattle.office_taking.specs.Taking.{MachineState, cleared, cleared_for, list_replaced, line_taken, line_changes, lines_taken, lines_changes, verdict_on, verdict_changes, messages_taken, messages_changes, codes_for, source_in, nothing_taken, taken_at, taken_of, interchange_taken, changes_at, changes_of, interchange_changes}
 
 -- the terminal that is left is whole, and the changes lead to it, each finding its row
 pub record Leads (before : TerminalState) (changes : List ChangeContent) (after : TerminalState) : Type 0 where
@@ -50,8 +53,18 @@ lines_lead state source (line ∷ lines) whole =
     let one = line_leads state source line whole in
     leads_on state next (lines_taken next source lines).0 (line_changes state source line) (lines_changes next source lines) one (lines_lead next source lines one.whole)
 
+cleared_leads : (state : TerminalState) (list : Option (CallContent × Side)) → IsWhole state → Leads state (cleared state list).changes (cleared state list).state
+cleared_leads state None whole = stays state whole
+cleared_leads state (Some list) whole = record { whole = drop_whole state list.0 list.1 whole; turned = drop_turned state list.0 list.1; applicable = drop_applicable state list.0 list.1 }
+
+pub clearing_leads : (state : TerminalState) (content : MessageContent) → IsWhole state → Leads state (cleared_for state content).changes (cleared_for state content).state
+clearing_leads state content whole = cleared_leads state (list_replaced content) whole
+
 pub verdict_leads : (state : TerminalState) (source : Source) (read : Result MessageContent MessageFault) → IsWhole state → Leads state (verdict_changes state source read) (verdict_on state source read).0
-verdict_leads state source (Ok content) whole = lines_lead state source content.lines whole
+verdict_leads state source (Ok content) whole =
+    let next : TerminalState = (cleared_for state content).state in
+    let one = clearing_leads state content whole in
+    leads_on state next (lines_taken next source content.lines).0 (cleared_for state content).changes (lines_changes next source content.lines) one (lines_lead next source content.lines one.whole)
 verdict_leads state source (Err fault) whole = stays state whole
 
 -- ---- an interchange

@@ -1,5 +1,5 @@
 -- What taking an interchange does to the terminal, and what is replied.
-use Rattle.std.specs.Prelude.{ℕ, List, [], ◌∷◌, ◌++◌, map, Option, None, Some, Result, Ok, Err, encode_utf8_all, if◌then◌else◌}
+use Rattle.std.specs.Prelude.{◌≡◌, ℕ, List, [], ◌∷◌, ◌++◌, map, Option, None, Some, Result, Ok, Err, encode_utf8_all, if◌then◌else◌}
 use Rattle.std.specs.Option.{unwrap_or}
 use Rattle.box6346.specs.declared.box_number.BoxNumber.{BoxNumber}
 use Rattle.edi_moments.specs.Moments.{CivilMoment}
@@ -11,12 +11,15 @@ use Rattle.edi_syntax.specs.Messages.{Message, message_reference}
 use Rattle.edi_messages.specs.Contrl.{contrl_text}
 use Rattle.edi_messages.specs.ErrorCodes.{message_error}
 use Rattle.edi_messages.specs.Message.{LineContent, ordered, refused, MessageContent, reading}
+use Rattle.edi_messages.specs.Purposes.{CallContent}
 use Rattle.edi_messages.specs.Orders.{OrderContent, gate_in, gate_out, move, list_discharge, list_load, discharge, load}
 use Rattle.edi_messages.specs.declared.code_table.CodeTable.{CodeTable}
 use Rattle.edi_messages.specs.declared.codes.Codes.{Codes}
 use Rattle.edi_messages.specs.declared.line_fault.LineFault.{LineFault}
 use Rattle.edi_messages.specs.declared.line_fault.LineFault.TheVariants as line
 use Rattle.edi_messages.specs.declared.message_fault.MessageFault.{MessageFault}
+use Rattle.edi_messages.specs.declared.order_kind.OrderKind.{OrderKind}
+use Rattle.edi_messages.specs.declared.order_kind.OrderKind.TheVariants.{ListDischarge, ListLoad}
 use Rattle.edi_messages.specs.declared.partner_kind.PartnerKind.{PartnerKind}
 use Rattle.edi_messages.specs.declared.verdict.Verdict.{Verdict}
 use Rattle.edi_messages.specs.declared.verdict.Verdict.TheVariants.{Accepted, Rejected}
@@ -24,9 +27,12 @@ use Rattle.partner_core.specs.Numbered.{with_number}
 use Rattle.terminal_core.specs.State.{TerminalState}
 use Rattle.terminal_core.specs.Rows.{ChangeContent}
 use Rattle.terminal_core.specs.Step.{step}
+use Rattle.terminal_core.specs.Drop.{drop}
 use Rattle.terminal_core.specs.declared.outcome.Outcome.TheVariants.{Refused}
 use Rattle.terminal_core.specs.declared.reason.Reason.{Reason}
 use Rattle.terminal_core.specs.declared.reason.Reason.TheVariants.{Form, CheckDigit, Size, Moment, SlotText}
+use Rattle.terminal_core.specs.declared.side.Side.{Side}
+use Rattle.terminal_core.specs.declared.side.Side.TheVariants.{Load, Discharge}
 use Rattle.terminal_core.specs.declared.source.Source.{Source}
 use Rattle.yard_core.specs.declared.block.Block.{Block}
 use Rattle.office_replies.specs.declared.line_report.LineReport.{LineReport}
@@ -106,20 +112,57 @@ lines_changes state source [] = []
 lines_changes state source (line ∷ lines) =
     line_changes state source line ++ lines_changes (line_taken state source line).0 source lines
 
+-- what a vessel does with the containers of a list
+abbrev pub side_listed : OrderKind → Option Side
+side_listed ListLoad = Some Load
+side_listed ListDischarge = Some Discharge
+side_listed kind = None
+
+abbrev pub list_of : Option CallContent → Option Side → Option (CallContent × Side)
+list_of (Some call) (Some side) = Some (call, side)
+list_of call side = None
+
+-- the list that the message replaces, if it replaces one
+abbrev pub list_replaced : MessageContent → Option (CallContent × Side)
+list_replaced content = if content.replaces then list_of content.call (side_listed content.kind) else None
+
+-- what is left where a list is dropped, or none is; how many lines are gone, if one is; the changes
+pub record Cleared : Type 0 where
+  pub state : TerminalState
+  pub dropped : Option ℕ
+  pub changes : List ChangeContent
+
+abbrev pub cleared : TerminalState → Option (CallContent × Side) → Cleared
+cleared state None = record { state = state; dropped = None; changes = [] }
+cleared state (Some list) = record {
+  state = (drop state list.0 list.1).state;
+  dropped = Some (drop state list.0 list.1).count;
+  changes = (drop state list.0 list.1).changes;
+}
+
+-- what the message clears before its lines are taken
+abbrev pub cleared_for : TerminalState → MessageContent → Cleared
+cleared_for state content = cleared state (list_replaced content)
+
 -- A fault of a message rejects it, with its code (0085). Want of memory has no code and is no fault of a message
 -- (`applies`), so the last case is of none.
 abbrev pub rejected_by : MessageFault → Option ℕ → VerdictContent
 rejected_by fault (Some code) = rejected fault code
-rejected_by fault None = accepted []
+rejected_by fault None = accepted None []
 
--- a message that is rejected gives no orders
+-- A message that replaces a list drops it, and then its lines are taken. One that is rejected drops nothing and gives no
+-- orders.
 abbrev pub verdict_on : TerminalState → Source → Result MessageContent MessageFault → TerminalState × VerdictContent
-verdict_on state source (Ok content) =
-    ((lines_taken state source content.lines).0, accepted (lines_taken state source content.lines).1)
+verdict_on state source (Ok content) = (
+  (lines_taken (cleared_for state content).state source content.lines).0,
+  accepted (cleared_for state content).dropped
+      (lines_taken (cleared_for state content).state source content.lines).1,
+)
 verdict_on state source (Err fault) = (state, rejected_by fault (message_error fault))
 
 abbrev pub verdict_changes : TerminalState → Source → Result MessageContent MessageFault → List ChangeContent
-verdict_changes state source (Ok content) = lines_changes state source content.lines
+verdict_changes state source (Ok content) =
+    (cleared_for state content).changes ++ lines_changes (cleared_for state content).state source content.lines
 verdict_changes state source (Err fault) = []
 
 abbrev pub report_on : Message → VerdictContent → ReportContent
@@ -147,7 +190,7 @@ messages_changes state codes source opened (message ∷ messages) =
 
 -- what the CONTRL says of a message
 abbrev pub verdict_of : VerdictContent → Verdict
-verdict_of (accepted lines) = Accepted
+verdict_of (accepted dropped lines) = Accepted
 verdict_of (rejected fault code) = Rejected code
 
 abbrev pub verdicts_of : List ReportContent → List Verdict
@@ -210,3 +253,11 @@ interchange_changes machine partner text =
     if is_for partner (admission machine.parties text)
     then changes_of machine partner (segments_in text) (with_number machine.kinds partner)
     else []
+
+-- ---- what a call clears
+
+-- the terminal, how many lines were dropped, if a list was, and the changes that were added are those that are cleared
+pub record Clears (left : Cleared) (now : TerminalState) (dropped : Option ℕ) (old new : List ChangeContent) : Type 0 where
+  pub state : now ≡ left.state
+  pub dropped_is : dropped ≡ left.dropped
+  pub changes : new ≡ old ++ left.changes

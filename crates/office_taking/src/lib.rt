@@ -6,6 +6,7 @@ pub mod laws;
 mod line;
 mod machine;
 mod message;
+mod replacing;
 mod taking;
 
 pub use machine::TerminalMachine;

@@ -8,6 +8,7 @@ ghost use Rattle.office_taking.specs.Taking.{verdict_on, verdict_of, verdicts_of
 ghost use Rattle.terminal_core.specs.Rows.{change_content};
 
 use crate::line::take_lines;
+use crate::replacing::drop_replaced;
 use edi_messages::{Codes, MessageFault, Rejection, Verdict, read_message};
 use edi_moments::Moment;
 use edi_syntax::{Frame, Frames};
@@ -60,8 +61,9 @@ fn take_message(
 {
     match read_message(alloc, frame, opened, codes) {
         Ok(message) => {
+            let dropped = drop_replaced(alloc, terminal, &message, changes)?;
             let lines = take_lines(alloc, terminal, source, message.lines.as_slice(), changes)?;
-            Ok(MessageVerdict::Accepted(lines))
+            Ok(MessageVerdict::Accepted { dropped, lines })
         }
         Err(fault) => Ok(MessageVerdict::Rejected(rejection_for(fault)?)),
     }
@@ -101,7 +103,7 @@ fn verdict_of(verdict: &MessageVerdict) -> Verdict
     ensures { result ≡ verdict_of (verdict_content verdict.now) }
 {
     match verdict {
-        MessageVerdict::Accepted(_) => Verdict::Accepted,
+        MessageVerdict::Accepted { .. } => Verdict::Accepted,
         MessageVerdict::Rejected(rejection) => rejection.verdict(),
     }
 }

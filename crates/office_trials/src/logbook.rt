@@ -1,8 +1,10 @@
-ghost use Rattle.std.specs.Prelude.{◌≡◌, ◌++◌, ℕ, List, false, flat_map};
+ghost use Rattle.std.specs.Prelude.{◌≡◌, ℕ, List, Option, false};
 ghost use Rattle.std.specs.Io.KnownBytes.{Appends};
 ghost use Rattle.office_replies.specs.Delivering.{Delivers};
+ghost use Rattle.office_replies.specs.Events.{Event};
 ghost use Rattle.office_replies.specs.declared.fault.Fault.TheVariants.{UnknownSender};
 ghost use Rattle.office_replies.specs.declared.response.Response.TheVariants.{Refused};
+ghost use Rattle.office_trials.specs.Books.{texts_in};
 
 use office_replies::{Deliver, Fault, Response};
 use office_stream::Port;
@@ -36,11 +38,13 @@ impl<W: Write> Logbook<W> {
 impl<W: Write + Drop> Deliver for Logbook<W> {
     ghost clean = { λ book. book.pages.failed ≡ false };
 
-    // the texts stand behind what the book held
-    ghost stands = { λ opening ds book. Appends (W.contents opening.pages.inner)
-        (W.contents book.pages.inner) (flat_map (λ text. text) ds) };
+    // what the book held, if it is known
+    ghost Opening = { Option (List ℕ) };
 
-    ghost answers = { λ opening ds text response. response ≡ Refused UnknownSender };
+    // the texts stand behind what the book held
+    ghost stands = { λ opening es book. Appends opening (W.contents book.pages.inner) (texts_in es) };
+
+    ghost answers = { λ opening es text response. response ≡ Refused UnknownSender };
 
     fn deliver(&mut self, _alloc: Global, delivered: &[u8]) -> Response {
         match self.pages.write_all(delivered) {

@@ -17,6 +17,8 @@ ghost use Rattle.partner_core.specs.Growth.{IsAllOf, HasSameFirsts, ComesToSame}
 ghost use Rattle.partner_core.specs.Keeping.{StandsAsKept, KeepsOn, KeepsOneMore, KeepsRun};
 ghost use Rattle.partner_core.specs.Keeping.{AnswersAsKept};
 ghost use Rattle.partner_core.specs.Cascade.{TakesNone, TakesOneMore};
+ghost use Rattle.partner_core.specs.Machine.{Taking};
+ghost use Rattle.partner_core.specs.ByPlace.{RulesByPlace, GoesOnByNew};
 
 use crate::Machine;
 
@@ -114,4 +116,16 @@ pub fn cascade<M: Machine>()
 /// What is kept before a delivery and after it tells the answer.
 pub fn answers_as_kept<M: Machine>()
     ensures { AnswersAsKept M.taken }
+{}
+
+/// Rules that change at a place of the list: what the fold by place comes to is the old rules over
+/// what became next before the change, and then the new rules over what became next after it.
+pub fn rules_by_place<M: Machine>()
+    ensures { (number_of : List ℕ → ℕ) (old new : Taking M) → RulesByPlace number_of old new }
+{}
+
+/// Whoever takes by the new rules alone, from what is kept behind the change on, keeps what the fold
+/// by place wants.
+pub fn goes_on_by_new<M: Machine>()
+    ensures { (number_of : List ℕ → ℕ) (old new : Taking M) → GoesOnByNew number_of old new }
 {}

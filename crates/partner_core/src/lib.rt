@@ -17,5 +17,5 @@ mod standing;
 pub use answer::Answer;
 pub use cascade::LAST_NUMBER;
 pub use machine::Machine;
-pub use runs::Runs;
+pub use runs::{MOST_PARTNERS, Runs};
 pub use standing::{Standing, judge};

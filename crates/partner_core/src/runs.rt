@@ -1,4 +1,4 @@
-ghost use Rattle.std.specs.Prelude.{◌≡◌, ℕ, ◌+◌, ◌≤◌, List, [], IfOk, OnErr, IsOk};
+ghost use Rattle.std.specs.Prelude.{◌≡◌, ℕ, ◌+◌, ◌<◌, ◌≤◌, List, [], IfOk, OnOk, OnErr, IsOk};
 ghost use Rattle.std.specs.Option.{option_copied};
 ghost use Rattle.partner_core.specs.Deliveries.{Delivery, delivery, run};
 ghost use Rattle.partner_core.specs.Order.{reply_of, state};
@@ -8,6 +8,9 @@ use crate::cascade::LAST_NUMBER;
 use crate::ledger::Ledger;
 use crate::{Answer, Machine, Standing, judge};
 use std::alloc::{AllocError, Global};
+
+/// The most partners that `Runs::add` makes.
+pub const MOST_PARTNERS: u16 = 999;
 
 /// What is kept of each partner, and a machine that takes each partner's unbroken run of texts, once
 /// each, in number order, as each becomes next.
@@ -32,6 +35,23 @@ impl<M: Machine> Runs<M> {
             ledgers.push(Ledger::new(alloc))?;
         }
         Ok(Runs { machine, ledgers })
+    }
+
+    /// One partner more, with the number after the others', which is the answer. The value stands at
+    /// whatever list it stood at, where nothing was delivered under that number, so the partner's
+    /// next number is 1. A refusal for want of memory changes nothing.
+    pub fn add(&mut self, alloc: Global) -> Result<u16, AllocError>
+        requires few { partner_count self.old < MOST_PARTNERS }
+        ensures id { IfOk result (λ id. id ≡ partner_count self.old + 1) }
+        ensures partners { OnOk result (partner_count self.new ≡ partner_count self.old + 1) }
+        ensures stands { (opening : M) (ds : List Delivery) →
+            StandsAt M.taken opening ds self.old → StandsAt M.taken opening ds self.new }
+        ensures unsent { OnOk result ((opening : M) (ds : List Delivery) →
+            StandsAt M.taken opening ds self.old → run ds (partner_count self.old + 1) ≡ 0) }
+        ensures err { OnErr result (partner_count self.new ≡ partner_count self.old) }
+    {
+        self.ledgers.push(Ledger::new(alloc))?;
+        Ok(self.ledgers.len() as u16)
     }
 
     /// Answers a delivery, and takes it and each kept text that becomes next by it.

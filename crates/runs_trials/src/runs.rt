@@ -1,5 +1,6 @@
 //! Deliveries to runs over a diary.
 
+mod added;
 mod refusals;
 
 ghost use Rattle.std.specs.Prelude.{◌≡◌, ◌≤◌};
@@ -237,4 +238,6 @@ fn each_law_is_there_for_a_diary(_rt: HostRuntime) {
     laws::stands_as_kept::<Diary>();
     laws::cascade::<Diary>();
     laws::answers_as_kept::<Diary>();
+    laws::rules_by_place::<Diary>();
+    laws::goes_on_by_new::<Diary>();
 }

@@ -22,3 +22,7 @@ pub mod Applying
 pub mod Formed
 pub mod Forming
 pub mod Keeping
+pub mod Removed
+pub mod Dropping
+pub mod Rising
+pub mod OpenRows

@@ -28,7 +28,7 @@ order = slice_cmp (slice_cmp nat_cmp)
 pub keys_total : IsTotalOrder order
 keys_total = lists_total nat_list_cmp_total
 
-keys_apart : finite_map.IsAntisymmetric order
+pub keys_apart : finite_map.IsAntisymmetric order
 keys_apart = finite_map.slice_cmp-IsAntisymmetric (finite_map.slice_cmp-IsAntisymmetric finite_map.nat_cmp-IsAntisymmetric)
 
 is_equal : (r : Ordering) → is_eq r ≡ true → r ≡ Equal
@@ -39,7 +39,7 @@ is_equal Greater e = cc
 pub same_key : (j k : LineKey) → eq_by_cmp order j k ≡ true → j ≡ k
 same_key j k e = keys_apart j k (is_equal (order j k) e)
 
-tied_self : (k : LineKey) → eq_by_cmp order k k ≡ true
+pub tied_self : (k : LineKey) → eq_by_cmp order k k ≡ true
 tied_self k = (eq_by_cmp_equiv keys_total).refl k
 
 -- ---- a row's key

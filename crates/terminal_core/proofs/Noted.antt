@@ -170,7 +170,7 @@ lacks (r ∷ rows) key none zero row at =
     ap (λ (w : Listing). eq_by_cmp order key (key_of w)) (sym (same_Some r row at)) ∙ (cond_none (eq_by_cmp order key (key_of r)) (line_content r) (finite_map.find order key (map line_entry rows)) none).0
 lacks (r ∷ rows) key none (suc k) row at = lacks rows key (cond_none (eq_by_cmp order key (key_of r)) (line_content r) (finite_map.find order key (map line_entry rows)) none).1 k row at
 
-one_key : (line row : Listing) → is_same_line (call_content line.call) line.side line.container row.call row.side row.container ≡ true → key_of row ≡ key_of line
+pub one_key : (line row : Listing) → is_same_line (call_content line.call) line.side line.container row.call row.side row.container ≡ true → key_of row ≡ key_of line
 one_key line row e =
     let parts = and_parts (is_call (call_content line.call) row.call) (side_code line.side == side_code row.side && bytes_eq line.container row.container) e in
     let last = and_parts (side_code line.side == side_code row.side) (bytes_eq line.container row.container) parts.1 in
@@ -183,7 +183,7 @@ both_hold : (a b : Bool) → a ≡ true → b ≡ true → (a && b) ≡ true
 both_hold true b e f = f
 both_hold false b e f = e
 
-one_line : (line : Listing) → is_same_line (call_content line.call) line.side line.container line.call line.side line.container ≡ true
+pub one_line : (line : Listing) → is_same_line (call_content line.call) line.side line.container line.call line.side line.container ≡ true
 one_line line =
     both_hold _ _ (both_hold _ _ (same_self (string_bytes line.call.vessel)) (same_self (string_bytes line.call.voyage)))
     (both_hold (side_code line.side == side_code line.side) (bytes_eq line.container line.container) (eq-eqb (side_code line.side) (side_code line.side) refl) (same_self line.container))

@@ -10,7 +10,7 @@ use Rattle.edi_messages.specs.Orders.{OrderContent}
 use Rattle.terminal_core.specs.declared.departure.Departure.{Departure}
 use Rattle.terminal_core.specs.declared.line_state.LineState.TheVariants.{Pending, Done as LineIsDone}
 use Rattle.terminal_core.specs.declared.source.Source.{Source}
-use Rattle.terminal_core.specs.Rows.{VisitContent, ChangeContent, visit_opened, visit_closed, placed_at, moved_to, removed_from, listed_on, line_done}
+use Rattle.terminal_core.specs.Rows.{VisitContent, ChangeContent, visit_opened, visit_closed, placed_at, moved_to, removed_from, listed_on, line_done, unlisted}
 use Rattle.terminal_core.specs.State.{TerminalState, LineContent, LineKey, Lines, line_key, open_visit, IsWhole}
 use Rattle.terminal_core.specs.Step.{number_of_visit, step}
 
@@ -73,6 +73,8 @@ rows_with rows (line_done call side container) =
       lines = with_line_done rows.lines (line_key call side container)
           (finite_map.get rows.lines (line_key call side container));
     }
+rows_with rows (unlisted call side container) =
+    record rows { lines = finite_map.remove rows.lines (line_key call side container) }
 
 -- the rows after changes, one after another
 abbrev pub all_changed : TerminalRows → List ChangeContent → TerminalRows
@@ -125,6 +127,7 @@ IsApplicable rows (moved_to container slot) = IsNewSlot container slot rows.plac
 IsApplicable rows (removed_from container) = is_some (rows.places container) ≡ true
 IsApplicable rows (listed_on call side container port) = finite_map.get rows.lines (line_key call side container) ≡ None
 IsApplicable rows (line_done call side container) = IsPendingLine (line_key call side container) rows.lines
+IsApplicable rows (unlisted call side container) = IsPendingLine (line_key call side container) rows.lines
 
 -- each is applicable at its turn
 abbrev pub AreApplicable : TerminalRows → List ChangeContent → Type 0

@@ -12,3 +12,4 @@ pub mod Counts
 pub mod Changes
 pub mod RowForms
 pub mod Forms
+pub mod Drop

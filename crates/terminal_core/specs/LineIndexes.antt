@@ -1,5 +1,5 @@
 -- Where the lines of the vessels' lists are found: what the code relies on, and no caller has to read.
-use Rattle.std.specs.Prelude.{◌≡◌, ℕ, Bool, ◌&&◌, ◌==◌, List, Option, None, Some, string_bytes, slice_get, if◌then◌else◌}
+use Rattle.std.specs.Prelude.{◌≡◌, ◌≢◌, ◌⊎◌, ◌<◌, ◌-◌, suc, length, ℕ, Bool, ◌&&◌, ◌==◌, List, Option, None, Some, string_bytes, slice_get, if◌then◌else◌}
 use Rattle.std.specs.Str.{bytes_eq}
 use Rattle.std.specs.Map.{lookup}
 use Rattle.std.specs.HashMap.{HashMap}
@@ -63,3 +63,10 @@ abbrev pub AreNoted : List Listing → AllIndexes → Type 0
 AreNoted rows indexes =
     (k : ℕ) (row : Listing) → slice_get rows k ≡ Some row →
     index_in indexes (call_content row.call) row.side row.container ≡ Some k
+
+-- the row at that place is gone, and the last one stands there
+pub record IsWithout (old new : List Listing) (place : ℕ) : Type 0 where
+  pub kept : (k : ℕ) (row : Listing) → slice_get new k ≡ Some row →
+      ((k ≢ place) × (suc k < length old) × (slice_get old k ≡ Some row)) ⊎ ((k ≡ place) × (suc place < length old) × (slice_get old (length old - 1) ≡ Some row))
+  pub there : (k : ℕ) (row : Listing) → slice_get old k ≡ Some row → k ≢ place →
+      (j : ℕ) × (slice_get new j ≡ Some row)

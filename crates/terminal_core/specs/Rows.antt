@@ -42,6 +42,7 @@ pub data ChangeContent : Type 0 where
   removed_from : BoxNumber → ChangeContent
   listed_on : CallContent → Side → BoxNumber → List ℕ → ChangeContent
   line_done : CallContent → Side → BoxNumber → ChangeContent
+  unlisted : CallContent → Side → BoxNumber → ChangeContent
 
 abbrev pub change_content : Change → ChangeContent
 change_content (change.VisitOpened visit) = visit_opened (visit_content visit)
@@ -52,3 +53,4 @@ change_content (change.Removed container) = removed_from container
 change_content (change.Listed call side container port) =
     listed_on (call_content call) side container (string_bytes port)
 change_content (change.LineDone call side container) = line_done (call_content call) side container
+change_content (change.Unlisted call side container) = unlisted (call_content call) side container

@@ -42,4 +42,10 @@ pub enum Change {
         side: Side,
         container: BoxNumber,
     },
+    /// An open line of a call's list was dropped.
+    Unlisted {
+        call: Call,
+        side: Side,
+        container: BoxNumber,
+    },
 }

@@ -2,6 +2,7 @@
 
 ghost use Rattle.terminal_core.specs.Counts.{EntriesLessExitsStand};
 ghost use Rattle.terminal_core.specs.Changes.{ChangesTurnRows, ChangesAreApplicable, ChangesAreAppended, AreApplicableAppended};
+ghost use Rattle.terminal_core.specs.Drop.{DropsOpenAlone, DropTurnsRows, DropIsApplicable, DropKeepsWhole, DropKeepsForms};
 ghost use Rattle.terminal_core.specs.Forms.{EmptyIsWellFormed, StepsKeepForms};
 ghost use Rattle.terminal_core.specs.RowForms.{ListsAreRowsByKey, RowsByKeyAreLists, RowsGiveState, ListsGiveState};
 ghost use Rattle.terminal_core.specs.Wholeness.{EmptyIsWhole, StepsKeepWhole};
@@ -70,4 +71,29 @@ pub fn empty_is_whole()
 /// What an order leaves of a whole terminal is whole, whatever the order says.
 pub fn steps_keep_whole()
     ensures { StepsKeepWhole }
+{}
+
+/// A drop leaves out exactly the open lines of the list.
+pub fn drops_open_alone()
+    ensures { DropsOpenAlone }
+{}
+
+/// Its changes turn the rows of the old state into those of the new.
+pub fn drop_turns_rows()
+    ensures { DropTurnsRows }
+{}
+
+/// Each of its changes finds the open line that it removes.
+pub fn drop_is_applicable()
+    ensures { DropIsApplicable }
+{}
+
+/// What it leaves of a whole terminal is whole.
+pub fn drop_keeps_whole()
+    ensures { DropKeepsWhole }
+{}
+
+/// What it leaves of a well-formed state is well formed.
+pub fn drop_keeps_forms()
+    ensures { DropKeepsForms }
 {}

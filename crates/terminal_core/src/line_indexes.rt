@@ -44,6 +44,24 @@ pub(crate) fn note(
     put(indexes, call, side, container, row_index)
 }
 
+/// Notes another index of the row of a line that has one, which takes no memory.
+pub(crate) fn renote(
+    indexes: &mut LineIndexes,
+    call: &Call,
+    side: Side,
+    container: BoxNumber,
+    row_index: usize,
+)
+    requires { IsSome (index_in indexes.old (call_content call.now) side container) }
+    ensures { NotesIndex indexes.old indexes.new (call_content call.now) side container row_index }
+{
+    if let Some(of_call) = indexes.get_mut(call) {
+        if let Some(noted) = of_call.get_mut(&(side_code(side), container.text())) {
+            *noted = row_index;
+        }
+    }
+}
+
 /// Gives the call a map of its own, if it has none yet.
 fn know(alloc: Global, indexes: &mut LineIndexes, call: &Call) -> Result<(), AllocError>
     ensures same { SameIndexes indexes.old indexes.new }

@@ -1,6 +1,6 @@
 ghost use Rattle.std.specs.Prelude.{◌≡◌, ◌+◌, [], map, take, IfOk};
 ghost use Rattle.edi_messages.specs.Owned.{call_content};
-ghost use Rattle.terminal_core.specs.Rows.{change_content, listed_on, line_done};
+ghost use Rattle.terminal_core.specs.Rows.{change_content, listed_on, line_done, unlisted};
 ghost use Rattle.terminal_core.specs.State.{line_key};
 ghost use Rattle.terminal_core.specs.Listings.{key_of, line_content, line_entry};
 
@@ -73,6 +73,39 @@ pub(crate) fn line_done(
 {
     let call = copied_call(alloc, call)?;
     Ok(Change::LineDone {
+        call,
+        side,
+        container,
+    })
+}
+
+/// That each of these containers' lines was dropped.
+pub(crate) fn lines_unlisted(
+    alloc: Global,
+    call: &Call,
+    side: Side,
+    containers: &[BoxNumber],
+) -> Result<Vec<Change>, AllocError>
+    ensures { IfOk result (λ changes. map change_content changes.items
+        ≡ map (unlisted (call_content call.now) side) containers.now) }
+{
+    let mut changes = Vec::new(alloc);
+    for container in containers {
+        changes.push(line_unlisted(alloc, call, side, *container)?)?;
+    }
+    Ok(changes)
+}
+
+fn line_unlisted(
+    alloc: Global,
+    call: &Call,
+    side: Side,
+    container: BoxNumber,
+) -> Result<Change, AllocError>
+    ensures { IfOk result (λ change. change_content change ≡ unlisted (call_content call.now) side container) }
+{
+    let call = copied_call(alloc, call)?;
+    Ok(Change::Unlisted {
         call,
         side,
         container,

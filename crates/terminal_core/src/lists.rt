@@ -1,13 +1,14 @@
-ghost use Rattle.std.specs.Prelude.{◌≡◌, length, IfOk, OnOk, OnErr, MatchOption, MatchResult, None, Some};
+ghost use Rattle.std.specs.Prelude.{◌≡◌, ◌<◌, length, IfOk, OnOk, OnErr, MatchOption, MatchResult, None, Some};
 ghost use Rattle.std.specs.Option.{option_map};
 ghost use Rattle.std.specs.FinMap as finite_map;
 ghost use Rattle.edi_messages.specs.Owned.{call_content};
 ghost use Rattle.terminal_core.specs.State.{LineContent, line_key};
 ghost use Rattle.terminal_core.specs.Listings.{key_of, line_content, lines_of, is_line, is_side, NoneBefore, IsFirstAt};
-ghost use Rattle.terminal_core.specs.LineIndexes.{AreNoted};
+ghost use Rattle.terminal_core.specs.Drop.{is_pending, is_open_row, open_containers, open_rows_of, without_lines_of};
+ghost use Rattle.terminal_core.specs.LineIndexes.{AreNoted, IsWithout};
 ghost use Rattle.terminal_core.specs.Restoring.{AreOnce, RefusesLines};
 
-use crate::line_indexes::{LineIndexes, note, noted};
+use crate::line_indexes::{LineIndexes, note, noted, renote};
 use crate::line_state::LineState;
 use crate::lines::copied_lines;
 use crate::listing::Listing;
@@ -111,6 +112,39 @@ impl Lists {
         Ok(())
     }
 
+    /// The containers of the open lines of a call's list, by their numbers.
+    pub(crate) fn open_containers(
+        &self,
+        alloc: Global,
+        call: &Call,
+        side: Side,
+    ) -> Result<Vec<BoxNumber>, AllocError>
+        ensures { IfOk result
+            (λ containers. containers.items ≡ open_containers self.now (call_content call.now) side) }
+    {
+        let mut containers = open_rows_of(alloc, &self.rows, call, side)?;
+        containers.sort_unstable();
+        Ok(containers)
+    }
+
+    /// Takes the lines of containers away.
+    pub(crate) fn remove_all(&mut self, call: &Call, side: Side, containers: &[BoxNumber])
+        ensures { self.new ≡ without_lines_of (call_content call.now) side containers.now self.old }
+    {
+        for container in containers {
+            self.remove(call, side, *container);
+        }
+    }
+
+    /// Takes a line away, if it is there. The last row takes the place of its row.
+    pub(crate) fn remove(&mut self, call: &Call, side: Side, container: BoxNumber)
+        ensures { self.new ≡ finite_map.remove self.old (line_key (call_content call.now) side container) }
+    {
+        if let Some(row_index) = index_of(&self.rows, &self.indexes, call, side, container) {
+            remove_at(&mut self.rows, &mut self.indexes, row_index);
+        }
+    }
+
     /// Has a line that is there be done.
     pub(crate) fn finish(&mut self, call: &Call, side: Side, container: BoxNumber)
         ensures { (line : LineContent) →
@@ -122,6 +156,53 @@ impl Lists {
             let row = &mut self.rows[row_index];
             row.state = LineState::Done;
         }
+    }
+}
+
+/// The containers of the open lines of a call's list, as their rows stand.
+fn open_rows_of(
+    alloc: Global,
+    rows: &[Listing],
+    call: &Call,
+    side: Side,
+) -> Result<Vec<BoxNumber>, AllocError>
+    ensures { IfOk result
+        (λ containers. containers.items ≡ open_rows_of (call_content call.now) side rows.now) }
+{
+    rows.iter()
+        .filter(|row| is_open_row(row, call, side))
+        .map(|row| row.container)
+        .collect(alloc)
+}
+
+fn is_open_row(row: &Listing, call: &Call, side: Side) -> bool
+    ensures { result ≡ is_open_row (call_content call.now) side row.now }
+{
+    is_side(row.side, side)
+        && row.call.voyage.as_str() == call.voyage.as_str()
+        && row.call.vessel.as_str() == call.vessel.as_str()
+        && is_pending(row.state)
+}
+
+fn is_pending(state: LineState) -> bool
+    ensures { result ≡ is_pending state }
+{
+    match state {
+        LineState::Pending => true,
+        LineState::Done => false,
+    }
+}
+
+/// Takes a row away. The last one takes its place, which is noted.
+fn remove_at(rows: &mut Vec<Listing>, indexes: &mut LineIndexes, row_index: usize)
+    requires low { row_index < length rows.old.items }
+    requires noted { AreNoted rows.old.items indexes.old }
+    ensures noted { AreNoted rows.new.items indexes.new }
+    ensures moved { IsWithout rows.old.items rows.new.items row_index }
+{
+    let _ = rows.swap_remove(row_index);
+    if let Some(moved) = rows.get(row_index) {
+        renote(indexes, &moved.call, moved.side, moved.container, row_index);
     }
 }
 

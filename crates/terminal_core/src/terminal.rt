@@ -5,13 +5,14 @@ ghost use Rattle.edi_messages.specs.Owned.{call_content, entry_content, order_co
 ghost use Rattle.terminal_core.specs.Rows.{visit_content, change_content, line_done};
 ghost use Rattle.terminal_core.specs.State.{LineContent, TerminalState, empty_state, is_in, line_of, IsWhole};
 ghost use Rattle.terminal_core.specs.Step.{after_entry, after_departure, after_move, after_listing, step, step_gate_in, step_discharge, step_load, with_line};
+ghost use Rattle.terminal_core.specs.Drop.{drop, Drops};
 ghost use Rattle.terminal_core.specs.Calls.{Follows, IsPlanned, is_refused};
 ghost use Rattle.terminal_core.specs.Listings.{lines_of};
 ghost use Rattle.terminal_core.specs.Restoring.{AreOnce, AreRowsOf, RefusesRows};
 
 use crate::change::Change;
 use crate::line_state::LineState;
-use crate::lines::{line_done, line_listed, pending_line};
+use crate::lines::{line_done, line_listed, lines_unlisted, pending_line};
 use crate::listing::Listing;
 use crate::lists::Lists;
 use crate::outcome::Outcome;
@@ -158,6 +159,34 @@ impl Terminal {
         let result = self.carry_out(alloc, source, order, changes);
         let _ = &self.limit;
         result
+    }
+
+    /// Drops the open lines of a call's list, and answers how many there were. Those that are done stay. What was removed
+    /// is appended to the changes, by the containers' numbers. If memory is refused, the terminal and the changes
+    /// stay as they were; so they do if more lines are open than a `u32` counts.
+    pub fn drop_open(
+        &mut self,
+        alloc: Global,
+        call: &Call,
+        side: Side,
+        changes: &mut Vec<Change>,
+    ) -> Result<u32, AllocError>
+        ensures ok { IfOk result
+            (λ count. Drops (drop self.old (call_content call.now) side) self.new count
+            (map change_content changes.old.items) (map change_content changes.new.items)) }
+        ensures err { OnErr result (self.new ≡ self.old) }
+        ensures kept { OnErr result (changes.new.items ≡ changes.old.items) }
+        ensures whole { IsWhole self.new }
+    {
+        let _ = &self.limit;
+        let containers = self.lists.open_containers(alloc, call, side)?;
+        let Ok(count) = u32::try_from(containers.len()) else {
+            return Err(AllocError);
+        };
+        let mut dropped = lines_unlisted(alloc, call, side, &containers)?;
+        changes.append(&mut dropped)?;
+        self.lists.remove_all(call, side, &containers);
+        Ok(count)
     }
 
     fn carry_out(

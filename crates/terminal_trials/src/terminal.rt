@@ -3,6 +3,7 @@
 
 mod answer;
 mod ask;
+mod dropping;
 mod memory;
 mod restoring;
 

@@ -8,7 +8,7 @@ use std::test::Fail;
 use yard_core::{Block, Plan, PlanFault, Yard, YardFault};
 
 /// The box of owner ABC with this serial number.
-fn number(rt: &impl Abort, serial: u32) -> BoxNumber {
+pub(crate) fn number(rt: &impl Abort, serial: u32) -> BoxNumber {
     let digit = |place: u32| (serial / place % 10) as u8 + b'0';
     let front = [
         b'A',

@@ -60,6 +60,7 @@ struct Shown {
     first: Option<Slot>,
     second: Option<Slot>,
     to_load: Option<LineState>,
+    first_to_load: Option<LineState>,
     to_discharge: Option<LineState>,
     changes: usize,
 }
@@ -98,6 +99,7 @@ impl Trial {
             first: self.terminal.slot_of(first),
             second: self.terminal.slot_of(second),
             to_load: self.terminal.line_state(&self.call, Side::Load, second),
+            first_to_load: self.terminal.line_state(&self.call, Side::Load, first),
             to_discharge: self.terminal.line_state(&self.call, Side::Discharge, first),
             changes: self.changes.len(),
         }
@@ -153,6 +155,7 @@ impl Trial {
     fn takes_every_kind(&mut self, rt: &impl Abort, alloc: Global) -> Result<(), AllocError> {
         self.takes(rt, alloc, &ORDERS)?;
         self.loads_once(rt, alloc)?;
+        self.drops_once(rt, alloc)?;
         self.assert_end(rt);
         Ok(())
     }
@@ -164,6 +167,47 @@ impl Trial {
         self.assert_taken(rt, alloc, QUAY, &goes, &Answer::Refused(Reason::NotIn), 15)
     }
 
+    /// The first container is listed to be loaded, and its line is dropped, once.
+    fn drops_once(&mut self, rt: &impl Abort, alloc: Global) -> Result<(), AllocError> {
+        let listed = again(
+            &mut self.refused,
+            || Ask::ListsToLoad.order(rt, alloc, FIRST),
+        )?;
+        self.assert_taken(rt, alloc, QUAY, &listed, &Answer::Listed, 16)?;
+        self.assert_dropped(rt, alloc, 1, 17)?;
+        self.assert_dropped(rt, alloc, 0, 17)
+    }
+
+    /// Drops the open lines of the load list. There were that many, and there are as many changes then.
+    fn assert_dropped(
+        &mut self,
+        rt: &impl Abort,
+        alloc: Global,
+        dropped: u32,
+        changes: usize,
+    ) -> Result<(), AllocError> {
+        let count = self.drop_to_load(rt, alloc)?;
+        assert_eq!(rt; (count, self.changes.len()), (dropped, changes));
+        Ok(())
+    }
+
+    /// How many lines were dropped. Where memory is refused, all has to be as it was, and they are dropped once more.
+    fn drop_to_load(&mut self, rt: &impl Abort, alloc: Global) -> Result<u32, AllocError> {
+        let before = self.shown(rt);
+        match self
+            .terminal
+            .drop_open(alloc, &self.call, Side::Load, &mut self.changes)
+        {
+            Ok(count) => Ok(count),
+            Err(AllocError) => {
+                self.refused = true;
+                assert_eq!(rt; self.shown(rt), before);
+                self.terminal
+                    .drop_open(alloc, &self.call, Side::Load, &mut self.changes)
+            }
+        }
+    }
+
     /// The second container is gone by ship, and the first is here again.
     fn assert_end(&self, rt: &impl Abort) {
         let end = Shown {
@@ -172,8 +216,9 @@ impl Trial {
             first: Some(slot(rt, "A001011")),
             second: None,
             to_load: Some(LineState::Done),
+            first_to_load: None,
             to_discharge: Some(LineState::Done),
-            changes: 15,
+            changes: 17,
         };
         assert_eq!(rt; self.shown(rt), end);
     }

@@ -10,10 +10,10 @@ use Rattle.office_commands.proofs.opening.open_store.Goals as goal
 pub returns-clause-opens : goal.returns-clause-opens
 returns-clause-opens g c =
     let was = c.in_ok-conn.conn in
-    if_both c.open.result (λ desk opens stays sound content ds given held.
+    if_both c.open.result (λ desk opens stays sound content es given held.
     let shows : (file_state was).committed ≡ record { schema = office_schema; trees = held.db } =
     c.in_ok-conn.ensures.found (stays sound) held.db office_schema held.held held.after.are.lists in
-    opens sound content ds held.after.rows given (subst (HasRows held.after.rows) (sym shows) held.after.are) held.after.after)
+    opens sound content es held.after.rows given (subst (HasRows held.after.rows) (sym shows) held.after.are) held.after.after)
     c.open.ensures.opens c.open.ensures.stays
 
 pub returns-clause-office : goal.returns-clause-office

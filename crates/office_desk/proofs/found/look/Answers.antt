@@ -6,12 +6,12 @@ use Rattle.office_desk.specs.Beside.{IsBeside}
 use Rattle.office_desk.proofs.found.look.Goals as goal
 
 pub returns-in-Ok-clause-beside : goal.returns-in-Ok-clause-beside
-returns-in-Ok-clause-beside g c clean content ds rows given has after beside =
-    c.in_ok-there.ensures.beside (c.kept.ensures.clean clean) content ds rows given has after (subst (IsBeside content ds) (sym c.take.ensures.value) beside)
+returns-in-Ok-clause-beside g c clean content es rows given has after beside =
+    c.in_ok-there.ensures.beside (c.kept.ensures.clean clean) content es rows given has after (subst (IsBeside content es) (sym c.take.ensures.value) beside)
 
 pub returns-in-Err-clause-err : goal.returns-in-Err-clause-err
-returns-in-Err-clause-err g c clean content ds rows given has after beside =
-    c.in_ok-there.ensures.beside (c.kept.ensures.clean clean) content ds rows given has after (subst (IsBeside content ds) (sym c.take.ensures.value) beside)
+returns-in-Err-clause-err g c clean content es rows given has after beside =
+    c.in_ok-there.ensures.beside (c.kept.ensures.clean clean) content es rows given has after (subst (IsBeside content es) (sym c.take.ensures.value) beside)
 
 pub returns-in-Err-clause-reads : goal.returns-in-Err-clause-reads
 returns-in-Err-clause-reads g c =

@@ -6,10 +6,10 @@ use Rattle.office_desk.proofs.PartLemmas.{beside_loaded}
 use Rattle.office_desk.proofs.reloading.beside_of.Goals as goal
 
 pub returns-in_ok-there-in-None-clause-beside : goal.returns-in_ok-there-in-None-clause-beside
-returns-in_ok-there-in-None-clause-beside g c clean content ds rows given has after beside = record {
+returns-in_ok-there-in-None-clause-beside g c clean content es rows given has after beside = record {
   terminal =
-      beside_loaded content ds rows (state g.S.Store c.args.conn.now).now (setup_content c.in_ok-there-in-None.field-0-0) c.in_ok-there-in-None.there.terminal given after has (c.in_ok-there-in-None.ensures.loaded clean has.schema);
-  nexts = nexts_loaded content ds rows c.in_ok-there-in-None.there.nexts.items after (c.in_ok-there-in-None.ensures.nexts clean rows has);
+      beside_loaded content es rows (state g.S.Store c.args.conn.now).now (setup_content c.in_ok-there-in-None.field-0-0) c.in_ok-there-in-None.there.terminal given after has (c.in_ok-there-in-None.ensures.loaded clean has.schema);
+  nexts = nexts_loaded content es rows c.in_ok-there-in-None.there.nexts.items after (c.in_ok-there-in-None.ensures.nexts clean rows has);
 }
 
 pub returns-in_ok-there-in-None-clause-office : goal.returns-in_ok-there-in-None-clause-office

@@ -1,6 +1,8 @@
-use Rattle.std.proofs.Common.{◌≡◌, ap, ◌∙◌}
+use Rattle.std.proofs.Common.{◌≡◌, inl, inr, ap, ◌∙◌}
+use Rattle.std.proofs.lemmas.Result.{err_from_is_err_and}
 use Rattle.sqlite.specs.Held.{state}
 use Rattle.sqlite.specs.State.{HasCleanDisk, IsUnchanged}
+use Rattle.office_setup.specs.Setups.{setup_content}
 use Rattle.office_delivery.specs.Reading.{OnlyReads}
 use Rattle.office_delivery.proofs.ReadLemmas.{reads_then, same_unchanged}
 use Rattle.office_desk.proofs.OfficeLemmas.{unchanged_then}
@@ -25,3 +27,16 @@ returns-clause-reads g c =
     let first : OnlyReads old mid = record { clean = one.clean; was_open = one.was_open; mode = one.mode; keeps = one.keeps; survives = λ clean is. one.survives is } in
     let second : OnlyReads mid new = record { clean = other.clean; was_open = other.was_open; mode = other.mode; keeps = other.keeps; survives = λ clean is. other.survives is } in
     reads_then old mid new (λ clean is. same_unchanged old mid (c.in_ok-setup.ensures.same clean is)) first second
+
+-- What isn't loaded is refused as loading refuses it.
+pub returns-in_err-setup-clause-refused : goal.returns-in_err-setup-clause-refused
+returns-in_err-setup-clause-refused g c clean is =
+    let p = err_from_is_err_and c.from_residual.result c.from_residual.ensures.1 in
+    rw (p.1, p.2) (inl (c.in_err-setup.ensures.refused clean is))
+
+-- Whatever refused the numbers, the tables show an office.
+pub returns-in_err-nexts-clause-refused : goal.returns-in_err-nexts-clause-refused
+returns-in_err-nexts-clause-refused g c clean is =
+    let before = c.nexts.ensures.clean clean in
+    let p = err_from_is_err_and c.from_residual-in_err-nexts.result c.from_residual-in_err-nexts.ensures.1 in
+    rw (p.1, p.2) (inr (setup_content c.in_ok-setup.setup, c.in_ok-setup.terminal, c.in_ok-setup.ensures.loaded before is))

@@ -1,5 +1,6 @@
 use Rattle.std.proofs.Common.{◌≡◌, inl, [], ◌∷◌, ◌++◌, None, Some, not, sym, ap, subst, ◌∙◌}
 use Rattle.sqlite.specs.Held.{state}
+use Rattle.office_replies.specs.Events.{delivered}
 use Rattle.office_rows.specs.Stored.{HasRows}
 use Rattle.office_rows.proofs.StepLemmas.{if_ok}
 use Rattle.office_setup.specs.Setups.{setup_content}
@@ -12,7 +13,7 @@ use Rattle.office_desk.proofs.CrashLemmas.{committed_leaves, either_of, on_err, 
 use Rattle.office_desk.proofs.taking.take_in.Goals as goal
 
 pub returns-in_ok-answer_used-in-Some-clause-ok : goal.returns-in_ok-answer_used-in-Some-clause-ok
-returns-in_ok-answer_used-in-Some-clause-ok g c clean is_open ds delivered holds comes =
+returns-in_ok-answer_used-in-Some-clause-ok g c clean is_open es sent holds comes =
     let a = c.args in
     let content = setup_content a.setup.now in
     let old = state g.S.Store a.conn.now in
@@ -23,9 +24,9 @@ returns-in_ok-answer_used-in-Some-clause-ok g c clean is_open ds delivered holds
     let found = c.in_ok-kept.field-0 in
     let kept_is : found.kept ≡ Some c.in-Some.kept = let e = c.in_ok-kept.kept-is in let is = c.in-Some.is in cc in
     let kept : IsKept a.admitted.now.partner a.number holds.rows (Some c.in-Some.kept) = subst (IsKept a.admitted.now.partner a.number holds.rows) kept_is (c.in_ok-kept.ensures.kept clean holds.rows has) in
-    let at : IsAt content ds found.there = c.in_ok-kept.ensures.beside clean content ds holds.rows c.requires.given has holds.after holds.beside in
-    used_answers content ds holds.rows delivered a.text.now a.admitted.now.partner a.number found.next a.code.now c.in-Some.kept c.in_ok-answer_used-in-Some.field-0 old.now mid.committed (Some found.there)
-    holds.after has (settled ∙ sym same.committed) at comes kept (next_is content ds found.there a.admitted.now.partner found.next at c.in_ok-kept.ensures.next) c.in_ok-answer_used-in-Some.ensures
+    let at : IsAt content es found.there = c.in_ok-kept.ensures.beside clean content es holds.rows c.requires.given has holds.after holds.beside in
+    used_answers content es holds.rows sent a.text.now a.admitted.now.partner a.number found.next a.code.now c.in-Some.kept c.in_ok-answer_used-in-Some.field-0 old.now mid.committed (Some found.there)
+    holds.after has (settled ∙ sym same.committed) at comes kept (next_is content es found.there a.admitted.now.partner found.next at c.in_ok-kept.ensures.next) c.in_ok-answer_used-in-Some.ensures
 
 pub returns-in-None-clause-ok : goal.returns-in-None-clause-ok
 returns-in-None-clause-ok g c clean is_open =
@@ -35,20 +36,20 @@ returns-in-None-clause-ok g c clean is_open =
     let mid = state g.S.Store c.look.new.conn in
     let before = c.take_new.ensures.clean clean in
     let settled : old.now ≡ old.committed = c.is_autocommit-is_idle.ensures.settled (c.is_autocommit-is_idle.ensures.value ∙ ap not c.requires.idle) (c.look.ensures.reads.was_open before (c.take_new.ensures.was_open clean is_open)) in
-    if_ok c.take_new.result (λ response told. λ ds delivered holds comes.
+    if_ok c.take_new.result (λ response told. λ es sent holds comes.
     let has : HasRows holds.rows old.now = subst (HasRows holds.rows) (sym settled) holds.has in
     let same : IsSame old mid = c.in_ok-kept.ensures.same before has.schema in
     let found = c.in_ok-kept.field-0 in
     let kept_is : found.kept ≡ None = let e = c.in_ok-kept.kept-is in let is = c.in-None.is in cc in
     let kept : IsKept a.admitted.now.partner a.number holds.rows None = subst (IsKept a.admitted.now.partner a.number holds.rows) kept_is (c.in_ok-kept.ensures.kept before holds.rows has) in
     let none = no_text a.admitted.now.partner a.number holds.rows kept in
-    let at : IsAt content ds found.there = c.in_ok-kept.ensures.beside before content ds holds.rows c.requires.given has holds.after holds.beside in
-    told ds delivered holds.rows (subst (HasRows holds.rows) (sym same.now) has) (same.now ∙ settled ∙ sym same.committed) holds.after at none
-    (next_is content ds found.there a.admitted.now.partner found.next at c.in_ok-kept.ensures.next) comes)
+    let at : IsAt content es found.there = c.in_ok-kept.ensures.beside before content es holds.rows c.requires.given has holds.after holds.beside in
+    told es sent holds.rows (subst (HasRows holds.rows) (sym same.now) has) (same.now ∙ settled ∙ sym same.committed) holds.after at none
+    (next_is content es found.there a.admitted.now.partner found.next at c.in_ok-kept.ensures.next) comes)
     (c.take_new.ensures.ok clean is_open)
 
 pub returns-in_ok-answer_used-in-Some-clause-leaves : goal.returns-in_ok-answer_used-in-Some-clause-leaves
-returns-in_ok-answer_used-in-Some-clause-leaves g c clean was_open ds delivered holds leaves comes =
+returns-in_ok-answer_used-in-Some-clause-leaves g c clean was_open es sent holds leaves comes =
     let a = c.args in
     let content = setup_content a.setup.now in
     let old = state g.S.Store a.conn.now in
@@ -58,7 +59,7 @@ returns-in_ok-answer_used-in-Some-clause-leaves g c clean was_open ds delivered 
     let found = c.in_ok-kept.field-0 in
     let kept_is : found.kept ≡ Some c.in-Some.kept = let e = c.in_ok-kept.kept-is in let is = c.in-Some.is in cc in
     let kept : IsKept a.admitted.now.partner a.number holds.rows (Some c.in-Some.kept) = subst (IsKept a.admitted.now.partner a.number holds.rows) kept_is (c.in_ok-kept.ensures.kept clean holds.rows has) in
-    used_leaves content ds delivered holds.rows a.admitted.now.partner a.number c.in-Some.kept.text.items old mid holds.after comes.is_for
+    used_leaves content es sent holds.rows a.admitted.now.partner a.number c.in-Some.kept.text.items old mid holds.after comes.is_for
     (text_kept a.admitted.now.partner a.number holds.rows c.in-Some.kept holds.after.kept_once kept) (reads_less old mid clean has.schema c.look.ensures.reads) leaves
 
 pub returns-in-None-clause-leaves : goal.returns-in-None-clause-leaves
@@ -70,20 +71,20 @@ returns-in-None-clause-leaves g c clean was_open =
     let new = state g.S.Store c.take_new.new.conn in
     let before = c.take_new.ensures.clean clean in
     let settled : old.now ≡ old.committed = c.is_autocommit-is_idle.ensures.settled (c.is_autocommit-is_idle.ensures.value ∙ ap not c.requires.idle) was_open in
-    on_told c.take_new.result (c.take_new.ensures.commits clean) (c.take_new.ensures.ok clean) (λ committed response told. λ ds delivered holds leaves comes.
+    on_told c.take_new.result (c.take_new.ensures.commits clean) (c.take_new.ensures.ok clean) (λ committed response told. λ es sent holds leaves comes.
     let has : HasRows holds.rows old.now = subst (HasRows holds.rows) (sym settled) holds.has in
     let same : IsSame old mid = c.in_ok-kept.ensures.same before has.schema in
     let found = c.in_ok-kept.field-0 in
     let kept_is : found.kept ≡ None = let e = c.in_ok-kept.kept-is in let is = c.in-None.is in cc in
     let kept : IsKept a.admitted.now.partner a.number holds.rows None = subst (IsKept a.admitted.now.partner a.number holds.rows) kept_is (c.in_ok-kept.ensures.kept before holds.rows has) in
     let none = no_text a.admitted.now.partner a.number holds.rows kept in
-    let at : IsAt content ds found.there = c.in_ok-kept.ensures.beside before content ds holds.rows c.requires.given has holds.after holds.beside in
+    let at : IsAt content es found.there = c.in_ok-kept.ensures.beside before content es holds.rows c.requires.given has holds.after holds.beside in
     let there : HasRows holds.rows mid.now = subst (HasRows holds.rows) (sym same.now) has in
     let still : mid.now ≡ mid.committed = same.now ∙ settled ∙ sym same.committed in
-    let done = committed holds.rows there still (numbered content ds holds.rows a.admitted.now.partner holds.after) in
-    let after = (told done.is_open ds delivered holds.rows there still holds.after at none
-    (next_is content ds found.there a.admitted.now.partner found.next at c.in_ok-kept.ensures.next) comes).holds in
-    committed_leaves content (ds ++ delivered ∷ []) new after.rows done after.has after.after)
+    let done = committed holds.rows there still (numbered content es holds.rows a.admitted.now.partner holds.after) in
+    let after = (told done.is_open es sent holds.rows there still holds.after at none
+    (next_is content es found.there a.admitted.now.partner found.next at c.in_ok-kept.ensures.next) comes).holds in
+    committed_leaves content (es ++ delivered sent ∷ []) new after.rows done after.has after.after)
 
 pub returns-in-None-clause-crash : goal.returns-in-None-clause-crash
 returns-in-None-clause-crash g c clean was_open =
@@ -93,17 +94,17 @@ returns-in-None-clause-crash g c clean was_open =
     let mid = state g.S.Store c.look.new.conn in
     let before = c.take_new.ensures.clean clean in
     let settled : old.now ≡ old.committed = c.is_autocommit-is_idle.ensures.settled (c.is_autocommit-is_idle.ensures.value ∙ ap not c.requires.idle) was_open in
-    on_err_then c.take_new.result (λ told. λ ds delivered holds leaves comes db left.
+    on_err_then c.take_new.result (λ told. λ es sent holds leaves comes db left.
     let has : HasRows holds.rows old.now = subst (HasRows holds.rows) (sym settled) holds.has in
     let same : IsSame old mid = c.in_ok-kept.ensures.same before has.schema in
     let found = c.in_ok-kept.field-0 in
     let kept_is : found.kept ≡ None = let e = c.in_ok-kept.kept-is in let is = c.in-None.is in cc in
     let kept : IsKept a.admitted.now.partner a.number holds.rows None = subst (IsKept a.admitted.now.partner a.number holds.rows) kept_is (c.in_ok-kept.ensures.kept before holds.rows has) in
     let none = no_text a.admitted.now.partner a.number holds.rows kept in
-    let at : IsAt content ds found.there = c.in_ok-kept.ensures.beside before content ds holds.rows c.requires.given has holds.after holds.beside in
+    let at : IsAt content es found.there = c.in_ok-kept.ensures.beside before content es holds.rows c.requires.given has holds.after holds.beside in
     either_of (λ first. leaves db (reads_less old mid before has.schema c.look.ensures.reads db first)) (λ after. after)
-    (told ds delivered holds.rows (subst (HasRows holds.rows) (sym same.now) has) (same.now ∙ settled ∙ sym same.committed) holds.after at none
-    (next_is content ds found.there a.admitted.now.partner found.next at c.in_ok-kept.ensures.next) comes db left))
+    (told es sent holds.rows (subst (HasRows holds.rows) (sym same.now) has) (same.now ∙ settled ∙ sym same.committed) holds.after at none
+    (next_is content es found.there a.admitted.now.partner found.next at c.in_ok-kept.ensures.next) comes db left))
     (c.take_new.ensures.crash clean)
 
 pub returns-in-None-clause-err : goal.returns-in-None-clause-err
@@ -114,15 +115,15 @@ returns-in-None-clause-err g c clean is_open =
     let mid = state g.S.Store c.look.new.conn in
     let before = c.take_new.ensures.clean clean in
     let settled : old.now ≡ old.committed = c.is_autocommit-is_idle.ensures.settled (c.is_autocommit-is_idle.ensures.value ∙ ap not c.requires.idle) (c.look.ensures.reads.was_open before (c.take_new.ensures.was_open clean is_open)) in
-    on_err_then c.take_new.result (λ told. λ ds holds.
+    on_err_then c.take_new.result (λ told. λ es holds.
     let has : HasRows holds.rows old.now = subst (HasRows holds.rows) (sym settled) holds.has in
     let same : IsSame old mid = c.in_ok-kept.ensures.same before has.schema in
-    told ds holds.rows (subst (HasRows holds.rows) (sym same.now) has) (same.now ∙ settled ∙ sym same.committed) holds.after
-    (c.in_ok-kept.ensures.beside before content ds holds.rows c.requires.given has holds.after holds.beside))
+    told es holds.rows (subst (HasRows holds.rows) (sym same.now) has) (same.now ∙ settled ∙ sym same.committed) holds.after
+    (c.in_ok-kept.ensures.beside before content es holds.rows c.requires.given has holds.after holds.beside))
     (c.take_new.ensures.err clean is_open)
 
 pub returns-in_err-answer_used-in-Some-clause-crash : goal.returns-in_err-answer_used-in-Some-clause-crash
-returns-in_err-answer_used-in-Some-clause-crash g c clean was_open = on_err c.from_residual-in_err-answer_used-in-Some.result (λ ds delivered holds leaves comes db left.
+returns-in_err-answer_used-in-Some-clause-crash g c clean was_open = on_err c.from_residual-in_err-answer_used-in-Some.result (λ es sent holds leaves comes db left.
     let a = c.args in
     let old = state g.S.Store a.conn.now in
     let mid = state g.S.Store c.look.new.conn in
@@ -131,7 +132,7 @@ returns-in_err-answer_used-in-Some-clause-crash g c clean was_open = on_err c.fr
     inl (leaves db (reads_less old mid clean has.schema c.look.ensures.reads db left)))
 
 pub returns-in_err-kept-clause-err : goal.returns-in_err-kept-clause-err
-returns-in_err-kept-clause-err g c clean is_open = on_err c.from_residual.result (λ ds holds.
+returns-in_err-kept-clause-err g c clean is_open = on_err c.from_residual.result (λ es holds.
     let a = c.args in
     let old = state g.S.Store a.conn.now in
     let mid = state g.S.Store c.look.new.conn in
@@ -141,11 +142,11 @@ returns-in_err-kept-clause-err g c clean is_open = on_err c.from_residual.result
       rows = holds.rows;
       has = subst (HasRows holds.rows) (sym ((c.look.ensures.reads.keeps clean has.schema).committed is_open)) holds.has;
       after = holds.after;
-      beside = c.in_err-kept.ensures.err clean (setup_content a.setup.now) ds holds.rows c.requires.given has holds.after holds.beside;
+      beside = c.in_err-kept.ensures.err clean (setup_content a.setup.now) es holds.rows c.requires.given has holds.after holds.beside;
     })
 
 pub returns-in_err-kept-clause-crash : goal.returns-in_err-kept-clause-crash
-returns-in_err-kept-clause-crash g c clean was_open = on_err c.from_residual.result (λ ds delivered holds leaves comes db left.
+returns-in_err-kept-clause-crash g c clean was_open = on_err c.from_residual.result (λ es sent holds leaves comes db left.
     let old = state g.S.Store c.args.conn.now in
     let mid = state g.S.Store c.look.new.conn in
     let settled : old.now ≡ old.committed = c.is_autocommit-is_idle.ensures.settled (c.is_autocommit-is_idle.ensures.value ∙ ap not c.requires.idle) was_open in
@@ -153,7 +154,7 @@ returns-in_err-kept-clause-crash g c clean was_open = on_err c.from_residual.res
     inl (leaves db (reads_less old mid clean has.schema c.look.ensures.reads db left)))
 
 pub returns-in_err-answer_used-in-Some-clause-err : goal.returns-in_err-answer_used-in-Some-clause-err
-returns-in_err-answer_used-in-Some-clause-err g c clean is_open = on_err c.from_residual-in_err-answer_used-in-Some.result (λ ds holds.
+returns-in_err-answer_used-in-Some-clause-err g c clean is_open = on_err c.from_residual-in_err-answer_used-in-Some.result (λ es holds.
     let a = c.args in
     let content = setup_content a.setup.now in
     let old = state g.S.Store a.conn.now in
@@ -165,5 +166,5 @@ returns-in_err-answer_used-in-Some-clause-err g c clean is_open = on_err c.from_
       rows = holds.rows;
       has = subst (HasRows holds.rows) (sym same.committed) holds.has;
       after = holds.after;
-      beside = c.in_ok-kept.ensures.beside clean content ds holds.rows c.requires.given has holds.after holds.beside;
+      beside = c.in_ok-kept.ensures.beside clean content es holds.rows c.requires.given has holds.after holds.beside;
     })

@@ -8,8 +8,8 @@ pub returns-in-Err-send_answer-clause-err : goal.returns-in-Err-send_answer-clau
 returns-in-Err-send_answer-clause-err g c = (
   c.in-Err-send_answer.ensures.fails,
   c.in-Ok.ensures.kept,
-  λ clean opening ds at.
-      let done = c.send_answer.ensures.does clean opening ds at in
+  λ clean opening es at.
+      let done = c.send_answer.ensures.does clean opening es at in
       IfSome_then (g.R.Read.remaining c.args.reader.now.inner) c.in-Ok.ensures.asks (λ stream asks.
       (done.0, record { request = c.in-Ok.request; asks = asks; does = done.1 })),
 )

@@ -8,7 +8,7 @@ use Rattle.office_http.proofs.server.serve_on.Goals.{in-Ok, in_default}
 pub connections-init : goal.connections-init
 connections-init g c = record {
   stays = λ clean. clean;
-  few = λ clean opening ds is. none_yet (g.D.Deliver.stands opening) (g.D.Deliver.answers opening) ds c.args.desk.now is;
+  few = λ clean opening es is. none_yet (g.D.Deliver.stands opening) (g.D.Deliver.answers opening) es c.args.desk.now is;
 }
 
 -- one connection more, or none that could be had
@@ -18,23 +18,23 @@ connections-preserved g c = elim c.match-accept.branch [
       let stayed = λ (clean : g.D.Deliver.clean c.match-accept.desk). w.serve_stream.ensures.stays (subst g.D.Deliver.clean w.desk-is clean) in
       record {
         stays = λ clean. c.connections.invariant.stays (stayed clean);
-        few = λ clean opening ds is.
+        few = λ clean opening es is.
             let stands = g.D.Deliver.stands opening in
             let answers = g.D.Deliver.answers opening in
-            subst (λ desk. AtMost stands answers ds (c.connections.counter + 1) desk) (sym w.desk-is)
-            (one_more stands answers ds c.connections.counter c.connections.desk _
-            (c.connections.invariant.few (stayed clean) opening ds is)
+            subst (λ desk. AtMost stands answers es (c.connections.counter + 1) desk) (sym w.desk-is)
+            (one_more stands answers es c.connections.counter c.connections.desk _
+            (c.connections.invariant.few (stayed clean) opening es is)
             (λ more now. w.serve_stream.ensures.steps (subst g.D.Deliver.clean w.desk-is clean) opening more now));
       }
   | in_default w ↦
       let same = λ (clean : g.D.Deliver.clean c.match-accept.desk). subst g.D.Deliver.clean w.desk-is clean in
       record {
         stays = λ clean. c.connections.invariant.stays (same clean);
-        few = λ clean opening ds is.
+        few = λ clean opening es is.
             let stands = g.D.Deliver.stands opening in
             let answers = g.D.Deliver.answers opening in
-            subst (λ desk. AtMost stands answers ds (c.connections.counter + 1) desk) (sym w.desk-is)
-            (one_more stands answers ds c.connections.counter c.connections.desk c.connections.desk
-            (c.connections.invariant.few (same clean) opening ds is) (λ more now. inl now));
+            subst (λ desk. AtMost stands answers es (c.connections.counter + 1) desk) (sym w.desk-is)
+            (one_more stands answers es c.connections.counter c.connections.desk c.connections.desk
+            (c.connections.invariant.few (same clean) opening es is) (λ more now. inl now));
       }
 ]

@@ -1,4 +1,5 @@
-use Rattle.std.proofs.Common.{◌≡◌, ℕ, ◌++◌, List, None, length, true}
+use Rattle.std.proofs.Common.{◌≡◌, ◌++◌, List, None, length, true}
+use Rattle.office_replies.specs.Events.{Event}
 use Rattle.edi_cutter.specs.Cuts.{pending}
 use Rattle.office_stream.specs.Pieces.{PieceAnswered}
 use Rattle.office_stream.proofs.PieceLemmas.{IsLeft}
@@ -10,8 +11,8 @@ invariant-pieces g l = record {
   kept : l.writer.failed ≡ l.fn.writer.failed;
   flushed : l.fn.writer.flushed ≡ true → l.writer.flushed ≡ true;
   stays : g.D.Deliver.clean l.desk → g.D.Deliver.clean l.fn.desk;
-  done : g.D.Deliver.clean l.desk → (opening : g.row.D.Denot) (ds : List (List ℕ)) → g.D.Deliver.stands opening ds l.fn.desk →
-      PieceAnswered (g.D.Deliver.stands opening) (g.D.Deliver.answers opening) ds (IsLeft (pending l.cutter) l.rest) (pending l.fn.cutter ++ l.piece) l.desk
+  done : g.D.Deliver.clean l.desk → (opening : g.D.Deliver.Opening) (es : List Event) → g.D.Deliver.stands opening es l.fn.desk →
+      PieceAnswered (g.D.Deliver.stands opening) (g.D.Deliver.answers opening) es (IsLeft (pending l.cutter) l.rest) (pending l.fn.cutter ++ l.piece) l.desk
       l.fn.before l.worst (g.W.Write.contents l.fn.writer.inner) (g.W.Write.contents l.writer.inner);
 }
 

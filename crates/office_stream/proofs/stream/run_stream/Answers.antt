@@ -13,16 +13,18 @@ reads-init g c = record {
   writer = refl;
   flushed = λ all. all;
   going = λ less. absurd (omega arith);
+  in_time = λ going. refl;
+  ended = λ going. going;
   most = omega arith;
   least = omega arith;
   stays = λ clean. clean;
-  sofar = λ clean opening ds at. nothing_read (g.D.Deliver.stands opening) (g.D.Deliver.answers opening) ds _ (pending c.new-cutter.result) _ _ (starts_empty c.new-cutter.result c.new-cutter.ensures) at;
+  sofar = λ clean opening es at. nothing_read (g.D.Deliver.stands opening) (g.D.Deliver.answers opening) es _ (pending c.new-cutter.result) _ _ (starts_empty c.new-cutter.result c.new-cutter.ensures) at;
 }
 
 pub returns-in-Err-clause-err : goal.returns-in-Err-clause-err
-returns-in-Err-clause-err g c = λ clean opening ds at.
-    began (g.D.Deliver.stands opening) (g.D.Deliver.answers opening) ds _ _ _ (pending c.reads.cutter) c.reads.desk c.reads.worst _ _
-    (c.reads.invariant.sofar clean opening ds at) c.in-Err.ensures.bytes
+returns-in-Err-clause-err g c = λ clean opening es at.
+    began (g.D.Deliver.stands opening) (g.D.Deliver.answers opening) es _ _ _ (pending c.reads.cutter) c.reads.desk c.reads.worst _ _
+    (c.reads.invariant.sofar clean opening es at) c.in-Err.ensures.bytes
 
 pub returns-then-count-eq0-clause-ok : goal.returns-then-count-eq0-clause-ok
 returns-then-count-eq0-clause-ok g c =
@@ -33,10 +35,10 @@ returns-then-count-eq0-clause-ok g c =
       | else-at_rest w ↦ inr (w.end-is, nil_is_not (pending c.reads.cutter) (sym c.at_rest.ensures ∙ w.if-at_rest.false))
     ] in
     ok_with c.finish.result _ _ _
-    (λ all is writes clean opening ds at.
-    streamed (g.D.Deliver.stands opening) (g.D.Deliver.answers opening) ds _ _ c.if-at_rest.end c.reads.desk c.reads.worst all _ _ _
-    (input_ends (g.D.Deliver.stands opening) (g.D.Deliver.answers opening) ds _ _ _ (pending c.reads.cutter) c.if-at_rest.end c.reads.desk c.reads.worst _ _
-    (c.reads.invariant.sofar clean opening ds at) (nothing_taken _ _ c.in-Ok.count c.read.new.buf none reads.0) (reads.1 none (omega (arith, c.read.auto.buf))) how)
+    (λ all is writes clean opening es at.
+    streamed (g.D.Deliver.stands opening) (g.D.Deliver.answers opening) es _ _ c.if-at_rest.end c.reads.desk c.reads.worst all _ _ _
+    (input_ends (g.D.Deliver.stands opening) (g.D.Deliver.answers opening) es _ _ _ (pending c.reads.cutter) c.if-at_rest.end c.reads.desk c.reads.worst _ _
+    (c.reads.invariant.sofar clean opening es at) (nothing_taken _ _ c.in-Ok.count c.read.new.buf none reads.0) (reads.1 none (omega (arith, c.read.auto.buf))) how)
     writes is)
     c.finish.ensures.ok c.finish.ensures.writes
 
@@ -49,10 +51,10 @@ returns-then-count-eq0-clause-err g c =
       | else-at_rest w ↦ inr (w.end-is, nil_is_not (pending c.reads.cutter) (sym c.at_rest.ensures ∙ w.if-at_rest.false))
     ] in
     err_weaker c.finish.result _ _
-    (λ fault is clean opening ds at. at_write fault _ _ _ is.0
-    (end_cut_short (g.D.Deliver.stands opening) (g.D.Deliver.answers opening) ds _ _ c.if-at_rest.end c.reads.desk c.reads.worst _ _ _
-    (input_ends (g.D.Deliver.stands opening) (g.D.Deliver.answers opening) ds _ _ _ (pending c.reads.cutter) c.if-at_rest.end c.reads.desk c.reads.worst _ _
-    (c.reads.invariant.sofar clean opening ds at) (nothing_taken _ _ c.in-Ok.count c.read.new.buf none reads.0) (reads.1 none (omega (arith, c.read.auto.buf))) how)
+    (λ fault is clean opening es at. at_write fault _ _ _ is.0
+    (end_cut_short (g.D.Deliver.stands opening) (g.D.Deliver.answers opening) es _ _ c.if-at_rest.end c.reads.desk c.reads.worst _ _ _
+    (input_ends (g.D.Deliver.stands opening) (g.D.Deliver.answers opening) es _ _ _ (pending c.reads.cutter) c.if-at_rest.end c.reads.desk c.reads.worst _ _
+    (c.reads.invariant.sofar clean opening es at) (nothing_taken _ _ c.in-Ok.count c.read.new.buf none reads.0) (reads.1 none (omega (arith, c.read.auto.buf))) how)
     is.2))
     c.finish.ensures.err
 
@@ -69,12 +71,14 @@ reads-preserved g c =
       writer = c.in_ok-worst_now.ensures.kept ∙ c.reads.invariant.writer;
       flushed = λ all. c.in_ok-worst_now.ensures.flushed (c.reads.invariant.flushed all);
       going = λ less. c.in-Ok.ensures.ended ∙ ne_eqb c.in-Ok.count 0 c.if-count-eq0.false;
+      in_time = λ going. c.read.ensures.in_time (c.reads.invariant.ended going) ∙ c.reads.invariant.in_time going;
+      ended = λ going. c.in-Ok.ensures.ended ∙ ne_eqb c.in-Ok.count 0 c.if-count-eq0.false;
       most = omega (arith, c.in-Ok.ensures.counted, c.reads.invariant.most);
       least = omega (arith, c.in-Ok.ensures.counted, c.reads.invariant.least);
       stays = λ clean. c.reads.invariant.stays (c.in_ok-worst_now.ensures.stays clean);
-      sofar = λ clean opening ds at.
-          sofar_more (stands opening) (answers opening) ds _ _ _ q q' piece c.reads.desk c.answer_piece.new.desk c.reads.worst c.in_ok-worst_now.worst_now _ _ _
-          (c.reads.invariant.sofar (c.in_ok-worst_now.ensures.stays clean) opening ds at) c.in-Ok.ensures.bytes.0
+      sofar = λ clean opening es at.
+          sofar_more (stands opening) (answers opening) es _ _ _ q q' piece c.reads.desk c.answer_piece.new.desk c.reads.worst c.in_ok-worst_now.worst_now _ _ _
+          (c.reads.invariant.sofar (c.in_ok-worst_now.ensures.stays clean) opening es at) c.in-Ok.ensures.bytes.0
           (λ others now. piece_at (stands opening) (answers opening) others c.in_ok-worst_now.cut None q' _ c.answer_piece.new.desk c.reads.worst c.in_ok-worst_now.worst_now _ _
           c.in_default.is (c.in_ok-worst_now.ensures.ok clean opening others now));
     }
@@ -82,9 +86,9 @@ reads-preserved g c =
 pub returns-in_err-worst_now-clause-err : goal.returns-in_err-worst_now-clause-err
 returns-in_err-worst_now-clause-err g c =
     is_err_and c.from_residual.result _ _
-    (λ fault is clean opening ds at. at_write fault _ _ _ (is ∙ c.in_err-worst_now.ensures.err.0)
-    (cut_short (g.D.Deliver.stands opening) (g.D.Deliver.answers opening) ds _ _ _ (pending c.reads.cutter) (take c.in-Ok.count c.read.new.buf)
-    c.reads.desk c.answer_piece.new.desk c.reads.worst _ _ _ (c.reads.invariant.sofar (c.in_err-worst_now.ensures.stays clean) opening ds at) c.in-Ok.ensures.bytes.0
+    (λ fault is clean opening es at. at_write fault _ _ _ (is ∙ c.in_err-worst_now.ensures.err.0)
+    (cut_short (g.D.Deliver.stands opening) (g.D.Deliver.answers opening) es _ _ _ (pending c.reads.cutter) (take c.in-Ok.count c.read.new.buf)
+    c.reads.desk c.answer_piece.new.desk c.reads.worst _ _ _ (c.reads.invariant.sofar (c.in_err-worst_now.ensures.stays clean) opening es at) c.in-Ok.ensures.bytes.0
     (λ others now. c.in_err-worst_now.ensures.cut_short clean opening others now)))
     c.from_residual.ensures.1
 
@@ -96,10 +100,10 @@ returns-in-Some-clause-ok g c =
     let q = pending c.reads.cutter in
     let q' = pending c.answer_piece.new.cutter in
     ok_with c.finish-in-Some.result _ _ _
-    (λ all is writes clean opening ds at.
-    streamed (stands opening) (answers opening) ds _ _ (Cut c.in-Some.fault) c.answer_piece.new.desk c.in_ok-worst_now.worst_now all _ _ _
-    (stream_cut (stands opening) (answers opening) ds _ _ _ q q' piece c.in-Some.fault c.reads.desk c.answer_piece.new.desk c.reads.worst c.in_ok-worst_now.worst_now _ _ _
-    (c.reads.invariant.sofar (c.in_ok-worst_now.ensures.stays clean) opening ds at) c.in-Ok.ensures.bytes.0
+    (λ all is writes clean opening es at.
+    streamed (stands opening) (answers opening) es _ _ (Cut c.in-Some.fault) c.answer_piece.new.desk c.in_ok-worst_now.worst_now all _ _ _
+    (stream_cut (stands opening) (answers opening) es _ _ _ q q' piece c.in-Some.fault c.reads.desk c.answer_piece.new.desk c.reads.worst c.in_ok-worst_now.worst_now _ _ _
+    (c.reads.invariant.sofar (c.in_ok-worst_now.ensures.stays clean) opening es at) c.in-Ok.ensures.bytes.0
     (λ others now. piece_at (stands opening) (answers opening) others c.in_ok-worst_now.cut (Some c.in-Some.fault) q' _ c.answer_piece.new.desk c.reads.worst c.in_ok-worst_now.worst_now _ _
     c.in-Some.is (c.in_ok-worst_now.ensures.ok clean opening others now)))
     writes is)
@@ -113,18 +117,18 @@ returns-in-Some-clause-err g c =
     let q = pending c.reads.cutter in
     let q' = pending c.answer_piece.new.cutter in
     err_weaker c.finish-in-Some.result _ _
-    (λ fault is clean opening ds at. at_write fault _ _ _ is.0
-    (end_cut_short (stands opening) (answers opening) ds _ _ (Cut c.in-Some.fault) c.answer_piece.new.desk c.in_ok-worst_now.worst_now _ _ _
-    (stream_cut (stands opening) (answers opening) ds _ _ _ q q' piece c.in-Some.fault c.reads.desk c.answer_piece.new.desk c.reads.worst c.in_ok-worst_now.worst_now _ _ _
-    (c.reads.invariant.sofar (c.in_ok-worst_now.ensures.stays clean) opening ds at) c.in-Ok.ensures.bytes.0
+    (λ fault is clean opening es at. at_write fault _ _ _ is.0
+    (end_cut_short (stands opening) (answers opening) es _ _ (Cut c.in-Some.fault) c.answer_piece.new.desk c.in_ok-worst_now.worst_now _ _ _
+    (stream_cut (stands opening) (answers opening) es _ _ _ q q' piece c.in-Some.fault c.reads.desk c.answer_piece.new.desk c.reads.worst c.in_ok-worst_now.worst_now _ _ _
+    (c.reads.invariant.sofar (c.in_ok-worst_now.ensures.stays clean) opening es at) c.in-Ok.ensures.bytes.0
     (λ others now. piece_at (stands opening) (answers opening) others c.in_ok-worst_now.cut (Some c.in-Some.fault) q' _ c.answer_piece.new.desk c.reads.worst c.in_ok-worst_now.worst_now _ _
     c.in-Some.is (c.in_ok-worst_now.ensures.ok clean opening others now)))
     is.2))
     c.finish-in-Some.ensures.err
 
 pub returns-clause-err : goal.returns-clause-err
-returns-clause-err g c = λ clean opening ds at.
-    began_now (g.D.Deliver.stands opening) (g.D.Deliver.answers opening) ds _ _ (pending c.reads.cutter) c.reads.desk c.reads.worst _ _ (c.reads.invariant.sofar clean opening ds at)
+returns-clause-err g c = λ clean opening es at.
+    began_now (g.D.Deliver.stands opening) (g.D.Deliver.answers opening) es _ _ (pending c.reads.cutter) c.reads.desk c.reads.worst _ _ (c.reads.invariant.sofar clean opening es at)
 
 -- ---- what was flushed
 

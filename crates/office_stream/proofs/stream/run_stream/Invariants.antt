@@ -1,4 +1,5 @@
-use Rattle.std.proofs.Common.{◌≡◌, ℕ, ◌+◌, ◌-◌, ◌^◌, ◌≤◌, ◌<◌, min, List, None, false, true}
+use Rattle.std.proofs.Common.{◌≡◌, ◌+◌, ◌-◌, ◌^◌, ◌≤◌, ◌<◌, min, List, None, false, true}
+use Rattle.office_replies.specs.Events.{Event}
 use Rattle.edi_cutter.specs.Cuts.{pending}
 use Rattle.office_stream.proofs.StreamLemmas.{Sofar}
 use Rattle.office_stream.proofs.stream.run_stream.Given as goal
@@ -10,10 +11,12 @@ invariant-reads g l = record {
   writer : l.writer.failed ≡ l.fn.writer.failed;
   flushed : l.fn.writer.flushed ≡ true → l.writer.flushed ≡ true;
   going : 0 < l.counter → l.reader.ended ≡ false;
+  in_time : l.fn.reader.ended ≡ false → l.reader.read_behind_end ≡ l.fn.reader.read_behind_end;
+  ended : l.fn.reader.ended ≡ false → l.reader.ended ≡ false;
   most : l.reader.reads ≤ l.fn.reader.reads + l.counter;
   least : min (l.fn.reader.reads + l.counter) (2 ^ 64 - 1) ≤ l.reader.reads;
   stays : g.D.Deliver.clean l.desk → g.D.Deliver.clean l.fn.desk;
-  sofar : g.D.Deliver.clean l.desk → (opening : g.row.D.Denot) (ds : List (List ℕ)) → g.D.Deliver.stands opening ds l.fn.desk →
-      Sofar (g.D.Deliver.stands opening) (g.D.Deliver.answers opening) ds (g.R.Read.remaining l.fn.reader.inner) (g.R.Read.remaining l.reader.inner)
+  sofar : g.D.Deliver.clean l.desk → (opening : g.D.Deliver.Opening) (es : List Event) → g.D.Deliver.stands opening es l.fn.desk →
+      Sofar (g.D.Deliver.stands opening) (g.D.Deliver.answers opening) es (g.R.Read.remaining l.fn.reader.inner) (g.R.Read.remaining l.reader.inner)
       (pending l.cutter) l.desk l.worst (g.W.Write.contents l.fn.writer.inner) (g.W.Write.contents l.writer.inner);
 }

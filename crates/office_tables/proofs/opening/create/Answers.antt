@@ -8,7 +8,8 @@ use Rattle.office_rows.specs.Tables.{office_tables}
 use Rattle.office_rows.specs.Stored.{HasRows, HasEmpty}
 use Rattle.office_rows.specs.Steps.{Turns}
 use Rattle.office_rows.specs.Opening.{opening_rows}
-use Rattle.office_tables.specs.Opened.{IsOpening}
+use Rattle.sqlite.specs.Effect.{Database}
+use Rattle.office_tables.specs.Opened.{IsOpening, AreMissing}
 use Rattle.office_tables.proofs.OpenedLemmas.{opened, made_rows}
 use Rattle.office_tables.proofs.opening.create.Goals as goal
 
@@ -76,3 +77,20 @@ returns-clause-ok g c clean =
       is_open = open_now;
       alone = alone;
     }
+
+pub returns-clause-new : goal.returns-clause-new
+returns-clause-new g c clean =
+    let old = c.args.conn.now in
+    let begun = record old { in_transaction = true } in
+    let last = c.write_opening.new.tx.conn.now in
+    let end = c.commit.new.self.0 in
+    let content = setup_content c.args.setup.now in
+    let begins : c.transaction-tx.result.conn.now ≡ begun = c.transaction-tx.ensures.begun in
+    let same : end ≡ c.conn-2-1.given.0 = search rules in
+    let ended : HasCleanDisk (state g.S.Store end) = subst (λ h. HasCleanDisk (state g.S.Store h)) (sym same) clean in
+    let before : HasCleanDisk (state g.S.Store last) = omega (arith, c.commit.ensures.survives.clean) in
+    let turns : Turns (HasEmpty (take 0 office_tables)) (HasRows (opening_rows content)) (state g.S.Store begun) (state g.S.Store last) = rw begins at (c.in_ok-write_opening.ensures.made before (rw begins refl)) in
+    let keeps = rw begins at (c.write_opening.ensures.keeps before (rw begins refl)) in
+    let settled = c.is_autocommit-is_idle.ensures.settled (c.is_autocommit-is_idle.ensures.value ∙ ap not c.requires.idle) (keeps.was_open turns.is_open) in
+    let missing : AreMissing office_tables (state g.S.Store begun).now.schema = rw begins at (c.in_ok-write_opening.ensures.new before (rw begins refl)) in
+    subst (λ (d : Database). AreMissing office_tables d.schema) settled missing

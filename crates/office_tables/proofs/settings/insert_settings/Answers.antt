@@ -1,7 +1,7 @@
 use Rattle.std.proofs.Common.{[], ◌∷◌, codes, decimal, arith, string_bytes}
 use Rattle.sqlite.specs.State.{HasCleanDisk}
 use Rattle.sqlite.specs.Held.{state}
-use Rattle.office_rows.specs.Opening.{code_settings, setting, with_settings}
+use Rattle.office_rows.specs.Opening.{code_settings, setting, tables_version, with_settings}
 use Rattle.office_rows.specs.Steps.{Steps}
 use Rattle.office_rows.proofs.StepLemmas.{on_ok}
 use Rattle.office_rows.proofs.OpeningLemmas.{more_settings}
@@ -17,7 +17,7 @@ returns-clause-steps g c clean inside =
     let clean3 : HasCleanDisk s3 = omega (arith, c.insert_codes.ensures.survives.clean) in
     let clean2 : HasCleanDisk s2 = omega (arith, c.insert_setting-3.ensures.survives.clean) in
     let clean1 : HasCleanDisk s1 = omega (arith, c.insert_setting-2.ensures.survives.clean) in
-    let version = setting (codes "version") (codes "1") in
+    let version = setting (codes "version") tables_version in
     let terminal = setting (codes "terminal") (string_bytes c.args.setup.now.terminal) in
     let limit = setting (codes "visits") (decimal c.args.setup.now.visit_limit) in
     let first : Steps (with_settings (version ∷ [])) s0 s1 = c.in_ok-insert_setting.ensures.steps clean1 inside in

@@ -20,7 +20,7 @@ new-requires-clause-given g c = c.in_ok-setup.ensures.given
 
 pub returns : goal.returns
 returns g c = record {
-  opens = λ sound content ds rows given has after.
+  opens = λ sound content es rows given has after.
       let desk = c.new.result in
       let own = c.in_ok-setup.setup in
       let there = c.in_ok-setup.beside in
@@ -32,22 +32,22 @@ returns g c = record {
       let held_rows : HasRows rows old.now = subst (HasRows rows) (sym settled) has in
       let loads : Loads old.now (setup_content own) there.terminal = c.in_ok-setup.ensures.loaded clean held_rows.schema in
       let still : IsUnchanged old new = c.in_ok-setup.ensures.same clean held_rows.schema in
-      let back = reopens content ds rows old.now loads.0 (setup_content own) there.terminal after given held_rows loads.1 loads.2 in
-      let beside : IsBeside (setup_content own) ds (Some there) = record {
-        terminal = beside_loaded (setup_content own) ds rows old.now (setup_content own) there.terminal loads.2.given back.rows_are held_rows loads;
-        nexts = nexts_loaded (setup_content own) ds rows there.nexts.items back.rows_are (c.in_ok-setup.ensures.nexts clean rows held_rows);
+      let back = reopens content es rows old.now loads.0 (setup_content own) there.terminal after given held_rows loads.1 loads.2 in
+      let beside : IsBeside (setup_content own) es (Some there) = record {
+        terminal = beside_loaded (setup_content own) es rows old.now (setup_content own) there.terminal loads.2.given back.rows_are held_rows loads;
+        nexts = nexts_loaded (setup_content own) es rows there.nexts.items back.rows_are (c.in_ok-setup.ensures.nexts clean rows held_rows);
       } in
       let says : SaysSame (setup_content desk.setup) content = subst (λ s. SaysSame (setup_content s) content) (sym c.new.ensures.setup) back.says in
-      let held : Holds (setup_content desk.setup) ds (state g.S.Store desk.conn).committed desk.beside = record {
+      let held : Holds (setup_content desk.setup) es (state g.S.Store desk.conn).committed desk.beside = record {
         rows = rows;
         has = subst (HasRows rows) (sym (ap (λ k. (state g.S.Store k).committed) c.new.ensures.conn ∙ still.0.committed_is)) has;
-        after = subst (λ s. AreAfter (setup_content s) ds rows) (sym c.new.ensures.setup) back.rows_are;
-        beside = subst (λ s. IsBeside (setup_content s) ds desk.beside) (sym c.new.ensures.setup) (subst (IsBeside (setup_content own) ds) (sym c.new.ensures.beside) beside);
+        after = subst (λ s. AreAfter (setup_content s) es rows) (sym c.new.ensures.setup) back.rows_are;
+        beside = subst (λ s. IsBeside (setup_content s) es desk.beside) (sym c.new.ensures.setup) (subst (IsBeside (setup_content own) es) (sym c.new.ensures.beside) beside);
       } in
       record {
         says = says;
         stands = record { setup = refl; holds = held };
-        leaves = held_leaves (setup_content desk.setup) ds (state g.S.Store desk.conn) desk.beside sound.1 (λ db left. g.met.S.Store.settled desk.conn.store db sound.1 left) held;
+        leaves = held_leaves (setup_content desk.setup) es (state g.S.Store desk.conn) desk.beside sound.1 (λ db left. g.met.S.Store.settled desk.conn.store db sound.1 left) held;
       };
   office = λ sound schema.
       let desk = c.new.result in

@@ -26,10 +26,10 @@ returns-clause-told g c = λ sound.
     let clean : HasCleanDisk mid = reads.clean sound.0 in
     let settled : old.now ≡ old.committed = c.is_autocommit-is_idle.ensures.settled (c.is_autocommit-is_idle.ensures.value ∙ ap not c.args.self.now.idle) (c.beside_of.ensures.reads.was_open clean (reads.was_open sound.0 sound.1)) in
     if_ok c.tell-found.result (λ found told. record {
-      after = λ ds holds.
+      after = λ es holds.
           let has : HasRows holds.rows old.now = subst (HasRows holds.rows) (sym settled) holds.has in
           let same : IsSame old mid = c.in_ok-there.ensures.same clean has.schema in
-          let beside : IsBeside content ds (Some there) = c.in_ok-there.ensures.beside clean content ds holds.rows c.args.self.now.given has holds.after (subst (IsBeside content ds) (sym c.take.ensures.value) holds.beside) in
+          let beside : IsBeside content es (Some there) = c.in_ok-there.ensures.beside clean content es holds.rows c.args.self.now.given has holds.after (subst (IsBeside content es) (sym c.take.ensures.value) holds.beside) in
           record {
             rows = holds.rows;
             after = holds.after;
@@ -45,8 +45,7 @@ returns-clause-told g c = λ sound.
     (c.tell-found.ensures.told sound.0)
 
 pub returns-clause-same : goal.returns-clause-same
-returns-clause-same g c = λ sound opening ds stands.
-    let content = setup_content opening.setup in
+returns-clause-same g c = λ sound content es stands.
     let old = state g.S.Store c.args.self.now.conn in
     let mid = state g.S.Store c.beside_of.new.conn in
     let end = state g.S.Store c.tell-found.new.conn in
@@ -58,7 +57,7 @@ returns-clause-same g c = λ sound opening ds stands.
     let same : IsSame old mid = c.in_ok-there.ensures.same clean has.schema in
     let there : HasRows rows mid.now = subst (HasRows rows) (sym same.now) has in
     let given : IsGiven content = subst IsGiven stands.setup c.args.self.now.given in
-    let beside : IsBeside content ds (Some c.in_ok-there.there) = c.in_ok-there.ensures.beside clean content ds rows given has stands.holds.after (subst (IsBeside content ds) (sym c.take.ensures.value) stands.holds.beside) in
+    let beside : IsBeside content es (Some c.in_ok-there.there) = c.in_ok-there.ensures.beside clean content es rows given has stands.holds.after (subst (IsBeside content es) (sym c.take.ensures.value) stands.holds.beside) in
     let kept : end.committed ≡ old.committed = (reads.keeps sound.0 there.schema).committed sound.1 ∙ same.committed in
     record {
       setup = stands.setup;

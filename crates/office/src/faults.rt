@@ -1,0 +1,15 @@
+use crate::store::Store;
+use office_desk::Desk;
+use office_tables::TableFault;
+
+/// What tells why it last answered `not now`.
+pub(crate) trait Faults {
+    /// The fault for which it last did so.
+    fn last_fault(&self) -> Option<&TableFault>;
+}
+
+impl Faults for Desk<Store> {
+    fn last_fault(&self) -> Option<&TableFault> {
+        Desk::last_fault(self)
+    }
+}

@@ -1,0 +1,80 @@
+ghost use Rattle.std.specs.Prelude.{◌≡◌, ℕ, List};
+
+use crate::causes::Causes;
+use crate::faults::Faults;
+use crate::request_log::RequestLog;
+use office_queries::{NotNow, Query, Report};
+use office_replies::{Deliver, Response};
+use std::alloc::Global;
+use std::time::Instant;
+
+/// What requests are asked of while they may be logged: what it is made of answers, and it notes what was done.
+#[derive(Drop)]
+pub(crate) struct Logged<'a, D> {
+    desk: D,
+    rt: &'a HostRuntime,
+    log: &'a RequestLog<'a>,
+    causes: Causes<'a>,
+}
+
+impl<'a, D: Report + Faults> Logged<'a, D> {
+    pub(crate) fn new(
+        desk: D,
+        rt: &'a HostRuntime,
+        log: &'a RequestLog<'a>,
+        path: &'a str,
+    ) -> Logged<'a, D> {
+        Logged {
+            desk,
+            rt,
+            log,
+            causes: Causes::new(path),
+        }
+    }
+
+    /// Notes how a delivery was answered, and tells why, if it is `not now` for another cause than before.
+    fn note(&mut self, response: &Response)
+        ensures { self.new.desk ≡ self.old.desk }
+    {
+        self.log.note_answer(response);
+        let cause = self
+            .causes
+            .behind(self.rt, response, self.desk.last_fault());
+        if let Some(cause) = cause {
+            self.log.tell_cause(cause);
+        }
+    }
+}
+
+impl<D: Report + Faults> Deliver for Logged<'_, D> {
+    ghost clean = { λ logged. D.clean logged.desk };
+
+    ghost Opening = { D.Opening };
+
+    ghost stands = { λ opening es logged. D.stands opening es logged.desk };
+
+    ghost answers = { λ opening es text response. D.answers opening es text response };
+
+    fn deliver(&mut self, alloc: Global, delivered: &[u8]) -> Response {
+        let begun = Instant::now(self.rt).ok();
+        let response = self.desk.deliver(alloc, delivered);
+        if self.log.is_on() {
+            self.log.note_time(begun);
+            self.note(&response);
+        }
+        response
+    }
+}
+
+impl<D: Report + Faults> Report for Logged<'_, D> {
+    ghost tells = { λ logged query. D.tells logged.desk query };
+
+    fn report(&mut self, alloc: Global, query: &Query) -> Result<Option<String>, NotNow> {
+        let begun = Instant::now(self.rt).ok();
+        let found = self.desk.report(alloc, query);
+        if self.log.is_on() {
+            self.log.note_time(begun);
+        }
+        found
+    }
+}

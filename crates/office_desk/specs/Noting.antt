@@ -1,0 +1,20 @@
+-- Why a desk answered NotNow.
+use Rattle.std.specs.Prelude.{◌≡◌, Option, Some}
+use Rattle.office_replies.specs.declared.response.Response.{Response}
+use Rattle.office_replies.specs.declared.response.Response.TheVariants as response
+use Rattle.office_tables.specs.declared.table_fault.TableFault.{TableFault}
+use Rattle.office_tables.specs.declared.table_fault.TableFault.TheVariants.{Memory}
+
+-- there is one
+abbrev pub HasFault : Option TableFault → Type 0
+HasFault last = (fault : TableFault) × (last ≡ Some fault)
+
+-- the desk has a fault behind an answer NotNow, and behind any other the one that it had
+abbrev pub NotesFault : Response → (old new : Option TableFault) → Type 0
+NotesFault response.NotNow old new = HasFault new
+NotesFault given old new = new ≡ old
+
+-- the same, if the one fault that can be met is that memory was refused
+abbrev pub NotesMemory : Response → (old new : Option TableFault) → Type 0
+NotesMemory response.NotNow old new = new ≡ Some Memory
+NotesMemory given old new = new ≡ old

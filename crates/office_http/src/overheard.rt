@@ -1,0 +1,84 @@
+ghost use Rattle.std.specs.Prelude.{◌≡◌};
+ghost use Rattle.std.specs.Io.{ReadsAtMost, WritesAtMost};
+ghost use Rattle.std.specs.Io.KnownBytes.{Keeps, ReadConsumes, WriteAppends};
+
+use arrayvec::ArrayVec;
+use std::io::{Read, Result, Write};
+
+/// A reader or a writer that keeps the front of what goes through it, and counts its bytes.
+#[derive(Drop)]
+pub(crate) struct Overheard<T> {
+    inner: T,
+    front: ArrayVec<u8, 256>,
+    count: u64,
+}
+
+impl<T> Overheard<T> {
+    /// Nothing has gone through.
+    pub(crate) fn new(inner: T) -> Overheard<T> {
+        Overheard {
+            inner,
+            front: ArrayVec::new(),
+            count: 0,
+        }
+    }
+
+    /// The first bytes that went through, 256 at most.
+    pub(crate) fn front(&self) -> &[u8] {
+        self.front.as_slice()
+    }
+
+    /// How many bytes went through.
+    pub(crate) fn count(&self) -> u64 {
+        self.count
+    }
+
+    /// Notes what went through.
+    fn note(&mut self, bytes: &[u8])
+        ensures { self.new.inner ≡ self.old.inner }
+    {
+        self.count = self.count.saturating_add(bytes.len() as u64);
+        let kept = bytes.len().min(self.front.remaining_capacity());
+        let _ = self.front.try_extend_from_slice(&bytes[..kept]);
+    }
+}
+
+impl<R: Read> Read for Overheard<R> {
+    ghost remaining = { λ overheard. R.remaining overheard.inner };
+
+    fn read(&mut self, buf: &mut [u8]) -> Result<usize>
+        ensures bound { ReadsAtMost result buf.new }
+        ensures bytes { ReadConsumes (R.remaining self.old.inner) (R.remaining self.new.inner) result buf.new }
+    {
+        match self.inner.read(buf) {
+            Ok(count) => {
+                self.note(&buf[..count]);
+                Ok(count)
+            }
+            Err(error) => Err(error),
+        }
+    }
+}
+
+impl<W: Write> Write for Overheard<W> {
+    ghost contents = { λ overheard. W.contents overheard.inner };
+
+    fn write(&mut self, buf: &[u8]) -> Result<usize>
+        ensures bound { WritesAtMost result buf.now }
+        ensures bytes { WriteAppends (W.contents self.old.inner) (W.contents self.new.inner) result buf.now }
+    {
+        match self.inner.write(buf) {
+            Ok(count) => {
+                self.note(&buf[..count]);
+                Ok(count)
+            }
+            Err(error) => Err(error),
+        }
+    }
+
+    fn flush(&mut self) -> Result<()>
+        ensures bytes { Keeps (W.contents self.old.inner) (W.contents self.new.inner) }
+    {
+        self.inner.flush()
+    }
+}

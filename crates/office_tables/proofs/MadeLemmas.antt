@@ -1,0 +1,212 @@
+-- A text that makes a table, run on a database of any schema: the table was not there.
+use Rattle.std.proofs.Common.{◌≡◌, ℕ, ◌+◌, ◌<◌, Bool, true, false, not, ◌==◌, length, ◌&&◌, ◌||◌, if◌then◌else◌, cond, List, [], ◌∷◌, ◌++◌, slice_range, Option, Some, None, is_some, Result, Ok, Err, OnOk, inl, inr, refl, sym, ap, ap₂, subst, ◌∙◌}
+use Rattle.std.specs.List.{AllByRecursion, position_from}
+use Rattle.std.proofs.lemmas.Bool.{cases_Bool, or_parts, or_from}
+use Rattle.sqlite_ast.specs.declared.Statement.{Statement}
+use Rattle.sqlite_ast.specs.declared.Statement.TheVariants as written
+use Rattle.sqlite_ast.specs.declared.CreateTable.{CreateTable as Definition}
+use Rattle.sqlite_syntax.specs.declared.statement.Parsed.{Parsed}
+use Rattle.sqlite_schema.specs.declared.schema.Schema.{Schema}
+use Rattle.sqlite_schema.specs.declared.schema.Table.{Table}
+use Rattle.sqlite_schema.specs.declared.command.Command.{Command}
+use Rattle.sqlite_schema.specs.declared.command.Command.TheVariants.{CreateTable, Nothing}
+use Rattle.sqlite_schema.specs.declared.command.Returning.{Returning}
+use Rattle.sqlite_resolve.specs.declared.compiled.Compiled.{Compiled}
+use Rattle.sqlite_resolve.specs.declared.error.CompileError.{CompileError}
+use Rattle.sqlite_resolve.specs.declared.error.CompileError.TheVariants.{Exists, Misuse, Unsupported}
+use Rattle.sqlite_resolve.specs.Lowering.{Checked, and_then}
+use Rattle.sqlite_resolve.specs.Scope.{Name}
+use Rattle.sqlite_resolve.specs.Compile.{first, planned, meaning, returning, command, timed, create_table, creates, is_attached, is_reserved, compiled, with_command, table_defined_by, timed_by, returning_by, command_by, small}
+use Rattle.sqlite_resolve.specs.Define as define
+use Rattle.std.specs.Option.{option_or}
+use Rattle.sqlite_schema.specs.Names.{table_named, index_named, view_named}
+use Rattle.sqlite_catalog.specs.Change.{created, is_used}
+use Rattle.sqlite.specs.Listing.{understood, reads_listing, listing_schema, if_select, is_select}
+use Rattle.sqlite.specs.Does.{Tally, lacks_sequence}
+use Rattle.sqlite.specs.Effect.{Database}
+use Rattle.sqlite.specs.State.{State, Executes, ExecutesIn, Writes, text_of}
+use Rattle.sqlite.proofs.Callers.{IsPlain, command_of, statement_of, runs_as}
+use Rattle.office_rows.proofs.WriteLemmas.{went, same_value}
+use Rattle.office_tables.specs.Opened.{MakesTables}
+
+-- ---- the text
+
+abbrev is_new : Statement → Bool
+is_new (written.CreateTable def) = not def.if_missing
+is_new _ = false
+
+-- the text makes a table, and is refused where there is one
+abbrev pub makes_new : Checked Parsed → Bool
+makes_new (Ok p) = is_new p.statement
+makes_new (Err e) = false
+
+-- the statement as it is written
+abbrev pub stated : List ℕ → Checked Parsed → List ℕ
+stated text (Ok p) = slice_range text p.start p.end
+stated text (Err e) = []
+
+abbrev IsNewTable : List ℕ → Checked Parsed → Compiled → Type 0
+IsNewTable text parsed c = (c.command ≡ CreateTable) × (c.returning ≡ None) × (c.formats ≡ []) × (text_of text c ≡ stated text parsed)
+
+and_then_ok : {A B : Type 0} (r : Checked A) (f : A → Checked B) (b : B) → and_then r f ≡ Ok b → (a : A) × (r ≡ Ok a) × (f a ≡ Ok b)
+and_then_ok (Ok a) f b h = (a, refl, h)
+and_then_ok (Err e) f b h = absurd cc
+
+free_or_not : (reserved other same b : Bool) → ◌≡◌ {A = Checked Bool} (if reserved then Err Misuse else (if other then Err Exists else (if same then (if false then Ok false else Err Exists) else Ok true))) (Ok b) → b ≡ true
+free_or_not true other same b h = absurd cc
+free_or_not false true same b h = absurd cc
+free_or_not false false true b h = absurd cc
+free_or_not false false false b h = cc
+
+creates_new : (name : Name) (same other : Option ℕ) (b : Bool) → creates false name same other ≡ Ok b → b ≡ true
+unfolding creates
+creates_new name same other b h = free_or_not (is_reserved name) (is_some other) (is_some same) b h
+
+chosen : (b : Bool) (k other : Command) → ◌≡◌ {A = Checked Command} (if b then Ok other else Err Unsupported) (Ok k) → k ≡ other
+chosen true k other h = cc
+chosen false k other h = absurd cc
+
+past : (b : Bool) (e : CompileError) (r : Checked Command) (k : Command) → ◌≡◌ {A = Checked Command} (if b then Err e else r) (Ok k) → r ≡ Ok k
+past true e r k h = absurd cc
+past false e r k h = h
+
+creates_table : (schema : Schema) (formats : List Name) (def : Definition) (k : Command) → def.if_missing ≡ false → create_table schema formats def ≡ Ok k → k ≡ CreateTable
+unfolding create_table
+creates_table schema formats def k new h =
+    let same = option_or (table_named schema def.name) (view_named schema def.name) in
+    let other = index_named schema def.name in
+    let build : Checked Command = and_then (define.table formats def) (λ t. if length t.computed == length t.stamps.places && not def.resolves then Ok CreateTable else Err Unsupported) in
+    let goes : Bool → Checked Command = λ b. if b then build else Ok Nothing in
+    let free : and_then (creates def.if_missing def.name same other) goes ≡ Ok k = past (is_attached schema def.name) Unsupported (and_then (creates def.if_missing def.name same other) goes) k h in
+    let made = and_then_ok (creates def.if_missing def.name same other) goes k free in
+    let is : made.0 ≡ true = creates_new def.name same other made.0 (subst (λ b. creates b def.name same other ≡ Ok made.0) new made.1) in
+    let built : build ≡ Ok k = subst (λ b. goes b ≡ Ok k) is made.2 in
+    let defined = and_then_ok (define.table formats def) (λ t. if length t.computed == length t.stamps.places && not def.resolves then Ok CreateTable else Err Unsupported) k built in
+    chosen (length defined.0.computed == length defined.0.stamps.places && not def.resolves) k CreateTable defined.2
+
+false_of : (b : Bool) → not b ≡ true → b ≡ false
+false_of true h = absurd cc
+false_of false h = refl
+
+abbrev Plan : Type 0
+Plan = List Name × (Command × Option Returning)
+
+-- what is planned for a statement
+abbrev plan_by : Schema → List Name → List Name → Statement → Checked Plan
+plan_by schema formats names s =
+    let times = timed_by schema formats s in
+    and_then (and_then (returning_by schema (small names + small times) s) (λ shown. and_then (command_by schema formats (small names + small times) s) (λ c. Ok (c, shown)))) (λ found. Ok (times, found))
+
+as_planned : (schema : Schema) (p : Parsed) (plan : Plan) → planned schema p ≡ Ok plan → plan_by schema p.formats p.names p.statement ≡ Ok plan
+unfolding planned meaning returning command timed
+as_planned schema p plan h = h
+
+abbrev IsMaking : Plan → Type 0
+IsMaking plan = (plan.0 ≡ []) × (plan.1.0 ≡ CreateTable) × (plan.1.1 ≡ None)
+
+plan_of : (r : Checked Command) (plan : Plan) → ((k : Command) → r ≡ Ok k → k ≡ CreateTable) → ◌≡◌ {A = Checked Plan} (and_then (and_then r (λ c. Ok (c, None))) (λ found. Ok ([], found))) (Ok plan) → IsMaking plan
+plan_of (Ok k) plan makes h =
+    let is : ([], (k, None)) ≡ plan = same_value h in
+    subst IsMaking is (refl, makes k refl, refl)
+plan_of (Err e) plan makes h = absurd cc
+
+plans_table : (schema : Schema) (formats names : List Name) (s : Statement) → is_new s ≡ true → (plan : Plan) → plan_by schema formats names s ≡ Ok plan → IsMaking plan
+plans_table schema formats names (written.CreateTable def) new plan h = plan_of (create_table schema formats def) plan (λ k is. creates_table schema formats def k (false_of def.if_missing new) is) h
+plans_table schema formats names _ new plan h = absurd cc
+
+compiles_parsed : (schema : Schema) (text : List ℕ) (c : Compiled) (parsed : Checked Parsed) → makes_new parsed ≡ true → and_then parsed (λ p. and_then (planned schema p) (λ plan. Ok (with_command p plan))) ≡ Ok c → IsNewTable text parsed c
+compiles_parsed schema text c (Ok p) new h =
+    let plan = and_then_ok (planned schema p) (λ plan. Ok (with_command p plan)) c h in
+    let is : c ≡ with_command p plan.0 = sym (same_value plan.2) in
+    let is_plan = plans_table schema p.formats p.names p.statement new plan.0 (as_planned schema p plan.0 plan.1) in
+    rw is (is_plan.1, is_plan.2, is_plan.0, refl)
+compiles_parsed schema text c (Err e) new h = absurd cc
+
+compiles_new : (schema : Schema) (text : List ℕ) (c : Compiled) → makes_new (first text) ≡ true → compiled schema text ≡ Ok c → IsNewTable text (first text) c
+unfolding compiled
+compiles_new schema text c new h = compiles_parsed schema text c (first text) new h
+
+-- ---- the schema
+
+found_before : {K : Type 0} (t : K → Bool) (i : ℕ) (xs ys : List K) → is_some (position_from t i (xs ++ ys)) ≡ false → is_some (position_from t i xs) ≡ false
+found_before t i [] ys none = refl
+found_before t i (x ∷ xs) ys none = elim (cases_Bool (t x)) [
+  | inl here ↦ absurd (let e = rw here at none in cc)
+  | inr other ↦ rw other (found_before t (i + 1) xs ys (rw other at none))
+]
+
+pub unused_before : (schema : Schema) (table : Table) (name : List ℕ) → is_used (created schema table) name ≡ false → is_used schema name ≡ false
+unused_before schema table name none =
+    let parts = or_parts _ _ none in
+    let more = or_parts _ _ parts.0 in
+    or_from _ _ (or_from _ _ (found_before _ 0 schema.tables _ more.0) (found_before _ 0 schema.indexes _ more.1)) parts.1
+
+-- ---- the statement
+
+selected : (r : Checked Compiled) (c : Compiled) → if_select r ≡ Ok c → (r ≡ Ok c) × (is_select c.command ≡ true)
+selected (Ok k) c h = elim (cases_Bool (is_select k.command)) [
+  | inl reads ↦ let e : Ok k ≡ Ok c = rw reads at h in let same : k ≡ c = same_value e in (e, subst (λ (x : Compiled). is_select x.command ≡ true) same reads)
+  | inr other ↦ absurd (let e = rw other at h in cc)
+]
+selected (Err e) c h = absurd cc
+
+understands_new : (schema : Schema) (text : List ℕ) (c : Compiled) → makes_new (first text) ≡ true → understood schema text ≡ Ok c → IsNewTable text (first text) c
+unfolding understood
+understands_new schema text c new h = elim (cases_Bool (reads_listing schema text)) [
+  | inl lists ↦
+      let query = selected (compiled listing_schema text) c (rw lists at h) in
+      let is = compiles_new listing_schema text c new query.0 in
+      absurd (let e = rw is.0 at query.1 in cc)
+  | inr other ↦ compiles_new schema text c new (rw other at h)
+]
+
+module _ (text : List ℕ) (table : Table) (new : makes_new (first text) ≡ true) (whole : stated text (first text) ≡ text) (defined : table_defined_by text ≡ Ok (record table { tree = 0 })) (old next : State) (count : ℕ) where
+  writes_new : Executes text [] old next (Ok count) → Writes old next None CreateTable text [] count
+  unfolding ExecutesIn
+  writes_new h =
+      let known = h.1.is in
+      let is = understands_new old.now.schema text h.0 new known in
+      let plain : IsPlain (understood old.now.schema text) = subst IsPlain (sym known) (is.1, is.2) in
+      let said : statement_of text (understood old.now.schema text) ≡ text = ap (statement_of text) known ∙ is.3 ∙ whole in
+      subst (λ t. Writes old next None CreateTable t [] count) said (runs_as text [] old next old.now.schema refl CreateTable (ap command_of known ∙ is.0) plain count h)
+
+  pub makes_one : Executes text [] old next (Ok count) → MakesTables (table ∷ []) old.now.schema next.now.schema
+  makes_one h =
+      let w = writes_new h in
+      let all = went w.changed in
+      let begun = went all.1 in
+      let made = begun.1 in
+      let same : made.table ≡ record table { tree = 0 } = same_value (sym made.defined ∙ defined) in
+      let now : next.now ≡ all.0 = ap (λ (p : Tally × Database). p.1) (same_value all.2) in
+      let before : (name : List ℕ) → is_used begun.0.schema name ≡ false → is_used old.now.schema name ≡ false = λ name none.
+      unused_before old.now.schema made.table name (subst (λ s. is_used s name ≡ false) made.is none) in
+      let counted : (name : List ℕ) → is_used all.0.schema name ≡ false → is_used begun.0.schema name ≡ false = λ name none.
+      elim (cases_Bool (lacks_sequence begun.0.schema)) [
+        | inl lacks ↦ let more = rw lacks at begun.2 in unused_before begun.0.schema more.table name (subst (λ s. is_used s name ≡ false) more.is none)
+        | inr has ↦ let kept : all.0 ≡ begun.0 = same_value (rw has at begun.2) in subst (λ (d : Database). is_used d.schema name ≡ false) kept none
+      ] in
+      record {
+        missing = (subst (λ (t : Table). is_used old.now.schema t.name ≡ false) same made.free, tt);
+        keeps = λ name none. before name (counted name (subst (λ (d : Database). is_used d.schema name ≡ false) now none));
+      }
+
+-- ---- one after the other
+
+all_before : (a b : Schema) → ((name : List ℕ) → is_used b name ≡ false → is_used a name ≡ false) → (tables : List Table) → AllByRecursion (λ (t : Table). is_used b t.name ≡ false) tables → AllByRecursion (λ (t : Table). is_used a t.name ≡ false) tables
+all_before a b keeps [] all = tt
+all_before a b keeps (t ∷ tables) all = (keeps t.name all.0, all_before a b keeps tables all.1)
+
+all_both : (P : Table → Type 0) (xs ys : List Table) → AllByRecursion P xs → AllByRecursion P ys → AllByRecursion P (xs ++ ys)
+all_both P [] ys p q = q
+all_both P (x ∷ xs) ys p q = (p.0, all_both P xs ys p.1 q)
+
+pub makes_then : (xs ys : List Table) (a b c : Schema) → MakesTables xs a b → MakesTables ys b c → MakesTables (xs ++ ys) a c
+makes_then xs ys a b c p q = record {
+  missing = all_both _ xs ys p.missing (all_before a b p.keeps ys q.missing);
+  keeps = λ name none. p.keeps name (q.keeps name none);
+}
+
+-- what holds, holds if a call succeeds
+pub on_ok_from : {X E : Type 0} {P : Type 0} (r : Result X E) → P → OnOk r P
+on_ok_from (Ok x) p = p
+on_ok_from (Err e) p = tt
