@@ -17,6 +17,7 @@ IN_MEMORY = '/dev/shm' if os.path.isdir('/dev/shm') else None    # where a sync 
 PATIENCE = 100              # seconds that a stream may take
 IN_DEMO = 4                 # containers in the yard of the demonstration
 BACK = 10000                # texts that come in reverse order
+CALLS = 101                 # with a full load list each: 100,899 rows
 CONTAINERS = 10000          # in the yard that is reported
 REQUESTS = 2000
 FEW, MORE = 100, 600        # deliveries whose instructions are counted; the difference is without start and opening
@@ -160,6 +161,26 @@ def reversed_order(stores):
     return [
         Row('10,000 texts in reverse order, no sync, each', 'us', early[0], early[1], '', True),
         Row('the text that closes their gap', 'ms', close[0], close[1])]
+
+
+def replacing(stores):
+    """A full load list that is listed, and then replaced by another one of as many lines, over a store with many lists, in a
+    file system in memory, if there is one."""
+    numbers = streams.Numbers()
+    with tempfile.TemporaryDirectory(prefix='bench-', dir=IN_MEMORY) as folder:
+        office = Stream(stores.office, 'deliver', stores.new('office-replacing', folder=folder), '-')
+        office.feed([numbers.send('LINEA', streams.full_list('V%d' % call, 0)) for call in range(CALLS)])
+        costs = {9: [], 5: []}
+        for turn in range(PARTS):
+            for function, first in ((9, 0), (5, streams.FULL)):
+                part = office.feed([numbers.send('LINEA', streams.full_list('W%d' % turn, first, function))])
+                costs[function].append(part.processor * 1e3)
+        office.close()
+    listed, replaced = min(costs[9]), min(costs[5])
+    return [
+        Row('a list of 999 lines, 100,899 listed, processor', 'ms', listed),
+        Row('its replacement by 999 others, processor', 'ms', replaced),
+        Row('the latter by the former', 'times', replaced / listed, None, 'at most 2')]
 
 
 def opening(stores):

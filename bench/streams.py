@@ -15,6 +15,7 @@ SMALL_YARD = 'block,bays,rows,tiers\nA,3,2,3\nB,2,1,2\n'
 TYPES = {'34': 'CODECO', '36': 'CODECO', 'YMV': 'CODECO', '43': 'COPRAR', '45': 'COPRAR', '44': 'COARRI', '46': 'COARRI'}
 IN_YARD = 200               # containers that are in the yard at a time, while others come and go
 LIST = 10                   # lines of a load list, each followed by its gate-in and then by its load
+FULL = 999                  # lines of the longest list
 SEED = 'bench'
 
 
@@ -43,9 +44,9 @@ class Group:
         return [self.head] + self.parts
 
 
-def message(reference, code, groups, call=None):
-    """A message of that code, for a vessel's call (vessel and voyage) if there is one."""
-    segments = ['UNH+%d+%s:D:95B:UN:ITG14' % (reference, TYPES[code]), 'BGM+%s+%d+9' % (code, reference)]
+def message(reference, code, groups, call=None, function=9):
+    """A message of that code, for a vessel's call (vessel and voyage) if there is one. Function 5 replaces a list."""
+    segments = ['UNH+%d+%s:D:95B:UN:ITG14' % (reference, TYPES[code]), 'BGM+%s+%d+%d' % (code, reference, function)]
     if call:
         segments.append('TDT+20+%s+1++172:20+++%s:146' % (call[1], call[0]))
     for group in groups:
@@ -101,6 +102,11 @@ def lists(count):
         texts += [numbers.send('HAULA', gate_in(each)) for each in serials]
         texts += [numbers.send('QUAYA', message(1, '46', [Group(box(each))], call)) for each in serials]
     return texts[:count]
+
+
+def full_list(voyage, first, function=9):
+    """A load list of as many lines as a message may have, from that container on."""
+    return message(1, '45', [Group(box(each), port='NLRTM') for each in range(first, first + FULL)], ('9123456', voyage), function)
 
 
 def reverse(count):

@@ -5,7 +5,7 @@ import sys
 from collections import Counter
 from functools import partial
 
-from . import cases, crowded, damaged, stores, worked
+from . import cases, crowded, damaged, replaced, stores, worked
 from .days import stream
 from .messages import MESSAGE_FAULTS
 from .office import Office
@@ -36,8 +36,8 @@ USAGE = """usage: scripts/beside [STREAMS DELIVERIES SHARE [SEED]]
 
 Compares crates/office/out/office with the model: first the worked rows, the day of examples/day and the cases of
 scripts/model/cases.txt, as `office demo` and over stores in files; then the changed stores of scripts/model/damaged.txt
-and a crowded yard; then random set-ups, deliveries and reports over stores, and requests by HTTP; then random
-streams. With arguments the rows, and STREAMS streams of DELIVERIES interchanges each, SHARE of them (0 to 1) with
+a crowded yard and full lists replaced; then random set-ups, deliveries and reports over stores, and requests by HTTP;
+then random streams. With arguments the rows, and STREAMS streams of DELIVERIES interchanges each, SHARE of them (0 to 1) with
 altered bytes, with the seeds from SEED on (1 where none is given). Without arguments: %s.
 """ % ', then '.join('%d %d %s' % mix for mix in MIXES)
 
@@ -97,8 +97,8 @@ def read_arguments(words):
 
 
 def main():
-    """The worked rows and the cases, changed stores and a crowded yard; without arguments set-ups, stores and requests; then
-    each mix. With `demo` alone no store is made. Gives the status."""
+    """The worked rows and the cases, changed stores, a crowded yard and full lists; without arguments set-ups, stores and
+    requests; then each mix. With `demo` alone no store is made. Gives the status."""
     demo_alone = sys.argv[1:] == ['demo']
     try:
         mixes, first_seed = read_arguments([] if demo_alone else sys.argv[1:])
@@ -115,6 +115,7 @@ def main():
     if not demo_alone:
         damaged.try_all(beside)
         crowded.try_all(beside)
+        replaced.try_all(beside)
     if len(sys.argv) == 1:
         stores.try_all(beside)
     failed += stores.told(beside)
