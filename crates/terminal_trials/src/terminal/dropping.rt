@@ -7,7 +7,7 @@ use edi_messages::{Call, Order};
 use std::alloc::{AllocError, Global};
 use std::process::Abort;
 use std::test::Fail;
-use terminal_core::{Change, LineState, Outcome, Side, Source, Terminal};
+use terminal_core::{Change, LineState, Side, Source, Terminal};
 use yard_core::Plan;
 
 const SOURCE: Source = Source {
@@ -34,12 +34,7 @@ impl Trial {
     }
 
     /// Lists a container on that side.
-    fn list(
-        &mut self,
-        alloc: Global,
-        side: Side,
-        number: BoxNumber,
-    ) -> Result<Outcome, AllocError> {
+    fn list(&mut self, alloc: Global, side: Side, number: BoxNumber) -> Result<(), AllocError> {
         let call = call(alloc)?;
         let order = match side {
             Side::Load => Order::ListLoad {
@@ -49,22 +44,21 @@ impl Trial {
             },
             Side::Discharge => Order::ListDischarge { call, number },
         };
-        let mut changes = Vec::new(alloc);
-        self.terminal.step(alloc, SOURCE, &order, &mut changes)
+        self.step(alloc, &order)
     }
 
     /// Discharges a container.
-    fn discharge(
-        &mut self,
-        rt: &impl Abort,
-        alloc: Global,
-        text: &str,
-    ) -> Result<Outcome, AllocError> {
+    fn discharge(&mut self, rt: &impl Abort, alloc: Global, text: &str) -> Result<(), AllocError> {
         let call = call(alloc)?;
         let entry = entry(rt, alloc, text, None)?;
-        let order = Order::Discharge { call, entry };
+        self.step(alloc, &Order::Discharge { call, entry })
+    }
+
+    /// Does what an order says.
+    fn step(&mut self, alloc: Global, order: &Order) -> Result<(), AllocError> {
         let mut changes = Vec::new(alloc);
-        self.terminal.step(alloc, SOURCE, &order, &mut changes)
+        self.terminal.step(alloc, SOURCE, order, &mut changes)?;
+        Ok(())
     }
 
     fn drop_open(&mut self, alloc: Global, side: Side) -> Result<u32, AllocError> {
