@@ -1,1 +1,6 @@
 pub mod ReadLemmas
+pub mod TextLemmas
+pub mod MissingLemmas
+pub mod SettingLemmas
+pub mod QueryTexts
+pub mod ListedLemmas
