@@ -2,5 +2,6 @@ pub mod ReadLemmas
 pub mod TextLemmas
 pub mod MissingLemmas
 pub mod SettingLemmas
+pub mod LackingLemmas
 pub mod QueryTexts
 pub mod ListedLemmas

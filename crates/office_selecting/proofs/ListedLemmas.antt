@@ -1,5 +1,5 @@
 -- What the query of the settings shows under any schema.
-use Rattle.std.proofs.Common.{◌≡◌, ℕ, ◌^◌, List, [], ◌∷◌, Bool, map, filter, codes, Some, None, Err, inl, inr, refl, sym, ap, ap₂, subst, ◌∙◌}
+use Rattle.std.proofs.Common.{◌≡◌, ℕ, ◌^◌, List, [], ◌∷◌, Bool, map, filter, codes, Some, None, Ok, Err, inl, inr, refl, sym, ap, ap₂, subst, ◌∙◌}
 use Rattle.std.specs.Prelude.{nat_le}
 use Rattle.std.specs.Ordering.{is_lt}
 use Rattle.std.specs.List.Sorted.{IsPermutation, IsSortedBy}
@@ -19,7 +19,11 @@ use Rattle.sqlite.proofs.Callers.{IsPlain, command_of, reads_as}
 use Rattle.sqlite_value.specs.Keys.{ascending}
 use Rattle.sqlite_value.specs.declared.keys.Key.{Key}
 use Rattle.sqlite_schema.specs.Names.{table_named, same_name}
-use Rattle.sqlite_resolve.specs.declared.error.CompileError.TheVariants.{NoSuchTable}
+use Rattle.sqlite_resolve.specs.declared.error.CompileError.{CompileError}
+use Rattle.sqlite_resolve.specs.declared.error.CompileError.TheVariants.{NoSuchTable, NoSuchColumn}
+use Rattle.sqlite_syntax.specs.declared.statement.Parsed.{Parsed}
+use Rattle.sqlite_resolve.specs.Lowering.{Checked}
+use Rattle.sqlite_resolve.specs.Compile.{first}
 use Rattle.sqlite_trees.proofs.ListLemmas.{map-map, filter_all, all_of}
 use Rattle.office_rows.specs.Stored.{columns_of}
 use Rattle.office_rows.specs.Shown.{columns_at, ShowsTable}
@@ -27,19 +31,26 @@ use Rattle.office_rows.proofs.Listed.{unmapped, sorted_as}
 use Rattle.office_rows.proofs.Reading.{select_setting, select_setting_shown, select_setting_order}
 use Rattle.office_rows.proofs.WriteLemmas.{passes, answer_in_order}
 use Rattle.office_selecting.specs.Settings.{HasNoSettings, HasSettings, setting_in}
-use Rattle.office_selecting.proofs.MissingLemmas.{not_understood}
-use Rattle.office_selecting.proofs.SettingLemmas.{with_settings, settings_command, RunsSettings, unlisted, understands_settings}
+use Rattle.office_selecting.proofs.MissingLemmas.{ParsedAs, not_understood}
+use Rattle.office_selecting.proofs.LackingLemmas.{lacking_fails}
+use Rattle.office_selecting.proofs.SettingLemmas.{IsOfSettings, SelectsSettings, with_settings, settings_command, RunsSettings, unlisted, understands_settings}
 use Rattle.office_selecting.proofs.QueryTexts.{setting_one, setting_selects}
 
--- ---- no table of the name
+-- ---- no settings
 
 setting_unlisted : table_named listing_schema (codes "setting") ≡ None
 unfolding listing_schema same_name
 setting_unlisted = refl
 
-pub setting_missing : (schema : Schema) → HasNoSettings schema → understood schema select_setting ≡ Err NoSuchTable
+of_settings : (parsed : Checked Parsed) → SelectsSettings parsed → ParsedAs IsOfSettings parsed
+of_settings (Ok p) it = it.0
+of_settings (Err e) none = absurd none
+
+-- where there are none, the query isn't understood
+pub setting_missing : (schema : Schema) → HasNoSettings schema → (e : CompileError) × (understood schema select_setting ≡ Err e)
 unfolding listing_schema
-setting_missing schema none = not_understood (codes "setting") setting_unlisted refl schema none.no_table none.no_view select_setting setting_one
+setting_missing schema (inl none) = (NoSuchTable, not_understood (codes "setting") setting_unlisted refl schema none.no_table none.no_view select_setting setting_one)
+setting_missing schema (inr it) = (NoSuchColumn, lacking_fails schema it.at it.table it.named it.there it.lacks select_setting (of_settings (first select_setting) setting_selects))
 
 -- ---- a table of the name, with its columns first
 

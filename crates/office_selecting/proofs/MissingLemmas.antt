@@ -13,6 +13,7 @@ use Rattle.sqlite_sql.specs.Term.{Term, lit}
 use Rattle.sqlite_resolve.specs.Terms.{number}
 use Rattle.sqlite_schema.specs.declared.schema.Schema.{Schema}
 use Rattle.sqlite_schema.specs.declared.program.Table.{Table as Let}
+use Rattle.sqlite_resolve.specs.declared.error.CompileError.{CompileError}
 use Rattle.sqlite_resolve.specs.declared.error.CompileError.TheVariants.{NoSuchTable}
 use Rattle.sqlite_schema.specs.Names.{table_named, view_named}
 use Rattle.sqlite_resolve.specs.Lowering.{Checked, and_then, fresh, max_budget, take_slot}
@@ -34,13 +35,14 @@ pub record IsOfOne (name : Name) (s : Select) : Type 0 where
   pub from : (out-Core (out-Select s).first).from ≡ source ∷ []
   pub origin : (out-Source source).origin ≡ origin.Table name
 
-abbrev pub Reads : Name → Statement → Type 0
-Reads name (written.Select s) = IsOfOne name s
-Reads name _ = ⊥
+-- the statement is a SELECT of this kind
+abbrev pub Selects : (Select → Type 0) → Statement → Type 0
+Selects Is (written.Select s) = Is s
+Selects Is _ = ⊥
 
-abbrev pub ReadsOne : Name → Checked Parsed → Type 0
-ReadsOne name (Ok p) = Reads name p.statement
-ReadsOne name (Err e) = ⊥
+abbrev pub ParsedAs : (Select → Type 0) → Checked Parsed → Type 0
+ParsedAs Is (Ok p) = Selects Is p.statement
+ParsedAs Is (Err e) = ⊥
 
 -- ---- what doesn't depend on the table
 
@@ -76,41 +78,50 @@ module _ (schema : Schema) (name : Name) (no_table : table_named schema name ≡
   unfolding alone single viewing
   alone_fails again core s order p from is = rw (from, sourced schema name again s is, named_fails core s order p from is) refl
 
-  whole_fails : (again : Schema → Select → List Let → Checked _) (s : Select) → IsOfOne name s → whole again schema s [] ≡ Err NoSuchTable
+  pub table_fails : (again : Schema → Select → List Let → Checked _) (s : Select) → IsOfOne name s → alone again schema (out-Select s).first (out-Select s).order page [] ≡ Err NoSuchTable
+  table_fails again s one = alone_fails again (out-Select s).first one.source (out-Select s).order page one.from one.origin
+
+-- ---- where the one SELECT fails, the text does
+
+module _ (schema : Schema) (name : Name) (Is : Select → Type 0) (one : (s : Select) → Is s → IsOfOne name s) (e : CompileError)
+    (fails : (again : Schema → Select → List Let → Checked _) (s : Select) → Is s → alone again schema (out-Select s).first (out-Select s).order page [] ≡ Err e) where
+  whole_fails : (again : Schema → Select → List Let → Checked _) (s : Select) → Is s → whole again schema s [] ≡ Err e
   unfolding whole
-  whole_fails again s one = rw (paged schema name s one, one.others, alone_fails again (out-Select s).first one.source (out-Select s).order page one.from one.origin) refl
+  whole_fails again s is = rw (paged schema name s (one s is), (one s is).others, fails again s is) refl
 
-  level_fails : (again : Schema → Select → List Let → Checked _) (s : Select) → IsOfOne name s → level again schema s [] ≡ Err NoSuchTable
+  level_fails : (again : Schema → Select → List Let → Checked _) (s : Select) → Is s → level again schema s [] ≡ Err e
   unfolding level with
-  level_fails again s one = rw (one.with, whole_fails again s one) refl
+  level_fails again s is = rw ((one s is).with, whole_fails again s is) refl
 
-  query_fails : (s : Select) → IsOfOne name s → query schema s ≡ Err NoSuchTable
+  query_fails : (s : Select) → Is s → query schema s ≡ Err e
   unfolding query query_to
-  query_fails s one = level_fails (query_to 15) s one
+  query_fails s is = level_fails (query_to 15) s is
 
-  read_fails : (s : Select) → IsOfOne name s → read schema s ≡ Err NoSuchTable
+  read_fails : (s : Select) → Is s → read schema s ≡ Err e
   unfolding read
-  read_fails s one = rw (query_fails s one) refl
+  read_fails s is = rw (query_fails s is) refl
 
-  plan_fails : (formats names : List Name) (s : Statement) → Reads name s → plan_by schema formats names s ≡ Err NoSuchTable
-  plan_fails formats names (written.Select s) one = rw (read_fails s one) refl
+  plan_fails : (formats names : List Name) (s : Statement) → Selects Is s → plan_by schema formats names s ≡ Err e
+  plan_fails formats names (written.Select s) is = rw (read_fails s is) refl
   plan_fails formats names _ none = absurd none
 
-  planned_fails : (p : Parsed) → Reads name p.statement → planned schema p ≡ Err NoSuchTable
+  planned_fails : (p : Parsed) → Selects Is p.statement → planned schema p ≡ Err e
   unfolding planned meaning returning command timed
-  planned_fails p reads = plan_fails p.formats p.names p.statement reads
+  planned_fails p is = plan_fails p.formats p.names p.statement is
 
-  compiled_by_fails : (parsed : Checked Parsed) → ReadsOne name parsed → and_then parsed (λ p. and_then (planned schema p) (λ plan. Ok (with_command p plan))) ≡ Err NoSuchTable
-  compiled_by_fails (Ok p) reads = rw (planned_fails p reads) refl
+  compiled_by_fails : (parsed : Checked Parsed) → ParsedAs Is parsed → and_then parsed (λ p. and_then (planned schema p) (λ plan. Ok (with_command p plan))) ≡ Err e
+  compiled_by_fails (Ok p) is = rw (planned_fails p is) refl
   compiled_by_fails (Err e) none = absurd none
 
-  pub compiled_fails : (text : List ℕ) → ReadsOne name (first text) → compiled schema text ≡ Err NoSuchTable
+  pub compiled_fails : (text : List ℕ) → ParsedAs Is (first text) → compiled schema text ≡ Err e
   unfolding compiled
-  compiled_fails text reads = compiled_by_fails (first text) reads
+  compiled_fails text is = compiled_by_fails (first text) is
 
 module _ (name : Name) (unlisted : table_named listing_schema name ≡ None) (not_viewed : view_named listing_schema name ≡ None) where
+  missing_fails : (schema : Schema) → table_named schema name ≡ None → view_named schema name ≡ None → (text : List ℕ) → ParsedAs (IsOfOne name) (first text) → compiled schema text ≡ Err NoSuchTable
+  missing_fails schema no_table no_view text is = compiled_fails schema name (IsOfOne name) (λ s one. one) NoSuchTable (table_fails schema name no_table no_view) text is
+
   -- a query of one table that is not there, and is none of SQLite's own, isn't understood
-  pub not_understood : (schema : Schema) → table_named schema name ≡ None → view_named schema name ≡ None → (text : List ℕ) → ReadsOne name (first text) → understood schema text ≡ Err NoSuchTable
+  pub not_understood : (schema : Schema) → table_named schema name ≡ None → view_named schema name ≡ None → (text : List ℕ) → ParsedAs (IsOfOne name) (first text) → understood schema text ≡ Err NoSuchTable
   unfolding understood
-  not_understood schema no_table no_view text reads =
-      rw (compiled_fails schema name no_table no_view text reads, compiled_fails listing_schema name unlisted not_viewed text reads) refl
+  not_understood schema no_table no_view text is = rw (missing_fails schema no_table no_view text is, missing_fails listing_schema unlisted not_viewed text is) refl

@@ -5,7 +5,7 @@ use Rattle.sqlite_resolve.specs.Compile.{first}
 use Rattle.office_rows.proofs.Reading as texts
 use Rattle.office_selecting.specs.Reads.{OnlyShows}
 use Rattle.office_selecting.proofs.TextLemmas.{is_read, understands_query}
-use Rattle.office_selecting.proofs.MissingLemmas.{ReadsOne}
+use Rattle.office_selecting.proofs.MissingLemmas.{ParsedAs, IsOfOne}
 use Rattle.office_selecting.proofs.SettingLemmas.{SelectsSettings}
 
 partner_read : is_read (first texts.select_partner) ≡ true
@@ -57,7 +57,7 @@ block_read = refl
 pub block_shows : OnlyShows texts.select_block
 block_shows schema c is = understands_query schema texts.select_block c block_read is
 
-pub setting_one : ReadsOne (codes "setting") (first texts.select_setting)
+pub setting_one : ParsedAs (IsOfOne (codes "setting")) (first texts.select_setting)
 unfolding everything
 setting_one = record { with = refl; others = refl; limit = refl; offset = refl; source = _; from = refl; origin = refl }
 

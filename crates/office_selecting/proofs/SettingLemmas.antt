@@ -50,7 +50,7 @@ use Rattle.sqlite_draft.specs.Query.{query_of}
 use Rattle.sqlite_typing.specs.Types.{accepts_program}
 use Rattle.sqlite.specs.Listing.{understood, reads_listing, misses_table}
 use Rattle.office_selecting.proofs.TextLemmas.{Plan, plan_by}
-use Rattle.office_selecting.proofs.MissingLemmas.{IsOfOne, sourced, page, paged}
+use Rattle.office_selecting.proofs.MissingLemmas.{Selects, IsOfOne, sourced, page, paged}
 
 abbrev text_column : Name → Column
 text_column name = record { name = name; kind = Text; is_strict = true; not_null = true; default = Null; collation = Binary }
@@ -59,7 +59,7 @@ text_column name = record { name = name; kind = Text; is_strict = true; not_null
 abbrev pub with_settings : Table → List Column → Table
 with_settings table more = record table { columns = text_column (codes "name") ∷ text_column (codes "value") ∷ more; key = None }
 
-abbrev Names : Expr → Name → Type 0
+abbrev pub Names : Expr → Name → Type 0
 Names e name = out-Expr e ≡ Expr-F.Column None name
 
 -- SELECT name, value FROM setting ORDER BY name
@@ -263,13 +263,9 @@ module _ (schema : Schema) (at : ℕ) (table : Table) (more : List Column) (name
 
 -- ---- the text
 
-abbrev Selects : Statement → Type 0
-Selects (written.Select s) = IsOfSettings s
-Selects _ = ⊥
-
 -- the text is the query of the settings, and reads no clock
 abbrev pub SelectsSettings : Checked Parsed → Type 0
-SelectsSettings (Ok p) = Selects p.statement × (p.formats ≡ [])
+SelectsSettings (Ok p) = Selects IsOfSettings p.statement × (p.formats ≡ [])
 SelectsSettings (Err e) = ⊥
 
 abbrev pub settings_command : ℕ → Command
@@ -292,11 +288,11 @@ module _ (schema : Schema) (at : ℕ) (table : Table) (more : List Column) (name
   plan_fits true = refl
   plan_fits false = refl
 
-  plan_is : (formats names : List Name) (s : Statement) → Selects s → formats ≡ [] → plan_by schema formats names s ≡ typed all_fit plan
+  plan_is : (formats names : List Name) (s : Statement) → Selects IsOfSettings s → formats ≡ [] → plan_by schema formats names s ≡ typed all_fit plan
   plan_is formats names (written.Select s) it none = rw (read_is schema at table more named there s it, none) (plan_fits all_fit)
   plan_is formats names _ it none = absurd it
 
-  planned_is : (p : Parsed) → Selects p.statement → p.formats ≡ [] → planned schema p ≡ typed all_fit plan
+  planned_is : (p : Parsed) → Selects IsOfSettings p.statement → p.formats ≡ [] → planned schema p ≡ typed all_fit plan
   unfolding planned meaning returning command timed
   planned_is p it none = plan_is p.formats p.names p.statement it none
 

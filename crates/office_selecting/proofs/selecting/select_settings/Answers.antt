@@ -22,7 +22,8 @@ pub returns-clause-missing : goal.returns-clause-missing
 returns-clause-missing g c clean none =
     let old = state g.S.Store c.args.conn.now in
     let new = state g.S.Store c.select.new.conn in
-    if_ok c.select.result (λ answer shown. never_shown select_setting [] old new answer.items _ (setting_missing old.now.schema none) shown) (c.select.ensures.shown clean)
+    let fails = setting_missing old.now.schema none in
+    if_ok c.select.result (λ answer shown. never_shown select_setting [] old new answer.items fails.0 fails.1 shown) (c.select.ensures.shown clean)
 
 pub returns-clause-there : goal.returns-clause-there
 returns-clause-there g c clean tree has =
