@@ -6,11 +6,11 @@ use Rattle.sqlite.specs.Effect.{Database}
 use Rattle.sqlite.proofs.StateLemmas.{survives_then}
 use Rattle.office_rows.specs.Tables.{office_schema}
 use Rattle.office_rows.specs.Opened.{OpenedRows, Shows}
-use Rattle.office_rows.proofs.StepLemmas.{stops_keep, keep_then}
+use Rattle.office_rows.proofs.StepLemmas.{stops_keep, keep_then, quiet_then}
 use Rattle.office_tables.specs.declared.table_fault.TableFault.{TableFault}
 use Rattle.office_tables.specs.declared.table_fault.TableFault.TheVariants.{Store, Damaged, Version, Memory}
 use Rattle.office_loading.specs.Decoded.{itself}
-use Rattle.office_selecting.specs.Reads.{OnlyReads}
+use Rattle.office_selecting.specs.Reads.{OnlyReads, WritesNothing}
 use Rattle.office_loading.specs.Tables.{FailsTable, FailsTables, FailsSettings, HasVersion, FitsRows}
 
 -- a call that read and did not fail
@@ -27,7 +27,7 @@ now_is a b p clean is = (p.same clean is).0.now_is
 schema_is : (a b : State) → After a b → HasCleanDisk b → a.now.schema ≡ office_schema → b.now.schema ≡ office_schema
 schema_is a b p clean is = ap (λ (d : Database). d.schema) (now_is a b p clean is) ∙ is
 
-unchanged_then : (a b c : State) → IsUnchanged a b → IsUnchanged b c → IsUnchanged a c
+pub unchanged_then : (a b c : State) → IsUnchanged a b → IsUnchanged b c → IsUnchanged a c
 unchanged_then a b c p q = (
   record {
     was_open = p.0.was_open;
@@ -66,6 +66,18 @@ from_first P a b c p q says clean is =
 pub same_items : {X : Type 0} (xs : List X) → map itself xs ≡ xs
 same_items [] = refl
 same_items (x ∷ xs) = ap (λ l. x ∷ l) (same_items xs)
+
+-- ---- under any schema
+
+pub clean_first : {b c : State} → WritesNothing b c → HasCleanDisk c → HasCleanDisk b
+clean_first q clean = omega (arith, q.survives.clean)
+
+infixr 10 ◌then◌
+pub ◌then◌ : {a b c : State} → WritesNothing a b → WritesNothing b c → WritesNothing a c
+◌then◌ {a} {b} {c} p q = record {
+  keeps = λ clean. keep_then a b c (p.keeps (clean_first q clean)) (q.keeps clean);
+  survives = quiet_then a b c p.survives q.survives;
+}
 
 -- ---- faults
 

@@ -19,10 +19,12 @@ use Rattle.office_rows.specs.Stored.{columns_of}
 use Rattle.office_rows.specs.Shown.{columns_at, ShowsTable}
 use Rattle.office_tables.specs.declared.table_fault.TableFault.{TableFault}
 use Rattle.office_tables.specs.declared.table_fault.TableFault.TheVariants.{Store, Damaged, Version, Memory}
-use Rattle.office_tables.specs.Faults.{IsOfStore}
+use Rattle.office_tables.specs.Faults.{IsOfStore, IsOfStoreOr}
 use Rattle.office_loading.specs.Columns.{is_text, is_version}
 use Rattle.office_loading.specs.Fits.{FitsSetting}
-use Rattle.office_loading.specs.Tables.{HasVersion, FailsSettings, ReadsTable, ReadsSettings, ShowsSettings}
+use Rattle.office_selecting.specs.Settings.{setting_in}
+use Rattle.office_loading.specs.Decoded.{DecodesAll}
+use Rattle.office_loading.specs.Tables.{HasVersion, NamesVersion, TellsVersion, FailsSettings, ReadsTable, ReadsSettings, ShowsSettings}
 use Rattle.office_loading.proofs.TableLemmas.{has_mapped, mapped_has}
 
 abbrev version : Setting
@@ -73,3 +75,30 @@ reads_settings content db (Err Damaged) has h = (has, h)
 reads_settings content db (Err Memory) has h = h
 reads_settings content db (Err (Store error)) has h = h
 reads_settings content db (Err Version) has h = absurd h
+
+-- ---- settings in any tree
+
+module _ (db : Database) (tree : ℕ) (answer : List Row) (it : ShowsTable (setting_in tree) (0 ∷ 1 ∷ []) (0 ∷ []) db answer) where
+  -- a database whose trees are all this one shows the same
+  shows_there : ShowsTable setting (0 ∷ 1 ∷ []) (0 ∷ []) (record db { trees = λ _. db.trees tree }) answer
+  shows_there = record { by_key = it.by_key; same = it.same; ordered = it.ordered; is = it.is }
+
+  pub names_version : list_any is_version answer ≡ true → NamesVersion (db.trees tree)
+  names_version = version_there (record db { trees = λ _. db.trees tree }) answer shows_there
+
+  pub names_no_version : list_any is_version answer ≡ false → ¬ NamesVersion (db.trees tree)
+  names_no_version = version_absent (record db { trees = λ _. db.trees tree }) answer shows_there
+
+-- behind the version comes no other Version
+pub fault_tells : (X : Type 0) (rows : List Row) (fault : TableFault) → NamesVersion rows → IsOfStoreOr (Unit {0}) fault → TellsVersion {X = X} rows (Err fault)
+fault_tells X rows (Store error) named h = h
+fault_tells X rows Memory named h = h
+fault_tells X rows Damaged named h = named
+fault_tells X rows Version named h = absurd h
+
+pub decoded_tells : {A X Z : Type 0} (says : A → X → Type 0) (is_said : A → Type 0) (given : List A) (rows : List Row) (result : Result (Vec X Z) TableFault) → NamesVersion rows → DecodesAll says is_said given result → TellsVersion rows result
+decoded_tells says is_said given rows (Ok read) named h = named
+decoded_tells says is_said given rows (Err Damaged) named h = named
+decoded_tells says is_said given rows (Err Memory) named h = h
+decoded_tells says is_said given rows (Err Version) named h = absurd h
+decoded_tells says is_said given rows (Err (Store error)) named h = absurd h

@@ -1,6 +1,7 @@
 -- What reading the tables answers.
 use Rattle.std.specs.Prelude.{◌<◌, ◌^◌, List, [], ◌∷◌, map, Contains, codes, Result, Ok, Err, Vec}
 use Rattle.std.specs.List.{AllByRecursion}
+use Rattle.sqlite.specs.Order.{Row}
 use Rattle.sqlite.specs.Effect.{Database}
 use Rattle.terminal_core.specs.Rows.{VisitContent}
 use Rattle.terminal_core.specs.State.{TerminalState}
@@ -56,10 +57,22 @@ ReadsTable content Fits Shown (Err fault) = FailsTable Fits Shown fault
 
 -- ---- the version
 
+-- one of these rows of a table of settings names the version that this office reads
+abbrev pub NamesVersion : List Row → Type 0
+NamesVersion rows = Contains (map (columns_of table.setting) rows)
+    (setting_values (setting (codes "version") tables_version))
+
 -- the table of settings has the version that this office reads
 abbrev pub HasVersion : Database → Type 0
-HasVersion db = Contains (map (columns_of table.setting) (db.trees table.setting.tree))
-    (setting_values (setting (codes "version") tables_version))
+HasVersion db = NamesVersion (db.trees table.setting.tree)
+
+-- Version is told where no row of the settings names it, and there alone: or else the store failed
+abbrev pub TellsVersion : {X : Type 0} → List Row → Result X TableFault → Type 0
+TellsVersion rows (Ok read) = NamesVersion rows
+TellsVersion rows (Err Version) = ¬ NamesVersion rows
+TellsVersion rows (Err Damaged) = NamesVersion rows
+TellsVersion rows (Err Memory) = Unit {0}
+TellsVersion rows (Err (Store error)) = Unit {0}
 
 -- the version is another one, or it is this and the settings can't be read
 abbrev pub FailsSettings : Database → TableFault → Type 0

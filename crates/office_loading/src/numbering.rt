@@ -7,6 +7,7 @@ ghost use Rattle.office_rows.specs.Stored.{HasRows};
 ghost use Rattle.office_rows.specs.Values.{number};
 ghost use Rattle.office_rows.specs.Shown.{AreNexts};
 ghost use Rattle.office_tables.specs.Faults.{IsOfStoreOr};
+ghost use Rattle.office_selecting.specs.Reads.{WritesNothing};
 ghost use Rattle.office_loading.specs.Columns.{SaysNumber};
 ghost use Rattle.office_loading.specs.Decoded.{Said, FailsOne};
 ghost use Rattle.office_loading.specs.Tables.{HasHighNext};
@@ -38,6 +39,9 @@ pub fn nexts<S: Alter>(alloc: Global, conn: &mut Connection<S>) -> Result<Vec<u3
     ensures mode { conn.old.in_transaction ≡ false → conn.new.in_transaction ≡ false }
     ensures survives { (state S.Store conn.old).now.schema ≡ office_schema →
         Survives (state S.Store conn.old) (state S.Store conn.new) (λ _. ⊥) }
+    ensures unchanged { HasCleanDisk (state S.Store conn.new) →
+        OnOk result (IsUnchanged (state S.Store conn.old) (state S.Store conn.new)) }
+    ensures unwritten { WritesNothing (state S.Store conn.old) (state S.Store conn.new) }
 {
     let rows = select_partners(conn)?;
     read_nexts(alloc, &rows)

@@ -1,9 +1,11 @@
-ghost use Rattle.std.specs.Prelude.{◌≡◌, OnOk};
+ghost use Rattle.std.specs.Prelude.{◌≡◌, ℕ, OnOk, IsErrAnd};
 ghost use Rattle.sqlite.specs.Held.{state};
 ghost use Rattle.sqlite.specs.State.{HasCleanDisk, IsUnchanged};
 ghost use Rattle.office_rows.specs.Tables.{office_schema};
-ghost use Rattle.office_selecting.specs.Reads.{OnlyReads};
-ghost use Rattle.office_loading.specs.Tables.{ReadsTables};
+ghost use Rattle.office_selecting.specs.Reads.{OnlyReads, WritesNothing};
+ghost use Rattle.office_selecting.specs.Settings.{HasNoSettings, HasSettings};
+ghost use Rattle.office_tables.specs.Faults.{IsOfStore};
+ghost use Rattle.office_loading.specs.Tables.{ReadsTables, TellsVersion};
 
 use crate::reading::{
     read_blocks, read_lines, read_numbers, read_partners, read_places, read_visits,
@@ -24,6 +26,14 @@ pub(crate) fn read_tables<S: Alter>(
     ensures same { HasCleanDisk (state S.Store conn.new) → (state S.Store conn.old).now.schema ≡ office_schema →
         OnOk result (IsUnchanged (state S.Store conn.old) (state S.Store conn.new)) }
     ensures reads { OnlyReads (state S.Store conn.old) (state S.Store conn.new) }
+    ensures unchanged { HasCleanDisk (state S.Store conn.new) →
+        OnOk result (IsUnchanged (state S.Store conn.old) (state S.Store conn.new)) }
+    ensures unwritten { WritesNothing (state S.Store conn.old) (state S.Store conn.new) }
+    ensures missing { HasCleanDisk (state S.Store conn.new) → HasNoSettings (state S.Store conn.old).now.schema →
+        IsErrAnd result IsOfStore }
+    ensures version { HasCleanDisk (state S.Store conn.new) → (tree : ℕ) →
+        HasSettings (state S.Store conn.old).now.schema tree →
+        TellsVersion ((state S.Store conn.old).now.trees tree) result }
 {
     let settings = read_settings(alloc, conn)?;
     let partners = read_partners(alloc, conn)?;

@@ -1,4 +1,4 @@
-ghost use Rattle.std.specs.Prelude.{◌≡◌, OnOk};
+ghost use Rattle.std.specs.Prelude.{◌≡◌, ⊤, IfErr, OnOk};
 ghost use Rattle.sqlite.specs.Held.{state};
 ghost use Rattle.sqlite.specs.State.{HasCleanDisk, IsUnchanged};
 ghost use Rattle.terminal_core.specs.Rows.{visit_content};
@@ -6,9 +6,10 @@ ghost use Rattle.office_rows.specs.Tables.{office_schema};
 ghost use Rattle.office_rows.specs.Rows.{listing_content};
 ghost use Rattle.office_rows.specs.Opened.{ShowsNumbers};
 ghost use Rattle.office_checks.specs.Contents.{partner_content, number_content, place_content};
+ghost use Rattle.office_tables.specs.Faults.{IsOfStoreOr};
 ghost use Rattle.office_loading.specs.Decoded.{itself};
 ghost use Rattle.office_loading.specs.Fits.{FitsPartner, FitsNumber, FitsVisit, FitsPlace, FitsLine, FitsBlock};
-ghost use Rattle.office_selecting.specs.Reads.{OnlyReads};
+ghost use Rattle.office_selecting.specs.Reads.{OnlyReads, WritesNothing};
 ghost use Rattle.office_loading.specs.Tables.{ReadsTable, ShowsPartners, ShowsVisits, ShowsPlaces, ShowsLines, ShowsBlocks};
 
 use crate::record::read_all;
@@ -32,6 +33,10 @@ pub(crate) fn read_partners<S: Alter>(
     ensures same { HasCleanDisk (state S.Store conn.new) → (state S.Store conn.old).now.schema ≡ office_schema →
         OnOk result (IsUnchanged (state S.Store conn.old) (state S.Store conn.new)) }
     ensures reads { OnlyReads (state S.Store conn.old) (state S.Store conn.new) }
+    ensures unchanged { HasCleanDisk (state S.Store conn.new) →
+        OnOk result (IsUnchanged (state S.Store conn.old) (state S.Store conn.new)) }
+    ensures unwritten { WritesNothing (state S.Store conn.old) (state S.Store conn.new) }
+    ensures version { IfErr result (IsOfStoreOr ⊤) }
 {
     let rows = select_partners(conn)?;
     read_all(alloc, &rows)
@@ -47,6 +52,10 @@ pub(crate) fn read_numbers<S: Alter>(
     ensures same { HasCleanDisk (state S.Store conn.new) → (state S.Store conn.old).now.schema ≡ office_schema →
         OnOk result (IsUnchanged (state S.Store conn.old) (state S.Store conn.new)) }
     ensures reads { OnlyReads (state S.Store conn.old) (state S.Store conn.new) }
+    ensures unchanged { HasCleanDisk (state S.Store conn.new) →
+        OnOk result (IsUnchanged (state S.Store conn.old) (state S.Store conn.new)) }
+    ensures unwritten { WritesNothing (state S.Store conn.old) (state S.Store conn.new) }
+    ensures version { IfErr result (IsOfStoreOr ⊤) }
 {
     let rows = select_interchanges(conn)?;
     read_all(alloc, &rows)
@@ -62,6 +71,10 @@ pub(crate) fn read_visits<S: Alter>(
     ensures same { HasCleanDisk (state S.Store conn.new) → (state S.Store conn.old).now.schema ≡ office_schema →
         OnOk result (IsUnchanged (state S.Store conn.old) (state S.Store conn.new)) }
     ensures reads { OnlyReads (state S.Store conn.old) (state S.Store conn.new) }
+    ensures unchanged { HasCleanDisk (state S.Store conn.new) →
+        OnOk result (IsUnchanged (state S.Store conn.old) (state S.Store conn.new)) }
+    ensures unwritten { WritesNothing (state S.Store conn.old) (state S.Store conn.new) }
+    ensures version { IfErr result (IsOfStoreOr ⊤) }
 {
     let rows = select_visits(conn)?;
     read_all(alloc, &rows)
@@ -77,6 +90,10 @@ pub(crate) fn read_places<S: Alter>(
     ensures same { HasCleanDisk (state S.Store conn.new) → (state S.Store conn.old).now.schema ≡ office_schema →
         OnOk result (IsUnchanged (state S.Store conn.old) (state S.Store conn.new)) }
     ensures reads { OnlyReads (state S.Store conn.old) (state S.Store conn.new) }
+    ensures unchanged { HasCleanDisk (state S.Store conn.new) →
+        OnOk result (IsUnchanged (state S.Store conn.old) (state S.Store conn.new)) }
+    ensures unwritten { WritesNothing (state S.Store conn.old) (state S.Store conn.new) }
+    ensures version { IfErr result (IsOfStoreOr ⊤) }
 {
     let rows = select_places(conn)?;
     read_all(alloc, &rows)
@@ -92,6 +109,10 @@ pub(crate) fn read_lines<S: Alter>(
     ensures same { HasCleanDisk (state S.Store conn.new) → (state S.Store conn.old).now.schema ≡ office_schema →
         OnOk result (IsUnchanged (state S.Store conn.old) (state S.Store conn.new)) }
     ensures reads { OnlyReads (state S.Store conn.old) (state S.Store conn.new) }
+    ensures unchanged { HasCleanDisk (state S.Store conn.new) →
+        OnOk result (IsUnchanged (state S.Store conn.old) (state S.Store conn.new)) }
+    ensures unwritten { WritesNothing (state S.Store conn.old) (state S.Store conn.new) }
+    ensures version { IfErr result (IsOfStoreOr ⊤) }
 {
     let rows = select_lines(conn)?;
     read_all(alloc, &rows)
@@ -107,6 +128,10 @@ pub(crate) fn read_blocks<S: Alter>(
     ensures same { HasCleanDisk (state S.Store conn.new) → (state S.Store conn.old).now.schema ≡ office_schema →
         OnOk result (IsUnchanged (state S.Store conn.old) (state S.Store conn.new)) }
     ensures reads { OnlyReads (state S.Store conn.old) (state S.Store conn.new) }
+    ensures unchanged { HasCleanDisk (state S.Store conn.new) →
+        OnOk result (IsUnchanged (state S.Store conn.old) (state S.Store conn.new)) }
+    ensures unwritten { WritesNothing (state S.Store conn.old) (state S.Store conn.new) }
+    ensures version { IfErr result (IsOfStoreOr ⊤) }
 {
     let rows = select_blocks(conn)?;
     read_all(alloc, &rows)

@@ -1,1 +1,7 @@
 pub mod ReadLemmas
+pub mod TextLemmas
+pub mod MissingLemmas
+pub mod SettingLemmas
+pub mod LackingLemmas
+pub mod QueryTexts
+pub mod ListedLemmas

@@ -1,14 +1,17 @@
 -- A query of an office's database only reads.
-use Rattle.std.proofs.Common.{◌≡◌, ◌≢◌, ℕ, false, List, inl, inr, sym, subst}
+use Rattle.std.proofs.Common.{◌≡◌, ◌≢◌, ℕ, false, List, Err, inl, inr, sym, subst, ◌∙◌}
 use Rattle.sqlite.specs.Order.{Row}
 use Rattle.sqlite.specs.Listing.{understood}
-use Rattle.sqlite.specs.State.{State, HasCleanDisk, Shown, FailsToQuery, CommitsShowing, Survives}
+use Rattle.sqlite.specs.State.{State, HasCleanDisk, IsUnchanged, KeepsCommit, Shown, ShowsRows, FailsToQuery, FailsToShow, IsNotRun, CommitsShowing, Survives}
+use Rattle.sqlite.specs.Clock.{timed}
 use Rattle.sqlite.specs.declared.error.Error.{Error}
+use Rattle.sqlite_resolve.specs.declared.error.CompileError.{CompileError}
 use Rattle.sqlite.proofs.Callers.{IsPlain}
 use Rattle.office_rows.specs.Tables.{office_schema}
 use Rattle.office_rows.proofs.ReadLemmas.{shown_keeps, failed_keeps}
+use Rattle.office_rows.proofs.StepLemmas.{stops_keep}
 use Rattle.office_tables.proofs.OpenLemmas.{shown_open, failed_open}
-use Rattle.office_selecting.specs.Reads.{OnlyReads}
+use Rattle.office_selecting.specs.Reads.{OnlyReads, OnlyShows, WritesNothing}
 
 pub plain_in : (sql : List ℕ) (old : State) → IsPlain (understood office_schema sql) → old.now.schema ≡ office_schema → IsPlain (understood old.now.schema sql)
 plain_in sql old plain is = subst (λ s. IsPlain (understood s sql)) (sym is) plain
@@ -56,3 +59,41 @@ quiet old new reads is = record {
   closes = reads.survives.closes;
   crash = λ clean db left. elim (reads.survives.crash clean db left) [ inl before ↦ inl before | inr other ↦ absurd (other is) ];
 }
+
+-- ---- under any schema
+
+module _ (sql : List ℕ) (params : Row) (old new : State) (shows : OnlyShows sql) where
+  pub shown_unchanged : (rows : List Row) → Shown sql params old new rows → IsUnchanged old new
+  unfolding Shown
+  shown_unchanged rows h = (subst (ShowsRows old new sql h.0 (timed params h.0.formats h.1.now) rows) (shows old.now.schema h.0 h.1.is) h.2).3
+
+  failed_commits_nothing : (e : Error) → FailsToQuery sql params old new e → KeepsCommit old new
+  unfolding FailsToQuery IsNotRun
+  failed_commits_nothing e (inl (inl stopped)) = stops_keep old new (inl stopped.1)
+  failed_commits_nothing e (inl (inr failed)) = stops_keep old new (inr failed.3)
+  failed_commits_nothing e (inr h) = stops_keep old new (inl (subst (FailsToShow old new sql h.0 (timed params h.0.formats h.1.now) e) (shows old.now.schema h.0 h.1.is) h.2).3)
+
+  query_survives : Survives old new (CommitsShowing sql params old) → Survives old new (λ _. ⊥)
+  unfolding CommitsShowing
+  query_survives s = record {
+    clean = s.clean;
+    shield = s.shield;
+    counts = s.counts;
+    limit = s.limit;
+    closes = s.closes;
+    crash = λ clean db left. elim (s.crash clean db left) [
+      | inl before ↦ inl before
+      | inr made ↦ absurd (let none = shows old.now.schema made.0 made.1.is in let e = rw none at made.2 in cc)
+    ];
+  }
+
+  pub writes_nothing_shown : (rows : List Row) → (HasCleanDisk new → Shown sql params old new rows) → Survives old new (CommitsShowing sql params old) → WritesNothing old new
+  writes_nothing_shown rows shown s = record { keeps = λ clean. stops_keep old new (inl (shown_unchanged rows (shown clean))); survives = query_survives s }
+
+  pub writes_nothing_failed : (e : Error) → (HasCleanDisk new → FailsToQuery sql params old new e) → Survives old new (CommitsShowing sql params old) → WritesNothing old new
+  writes_nothing_failed e fails s = record { keeps = λ clean. failed_commits_nothing e (fails clean); survives = query_survives s }
+
+-- what isn't understood shows nothing
+pub never_shown : (sql : List ℕ) (params : Row) (old new : State) (rows : List Row) (e : CompileError) → understood old.now.schema sql ≡ Err e → ¬ Shown sql params old new rows
+unfolding Shown
+never_shown sql params old new rows e fails h = absurd (let is = sym fails ∙ h.1.is in cc)

@@ -1,11 +1,12 @@
-ghost use Rattle.std.specs.Prelude.{◌≡◌, IfOk, IfErr, OnOk, false, [], ◌∷◌};
+ghost use Rattle.std.specs.Prelude.{◌≡◌, ℕ, IfOk, IfErr, OnOk, false, [], ◌∷◌};
 ghost use Rattle.sqlite.specs.Held.{state};
 ghost use Rattle.sqlite.specs.Given.{IsPlain};
 ghost use Rattle.sqlite.specs.Listing.{understood};
 ghost use Rattle.sqlite.specs.State.{HasCleanDisk, IsUnchanged, Shown};
 ghost use Rattle.office_rows.specs.Tables.{partner, interchange, visit, place, listed, setting, block, office_schema};
 ghost use Rattle.office_rows.specs.Shown.{ShowsTable};
-ghost use Rattle.office_selecting.specs.Reads.{OnlyReads};
+ghost use Rattle.office_selecting.specs.Reads.{OnlyReads, OnlyShows, WritesNothing};
+ghost use Rattle.office_selecting.specs.Settings.{HasNoSettings, HasSettings, setting_in};
 ghost use Rattle.office_tables.specs.Faults.{IsOfStore};
 
 use office_tables::TableFault;
@@ -14,11 +15,15 @@ use sqlite::{Alter, Connection, Row};
 /// The rows that a query shows.
 fn select<S: Alter>(conn: &mut Connection<S>, query: &str) -> Result<Vec<Row>, TableFault>
     requires plain { IsPlain (understood office_schema query.now) }
+    requires shows { OnlyShows query.now }
     ensures shown { HasCleanDisk (state S.Store conn.new) →
         IfOk result (λ answer. Shown query.now [] (state S.Store conn.old) (state S.Store conn.new) answer.items) }
     ensures same { HasCleanDisk (state S.Store conn.new) → (state S.Store conn.old).now.schema ≡ office_schema →
         OnOk result (IsUnchanged (state S.Store conn.old) (state S.Store conn.new)) }
     ensures reads { OnlyReads (state S.Store conn.old) (state S.Store conn.new) }
+    ensures unchanged { HasCleanDisk (state S.Store conn.new) →
+        OnOk result (IsUnchanged (state S.Store conn.old) (state S.Store conn.new)) }
+    ensures unwritten { WritesNothing (state S.Store conn.old) (state S.Store conn.new) }
     ensures fault { IfErr result IsOfStore }
 {
     Ok(conn.query_all(query, &[])?)
@@ -32,6 +37,9 @@ pub fn select_partners<S: Alter>(conn: &mut Connection<S>) -> Result<Vec<Row>, T
     ensures same { HasCleanDisk (state S.Store conn.new) → (state S.Store conn.old).now.schema ≡ office_schema →
         OnOk result (IsUnchanged (state S.Store conn.old) (state S.Store conn.new)) }
     ensures reads { OnlyReads (state S.Store conn.old) (state S.Store conn.new) }
+    ensures unchanged { HasCleanDisk (state S.Store conn.new) →
+        OnOk result (IsUnchanged (state S.Store conn.old) (state S.Store conn.new)) }
+    ensures unwritten { WritesNothing (state S.Store conn.old) (state S.Store conn.new) }
     ensures fault { IfErr result IsOfStore }
 {
     select(conn, "SELECT id, code, kind, next FROM partner ORDER BY id")
@@ -45,6 +53,9 @@ pub fn select_interchanges<S: Alter>(conn: &mut Connection<S>) -> Result<Vec<Row
     ensures same { HasCleanDisk (state S.Store conn.new) → (state S.Store conn.old).now.schema ≡ office_schema →
         OnOk result (IsUnchanged (state S.Store conn.old) (state S.Store conn.new)) }
     ensures reads { OnlyReads (state S.Store conn.old) (state S.Store conn.new) }
+    ensures unchanged { HasCleanDisk (state S.Store conn.new) →
+        OnOk result (IsUnchanged (state S.Store conn.old) (state S.Store conn.new)) }
+    ensures unwritten { WritesNothing (state S.Store conn.old) (state S.Store conn.new) }
     ensures fault { IfErr result IsOfStore }
 {
     select(
@@ -62,6 +73,9 @@ pub fn select_visits<S: Alter>(conn: &mut Connection<S>) -> Result<Vec<Row>, Tab
     ensures same { HasCleanDisk (state S.Store conn.new) → (state S.Store conn.old).now.schema ≡ office_schema →
         OnOk result (IsUnchanged (state S.Store conn.old) (state S.Store conn.new)) }
     ensures reads { OnlyReads (state S.Store conn.old) (state S.Store conn.new) }
+    ensures unchanged { HasCleanDisk (state S.Store conn.new) →
+        OnOk result (IsUnchanged (state S.Store conn.old) (state S.Store conn.new)) }
+    ensures unwritten { WritesNothing (state S.Store conn.old) (state S.Store conn.new) }
     ensures fault { IfErr result IsOfStore }
 {
     select(
@@ -77,6 +91,9 @@ pub fn select_places<S: Alter>(conn: &mut Connection<S>) -> Result<Vec<Row>, Tab
     ensures same { HasCleanDisk (state S.Store conn.new) → (state S.Store conn.old).now.schema ≡ office_schema →
         OnOk result (IsUnchanged (state S.Store conn.old) (state S.Store conn.new)) }
     ensures reads { OnlyReads (state S.Store conn.old) (state S.Store conn.new) }
+    ensures unchanged { HasCleanDisk (state S.Store conn.new) →
+        OnOk result (IsUnchanged (state S.Store conn.old) (state S.Store conn.new)) }
+    ensures unwritten { WritesNothing (state S.Store conn.old) (state S.Store conn.new) }
     ensures fault { IfErr result IsOfStore }
 {
     select(conn, "SELECT box, visit, slot FROM place ORDER BY box")
@@ -91,6 +108,9 @@ pub fn select_lines<S: Alter>(conn: &mut Connection<S>) -> Result<Vec<Row>, Tabl
     ensures same { HasCleanDisk (state S.Store conn.new) → (state S.Store conn.old).now.schema ≡ office_schema →
         OnOk result (IsUnchanged (state S.Store conn.old) (state S.Store conn.new)) }
     ensures reads { OnlyReads (state S.Store conn.old) (state S.Store conn.new) }
+    ensures unchanged { HasCleanDisk (state S.Store conn.new) →
+        OnOk result (IsUnchanged (state S.Store conn.old) (state S.Store conn.new)) }
+    ensures unwritten { WritesNothing (state S.Store conn.old) (state S.Store conn.new) }
     ensures fault { IfErr result IsOfStore }
 {
     select(
@@ -103,9 +123,17 @@ pub fn select_lines<S: Alter>(conn: &mut Connection<S>) -> Result<Vec<Row>, Tabl
 pub fn select_settings<S: Alter>(conn: &mut Connection<S>) -> Result<Vec<Row>, TableFault>
     ensures shown { HasCleanDisk (state S.Store conn.new) → (state S.Store conn.old).now.schema ≡ office_schema
         → IfOk result (λ answer. ShowsTable setting (0 ∷ 1 ∷ []) (0 ∷ []) (state S.Store conn.old).now answer.items) }
+    ensures missing { HasCleanDisk (state S.Store conn.new) → HasNoSettings (state S.Store conn.old).now.schema →
+        IfOk result (λ _. ⊥) }
+    ensures there { HasCleanDisk (state S.Store conn.new) → (tree : ℕ) →
+        HasSettings (state S.Store conn.old).now.schema tree → IfOk result (λ answer.
+        ShowsTable (setting_in tree) (0 ∷ 1 ∷ []) (0 ∷ []) (state S.Store conn.old).now answer.items) }
     ensures same { HasCleanDisk (state S.Store conn.new) → (state S.Store conn.old).now.schema ≡ office_schema →
         OnOk result (IsUnchanged (state S.Store conn.old) (state S.Store conn.new)) }
     ensures reads { OnlyReads (state S.Store conn.old) (state S.Store conn.new) }
+    ensures unchanged { HasCleanDisk (state S.Store conn.new) →
+        OnOk result (IsUnchanged (state S.Store conn.old) (state S.Store conn.new)) }
+    ensures unwritten { WritesNothing (state S.Store conn.old) (state S.Store conn.new) }
     ensures fault { IfErr result IsOfStore }
 {
     select(conn, "SELECT name, value FROM setting ORDER BY name")
@@ -119,6 +147,9 @@ pub fn select_blocks<S: Alter>(conn: &mut Connection<S>) -> Result<Vec<Row>, Tab
     ensures same { HasCleanDisk (state S.Store conn.new) → (state S.Store conn.old).now.schema ≡ office_schema →
         OnOk result (IsUnchanged (state S.Store conn.old) (state S.Store conn.new)) }
     ensures reads { OnlyReads (state S.Store conn.old) (state S.Store conn.new) }
+    ensures unchanged { HasCleanDisk (state S.Store conn.new) →
+        OnOk result (IsUnchanged (state S.Store conn.old) (state S.Store conn.new)) }
+    ensures unwritten { WritesNothing (state S.Store conn.old) (state S.Store conn.new) }
     ensures fault { IfErr result IsOfStore }
 {
     select(

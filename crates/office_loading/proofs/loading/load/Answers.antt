@@ -37,3 +37,25 @@ returns-in_err-tables-clause-was_open g c clean is = c.read_tables.ensures.reads
 
 pub returns-in-Ok-clause-given : goal.returns-in-Ok-clause-given
 returns-in-Ok-clause-given g c = c.in-Ok.ensures.ok.given
+
+-- ---- under any schema
+
+pub returns-in_err-tables-clause-version : goal.returns-in_err-tables-clause-version
+returns-in_err-tables-clause-version g c clean tree has =
+    let p = err_from_is_err_and c.from_residual.result c.from_residual.ensures.1 in
+    rw (p.1, p.2) (c.in_err-tables.ensures.version clean tree has)
+
+pub returns-in-Ok-clause-version : goal.returns-in-Ok-clause-version
+returns-in-Ok-clause-version g c clean tree has = c.in_ok-tables.ensures.version clean tree has
+
+pub returns-in-Err-Unsound-clause-version : goal.returns-in-Err-Unsound-clause-version
+returns-in-Err-Unsound-clause-version g c clean tree has = c.in_ok-tables.ensures.version clean tree has
+
+pub returns-in-Ok-clause-missing : goal.returns-in-Ok-clause-missing
+returns-in-Ok-clause-missing g c clean none = absurd (c.in_ok-tables.ensures.missing clean none)
+
+pub returns-in-Err-Unsound-clause-missing : goal.returns-in-Err-Unsound-clause-missing
+returns-in-Err-Unsound-clause-missing g c clean none = absurd (c.in_ok-tables.ensures.missing clean none)
+
+pub returns-in-Err-Memory-clause-missing : goal.returns-in-Err-Memory-clause-missing
+returns-in-Err-Memory-clause-missing g c clean none = absurd (c.in_ok-tables.ensures.missing clean none)

@@ -6,11 +6,13 @@ use Rattle.sqlite.specs.Held.{state}
 use Rattle.terminal_core.specs.Rows.{visit_content}
 use Rattle.office_rows.specs.Rows.{listing_content}
 use Rattle.office_rows.specs.Opened.{OpenedRows, ShowsNumbers}
+use Rattle.office_checks.specs.declared.opened_tables.OpenedTables.{OpenedTables}
 use Rattle.office_checks.specs.Contents.{partner_content, number_content, place_content}
 use Rattle.office_loading.specs.Decoded.{itself}
 use Rattle.office_loading.specs.Fits.{FitsPartner, FitsNumber, FitsVisit, FitsPlace, FitsLine, FitsBlock}
 use Rattle.office_loading.specs.Tables.{FailsTable, ReadsTable, ShowsPartners, ShowsVisits, ShowsPlaces, ShowsLines, ShowsBlocks}
-use Rattle.office_loading.proofs.ChainLemmas.{After, after, reads_then, clean_before, from_first, one_fails, settings_fail, same_items}
+use Rattle.office_loading.proofs.VersionLemmas.{fault_tells}
+use Rattle.office_loading.proofs.ChainLemmas.{◌then◌, clean_first, unchanged_then, After, after, reads_then, clean_before, from_first, one_fails, settings_fail, same_items}
 use Rattle.office_loading.proofs.opening.read_tables.Goals as goal
 
 pub returns-in_err-settings-clause-read : goal.returns-in_err-settings-clause-read
@@ -322,3 +324,130 @@ returns-clause-read g c clean is =
       record { partners = r1.0; numbers = r2.0; visits = r3.0; places = r4.0; lines = r5.0; settings = said.1.0; blocks = subst (ShowsBlocks s0.now) blocks r6.0 },
       record { partners = r1.1; numbers = r2.1; visits = r3.1; places = r4.1; lines = r5.1; settings = said.1.1; blocks = subst (AllByRecursion FitsBlock) blocks r6.1 },
     )
+
+-- ---- under any schema
+
+pub returns-in_err-partners-clause-unwritten : goal.returns-in_err-partners-clause-unwritten
+returns-in_err-partners-clause-unwritten g c =
+    c.read_settings.ensures.unwritten then c.read_partners.ensures.unwritten
+
+pub returns-in_err-partners-clause-missing : goal.returns-in_err-partners-clause-missing
+returns-in_err-partners-clause-missing g c clean none =
+    absurd (c.in_ok-settings.ensures.missing (clean_first (c.read_partners.ensures.unwritten) clean) none)
+
+pub returns-in_err-partners-clause-version : goal.returns-in_err-partners-clause-version
+returns-in_err-partners-clause-version g c clean tree has =
+    let named = c.in_ok-settings.ensures.version (clean_first (c.read_partners.ensures.unwritten) clean) tree has in
+    let p = err_from_is_err_and c.from_residual-in_err-partners.result c.from_residual-in_err-partners.ensures.1 in
+    rw (p.1, p.2) (fault_tells OpenedTables ((state g.S.Store c.args.conn.now).now.trees tree) c.in_err-partners.field-0.0 named c.in_err-partners.ensures.version)
+
+pub returns-in_err-numbers-clause-unwritten : goal.returns-in_err-numbers-clause-unwritten
+returns-in_err-numbers-clause-unwritten g c =
+    c.read_settings.ensures.unwritten then c.read_partners.ensures.unwritten then c.read_numbers.ensures.unwritten
+
+pub returns-in_err-numbers-clause-missing : goal.returns-in_err-numbers-clause-missing
+returns-in_err-numbers-clause-missing g c clean none =
+    absurd (c.in_ok-settings.ensures.missing (clean_first (c.read_partners.ensures.unwritten then c.read_numbers.ensures.unwritten) clean) none)
+
+pub returns-in_err-numbers-clause-version : goal.returns-in_err-numbers-clause-version
+returns-in_err-numbers-clause-version g c clean tree has =
+    let named = c.in_ok-settings.ensures.version (clean_first (c.read_partners.ensures.unwritten then c.read_numbers.ensures.unwritten) clean) tree has in
+    let p = err_from_is_err_and c.from_residual-in_err-numbers.result c.from_residual-in_err-numbers.ensures.1 in
+    rw (p.1, p.2) (fault_tells OpenedTables ((state g.S.Store c.args.conn.now).now.trees tree) c.in_err-numbers.field-0.0 named c.in_err-numbers.ensures.version)
+
+pub returns-in_err-visits-clause-unwritten : goal.returns-in_err-visits-clause-unwritten
+returns-in_err-visits-clause-unwritten g c =
+    c.read_settings.ensures.unwritten then c.read_partners.ensures.unwritten then c.read_numbers.ensures.unwritten then c.read_visits.ensures.unwritten
+
+pub returns-in_err-visits-clause-missing : goal.returns-in_err-visits-clause-missing
+returns-in_err-visits-clause-missing g c clean none =
+    absurd (c.in_ok-settings.ensures.missing (clean_first (c.read_partners.ensures.unwritten then c.read_numbers.ensures.unwritten then c.read_visits.ensures.unwritten) clean) none)
+
+pub returns-in_err-visits-clause-version : goal.returns-in_err-visits-clause-version
+returns-in_err-visits-clause-version g c clean tree has =
+    let named = c.in_ok-settings.ensures.version (clean_first (c.read_partners.ensures.unwritten then c.read_numbers.ensures.unwritten then c.read_visits.ensures.unwritten) clean) tree has in
+    let p = err_from_is_err_and c.from_residual-in_err-visits.result c.from_residual-in_err-visits.ensures.1 in
+    rw (p.1, p.2) (fault_tells OpenedTables ((state g.S.Store c.args.conn.now).now.trees tree) c.in_err-visits.field-0.0 named c.in_err-visits.ensures.version)
+
+pub returns-in_err-places-clause-unwritten : goal.returns-in_err-places-clause-unwritten
+returns-in_err-places-clause-unwritten g c =
+    c.read_settings.ensures.unwritten then c.read_partners.ensures.unwritten then c.read_numbers.ensures.unwritten then c.read_visits.ensures.unwritten then c.read_places.ensures.unwritten
+
+pub returns-in_err-places-clause-missing : goal.returns-in_err-places-clause-missing
+returns-in_err-places-clause-missing g c clean none =
+    absurd (c.in_ok-settings.ensures.missing (clean_first (c.read_partners.ensures.unwritten then c.read_numbers.ensures.unwritten then c.read_visits.ensures.unwritten then c.read_places.ensures.unwritten) clean) none)
+
+pub returns-in_err-places-clause-version : goal.returns-in_err-places-clause-version
+returns-in_err-places-clause-version g c clean tree has =
+    let named = c.in_ok-settings.ensures.version (clean_first (c.read_partners.ensures.unwritten then c.read_numbers.ensures.unwritten then c.read_visits.ensures.unwritten then c.read_places.ensures.unwritten) clean) tree has in
+    let p = err_from_is_err_and c.from_residual-in_err-places.result c.from_residual-in_err-places.ensures.1 in
+    rw (p.1, p.2) (fault_tells OpenedTables ((state g.S.Store c.args.conn.now).now.trees tree) c.in_err-places.field-0.0 named c.in_err-places.ensures.version)
+
+pub returns-in_err-lines-clause-unwritten : goal.returns-in_err-lines-clause-unwritten
+returns-in_err-lines-clause-unwritten g c =
+    c.read_settings.ensures.unwritten then c.read_partners.ensures.unwritten then c.read_numbers.ensures.unwritten then c.read_visits.ensures.unwritten then c.read_places.ensures.unwritten then c.read_lines.ensures.unwritten
+
+pub returns-in_err-lines-clause-missing : goal.returns-in_err-lines-clause-missing
+returns-in_err-lines-clause-missing g c clean none =
+    absurd (c.in_ok-settings.ensures.missing (clean_first (c.read_partners.ensures.unwritten then c.read_numbers.ensures.unwritten then c.read_visits.ensures.unwritten then c.read_places.ensures.unwritten then c.read_lines.ensures.unwritten) clean) none)
+
+pub returns-in_err-lines-clause-version : goal.returns-in_err-lines-clause-version
+returns-in_err-lines-clause-version g c clean tree has =
+    let named = c.in_ok-settings.ensures.version (clean_first (c.read_partners.ensures.unwritten then c.read_numbers.ensures.unwritten then c.read_visits.ensures.unwritten then c.read_places.ensures.unwritten then c.read_lines.ensures.unwritten) clean) tree has in
+    let p = err_from_is_err_and c.from_residual-in_err-lines.result c.from_residual-in_err-lines.ensures.1 in
+    rw (p.1, p.2) (fault_tells OpenedTables ((state g.S.Store c.args.conn.now).now.trees tree) c.in_err-lines.field-0.0 named c.in_err-lines.ensures.version)
+
+pub returns-in_err-blocks-clause-unwritten : goal.returns-in_err-blocks-clause-unwritten
+returns-in_err-blocks-clause-unwritten g c =
+    c.read_settings.ensures.unwritten then c.read_partners.ensures.unwritten then c.read_numbers.ensures.unwritten then c.read_visits.ensures.unwritten then c.read_places.ensures.unwritten then c.read_lines.ensures.unwritten then c.read_blocks.ensures.unwritten
+
+pub returns-in_err-blocks-clause-missing : goal.returns-in_err-blocks-clause-missing
+returns-in_err-blocks-clause-missing g c clean none =
+    absurd (c.in_ok-settings.ensures.missing (clean_first (c.read_partners.ensures.unwritten then c.read_numbers.ensures.unwritten then c.read_visits.ensures.unwritten then c.read_places.ensures.unwritten then c.read_lines.ensures.unwritten then c.read_blocks.ensures.unwritten) clean) none)
+
+pub returns-in_err-blocks-clause-version : goal.returns-in_err-blocks-clause-version
+returns-in_err-blocks-clause-version g c clean tree has =
+    let named = c.in_ok-settings.ensures.version (clean_first (c.read_partners.ensures.unwritten then c.read_numbers.ensures.unwritten then c.read_visits.ensures.unwritten then c.read_places.ensures.unwritten then c.read_lines.ensures.unwritten then c.read_blocks.ensures.unwritten) clean) tree has in
+    let p = err_from_is_err_and c.from_residual-in_err-blocks.result c.from_residual-in_err-blocks.ensures.1 in
+    rw (p.1, p.2) (fault_tells OpenedTables ((state g.S.Store c.args.conn.now).now.trees tree) c.in_err-blocks.field-0.0 named c.in_err-blocks.ensures.version)
+
+pub returns-clause-unwritten : goal.returns-clause-unwritten
+returns-clause-unwritten g c =
+    c.read_settings.ensures.unwritten then c.read_partners.ensures.unwritten then c.read_numbers.ensures.unwritten then c.read_visits.ensures.unwritten then c.read_places.ensures.unwritten then c.read_lines.ensures.unwritten then c.read_blocks.ensures.unwritten
+
+pub returns-clause-missing : goal.returns-clause-missing
+returns-clause-missing g c clean none =
+    absurd (c.in_ok-settings.ensures.missing (clean_first (c.read_partners.ensures.unwritten then c.read_numbers.ensures.unwritten then c.read_visits.ensures.unwritten then c.read_places.ensures.unwritten then c.read_lines.ensures.unwritten then c.read_blocks.ensures.unwritten) clean) none)
+
+pub returns-clause-version : goal.returns-clause-version
+returns-clause-version g c clean tree has =
+    c.in_ok-settings.ensures.version (clean_first (c.read_partners.ensures.unwritten then c.read_numbers.ensures.unwritten then c.read_visits.ensures.unwritten then c.read_places.ensures.unwritten then c.read_lines.ensures.unwritten then c.read_blocks.ensures.unwritten) clean) tree has
+
+pub returns-clause-unchanged : goal.returns-clause-unchanged
+returns-clause-unchanged g c clean =
+    let s0 = state g.S.Store c.args.conn.now in
+    let s1 = state g.S.Store c.read_settings.new.conn in
+    let s2 = state g.S.Store c.read_partners.new.conn in
+    let s3 = state g.S.Store c.read_numbers.new.conn in
+    let s4 = state g.S.Store c.read_visits.new.conn in
+    let s5 = state g.S.Store c.read_places.new.conn in
+    let s6 = state g.S.Store c.read_lines.new.conn in
+    let s7 = state g.S.Store c.read_blocks.new.conn in
+    let clean6 = clean_first c.read_blocks.ensures.unwritten clean in
+    let clean5 = clean_first c.read_lines.ensures.unwritten clean6 in
+    let clean4 = clean_first c.read_places.ensures.unwritten clean5 in
+    let clean3 = clean_first c.read_visits.ensures.unwritten clean4 in
+    let clean2 = clean_first c.read_numbers.ensures.unwritten clean3 in
+    let clean1 = clean_first c.read_partners.ensures.unwritten clean2 in
+    let u1 = c.in_ok-settings.ensures.unchanged clean1 in
+    let u2 = unchanged_then s0 s1 s2 u1 (c.in_ok-partners.ensures.unchanged clean2) in
+    let u3 = unchanged_then s0 s2 s3 u2 (c.in_ok-numbers.ensures.unchanged clean3) in
+    let u4 = unchanged_then s0 s3 s4 u3 (c.in_ok-visits.ensures.unchanged clean4) in
+    let u5 = unchanged_then s0 s4 s5 u4 (c.in_ok-places.ensures.unchanged clean5) in
+    let u6 = unchanged_then s0 s5 s6 u5 (c.in_ok-lines.ensures.unchanged clean6) in
+    unchanged_then s0 s6 s7 u6 (c.in_ok-blocks.ensures.unchanged clean)
+
+pub returns-in_err-settings-clause-version : goal.returns-in_err-settings-clause-version
+returns-in_err-settings-clause-version g c clean tree has =
+    let p = err_from_is_err_and c.from_residual.result c.from_residual.ensures.1 in
+    rw (p.1, p.2) (c.in_err-settings.ensures.version clean tree has)

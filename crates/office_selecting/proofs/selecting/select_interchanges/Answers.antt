@@ -2,10 +2,11 @@ use Rattle.sqlite.specs.Held.{state}
 use Rattle.office_rows.proofs.Reading.{select_interchange_plain}
 use Rattle.office_rows.proofs.Listed.{lists_interchange}
 use Rattle.office_rows.proofs.StepLemmas.{if_ok}
+use Rattle.office_selecting.proofs.QueryTexts.{interchange_shows}
 use Rattle.office_selecting.proofs.selecting.select_interchanges.Goals as goal
 
 pub select-requires : goal.select-requires
-select-requires g c = record { plain = select_interchange_plain }
+select-requires g c = record { plain = select_interchange_plain; shows = interchange_shows }
 
 pub returns-clause-shown : goal.returns-clause-shown
 returns-clause-shown g c clean is =

@@ -2,10 +2,11 @@ use Rattle.sqlite.specs.Held.{state}
 use Rattle.office_rows.proofs.Reading.{select_listed_plain}
 use Rattle.office_rows.proofs.Listed.{lists_listed}
 use Rattle.office_rows.proofs.StepLemmas.{if_ok}
+use Rattle.office_selecting.proofs.QueryTexts.{listed_shows}
 use Rattle.office_selecting.proofs.selecting.select_lines.Goals as goal
 
 pub select-requires : goal.select-requires
-select-requires g c = record { plain = select_listed_plain }
+select-requires g c = record { plain = select_listed_plain; shows = listed_shows }
 
 pub returns-clause-shown : goal.returns-clause-shown
 returns-clause-shown g c clean is =
