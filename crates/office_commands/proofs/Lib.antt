@@ -1,3 +1,4 @@
 mod DemoGiven
 mod Leaving
 mod OpenedLemmas
+mod StreamLemmas

@@ -1,3 +1,5 @@
 pub mod Opening
+pub mod Ending
 pub mod Demo
 pub mod Command
+pub mod Delivering
