@@ -2,3 +2,4 @@ mod DemoGiven
 mod Leaving
 mod OpenedLemmas
 mod StreamLemmas
+mod ReportLemmas

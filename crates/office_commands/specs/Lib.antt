@@ -3,3 +3,4 @@ pub mod Ending
 pub mod Demo
 pub mod Command
 pub mod Delivering
+pub mod Reporting

@@ -1,5 +1,6 @@
-//! How the program opens a store in files, and takes interchanges to it, over whatever is read and written. And the
-//! demonstration, which takes interchanges to a terminal whose tables are in memory.
+//! How the program opens a store in files, and what it does with it over whatever is read and written: it takes
+//! interchanges, and prints reports. And the demonstration, which takes interchanges to a terminal whose tables are in
+//! memory.
 #![tactic(auto)]
 
 mod command;
@@ -10,6 +11,7 @@ pub mod demo_setup;
 pub mod open_demo;
 pub mod open_desk;
 mod opening;
+mod report;
 mod telling;
 
 pub use command::demonstrate;
@@ -17,4 +19,5 @@ pub use deliver::{TURNS, deliver_over, deliver_to};
 pub use demo::run_demo;
 pub use demo_fault::DemoFault;
 pub use opening::{make_store, open_store};
+pub use report::{report_on, report_over};
 pub use telling::{tell_fault, tell_outcome};
