@@ -1,5 +1,5 @@
 -- The set-up of the demonstration.
-use Rattle.std.specs.Prelude.{◌≡◌, ℕ, Bool, true, List, [], ◌∷◌, Option, codes}
+use Rattle.std.specs.Prelude.{◌≡◌, ℕ, Bool, true, List, [], ◌∷◌, codes}
 use Rattle.edi_segments.specs.Bytes.{capital_a}
 use Rattle.edi_messages.specs.Codes.{table_texts}
 use Rattle.edi_messages.specs.declared.code_table.CodeTable.{CodeTable}
@@ -73,10 +73,6 @@ pub record DemoDelivered (ports : PortBytes) : Type 0 where
   pub opens : OpensDemo opening
   pub delivered : Delivered (StandsFor over_memory (setup_content opening.setup))
       (answers_for (setup_content opening.setup)) [] ports desk
-
--- how many reads of the input are made
-abbrev pub demo_turns : ℕ
-demo_turns = 100000000
 
 -- What was done before a fault. If the desk did not open, nothing was read or written. A read that failed leaves what
 -- was answered before, and so do too many reads. So does a write that failed, but for the line that it cut short.
