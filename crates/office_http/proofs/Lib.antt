@@ -5,3 +5,4 @@ pub mod Keys
 pub mod Values
 pub mod OneRequest
 pub mod Serving
+pub mod Deciding

@@ -1,12 +1,13 @@
 -- One connection after the other, and a refusal.
-use Rattle.std.proofs.Common.{ℕ, ◌+◌, ◌≤◌, List, [], ◌∷◌, ◌++◌, length, inl, inr, arith}
+use Rattle.std.proofs.Common.{Option, ℕ, ◌+◌, ◌≤◌, List, [], ◌∷◌, ◌++◌, length, inl, inr, arith}
 use Rattle.std.proofs.lemmas.List.{length_push}
 use Rattle.office_replies.specs.declared.response.Response.{Response}
 use Rattle.office_stream.specs.Streams.{Answered}
 use Rattle.office_replies.specs.Delivering.{events_behind}
 use Rattle.office_replies.specs.Events.{Event}
 use Rattle.office_stream.proofs.Answering.{answered_more}
-use Rattle.office_http.specs.Served.{AtMost, AtMostOne, Refuses}
+use Rattle.office_queries.specs.declared.query.Query.{Query}
+use Rattle.office_http.specs.Served.{AtMost, AtMostOne, Refuses, Reports}
 use Rattle.office_http.specs.declared.request.Request.{Request}
 use Rattle.office_http.specs.declared.request.Request.TheVariants.{Delivery, Report, Refused}
 
@@ -44,3 +45,11 @@ pub refuses_so : {D : Type 0} (request : Request) (old new : D) (P Q : List ℕ 
 refuses_so (Delivery body) old new P Q on none = tt
 refuses_so (Report kind query) old new P Q on none = tt
 refuses_so (Refused refusal) old new P Q on (same, written) = (same, on _ written)
+
+-- a report, with other words of what is written
+pub reports_so : {D : Type 0} (tells : D → Query → Option (List ℕ) → Type 0) (request : Request) (old : D) (P Q : List ℕ → Type 0) →
+    ((bytes : List ℕ) → P bytes → Q bytes) → Reports tells request old P → Reports tells request old Q
+reports_so tells (Delivery body) old P Q on none = tt
+reports_so tells (Report kind query) old P Q on (inl (found, told, written)) = inl (found, told, on _ written)
+reports_so tells (Report kind query) old P Q on (inr written) = inr (on _ written)
+reports_so tells (Refused refusal) old P Q on none = tt

@@ -4,3 +4,4 @@ pub mod Routes
 pub mod Fields
 pub mod Requests
 pub mod Served
+pub mod Deciding

@@ -55,6 +55,22 @@ Refuses (Delivery body) old new IsWritten = Unit {0}
 Refuses (Report kind query) old new IsWritten = Unit {0}
 Refuses (Refused refusal) old new IsWritten = (new ≡ old) × IsWritten (refusal_bytes refusal)
 
+-- a report, whatever office it is: what that has to tell is written, or that it can't be told now
+abbrev pub Reports : {D : Type 0} → (D → Query → Option (List ℕ) → Type 0) → Request → D → (List ℕ → Type 0) → Type 0
+Reports tells (Delivery body) old IsWritten = Unit {0}
+Reports tells (Report kind query) old IsWritten =
+    ((found : Option (List ℕ)) × tells old query found × IsWritten (report_bytes kind found))
+    ⊎ IsWritten (refusal_bytes NotNow)
+Reports tells (Refused refusal) old IsWritten = Unit {0}
+
+-- what a stream asks for was refused or reported, if it is no delivery, whatever office it is
+pub record RefusesOrReports {D : Type 0} (clean : D → Type 0) (tells : D → Query → Option (List ℕ) → Type 0)
+    (stream : List ℕ) (old new : D) (IsWritten : List ℕ → Type 0) : Type 0 where
+  pub request : Request
+  pub asks : Asks stream request
+  pub refused : Refuses request old new IsWritten
+  pub reported : clean new → Reports tells request old IsWritten
+
 -- what a stream asks for was done
 pub record Serves {D : Type 0} (stands : List Event → D → Type 0)
     (answers : List Event → List ℕ → Response → Type 0)

@@ -1,4 +1,4 @@
-ghost use Rattle.std.specs.Prelude.{◌≡◌, ◌⊎◌, ◌≤◌, ◌+◌, ◌++◌, true, IfOk, IfSome, OnOk, OnErr, Ok};
+ghost use Rattle.std.specs.Prelude.{◌≡◌, ◌⊎◌, ◌≤◌, ◌+◌, ◌-◌, ◌++◌, length, true, false, IfOk, IfSome, OnOk, OnErr, Ok};
 ghost use Rattle.office_http.specs.Requests.{Posts};
 ghost use Rattle.office_http.specs.declared.request.Request.TheVariants.{Refused};
 ghost use Rattle.office_http.specs.declared.refusal.Refusal.TheVariants.{NotNow};
@@ -19,7 +19,8 @@ pub(crate) fn read_delivery<R: Read>(
 ) -> Result<Request>
     ensures posts { IfOk result (λ request. IfSome (R.remaining reader.old.inner) (λ left.
         (request ≡ Refused NotNow) ⊎ Posts (Ok size) (front.now ++ left) request)) }
-    ensures reads { reader.new.reads ≤ reader.old.reads + size }
+    ensures reads { reader.new.reads ≤ reader.old.reads + (size - length front.now) }
+    ensures in_time { reader.old.ended ≡ false → reader.new.read_behind_end ≡ reader.old.read_behind_end }
     ensures kept { OnOk result (reader.new.failed ≡ reader.old.failed) }
     ensures fails { OnErr result (reader.new.failed ≡ true) }
 {

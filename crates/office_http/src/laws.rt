@@ -1,6 +1,7 @@
 //! Laws of the definitions. Each function has an empty body, and its contract is the law: a call brings it into the
 //! caller's proof.
 
+ghost use Rattle.office_http.specs.Deciding.{FullRoomDecides, HeadsDecide};
 ghost use Rattle.office_http.specs.Requests.{HeadsAreOne, RequestsAreOne};
 
 /// A stream has one head, if any, and one rest behind it.
@@ -11,4 +12,15 @@ pub fn heads_are_one()
 /// But for want of memory, what a stream asks for depends on the stream alone, however it comes in pieces.
 pub fn requests_are_one()
     ensures { RequestsAreOne }
+{}
+
+/// A head decides, with the body that it wants: a refusal by its method, its path or its fields wants none, nor does a
+/// report.
+pub fn heads_decide()
+    ensures { HeadsDecide }
+{}
+
+/// As many bytes as a head may have decide, if none is at their front.
+pub fn full_room_decides()
+    ensures { FullRoomDecides }
 {}

@@ -1,9 +1,10 @@
-ghost use Rattle.std.specs.Prelude.{◌≡◌, ◌⊎◌, ◌≤◌, ◌+◌, ◌++◌, true, length, take, drop, map, IfOk, IfSome, OnOk, OnErr};
+ghost use Rattle.std.specs.Prelude.{◌≡◌, ◌⊎◌, ◌≤◌, ◌+◌, ◌-◌, ◌++◌, true, false, length, take, drop, map, IfOk, IfSome, OnOk, OnErr};
 ghost use Rattle.edi_segments.specs.Interchange.{most_bytes};
 ghost use Rattle.std.specs.Option.{option_and_then};
 ghost use Rattle.httparse.specs.Grammar.{RequestHead};
 ghost use Rattle.httparse.specs.Spans.{header_bytes, IsRequestAt, IsRequestWithin, IsSectionWithin};
 ghost use Rattle.office_queries.specs.Keys.{query_of};
+ghost use Rattle.office_http.specs.Deciding.{body_size, EndsWhenDecided, wanted_behind};
 ghost use Rattle.office_http.specs.Fields.{body_length};
 ghost use Rattle.office_http.specs.Requests.{Asks, AsksWith, Gets, Posts};
 ghost use Rattle.office_http.specs.Routes.{key_in};
@@ -29,6 +30,9 @@ use std::str;
 pub(crate) fn read_request<R: Read>(alloc: Global, reader: &mut Port<R>) -> Result<Request>
     ensures asks { IfOk result (λ request. IfSome (R.remaining reader.old.inner) (λ stream. Asks stream request)) }
     ensures reads { reader.new.reads ≤ reader.old.reads + 1056768 }
+    ensures decided { IfSome (R.remaining reader.old.inner) (λ stream.
+        EndsWhenDecided stream reader.old.reads reader.new.reads) }
+    ensures in_time { reader.old.ended ≡ false → reader.new.read_behind_end ≡ reader.old.read_behind_end }
     ensures kept { OnOk result (reader.new.failed ≡ reader.old.failed) }
     ensures fails { OnErr result (reader.new.failed ≡ true) }
 {
@@ -54,6 +58,10 @@ fn read_asked<R: Read>(
         → IsRequestAt (take found.filled buffer.now) headers.now found.spans head
         → AsksWith head (drop found.spans.len (take found.filled buffer.now) ++ left) request)) }
     ensures reads { reader.new.reads ≤ reader.old.reads + most_bytes }
+    ensures decided { (head : RequestHead) → IsRequestAt (take found.filled buffer.now) headers.now found.spans head
+        → reader.new.reads
+        ≤ reader.old.reads + (wanted_behind head - length (drop found.spans.len (take found.filled buffer.now))) }
+    ensures in_time { reader.old.ended ≡ false → reader.new.read_behind_end ≡ reader.old.read_behind_end }
     ensures kept { OnOk result (reader.new.failed ≡ reader.old.failed) }
     ensures fails { OnErr result (reader.new.failed ≡ true) }
 {
@@ -82,6 +90,10 @@ fn read_post<R: Read>(
         ⊎ Posts (body_length (map (header_bytes read.now) (take found.spans.headers headers.now)))
         (drop found.spans.len read.now ++ left) request)) }
     ensures reads { reader.new.reads ≤ reader.old.reads + most_bytes }
+    ensures decided { reader.new.reads ≤ reader.old.reads
+        + (body_size (body_length (map (header_bytes read.now) (take found.spans.headers headers.now)))
+        - length (drop found.spans.len read.now)) }
+    ensures in_time { reader.old.ended ≡ false → reader.new.read_behind_end ≡ reader.old.read_behind_end }
     ensures kept { OnOk result (reader.new.failed ≡ reader.old.failed) }
     ensures fails { OnErr result (reader.new.failed ≡ true) }
 {

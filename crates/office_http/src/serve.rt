@@ -1,9 +1,8 @@
-ghost use Rattle.std.specs.Prelude.{◌≡◌, ◌⊎◌, ◌≤◌, ◌+◌, ℕ, List, true, IfErr, OnOk, OnErr, IfSome, Err};
+ghost use Rattle.std.specs.Prelude.{◌≡◌, ◌⊎◌, ◌≤◌, ◌+◌, ℕ, List, true, false, IfErr, OnOk, OnErr, IfSome, Err};
 ghost use Rattle.std.specs.Io.KnownBytes.{Appends};
 ghost use Rattle.office_replies.specs.Events.{Event};
-ghost use Rattle.office_http.specs.Requests.{Asks};
-ghost use Rattle.office_http.specs.Served.{AnswersTo, AtMostOne, content_of, Does, MatchFault, Refuses, Serves};
-ghost use Rattle.office_http.specs.declared.request.Request.{Request};
+ghost use Rattle.office_http.specs.Deciding.{EndsWhenDecided};
+ghost use Rattle.office_http.specs.Served.{AnswersTo, AtMostOne, content_of, Does, MatchFault, Refuses, RefusesOrReports, Reports, Serves};
 ghost use Rattle.office_http.specs.declared.request.Request.TheVariants.{Report};
 
 use crate::content_type::ContentType;
@@ -45,16 +44,24 @@ pub fn serve_one<R: Read, W: Write, D: Report>(
     ensures steps { D.clean desk.new → (opening : D.Opening) (es : List Event) → D.stands opening es desk.old
         → AtMostOne (D.stands opening) (D.answers opening) es desk.new }
 
-    // A refusal leaves the desk as it was, whatever desk it is, and exactly its bytes are written.
-    ensures refused { IfSome (R.remaining reader.old.inner) (λ stream. (result ≡ Err ServeFault.Read)
-        ⊎ ((request : Request) × Asks stream request × Refuses request desk.old desk.new
-        (λ bytes. OnOk result (Appends (W.contents writer.old.inner) (W.contents writer.new.inner) bytes)))) }
+    // Whatever desk it is, a refusal leaves it as it was, and a report is what it has to tell. Exactly its bytes are
+    // written.
+    ensures asked { IfSome (R.remaining reader.old.inner) (λ stream. (result ≡ Err ServeFault.Read)
+        ⊎ RefusesOrReports D.clean D.tells stream desk.old desk.new
+        (λ bytes. OnOk result (Appends (W.contents writer.old.inner) (W.contents writer.new.inner) bytes))) }
 
     // Nothing is said of a desk whose records have not told the truth.
     ensures stays { D.clean desk.new → D.clean desk.old }
 
     // A read for each byte of a head and of a body, at most.
     ensures reads { reader.new.reads ≤ reader.old.reads + 1056768 }
+
+    // No more reads than bytes that decide what is asked for: whoever has sent those waits for nothing but the answer.
+    ensures decided { IfSome (R.remaining reader.old.inner) (λ stream.
+        EndsWhenDecided stream reader.old.reads reader.new.reads) }
+
+    // No read is made behind the end.
+    ensures in_time { reader.old.ended ≡ false → reader.new.read_behind_end ≡ reader.old.read_behind_end }
 
     // At Ok neither port has failed.
     ensures sound { OnOk result ((reader.new.failed ≡ reader.old.failed) × (writer.new.failed ≡ writer.old.failed)) }
@@ -84,6 +91,8 @@ fn send_answer<W: Write, D: Report>(
         × OnOk result (Appends (W.contents writer.old.inner) (W.contents writer.new.inner) bytes) }
     ensures refused { Refuses request desk.old desk.new
         (λ bytes. OnOk result (Appends (W.contents writer.old.inner) (W.contents writer.new.inner) bytes)) }
+    ensures reported { D.clean desk.new → Reports D.tells request desk.old
+        (λ bytes. OnOk result (Appends (W.contents writer.old.inner) (W.contents writer.new.inner) bytes)) }
     ensures kept { OnOk result (writer.new.failed ≡ writer.old.failed) }
     ensures fails { OnErr result (writer.new.failed ≡ true) }
     ensures flushed { OnOk result (writer.new.flushed ≡ true) }
@@ -104,6 +113,8 @@ fn answer<W: Write, D: Report>(
         → (bytes : List ℕ) × Does (D.stands opening) (D.answers opening) D.tells es request desk.old desk.new bytes
         × OnOk result (Appends (W.contents writer.old.inner) (W.contents writer.new.inner) bytes) }
     ensures refused { Refuses request desk.old desk.new
+        (λ bytes. OnOk result (Appends (W.contents writer.old.inner) (W.contents writer.new.inner) bytes)) }
+    ensures reported { D.clean desk.new → Reports D.tells request desk.old
         (λ bytes. OnOk result (Appends (W.contents writer.old.inner) (W.contents writer.new.inner) bytes)) }
     ensures kept { OnOk result (writer.new.failed ≡ writer.old.failed) }
     ensures fails { OnErr result (writer.new.failed ≡ true) }
@@ -130,6 +141,8 @@ fn answer_report<W: Write, D: Report>(
         → (bytes : List ℕ)
         × Does (D.stands opening) (D.answers opening) D.tells es (Report kind query.now) desk.old desk.new bytes
         × OnOk result (Appends (W.contents writer.old.inner) (W.contents writer.new.inner) bytes) }
+    ensures reported { D.clean desk.new → Reports D.tells (Report kind query.now) desk.old
+        (λ bytes. OnOk result (Appends (W.contents writer.old.inner) (W.contents writer.new.inner) bytes)) }
     ensures kept { OnOk result (writer.new.failed ≡ writer.old.failed) }
     ensures fails { OnErr result (writer.new.failed ≡ true) }
     ensures stays { D.clean desk.new → D.clean desk.old }

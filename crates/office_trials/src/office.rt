@@ -3,6 +3,7 @@
 mod books;
 pub(crate) mod failing_reader;
 pub(crate) mod failing_writer;
+pub(crate) mod late_writer;
 mod machine;
 pub(crate) mod pieces;
 mod ports;

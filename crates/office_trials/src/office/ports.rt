@@ -3,6 +3,7 @@
 
 use super::failing_reader::FailingReader;
 use super::failing_writer::FailingWriter;
+use super::late_writer::LateWriter;
 use super::pieces::Pieces;
 use crate::logbook::Logbook;
 use office_replies::Worst;
@@ -118,6 +119,18 @@ fn a_gathered_line_is_one_write(rt: HostRuntime) -> Result<(), Fail> {
         assert_streamed(&rt, rt.alloc(), &mut input, &mut output, 100, expected);
         assert!(&rt; writer.written.as_slice() == lines(writes));
     }
+    Ok(())
+}
+
+/// A write that timed out is not made again, since the peer may have taken what it brought.
+#[test]
+fn a_write_that_timed_out_is_not_made_again(rt: HostRuntime) -> Result<(), Fail> {
+    let mut input = Port::new(STREAM);
+    let mut writer = LateWriter { writes: 0 };
+    let mut output = Port::new(Gathered::new(&mut writer));
+    let expected = (Err(StreamFault::Write), 1);
+    assert_streamed(&rt, rt.alloc(), &mut input, &mut output, 100, expected);
+    assert!(&rt; writer.writes == 1);
     Ok(())
 }
 

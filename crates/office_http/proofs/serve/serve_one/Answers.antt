@@ -1,6 +1,6 @@
 use Rattle.std.proofs.Common.{inr}
 use Rattle.std.proofs.lemmas.Option.{IfSome_then}
-use Rattle.office_http.proofs.Serving.{refuses_so}
+use Rattle.office_http.proofs.Serving.{refuses_so, reports_so}
 use Rattle.office_http.proofs.serve.serve_one.Goals as goal
 
 -- a write that failed, behind what was asked for
@@ -14,7 +14,11 @@ returns-in-Err-send_answer-clause-err g c = (
       (done.0, record { request = c.in-Ok.request; asks = asks; does = done.1 })),
 )
 
-pub returns-in-Err-send_answer-clause-refused : goal.returns-in-Err-send_answer-clause-refused
-returns-in-Err-send_answer-clause-refused g c =
-    IfSome_then (g.R.Read.remaining c.args.reader.now.inner) c.in-Ok.ensures.asks (λ stream asks.
-    inr (c.in-Ok.request, asks, refuses_so c.in-Ok.request _ _ _ _ (λ bytes written. tt) c.send_answer.ensures.refused))
+pub returns-in-Err-send_answer-clause-asked : goal.returns-in-Err-send_answer-clause-asked
+returns-in-Err-send_answer-clause-asked g c =
+    IfSome_then (g.R.Read.remaining c.args.reader.now.inner) c.in-Ok.ensures.asks (λ stream asks. inr (record {
+      request = c.in-Ok.request;
+      asks = asks;
+      refused = refuses_so c.in-Ok.request _ _ _ _ (λ bytes written. tt) c.send_answer.ensures.refused;
+      reported = λ clean. reports_so _ c.in-Ok.request _ _ _ (λ bytes written. tt) (c.send_answer.ensures.reported clean);
+    }))

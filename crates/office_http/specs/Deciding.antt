@@ -1,0 +1,59 @@
+-- When a request is decided, so that nothing more is read (RFC 9112, sections 2, 3 and 6).
+use Rattle.std.specs.Prelude.{◌≡◌, ℕ, ◌+◌, ◌<◌, ◌≤◌, ◌⊎◌, List, ◌++◌, length, map, Result, Ok, Err}
+use Rattle.httparse.specs.Grammar.{RequestHead, HasNoRequest, MayBecomeRequest}
+use Rattle.httparse.specs.Spans.{name_and_value}
+use Rattle.office_http.specs.Heads.{IsHead, HasNoHead}
+use Rattle.office_http.specs.Fields.{body_length}
+use Rattle.office_http.specs.Routes.{endpoint_of, path_of}
+use Rattle.office_http.specs.declared.endpoint.Endpoint.{Endpoint}
+use Rattle.office_http.specs.declared.endpoint.Endpoint.TheVariants as endpoint
+use Rattle.office_http.specs.declared.refusal.Refusal.{Refusal}
+
+-- how many bytes a body has; there is none without a length
+abbrev pub body_size : Result ℕ Refusal → ℕ
+body_size (Err refusal) = 0
+body_size (Ok size) = size
+
+-- how many bytes are wanted behind a head, by where it goes to: a delivery's body
+abbrev pub wanted_at : Result Endpoint Refusal → RequestHead → ℕ
+wanted_at (Err refusal) head = 0
+wanted_at (Ok endpoint.Interchanges) head = body_size (body_length (map name_and_value head.fields))
+wanted_at (Ok (endpoint.Report kind)) head = 0
+
+unfoldable pub wanted_behind : RequestHead → ℕ
+wanted_behind head = wanted_at (endpoint_of head.method (path_of head.target)) head
+
+-- they aren't a head yet, and may become one of at most 8,192 bytes
+abbrev pub WantsHead : List ℕ → Type 0
+WantsHead bytes = HasNoRequest bytes × MayBecomeRequest bytes × (length bytes < 8192)
+
+-- they have a head, and behind it fewer bytes than are wanted
+abbrev pub WantsBody : List ℕ → Type 0
+WantsBody bytes =
+    (head : RequestHead) × (rest : List ℕ) × IsHead 8192 64 bytes head rest × (length rest < wanted_behind head)
+
+-- more has to be read behind them
+abbrev pub WantsMore : List ℕ → Type 0
+WantsMore bytes = WantsHead bytes ⊎ WantsBody bytes
+
+-- whatever follows them, no more has to be read
+abbrev pub Decides : List ℕ → Type 0
+Decides bytes = (more : List ℕ) → ¬ (WantsMore (bytes ++ more))
+
+-- there are no more reads than bytes in any front of the stream that decides
+abbrev pub EndsWhenDecided : List ℕ → ℕ → ℕ → Type 0
+EndsWhenDecided stream before after =
+    (bytes rest : List ℕ) → stream ≡ bytes ++ rest → Decides bytes → after ≤ before + length bytes
+
+-- ---- what decides
+
+-- A head does, with what is wanted behind it: nothing is at a refusal by its method, its path or its fields, nor at a
+-- report.
+abbrev pub HeadsDecide : Type 0
+HeadsDecide =
+    (bytes : List ℕ) (head : RequestHead) (rest : List ℕ) → IsHead 8192 64 bytes head rest
+    → wanted_behind head ≤ length rest → Decides bytes
+
+-- So do as many bytes as a head may have, if none is at their front.
+abbrev pub FullRoomDecides : Type 0
+FullRoomDecides = (bytes : List ℕ) → HasNoHead 8192 64 bytes → 8192 ≤ length bytes → Decides bytes
