@@ -1,5 +1,5 @@
 -- One delivery more to a desk.
-use Rattle.std.proofs.Common.{◌≡◌, ℕ, List, [], ◌∷◌, ◌++◌, Ok, Err, string_bytes, refl, sym, ap, subst, ◌∙◌}
+use Rattle.std.proofs.Common.{◌≡◌, ℕ, List, [], ◌∷◌, ◌++◌, Option, Ok, Err, string_bytes, refl, sym, ap, subst, ◌∙◌}
 use Rattle.std.proofs.lemmas.Simd.{map-map}
 use Rattle.sqlite.specs.Held.{state}
 use Rattle.sqlite_trees.specs.declared.store.Store.{Ghosts}
@@ -28,7 +28,12 @@ use Rattle.office_desk.specs.Answers.{told_answer, answer_at, answer_to, code_of
 use Rattle.office_desk.proofs.Admitted.{refused_for}
 use Rattle.office_desk.specs.Telling.{Answers, Comes, Holds}
 use Rattle.office_desk.specs.Desks.{StandsFor, answers_for}
+use Rattle.office_desk.specs.Kept.{AnswersAt, AnswersByKept, AnswersOver, Office}
+use Rattle.office_desk.specs.Noting.{IsNow, NotesFault}
+use Rattle.office_desk.specs.Offices.{DeskHolds}
 use Rattle.office_desk.specs.declared.desk.Desk.{Desk}
+use Rattle.office_tables.specs.declared.table_fault.TableFault.{TableFault}
+use Rattle.partner_core.specs.Deliveries.{delivery}
 use Rattle.office_desk.specs.Crashes.{Leaves, LeavesBehind}
 use Rattle.office_desk.proofs.CrashLemmas.{answered_behind, refused_leaves}
 use Rattle.office_desk.proofs.HoldLemmas.{beside_same}
@@ -36,7 +41,7 @@ use Rattle.office_desk.proofs.HoldLemmas.{beside_same}
 pub parties_same : (setup : Setup) → parties_of setup ≡ parties_in (setup_content setup)
 parties_same setup = ap (λ (codes : List (List ℕ)). record { terminal = string_bytes setup.terminal; partners = codes }) (sym (map-map _ _ setup.partners.items))
 
-not_now_surely : (P : Parties) (text : List ℕ) → RefusedSurely P text response.NotNow → MayBeNotNow P text
+pub not_now_surely : (P : Parties) (text : List ℕ) → RefusedSurely P text response.NotNow → MayBeNotNow P text
 not_now_surely P text surely fault refused plain = let never : response.NotNow ≡ response.Refused fault = surely fault refused plain in absurd cc
 
 not_fine : worst.NotNow ≡ worst.Fine → ⊥
@@ -50,6 +55,26 @@ never_now code number (told.Taken reply) e = not_fine (ap (λ answer. answer.how
 never_now code number (told.Repeat reply) e = not_fine (ap (λ answer. answer.how_bad) e)
 never_now code number (told.Waiting next) e = not_fine (ap (λ answer. answer.how_bad) e)
 never_now code number told.Clash e = not_refused (ap (λ answer. answer.how_bad) e)
+
+-- what is told is told now
+pub is_now : (given : Response) (code : List ℕ) (number : ℕ) (kind : Told) → content_of given ≡ told_answer code number kind → IsNow given
+is_now (response.Taken body) code number kind e = tt
+is_now (response.Repeat body) code number kind e = tt
+is_now (response.Waiting body) code number kind e = tt
+is_now (response.Clash body) code number kind e = tt
+is_now (response.Refused fault) code number kind e = tt
+is_now (response.Rejected fault body) code number kind e = tt
+is_now response.NotNow code number kind e = absurd (never_now code number kind e)
+
+-- behind an answer that is one now the desk has the fault that it had
+pub notes_none : (given : Response) (last : Option TableFault) → IsNow given → NotesFault given last last
+notes_none (response.Taken body) last is = refl
+notes_none (response.Repeat body) last is = refl
+notes_none (response.Waiting body) last is = refl
+notes_none (response.Clash body) last is = refl
+notes_none (response.Refused fault) last is = refl
+notes_none (response.Rejected fault body) last is = refl
+notes_none response.NotNow last is = absurd is
 
 module _ {S : Type 0} (g : Ghosts S) (content : SetupContent) where
   abbrev Next : List Event → List ℕ → Response → Desk S g → Type 0
@@ -161,3 +186,49 @@ module _ {S : Type 0} (g : Ghosts S) (content : SetupContent) where
       subst P stands.setup
       (takes es sent refl refl (subst (λ k. Holds k es (state g old.conn).committed old.beside) (sym stands.setup) stands.holds)
       (subst (λ k. Leaves k es (state g old.conn)) (sym stands.setup) leaves) (record { text_is = is; is_for = own }))
+
+-- ---- over any office
+
+over : {S : Type 0} (g : Ghosts S) (old : Office) (sent : List ℕ) (given : Response) (desk : Desk S g) (code : List ℕ) (number : ℕ) (kind : Told) → content_of given ≡ told_answer code number kind →
+    AnswersAt g (admission (parties_of desk.setup) (interchange_of sent)) (interchange_of sent) old given desk → AnswersOver g old sent given desk
+over g old sent (response.Taken body) desk code number kind e by = by
+over g old sent (response.Repeat body) desk code number kind e by = by
+over g old sent (response.Waiting body) desk code number kind e by = by
+over g old sent (response.Clash body) desk code number kind e by = by
+over g old sent (response.Refused fault) desk code number kind e by = by
+over g old sent (response.Rejected fault body) desk code number kind e by = by
+over g old sent response.NotNow desk code number kind e by = absurd (never_now code number kind e)
+
+module _ {S : Type 0} (g : Ghosts S) where
+  pub refusal_over : (old : Office) (sent text : List ℕ) (given : Response) (desk : Desk S g) (refusal : Refusal) → text ≡ interchange_of sent → DeskHolds g desk old.rows old.terminal →
+      IsRefused desk.setup text refusal → GivesOrNotNow (refusal_of (parties_of desk.setup) (header_of (segments_in text)) (fault_in refusal)) given → RefusedSurely (parties_of desk.setup) text given →
+      AnswersOver g old sent given desk
+  refusal_over old sent text given desk refusal is holds refused gives surely =
+      let P = parties_of desk.setup in
+      let here : admission P (interchange_of sent) ≡ Err (fault_in refusal) = subst (λ other. admission P other ≡ Err (fault_in refusal)) is (refused_for desk.setup text refusal refused) in
+      at given (subst (λ other. GivesOrNotNow (refusal_of P (header_of (segments_in other)) (fault_in refusal)) given) is gives) (subst (λ other. RefusedSurely P other given) is surely) here
+    where
+      told : (given : Response) → content_of given ≡ refusal_of (parties_of desk.setup) (header_of (segments_in (interchange_of sent))) (fault_in refusal) → admission (parties_of desk.setup) (interchange_of sent) ≡ Err (fault_in refusal) →
+          AnswersAt g (admission (parties_of desk.setup) (interchange_of sent)) (interchange_of sent) old given desk
+      told given e here = subst (λ place. AnswersAt g place (interchange_of sent) old given desk) (sym here) (e, holds)
+
+      at : (given : Response) → GivesOrNotNow (refusal_of (parties_of desk.setup) (header_of (segments_in (interchange_of sent))) (fault_in refusal)) given → RefusedSurely (parties_of desk.setup) (interchange_of sent) given →
+          admission (parties_of desk.setup) (interchange_of sent) ≡ Err (fault_in refusal) → AnswersOver g old sent given desk
+      at (response.Taken body) e surely here = told (response.Taken body) e here
+      at (response.Repeat body) e surely here = told (response.Repeat body) e here
+      at (response.Waiting body) e surely here = told (response.Waiting body) e here
+      at (response.Clash body) e surely here = told (response.Clash body) e here
+      at (response.Refused fault) e surely here = told (response.Refused fault) e here
+      at (response.Rejected fault body) e surely here = told (response.Rejected fault body) e here
+      at response.NotNow e surely here = (not_now_surely (parties_of desk.setup) (interchange_of sent) surely, holds)
+
+  pub answers_over : (old : Office) (sent text : List ℕ) (given : Response) (desk : Desk S g) (partner number : ℕ) (code : List ℕ) → text ≡ interchange_of sent →
+      admission (parties_of desk.setup) text ≡ Ok (partner, number) → code ≡ code_of (parties_of desk.setup) partner →
+      AnswersByKept (setup_content desk.setup) (delivery partner number text) code old given (state g desk.conn).committed desk.beside → AnswersOver g old sent given desk
+  answers_over old sent text given desk partner number code is admits is_code told =
+      let P = parties_of desk.setup in
+      let here : admission P (interchange_of sent) ≡ Ok (partner, number) = subst (λ other. admission P other ≡ Ok (partner, number)) is admits in
+      let by : AnswersByKept (setup_content desk.setup) (delivery partner number (interchange_of sent)) (code_of P partner) old given (state g desk.conn).committed desk.beside =
+      subst (λ c. AnswersByKept (setup_content desk.setup) (delivery partner number (interchange_of sent)) c old given (state g desk.conn).committed desk.beside) is_code
+      (subst (λ t. AnswersByKept (setup_content desk.setup) (delivery partner number t) code old given (state g desk.conn).committed desk.beside) is told) in
+      over g old sent given desk (code_of P partner) number by.told by.answers (subst (λ place. AnswersAt g place (interchange_of sent) old given desk) (sym here) by)

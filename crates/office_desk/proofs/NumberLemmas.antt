@@ -6,7 +6,7 @@ use Rattle.std.specs.List.Sorted.{IsPermutation, IsNonDecreasing}
 use Rattle.std.specs.Ordering.{nat_cmp}
 use Rattle.std.proofs.lemmas.Bool.{eqb-true, eq-eqb}
 use Rattle.std.proofs.lemmas.List.Sums.{sum_by-cons}
-use Rattle.std.proofs.lemmas.List.Sorted.{Contains-permutation, IsNonDecreasingBy-from_sort, IsPermutation-map, IsPermutation-sym, sum_by-IsPermutation}
+use Rattle.std.proofs.lemmas.List.Sorted.{Contains-permutation, IsNonDecreasingBy-from_sort, IsPermutation-map, IsPermutation-refl, IsPermutation-sym, IsPermutation-trans, sum_by-IsPermutation}
 use Rattle.edi_messages.specs.declared.partner_kind.PartnerKind.{PartnerKind}
 use Rattle.partner_core.specs.Deliveries.{run}
 use Rattle.partner_core.specs.Numbered.{with_number}
@@ -18,7 +18,6 @@ use Rattle.office_taking.specs.Taking.{MachineState, interchange_taken}
 use Rattle.office_history.specs.After.{AreAfter, accounts_from, delivered_to}
 use Rattle.office_history.specs.Cascade.{AreTakenFrom}
 use Rattle.office_history.proofs.Shown.{Rises, head_in, tail_in, rising_same}
-use Rattle.office_history.proofs.Telling.{next_follows}
 use Rattle.office_delivery.specs.Taken.{taken_contents}
 use Rattle.office_delivery.specs.declared.taken.Taken.{Taken}
 use Rattle.office_desk.specs.Beside.{nexts_after}
@@ -153,7 +152,7 @@ in_range n xs same sorted =
 
 -- ---- the accounts
 
-abbrev id_of : Partner → ℕ
+abbrev pub id_of : Partner → ℕ
 id_of p = p.id
 
 ids_from : (id : ℕ) (f : ℕ → ℕ) (accounts : List (List ℕ × PartnerKind)) → map id_of (accounts_from id f accounts) ≡ range_with_len id (length accounts)
@@ -164,17 +163,38 @@ nexts_by : (f : ℕ → ℕ) (ps : List Partner) → ((p : Partner) → Contains
 nexts_by f [] all = refl
 nexts_by f (p ∷ ps) all = ap₂ ◌∷◌ (all p (head_in p ps)) (nexts_by f ps (λ q inside. all q (tail_in p q ps inside)))
 
+accounts_next : (id : ℕ) (f : ℕ → ℕ) (accounts : List (List ℕ × PartnerKind)) (account : Partner) (i : ℕ) → i < length (accounts_from id f accounts) → slice_index_or (accounts_from id f accounts) i account ≡ account →
+    account.next ≡ f account.id
+accounts_next id f [] account i low is = absurd (omega (arith, low))
+accounts_next id f (a ∷ accounts) account zero low is = ap (λ (p : Partner). p.next) (sym is) ∙ ap (λ (p : Partner). f p.id) is
+accounts_next id f (a ∷ accounts) account (suc i) low is = accounts_next (id + 1) f accounts account i (omega (arith, low)) is
+
+-- the accounts are those of the set-up, each with the next number that f gives its id
+module _ (f : ℕ → ℕ) (accounts : List (List ℕ × PartnerKind)) (rows : Rows) (placed : IsPermutation rows.partners (accounts_from 1 f accounts)) where
+  pub next_by : (account : Partner) → Contains rows.partners account → account.next ≡ f account.id
+  next_by account inside =
+      let there = Contains-permutation rows.partners (accounts_from 1 f accounts) account placed inside in
+      accounts_next 1 f accounts account there.0 there.1 there.2
+
+  pub ids_are : (by_id : List Partner) → IsPermutation rows.partners by_id → IsSorted nat_cmp (map id_of by_id) → map id_of by_id ≡ range_with_len 1 (length accounts)
+  ids_are by_id same sorted =
+      let mine : IsPermutation (map id_of rows.partners) (map id_of by_id) = IsPermutation-map id_of rows.partners by_id same in
+      let theirs : IsPermutation (map id_of rows.partners) (range_with_len 1 (length accounts)) =
+      subst (IsPermutation (map id_of rows.partners)) (ids_from 1 f accounts) (IsPermutation-map id_of rows.partners (accounts_from 1 f accounts) placed) in
+      in_range (length accounts) (map id_of by_id) (IsPermutation-trans _ _ _ (IsPermutation-sym _ _ theirs) mine) sorted
+
+  -- the numbers that the rows have are in the order of the ids
+  pub nexts_are : (nexts : List ℕ) → AreNexts rows nexts → nexts ≡ map f (range_with_len 1 (length accounts))
+  nexts_are nexts are =
+      let by_id = are.0 in
+      are.3
+      ∙ nexts_by f by_id (λ p inside. next_by p (Contains-permutation by_id rows.partners p (IsPermutation-sym rows.partners by_id are.1) inside))
+      ∙ ap (map f) (ids_are by_id are.1 are.2)
+
 -- the numbers that the rows after deliveries have are those after them
 pub nexts_loaded : (content : SetupContent) (es : List Event) (rows : Rows) (nexts : List ℕ) → AreAfter content es rows → AreNexts rows nexts → nexts ≡ nexts_after content es
 nexts_loaded content es rows nexts after are =
-    let by_id = are.0 in
-    let f : ℕ → ℕ = λ p. run (delivered_to content es) p + 1 in
-    let placed : IsPermutation (map id_of rows.partners) (map id_of by_id) = IsPermutation-map id_of rows.partners by_id are.1 in
-    let ids : map id_of by_id ≡ range_with_len 1 (length content.partners) =
-    in_range (length content.partners) (map id_of by_id) (subst (λ l. IsPermutation l (map id_of by_id)) (ap (map id_of) after.partners ∙ ids_from 1 f content.partners) placed) are.2 in
-    are.3
-    ∙ nexts_by f by_id (λ p inside. next_follows content es rows p after (Contains-permutation by_id rows.partners p (IsPermutation-sym rows.partners by_id are.1) inside))
-    ∙ ap (map f) ids
+    nexts_are (λ p. run (delivered_to content es) p + 1) content.partners rows (subst (IsPermutation rows.partners) after.partners (IsPermutation-refl rows.partners)) nexts are
 
 -- ---- a run
 

@@ -41,7 +41,7 @@ set_if : (machine : MachineState) (is : Bool) (taken : MachineState × List ℕ)
 set_if machine true taken same = same
 set_if machine false taken same = refl
 
-set_taken : (machine : MachineState) (partner : ℕ) (text : List ℕ) → IsSet machine (interchange_taken machine partner text).0
+pub set_taken : (machine : MachineState) (partner : ℕ) (text : List ℕ) → IsSet machine (interchange_taken machine partner text).0
 set_taken machine partner text =
     set_if machine (is_for partner (admission machine.parties text)) (taken_of machine partner (segments_in text) (with_number machine.kinds partner)) (set_of machine partner (segments_in text) (with_number machine.kinds partner))
 

@@ -5,5 +5,6 @@ pub mod Crashes
 pub mod Offices
 pub mod Desks
 pub mod Reports
+pub mod Kept
 pub mod Noting
 pub mod Alike

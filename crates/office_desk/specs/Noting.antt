@@ -18,3 +18,8 @@ NotesFault given old new = new ≡ old
 abbrev pub NotesMemory : Response → (old new : Option TableFault) → Type 0
 NotesMemory response.NotNow old new = new ≡ Some Memory
 NotesMemory given old new = new ≡ old
+
+-- the response isn't NotNow
+abbrev pub IsNow : Response → Type 0
+IsNow response.NotNow = ⊥
+IsNow given = Unit {0}

@@ -187,7 +187,9 @@ impl<S: Alter + Drop> Deliver for Desk<S> {
     ghost use Rattle.office_admission.specs.Refusals.{RefusedSurely};
     ghost use Rattle.office_desk.specs.Crashes.{LeavesBehind};
     ghost use Rattle.office_desk.specs.Desks.{IsSound, StandsFor, answers_for, Refuses};
+    ghost use Rattle.office_desk.specs.Kept.{AnswersOver, Office};
     ghost use Rattle.office_desk.specs.Noting.{NotesFault};
+    ghost use Rattle.office_desk.specs.Offices.{DeskHolds};
 
     ghost clean = { IsSound S.Store };
 
@@ -202,6 +204,10 @@ impl<S: Alter + Drop> Deliver for Desk<S> {
         ensures delivers { IsSound S.Store self.new → (content : SetupContent) (es : List Event) →
             StandsFor S.Store content es self.old →
             Delivers (StandsFor S.Store content) (answers_for content) es delivered.now result self.new }
+        ensures office { IsSound S.Store self.new → (old : Office) →
+            DeskHolds S.Store self.old old.rows old.terminal →
+            AnswersOver S.Store old delivered.now result self.new }
+        ensures setup { self.new.setup ≡ self.old.setup }
         ensures stays { IsSound S.Store self.new → IsSound S.Store self.old }
         ensures crash { IsSound S.Store self.old → HasCleanDisk (state S.Store self.new.conn) →
             (content : SetupContent) (es : List Event) →
@@ -236,10 +242,7 @@ impl<S: Alter + Drop> Deliver for Desk<S> {
             text,
         );
         match taken {
-            Ok(response) => {
-                note_memory(&mut self.last_fault, &response);
-                response
-            }
+            Ok(response) => response,
             Err(fault) => {
                 self.last_fault = Some(fault);
                 Response::NotNow

@@ -11,7 +11,9 @@ ghost use Rattle.office_setup.specs.Setups.{SetupContent};
 ghost use Rattle.office_tables.specs.Answers.{IsKept};
 ghost use Rattle.office_history.specs.After.{AreAfter};
 ghost use Rattle.office_delivery.specs.Reading.{IsSame, OnlyReads};
-ghost use Rattle.office_desk.specs.Beside.{IsBeside};
+ghost use Rattle.office_desk.specs.Beside.{IsBeside, IsOrNone};
+ghost use Rattle.office_desk.specs.Kept.{IsFoundIn, Office};
+ghost use Rattle.office_desk.specs.Offices.{HoldsOffice};
 
 use crate::beside::Beside;
 use crate::reloading::beside_of;
@@ -49,11 +51,19 @@ pub(crate) fn look<S: Alter>(
         (content : SetupContent) (es : List Event) (rows : Rows) → IsGiven content →
         HasRows rows (state S.Store conn.old).now → AreAfter content es rows → IsBeside content es beside.old →
         IsBeside content es (Some found.there)) }
+    ensures office { HasCleanDisk (state S.Store conn.new) → IfOk result (λ found.
+        (content : SetupContent) (old : Office) →
+        HoldsOffice content old.rows old.terminal (state S.Store conn.old).now beside.old →
+        IsFoundIn old partner found) }
     ensures out { OnOk result (beside.new ≡ None) }
     ensures err { HasCleanDisk (state S.Store conn.new) → OnErr result (
         (content : SetupContent) (es : List Event) (rows : Rows) → IsGiven content →
         HasRows rows (state S.Store conn.old).now → AreAfter content es rows → IsBeside content es beside.old →
         IsBeside content es beside.new) }
+    ensures stays { HasCleanDisk (state S.Store conn.new) → OnErr result (
+        (content : SetupContent) (old : Office) →
+        HoldsOffice content old.rows old.terminal (state S.Store conn.old).now beside.old →
+        IsOrNone old.rows old.terminal beside.new) }
     ensures same { HasCleanDisk (state S.Store conn.new) → (state S.Store conn.old).now.schema ≡ office_schema →
         OnOk result (IsSame (state S.Store conn.old) (state S.Store conn.new)) }
     ensures reads { OnlyReads (state S.Store conn.old) (state S.Store conn.new) }

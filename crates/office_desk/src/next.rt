@@ -8,6 +8,7 @@ ghost use Rattle.office_rows.specs.Tables.{office_schema};
 ghost use Rattle.office_admission.specs.Outcomes.{IsAdmitted};
 ghost use Rattle.office_taking.specs.Taking.{machine_of};
 ghost use Rattle.office_delivery.specs.Taking.{IsNumbered};
+ghost use Rattle.office_desk.specs.Noting.{IsNow};
 ghost use Rattle.office_desk.specs.Telling.{TakesNext, IsRunDone};
 
 use crate::beside::Beside;
@@ -38,6 +39,7 @@ pub(crate) fn take_next<S: Alter>(
     requires admitted { IsAdmitted setup.now text.now admitted.now }
     requires known { admitted.now.partner ≤ length beside.nexts.items }
     ensures idle { (state S.Store conn.new).in_transaction ≡ false }
+    ensures now { IfOk result (λ taken. IsNow taken.0) }
     ensures ok { HasCleanDisk (state S.Store conn.new) → IfOk result (λ taken. (rows : Rows) →
         HasRows rows (state S.Store conn.old).now → (state S.Store conn.old).now ≡ (state S.Store conn.old).committed →
         IsNumbered admitted.now.partner rows →

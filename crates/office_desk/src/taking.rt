@@ -2,18 +2,22 @@ ghost use Rattle.std.specs.Prelude.{◌≡◌, ◌⊎◌, ℕ, List, [], ◌∷�
 ghost use Rattle.sqlite.specs.Held.{state};
 ghost use Rattle.sqlite.specs.State.{HasCleanDisk};
 ghost use Rattle.sqlite.specs.Tree.{Trees};
-ghost use Rattle.partner_core.specs.Deliveries.{run};
+ghost use Rattle.partner_core.specs.Deliveries.{delivery, run};
 ghost use Rattle.office_replies.specs.Events.{Event, delivered};
 ghost use Rattle.office_rows.specs.Rows.{Rows};
 ghost use Rattle.office_rows.specs.Stored.{HasRows};
 ghost use Rattle.office_setup.specs.Setups.{setup_content};
 ghost use Rattle.office_admission.specs.Outcomes.{IsAdmitted};
 ghost use Rattle.office_setup.specs.Given.{IsGiven};
+ghost use Rattle.office_tables.specs.Answers.{IsNextOf};
 ghost use Rattle.office_history.specs.After.{AreAfter, delivered_to};
 ghost use Rattle.office_history.specs.Cascade.{text_in};
 ghost use Rattle.office_delivery.specs.Taking.{IsNumbered};
 ghost use Rattle.office_desk.specs.Crashes.{HasCommitted, IsAfter, Leaves, LeavesEither};
 ghost use Rattle.office_desk.specs.Beside.{IsBeside};
+ghost use Rattle.office_desk.specs.Kept.{AnswersOrStays, Office};
+ghost use Rattle.office_desk.specs.Noting.{IsNow};
+ghost use Rattle.office_desk.specs.Offices.{HoldsOffice};
 ghost use Rattle.office_desk.specs.Telling.{Answers, Comes, Holds};
 
 use crate::answers::answer_used;
@@ -45,6 +49,7 @@ pub(crate) fn take_in<S: Alter>(
     requires number { number ≤ LAST_NUMBER }
     requires admitted { IsAdmitted setup.now text.now admitted.now }
     ensures idle { (state S.Store conn.new).in_transaction ≡ false }
+    ensures now { IfOk result IsNow }
     ensures ok { HasCleanDisk (state S.Store conn.new) → IsTrue (state S.Store conn.new).is_open →
         IfOk result (λ response.
         (es : List Event) (sent : List ℕ) →
@@ -68,6 +73,11 @@ pub(crate) fn take_in<S: Alter>(
         Leaves (setup_content setup.now) es (state S.Store conn.old) →
         Comes (setup_content setup.now) sent text.now admitted.now.partner number →
         LeavesEither (setup_content setup.now) es sent (state S.Store conn.new)) }
+    ensures office { HasCleanDisk (state S.Store conn.new) → IsTrue (state S.Store conn.new).is_open →
+        (old : Office) →
+        HoldsOffice (setup_content setup.now) old.rows old.terminal (state S.Store conn.old).committed beside.old →
+        AnswersOrStays (setup_content setup.now) (delivery admitted.now.partner number text.now) code.now old result
+        (state S.Store conn.new).committed beside.new }
     ensures was_open { HasCleanDisk (state S.Store conn.new) → IsTrue (state S.Store conn.new).is_open →
         IsTrue (state S.Store conn.old).is_open }
     ensures clean { HasCleanDisk (state S.Store conn.new) → HasCleanDisk (state S.Store conn.old) }
@@ -107,6 +117,7 @@ fn take_new<S: Alter>(
     requires known { admitted.now.partner ≤ length there.nexts.items }
     requires out { beside.old ≡ None }
     ensures idle { (state S.Store conn.new).in_transaction ≡ false }
+    ensures now { IfOk result IsNow }
     ensures ok { HasCleanDisk (state S.Store conn.new) → IsTrue (state S.Store conn.new).is_open →
         IfOk result (λ response.
         (es : List Event) (sent : List ℕ) (rows : Rows) →
@@ -135,6 +146,13 @@ fn take_new<S: Alter>(
         Comes (setup_content setup.now) sent text.now admitted.now.partner number →
         (db : Trees) → (state S.Store conn.new).may_leave db →
         (state S.Store conn.old).may_leave db ⊎ IsAfter (setup_content setup.now) (es ++ delivered sent ∷ []) db) }
+    ensures office { HasCleanDisk (state S.Store conn.new) → IsTrue (state S.Store conn.new).is_open →
+        (old : Office) →
+        HoldsOffice (setup_content setup.now) old.rows old.terminal (state S.Store conn.old).committed (Some there) →
+        (state S.Store conn.old).now ≡ (state S.Store conn.old).committed →
+        IsNextOf admitted.now.partner old.rows next → text_in old.rows admitted.now.partner number ≡ None →
+        AnswersOrStays (setup_content setup.now) (delivery admitted.now.partner number text.now) code.now old result
+        (state S.Store conn.new).committed beside.new }
     ensures was_open { HasCleanDisk (state S.Store conn.new) → IsTrue (state S.Store conn.new).is_open →
         IsTrue (state S.Store conn.old).is_open }
     ensures clean { HasCleanDisk (state S.Store conn.new) → HasCleanDisk (state S.Store conn.old) }

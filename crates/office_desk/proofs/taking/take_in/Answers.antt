@@ -1,5 +1,6 @@
 use Rattle.std.proofs.Common.{◌≡◌, inl, [], ◌∷◌, ◌++◌, None, Some, not, sym, ap, subst, ◌∙◌}
 use Rattle.sqlite.specs.Held.{state}
+use Rattle.partner_core.specs.Deliveries.{delivery}
 use Rattle.office_replies.specs.Events.{delivered}
 use Rattle.office_rows.specs.Stored.{HasRows}
 use Rattle.office_rows.proofs.StepLemmas.{if_ok}
@@ -9,6 +10,9 @@ use Rattle.office_delivery.specs.Reading.{IsSame}
 use Rattle.office_delivery.proofs.ReadLemmas.{no_text, text_kept}
 use Rattle.office_desk.specs.Beside.{IsAt}
 use Rattle.office_desk.proofs.HoldLemmas.{used_answers, next_is, numbered}
+use Rattle.office_desk.proofs.DeliverLemmas.{is_now}
+use Rattle.office_desk.proofs.KeptLemmas.{failed_stays, used_by_kept}
+use Rattle.office_desk.proofs.OfficeLemmas.{office_with}
 use Rattle.office_desk.proofs.CrashLemmas.{committed_leaves, either_of, on_err, on_err_then, on_told, reads_less, used_leaves}
 use Rattle.office_desk.proofs.taking.take_in.Goals as goal
 
@@ -168,3 +172,65 @@ returns-in_err-answer_used-in-Some-clause-err g c clean is_open = on_err c.from_
       after = holds.after;
       beside = c.in_ok-kept.ensures.beside clean content es holds.rows c.requires.given has holds.after holds.beside;
     })
+
+-- ---- over any office
+
+pub returns-in_ok-answer_used-in-Some-clause-office : goal.returns-in_ok-answer_used-in-Some-clause-office
+returns-in_ok-answer_used-in-Some-clause-office g c clean is_open old holds =
+    let a = c.args in
+    let content = setup_content a.setup.now in
+    let was = state g.S.Store a.conn.now in
+    let mid = state g.S.Store c.look.new.conn in
+    let settled : was.now ≡ was.committed = c.is_autocommit-is_idle.ensures.settled (c.is_autocommit-is_idle.ensures.value ∙ ap not c.requires.idle) (c.look.ensures.reads.was_open clean is_open) in
+    let held = office_with content old.rows old.terminal was.committed was.now a.beside.now a.beside.now settled holds.beside holds in
+    let same : IsSame was mid = c.in_ok-kept.ensures.same clean held.has.schema in
+    let found = c.in_ok-kept.field-0 in
+    let kept_is : found.kept ≡ Some c.in-Some.kept = let e = c.in_ok-kept.kept-is in let is = c.in-Some.is in cc in
+    let kept : IsKept a.admitted.now.partner a.number old.rows (Some c.in-Some.kept) = subst (IsKept a.admitted.now.partner a.number old.rows) kept_is (c.in_ok-kept.ensures.kept clean old.rows held.has) in
+    used_by_kept content old was.now a.beside.now held (delivery a.admitted.now.partner a.number a.text.now) a.code.now c.in-Some.kept c.in_ok-answer_used-in-Some.field-0 mid.committed found
+    (same.committed ∙ sym settled) (c.in_ok-kept.ensures.office clean content old held) kept c.in_ok-answer_used-in-Some.ensures
+
+pub returns-in-None-clause-office : goal.returns-in-None-clause-office
+returns-in-None-clause-office g c clean is_open old holds =
+    let a = c.args in
+    let content = setup_content a.setup.now in
+    let was = state g.S.Store a.conn.now in
+    let mid = state g.S.Store c.look.new.conn in
+    let before = c.take_new.ensures.clean clean in
+    let settled : was.now ≡ was.committed = c.is_autocommit-is_idle.ensures.settled (c.is_autocommit-is_idle.ensures.value ∙ ap not c.requires.idle) (c.look.ensures.reads.was_open before (c.take_new.ensures.was_open clean is_open)) in
+    let held = office_with content old.rows old.terminal was.committed was.now a.beside.now a.beside.now settled holds.beside holds in
+    let same : IsSame was mid = c.in_ok-kept.ensures.same before held.has.schema in
+    let found = c.in_ok-kept.field-0 in
+    let kept_is : found.kept ≡ None = let e = c.in_ok-kept.kept-is in let is = c.in-None.is in cc in
+    let none = no_text a.admitted.now.partner a.number old.rows (subst (IsKept a.admitted.now.partner a.number old.rows) kept_is (c.in_ok-kept.ensures.kept before old.rows held.has)) in
+    let is_found = c.in_ok-kept.ensures.office before content old held in
+    c.take_new.ensures.office clean is_open old
+    (office_with content old.rows old.terminal was.now mid.committed a.beside.now (Some found.there) (same.committed ∙ sym settled) is_found.there held)
+    (same.now ∙ settled ∙ sym same.committed) is_found.next none
+
+pub returns-in_err-kept-clause-office : goal.returns-in_err-kept-clause-office
+returns-in_err-kept-clause-office g c clean is_open old holds =
+    let a = c.args in
+    let content = setup_content a.setup.now in
+    let was = state g.S.Store a.conn.now in
+    let mid = state g.S.Store c.look.new.conn in
+    let settled : was.now ≡ was.committed = c.is_autocommit-is_idle.ensures.settled (c.is_autocommit-is_idle.ensures.value ∙ ap not c.requires.idle) (c.look.ensures.reads.was_open clean is_open) in
+    let held = office_with content old.rows old.terminal was.committed was.now a.beside.now a.beside.now settled holds.beside holds in
+    failed_stays _ content old (delivery a.admitted.now.partner a.number a.text.now) a.code.now c.from_residual.result _ _ c.from_residual.ensures.1
+    (office_with content old.rows old.terminal was.committed mid.committed a.beside.now c.look.new.beside ((c.look.ensures.reads.keeps clean held.has.schema).committed is_open) (c.in_err-kept.ensures.stays clean content old held) holds)
+
+pub returns-in_err-answer_used-in-Some-clause-office : goal.returns-in_err-answer_used-in-Some-clause-office
+returns-in_err-answer_used-in-Some-clause-office g c clean is_open old holds =
+    let a = c.args in
+    let content = setup_content a.setup.now in
+    let was = state g.S.Store a.conn.now in
+    let mid = state g.S.Store c.look.new.conn in
+    let settled : was.now ≡ was.committed = c.is_autocommit-is_idle.ensures.settled (c.is_autocommit-is_idle.ensures.value ∙ ap not c.requires.idle) (c.look.ensures.reads.was_open clean is_open) in
+    let held = office_with content old.rows old.terminal was.committed was.now a.beside.now a.beside.now settled holds.beside holds in
+    let same : IsSame was mid = c.in_ok-kept.ensures.same clean held.has.schema in
+    let found = c.in_ok-kept.field-0 in
+    failed_stays _ content old (delivery a.admitted.now.partner a.number a.text.now) a.code.now c.from_residual-in_err-answer_used-in-Some.result _ _ c.from_residual-in_err-answer_used-in-Some.ensures.1
+    (office_with content old.rows old.terminal was.committed mid.committed a.beside.now (Some found.there) same.committed (c.in_ok-kept.ensures.office clean content old held).there holds)
+
+pub returns-in_ok-answer_used-in-Some-clause-now : goal.returns-in_ok-answer_used-in-Some-clause-now
+returns-in_ok-answer_used-in-Some-clause-now g c = is_now c.in_ok-answer_used-in-Some.field-0 c.args.code.now c.args.number _ c.in_ok-answer_used-in-Some.ensures

@@ -1,8 +1,13 @@
-use Rattle.std.proofs.Common.{◌≡◌, Some, sym, subst, arith}
+use Rattle.std.proofs.Common.{◌≡◌, Some, length, refl, sym, ap, subst, ◌∙◌, arith}
+use Rattle.std.proofs.lemmas.List.{length-map}
 use Rattle.office_rows.specs.Stored.{HasRows}
 use Rattle.sqlite.specs.Held.{state}
 use Rattle.office_setup.specs.Setups.{setup_content}
+use Rattle.partner_core.specs.Deliveries.{delivery}
+use Rattle.office_desk.specs.Beside.{IsOrNone}
 use Rattle.office_desk.specs.Telling.{IsRunDone}
+use Rattle.office_desk.proofs.KeptLemmas.{early_or_stays, failed_stays, next_answers_so}
+use Rattle.office_desk.proofs.OfficeLemmas.{office_with}
 use Rattle.office_desk.proofs.HoldLemmas.{early_answers, machine_same, next_answers, numbered, if_on}
 use Rattle.office_desk.proofs.CrashLemmas.{early_after, either_of, on_err, on_ok, run_after}
 use Rattle.office_desk.proofs.taking.take_new.Goals as goal
@@ -52,3 +57,45 @@ returns-in_err-answer-clause-crash g c clean = on_err c.from_residual.result (λ
     (λ done. run_after content es sent rows a.text.now a.admitted.now.partner a.number a.next a.there db c.requires.given after beside comes free is same
     (subst (λ m. IsRunDone rows a.admitted.now.partner a.number a.text.now m db) (machine_same a.setup.now a.there.terminal) done))
     (c.in_err-answer.ensures.crash clean rows has settled (numbered content es rows a.admitted.now.partner after) db left))
+
+-- ---- over any office
+
+pub returns-then-number-next-clause-office : goal.returns-then-number-next-clause-office
+returns-then-number-next-clause-office g c clean is_open old holds settled is_next free =
+    let a = c.args in
+    let was = state g.S.Store a.conn.now in
+    office_with (setup_content a.setup.now) old.rows old.terminal was.committed was.committed (Some a.there) a.beside.now refl (subst (IsOrNone old.rows old.terminal) (sym c.requires.out) tt) holds
+
+pub returns-then-next-number-clause-office : goal.returns-then-next-number-clause-office
+returns-then-next-number-clause-office g c clean is_open old holds settled is_next free =
+    let a = c.args in
+    let content = setup_content a.setup.now in
+    let was = state g.S.Store a.conn.now in
+    let end = state g.S.Store c.take_early.new.conn in
+    let most = c.requires.admitted.known in
+    let many : length content.partners ≡ length a.setup.now.partners.items = length-map a.setup.now.partners.items _ in
+    early_or_stays content old (delivery a.admitted.now.partner a.number a.text.now) a.code.now c.take_early.result was end a.there a.next holds is_next free c.if-next-number.true c.requires.number c.requires.admitted.from_one (omega (arith, most, many))
+    c.take_early.ensures.told (c.take_early.ensures.ok clean) (c.take_early.ensures.err clean is_open)
+
+pub returns-in_err-answer-clause-office : goal.returns-in_err-answer-clause-office
+returns-in_err-answer-clause-office g c clean is_open old holds settled is_next free =
+    let a = c.args in
+    let content = setup_content a.setup.now in
+    let was = state g.S.Store a.conn.now in
+    let end = state g.S.Store c.take_next.new.conn in
+    let schema = ap (λ db. db.schema) settled ∙ holds.has.schema in
+    failed_stays _ content old (delivery a.admitted.now.partner a.number a.text.now) a.code.now c.from_residual.result _ _ c.from_residual.ensures.1
+    (office_with content old.rows old.terminal was.committed end.committed (Some a.there) a.beside.now (c.in_err-answer.ensures.err clean is_open schema) (subst (IsOrNone old.rows old.terminal) (sym c.requires.out) tt) holds)
+
+pub returns-clause-office : goal.returns-clause-office
+returns-clause-office g c clean is_open old holds settled is_next free =
+    let a = c.args in
+    let content = setup_content a.setup.now in
+    let was = state g.S.Store a.conn.now in
+    let end = state g.S.Store c.take_next.new.conn in
+    let same : a.number ≡ a.next = omega (arith, c.if-number-next.false, c.if-next-number.false) in
+    let most = c.requires.admitted.known in
+    let many : length content.partners ≡ length a.setup.now.partners.items = length-map a.setup.now.partners.items _ in
+    next_answers_so a.setup.now old (delivery a.admitted.now.partner a.number a.text.now) a.code.now c.in_ok-answer.answer was.committed a.there c.in_ok-answer.now end a.next holds is_next free same
+    c.requires.admitted.from_one (omega (arith, most, many)) c.requires.number
+    (λ rows has. c.in_ok-answer.ensures.ok clean rows (subst (HasRows rows) (sym settled) has) settled)

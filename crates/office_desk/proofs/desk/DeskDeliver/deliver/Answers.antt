@@ -1,5 +1,6 @@
-use Rattle.std.proofs.Common.{◌≡◌, [], ◌∷◌, ◌++◌, ◌-◌, get_or, string_bytes, arith, refl, sym, subst, ◌∙◌}
+use Rattle.std.proofs.Common.{◌≡◌, Ok, Err, [], ◌∷◌, ◌++◌, ◌-◌, get_or, string_bytes, arith, refl, sym, subst, ◌∙◌}
 use Rattle.std.proofs.lemmas.Option.{slice_get-get_or}
+use Rattle.edi_segments.specs.Interchange.{interchange_of}
 use Rattle.edi_syntax.specs.Heads.{head_segments}
 use Rattle.office_replies.specs.Events.{delivered}
 use Rattle.office_replies.specs.declared.response.Response.TheVariants.{NotNow}
@@ -7,7 +8,7 @@ use Rattle.office_admission.specs.Refusals.{RefusedSurely}
 use Rattle.office_setup.specs.Parties.{parties_of}
 use Rattle.office_setup.specs.Setups.{setup_content}
 use Rattle.office_desk.proofs.Admitted.{code_at, admitted_surely, never_refused, numbered, refused_so}
-use Rattle.office_desk.proofs.DeliverLemmas.{refusal_delivered, refusal_leaves, admitted_leaves, taken_in, not_taken}
+use Rattle.office_desk.proofs.DeliverLemmas.{refusal_delivered, refusal_leaves, refusal_over, admitted_leaves, answers_over, not_now_surely, notes_none, taken_in, not_taken}
 use Rattle.office_desk.proofs.CrashLemmas.{answered_behind, held_leaves}
 use Rattle.office_desk.specs.Crashes.{Leaves, LeavesEither}
 use Rattle.sqlite.specs.Held.{state}
@@ -107,3 +108,42 @@ returns-in-Ok-taken-clause-refused g c fault e =
 pub returns-in-Err-taken-clause-refused : goal.returns-in-Err-taken-clause-refused
 returns-in-Err-taken-clause-refused g c fault e =
     absurd (never_refused (parties_of c.args.self.now.setup) c.args.delivered.now c.interchange_text-text.result.now _ fault c.interchange_text-text.ensures.exact c.in-Ok.ensures.ok.admits e)
+
+-- ---- over any office
+
+pub returns-in-Err-clause-office : goal.returns-in-Err-clause-office
+returns-in-Err-clause-office g c = λ sound old holds.
+    let text = c.interchange_text-text.result.now in
+    refusal_over g.S.Store old c.args.delivered.now text c.answer-answer.result _ c.in-Err.refusal
+    c.interchange_text-text.ensures.exact (record { has = holds.has; loads = holds.loads; beside = holds.beside }) c.in-Err.ensures.err
+    (c.answer-answer.ensures.answer c.args.self.now.setup text c.in-Err.ensures.err) (c.answer-answer.ensures.sure c.args.self.now.setup text c.in-Err.ensures.err)
+
+pub returns-in-Ok-taken-clause-office : goal.returns-in-Ok-taken-clause-office
+returns-in-Ok-taken-clause-office g c = λ sound old holds.
+    let desk = c.args.self.now in
+    let text = c.interchange_text-text.result.now in
+    let admitted = c.in-Ok.admitted in
+    let is = c.in-Ok.ensures.ok in
+    let accounts = desk.setup.partners.items in
+    let place = admitted.partner - 1 in
+    let account = get_or accounts place c.index-accounts-place.result in
+    let found = slice_get-get_or accounts place c.index-accounts-place.result (omega (arith, is.from_one, is.known)) in
+    let named : c.as_str-code.result.now ≡ string_bytes account.code = rw c.as_slice-accounts.ensures at c.as_str-code.ensures.value in
+    let code = named ∙ sym (code_at accounts admitted.partner account is.from_one found) in
+    let taken : c.take_in-taken.result ≡ Ok c.in-Ok-taken.response = let e = c.in-Ok-taken.is in cc in
+    answers_over g.S.Store old c.args.delivered.now text c.in-Ok-taken.response _ admitted.partner c.number-number.result c.as_str-code.result.now c.interchange_text-text.ensures.exact
+    (numbered (parties_of desk.setup) text (head_segments c.head.result) admitted.partner c.number-number.result (c.head.ensures ∙ is.segments) c.number-number.ensures.number is.admits)
+    code (rw taken at (c.take_in-taken.ensures.office sound.0 sound.1 old holds))
+
+pub returns-in-Err-taken-clause-office : goal.returns-in-Err-taken-clause-office
+returns-in-Err-taken-clause-office g c = λ sound old holds.
+    let desk = c.args.self.now in
+    let taken : c.take_in-taken.result ≡ Err c.in-Err-taken.fault = let e = c.in-Err-taken.is in cc in
+    let P = parties_of desk.setup in
+    (
+      not_now_surely P (interchange_of c.args.delivered.now) (admitted_surely P c.args.delivered.now c.interchange_text-text.result.now _ NotNow c.interchange_text-text.ensures.exact c.in-Ok.ensures.ok.admits),
+      rw taken at (c.take_in-taken.ensures.office sound.0 sound.1 old holds),
+    )
+
+pub returns-in-Ok-taken-clause-noted : goal.returns-in-Ok-taken-clause-noted
+returns-in-Ok-taken-clause-noted g c = notes_none c.in-Ok-taken.response c.args.self.now.last_fault c.in-Ok-taken.ensures.now

@@ -1,0 +1,204 @@
+-- What a desk answers by what it keeps.
+use Rattle.std.proofs.Common.{◌≡◌, ℕ, ◌+◌, ◌-◌, ◌<◌, ◌≤◌, List, [], ◌∷◌, length, map, Bool, true, false, cond, Option, None, Some, Result, Ok, Err, IfOk, OnOk, OnErr, refl, sym, ap, ap₂, subst, ◌∙◌, arith, string_bytes}
+use Rattle.std.specs.Prelude.{◌==◌, find, nat_lt, slice_set, Contains}
+use Rattle.std.specs.List.{range_with_len}
+use Rattle.std.specs.List.Sorted.{IsPermutation}
+use Rattle.std.specs.Option.{option_map}
+use Rattle.std.specs.Result.{IsErrAnd}
+use Rattle.std.proofs.lemmas.Bool.{lt-ltb, ltb-true}
+use Rattle.std.proofs.lemmas.List.FromFn.{length-map-range_with_len}
+use Rattle.sqlite.specs.Effect.{Database}
+use Rattle.sqlite.specs.State.{State}
+use Rattle.partner_core.specs.Answers.{Taken, Waiting, answer_by}
+use Rattle.partner_core.specs.Deliveries.{Delivery}
+use Rattle.partner_core.specs.Numbered.{with_number}
+use Rattle.partner_core.specs.Standings.{standing_of, is_same_text}
+use Rattle.partner_core.specs.declared.standing.Standing.TheVariants.{Known, Other, Early, Next}
+use Rattle.terminal_core.specs.State.{TerminalState}
+use Rattle.office_replies.specs.Contents.{content_of}
+use Rattle.office_replies.specs.declared.response.Response.{Response}
+use Rattle.office_rows.specs.Rows.{Interchange, Rows}
+use Rattle.office_rows.specs.Effects.{is_pair, with_kept}
+use Rattle.office_rows.specs.Shown.{AreNexts}
+use Rattle.office_rows.specs.Stored.{HasRows}
+use Rattle.office_setup.specs.Setups.{SetupContent, setup_content}
+use Rattle.office_setup.specs.declared.setup.Setup.{Setup}
+use Rattle.office_tables.specs.Answers.{IsKept, IsNextOf}
+use Rattle.office_tables.specs.declared.kept_interchange.Kept.{Kept}
+use Rattle.office_tables.specs.declared.table_fault.TableFault.{TableFault}
+use Rattle.office_taking.specs.Taking.{machine_of}
+use Rattle.office_history.specs.After.{AreKeptOnce, machine_with, reply_in}
+use Rattle.office_history.specs.Cascade.{AreTakenFrom, text_in, texts_with, with_run}
+use Rattle.office_loading.specs.Tables.{Loads}
+use Rattle.office_delivery.specs.Taking.{IsNumbered}
+use Rattle.office_delivery.specs.Writing.{Commits}
+use Rattle.office_delivery.proofs.ReadLemmas.{text_kept}
+use Rattle.office_desk.specs.Answers.{told_answer}
+use Rattle.office_desk.specs.Beside.{IsOf}
+use Rattle.office_desk.specs.Kept.{Office, IsFoundIn, IsRunTaken, TakesIn, AnswersByKept, AnswersOrStays}
+use Rattle.office_desk.specs.Offices.{HoldsOffice}
+use Rattle.office_desk.specs.Telling.{TakesNext}
+use Rattle.office_desk.specs.declared.beside.Beside.{Beside}
+use Rattle.office_desk.specs.declared.found.Found.{Found}
+use Rattle.office_desk.proofs.HoldLemmas.{machine_same, reply_kept}
+use Rattle.office_desk.proofs.NumberLemmas.{nexts_are, number_within}
+use Rattle.office_desk.proofs.OfficeAccounts.{KeepsAccounts, keeps_accounts, next_at, next_follows}
+use Rattle.office_desk.proofs.OfficeLemmas.{office_once, office_with}
+use Rattle.office_desk.proofs.OfficeSteps.{early_loads}
+use Rattle.office_desk.proofs.RunLoads.{has_in_order, in_order, run_loads}
+use Rattle.office_desk.proofs.RunNexts.{accounts_raised, nexts_raised}
+
+-- ---- what was found
+
+module _ (content : SetupContent) (old : Office) (db : Database) (before : Option Beside) (holds : HoldsOffice content old.rows old.terminal db before) where
+  abbrev accounts : KeepsAccounts content old.rows
+  accounts = (keeps_accounts content old.rows old.terminal db holds.has holds.loads).0
+
+  pub found_in : (partner : ℕ) (found : Found) → 1 ≤ partner → IsOf old.rows old.terminal found.there → with_number found.there.nexts.items partner ≡ Some found.next → IsFoundIn old partner found
+  found_in partner found one there is =
+      let f : ℕ → ℕ = λ p. accounts.runs p + 1 in
+      let many : length found.there.nexts.items ≡ length content.partners =
+      ap length (nexts_are f content.partners old.rows accounts.by_id found.there.nexts.items there.nexts) ∙ length-map-range_with_len f 1 (length content.partners) in
+      let low = number_within found.there.nexts.items partner found.next is in
+      record { next = next_at content old.rows accounts found.there.nexts.items partner found.next one (omega (arith, low, many)) there.nexts is; there = there }
+
+  -- ---- what is used
+
+  used_takes : (d : Delivery) (same : Bool) (next : ℕ) (reply : Option (List ℕ)) → reply_in old.rows d.partner d.number ≡ reply → TakesIn (cond same Known Other) content d next (answer_by (cond same Known Other) next reply None) old old
+  used_takes d true next reply is = (ap (λ r. answer_by Known next r None) (sym is), refl)
+  used_takes d false next reply is = (refl, refl)
+
+  pub used_by_kept : (d : Delivery) (code : List ℕ) (kept : Kept) (response : Response) (db' : Database) (found : Found) → db' ≡ db → IsFoundIn old d.partner found → IsKept d.partner d.number old.rows (Some kept) →
+      content_of response ≡ told_answer code d.number (answer_by (standing_of found.next d.number (Some kept.text.items) d.text) found.next (option_map string_bytes kept.reply) None) →
+      AnswersByKept content d code old response db' (Some found.there)
+  used_by_kept d code kept response db' found same is_found is told =
+      let next = found.next in
+      let once = office_once content old.rows old.terminal db before holds in
+      let used : text_in old.rows d.partner d.number ≡ Some kept.text.items = text_kept d.partner d.number old.rows kept once is in
+      let tells = answer_by (standing_of next d.number (Some kept.text.items) d.text) next (option_map string_bytes kept.reply) None in
+      record {
+        next = next;
+        is_next = is_found.next;
+        told = tells;
+        new = old;
+        takes = subst (λ o. TakesIn (standing_of next d.number o d.text) content d next tells old old) (sym used)
+            (used_takes d (is_same_text kept.text.items d.text) next (option_map string_bytes kept.reply) (reply_kept d.partner d.number old.rows kept once is));
+        answers = told;
+        holds = record { has = subst (HasRows old.rows) (sym same) holds.has; loads = subst (λ other. Loads other content old.terminal) (sym same) holds.loads; beside = is_found.there };
+      }
+
+  -- ---- what is early
+
+  pub early_by_kept : (d : Delivery) (code : List ℕ) (response : Response) (was end : State) (there : Beside) (next : ℕ) → was.committed ≡ db → IsOf old.rows old.terminal there → IsNextOf d.partner old.rows next →
+      text_in old.rows d.partner d.number ≡ None → next < d.number → d.number ≤ 999999999 → 1 ≤ d.partner → d.partner ≤ length content.partners →
+      content_of response ≡ told_answer code d.number (Waiting next) → Commits (with_kept d.partner d.number d.text) was end → AnswersByKept content d code old response end.committed (Some there)
+  early_by_kept d code response was end there next same beside is_next free later high one most told wrote =
+      let has : HasRows (with_kept d.partner d.number d.text old.rows) end.committed = wrote.rows old.rows (subst (HasRows old.rows) (sym same) holds.has) in
+      let follows = next_follows content old.rows accounts d.partner next is_next in
+      let new : Office = record old { rows = with_kept d.partner d.number d.text old.rows } in
+      let by_none : TakesIn (standing_of next d.number None d.text) content d next (Waiting next) old new =
+      subst (λ is. TakesIn (cond is Early Next) content d next (Waiting next) old new) (sym (lt-ltb next d.number later)) (refl, refl) in
+      record {
+        next = next;
+        is_next = is_next;
+        told = Waiting next;
+        new = new;
+        takes = subst (λ o. TakesIn (standing_of next d.number o d.text) content d next (Waiting next) old new) (sym free) by_none;
+        answers = told;
+        holds = record {
+          has = has;
+          loads = early_loads content old.rows d.partner d.number d.text old.terminal db end.committed holds.has has holds.loads one most high (omega (arith, follows, later)) free;
+          beside = record { terminal_is = beside.terminal_is; nexts = beside.nexts };
+        };
+      }
+
+-- ---- what is next
+
+not_early : (next k : ℕ) (is : Bool) → nat_lt next k ≡ is → k ≡ next → is ≡ false
+not_early next k true e same = absurd (omega (arith, ltb-true next k e, same))
+not_early next k false e same = refl
+
+pub next_by_kept : (setup : Setup) (old : Office) (d : Delivery) (code : List ℕ) (response : Response) (was : Database) (there now : Beside) (end : State) (next : ℕ) →
+    HoldsOffice (setup_content setup) old.rows old.terminal was (Some there) → IsNextOf d.partner old.rows next → text_in old.rows d.partner d.number ≡ None → d.number ≡ next → 1 ≤ d.partner →
+    TakesNext old.rows d.partner d.number d.text code setup there response now end → Loads end.committed (setup_content setup) now.terminal →
+    AnswersByKept (setup_content setup) d code old response end.committed (Some now)
+next_by_kept setup old d code response was there now end next holds is_next free same one takes loads =
+    let content = setup_content setup in
+    let its = (keeps_accounts content old.rows old.terminal was holds.has holds.loads).0 in
+    let run = takes.first ∷ takes.later in
+    let new : Office = record { rows = with_run d.partner d.number d.text run old.rows; terminal = now.terminal } in
+    let told = Taken (Some takes.first.reply) in
+    let texts = texts_with old.rows d.partner d.number d.text in
+    let taken : AreTakenFrom d.partner texts d.number (machine_with content old.terminal) run (machine_with content now.terminal) =
+    subst (λ m. AreTakenFrom d.partner texts d.number (machine_with content old.terminal) run m) (machine_same setup now.terminal)
+    (subst (λ m. AreTakenFrom d.partner texts d.number m run (machine_of setup now.terminal)) (machine_same setup there.terminal ∙ ap (machine_with content) holds.beside.terminal_is) takes.taken) in
+    let by_none : TakesIn (standing_of next d.number None d.text) content d next told old new =
+    subst (λ is. TakesIn (cond is Early Next) content d next told old new) (sym (not_early next d.number (nat_lt next d.number) refl same))
+    (same, record { first = takes.first; later = takes.later; taken = taken; rows = refl; is_told = refl }) in
+    let partners = accounts_raised d.partner d.number texts d.text _ _ takes.first takes.later old.rows taken in
+    record {
+      next = next;
+      is_next = is_next;
+      told = told;
+      new = new;
+      takes = subst (λ o. TakesIn (standing_of next d.number o d.text) content d next told old new) (sym free) by_none;
+      answers = takes.answers;
+      holds = record {
+        has = takes.has;
+        loads = loads;
+        beside = record {
+          terminal_is = refl;
+          nexts = subst (AreNexts new.rows) (sym takes.raised)
+              (nexts_raised (λ p. its.runs p + 1) content.partners old.rows new.rows d.partner (d.number + length run) there.nexts.items its.by_id one partners holds.beside.nexts);
+        };
+      };
+    }
+
+-- the rows have numbers of interchanges alone
+numbered_in : (content : SetupContent) (old : Office) (db : Database) (there : Option Beside) (partner : ℕ) (rows : Rows) → HoldsOffice content old.rows old.terminal db there → rows.interchanges ≡ old.rows.interchanges → IsNumbered partner rows
+numbered_in content old db there partner rows holds same = record {
+  kept_once = subst AreKeptOnce (sym same) (office_once content old.rows old.terminal db there holds);
+  none_beyond = ap (λ l. option_map (λ (i : Interchange). i.body) (find (is_pair partner 1000000000) l)) same ∙ at (text_in old.rows partner 1000000000) refl;
+}
+  where
+    at : (found : Option (List ℕ)) → text_in old.rows partner 1000000000 ≡ found → text_in old.rows partner 1000000000 ≡ None
+    at None e = e
+    at (Some text) e = let its = (keeps_accounts content old.rows old.terminal db holds.has holds.loads).0.keeps.within partner 1000000000 text e in absurd (omega (arith, its.3))
+
+-- what was taken of the rows leaves an office again
+pub next_answers_so : (setup : Setup) (old : Office) (d : Delivery) (code : List ℕ) (response : Response) (was : Database) (there now : Beside) (end : State) (next : ℕ) →
+    HoldsOffice (setup_content setup) old.rows old.terminal was (Some there) → IsNextOf d.partner old.rows next → text_in old.rows d.partner d.number ≡ None → d.number ≡ next →
+    1 ≤ d.partner → d.partner ≤ length (setup_content setup).partners → d.number ≤ 999999999 →
+    ((rows : Rows) → HasRows rows was → IsNumbered d.partner rows → TakesNext rows d.partner d.number d.text code setup there response now end) →
+    AnswersByKept (setup_content setup) d code old response end.committed (Some now)
+next_answers_so setup old d code response was there now end next holds is_next free same one most high takes =
+    let content = setup_content setup in
+    let found = keeps_accounts content old.rows old.terminal was holds.has holds.loads in
+    let shown = holds.loads.0 in
+    let rows = in_order old.rows shown in
+    let run = takes rows (has_in_order old.rows shown was holds.has holds.loads.1) (numbered_in content old was (Some there) d.partner rows holds refl) in
+    let texts = texts_with old.rows d.partner d.number d.text in
+    let taken : AreTakenFrom d.partner texts d.number (machine_with content old.terminal) (run.first ∷ run.later) (machine_with content now.terminal) =
+    subst (λ m. AreTakenFrom d.partner texts d.number (machine_with content old.terminal) (run.first ∷ run.later) m) (machine_same setup now.terminal)
+    (subst (λ m. AreTakenFrom d.partner texts d.number m (run.first ∷ run.later) (machine_of setup now.terminal)) (machine_same setup there.terminal ∙ ap (machine_with content) holds.beside.terminal_is) run.taken) in
+    let loads : Loads end.committed content now.terminal =
+    run_loads content old.rows old.terminal was holds.has holds.loads d.partner d.text d.number (run.first ∷ run.later) now.terminal free
+    (same ∙ next_follows content old.rows found.0 d.partner next is_next) one most taken high end.committed run.has in
+    next_by_kept setup old d code response was there now end next holds is_next free same one
+    (takes old.rows holds.has (numbered_in content old was (Some there) d.partner old.rows holds refl)) loads
+
+-- ---- calls that failed
+
+pub failed_stays : (Q : TableFault → Type 0) (content : SetupContent) (old : Office) (d : Delivery) (code : List ℕ) (r : Result Response TableFault) (db : Database) (there : Option Beside) → IsErrAnd r Q → HoldsOffice content old.rows old.terminal db there →
+    AnswersOrStays content d code old r db there
+failed_stays Q content old d code (Ok response) db there is holds = absurd is
+failed_stays Q content old d code (Err fault) db there is holds = holds
+
+pub early_or_stays : (content : SetupContent) (old : Office) (d : Delivery) (code : List ℕ) (r : Result Response TableFault) (was end : State) (there : Beside) (next : ℕ) →
+    HoldsOffice content old.rows old.terminal was.committed (Some there) → IsNextOf d.partner old.rows next → text_in old.rows d.partner d.number ≡ None → next < d.number → d.number ≤ 999999999 → 1 ≤ d.partner → d.partner ≤ length content.partners →
+    IfOk r (λ response. content_of response ≡ told_answer code d.number (Waiting next)) → OnOk r (Commits (with_kept d.partner d.number d.text) was end) → OnErr r (end.committed ≡ was.committed) →
+    AnswersOrStays content d code old r end.committed (Some there)
+early_or_stays content old d code (Ok response) was end there next holds is_next free later high one most told wrote same =
+    early_by_kept content old was.committed (Some there) holds d code response was end there next refl holds.beside is_next free later high one most told wrote
+early_or_stays content old d code (Err fault) was end there next holds is_next free later high one most told wrote same =
+    office_with content old.rows old.terminal was.committed end.committed (Some there) (Some there) same holds.beside holds

@@ -1,0 +1,145 @@
+-- The rows of an office: its accounts and what is kept for them, whether or not deliveries led to them.
+use Rattle.std.proofs.Common.{◌≡◌, ℕ, zero, suc, ◌+◌, ◌-◌, ◌<◌, ◌≤◌, List, [], ◌∷◌, ◌++◌, length, map, inl, inr, Option, None, Some, refl, sym, ap, ap₂, subst, ◌∙◌, arith}
+use Rattle.std.specs.Prelude.{◌==◌, Contains}
+use Rattle.std.specs.List.Sorted.{IsPermutation}
+use Rattle.std.proofs.lemmas.Bool.{cases_order, eq-eqb, eqb-true}
+use Rattle.std.proofs.lemmas.List.Sorted.{Contains-permutation, IsPermutation-sym, IsPermutation-trans}
+use Rattle.sqlite.specs.declared.types.Value.{Value}
+use Rattle.sqlite.specs.declared.types.Value.TheVariants.{Text}
+use Rattle.sqlite.specs.Order.{Row, column}
+use Rattle.sqlite.specs.Effect.{Database}
+use Rattle.sqlite_rules.proofs.ListLemmas.{contains_had, has_contained, has_filtered, has_kept}
+use Rattle.edi_messages.specs.declared.partner_kind.PartnerKind.{PartnerKind}
+use Rattle.edi_messages.specs.declared.partner_kind.PartnerKind.TheVariants.{Gate, Line, Quay, Yard}
+use Rattle.partner_core.specs.Numbered.{with_number}
+use Rattle.terminal_core.specs.State.{TerminalState}
+use Rattle.office_rows.specs.Rows.{Partner, Interchange, Rows}
+use Rattle.office_rows.specs.Values.{number, kind_code, interchange_values, partner_values}
+use Rattle.office_rows.specs.Stored.{HasRows}
+use Rattle.office_rows.specs.Shown.{AreNexts, columns_at}
+use Rattle.office_rows.specs.Opened.{OpenedRows, Shows, numbered, reply_values}
+use Rattle.office_rows.specs.Office.{AreKept, IsOffice}
+use Rattle.office_rows.specs.Tables.{partner as partners_table}
+use Rattle.office_rows.proofs.Listed.{unmapped}
+use Rattle.office_setup.specs.Setups.{SetupContent}
+use Rattle.office_tables.specs.Answers.{IsNextOf, has_id}
+use Rattle.office_history.specs.After.{accounts_from}
+use Rattle.office_history.proofs.Once.{kept_once}
+use Rattle.office_history.proofs.Shown.{head_in, tail_in, same_records, shown_in}
+use Rattle.office_loading.specs.Tables.{Loads}
+use Rattle.office_desk.proofs.KeptNumbers.{HaveRuns, KeepsNumbers, have_runs, kept_numbers}
+use Rattle.office_desk.proofs.NumberLemmas.{next_by, nexts_are, number_of}
+
+-- ---- what the tables show, as records
+
+number_one : (m n : ℕ) → number m ≡ number n → m ≡ n
+number_one m n e = cc
+
+text_one : (s t : List ℕ) → ◌≡◌ {A = Value} (Text s) (Text t) → s ≡ t
+text_one s t e = cc
+
+kind_one : (a b : PartnerKind) → kind_code a ≡ kind_code b → a ≡ b
+kind_one Gate Gate e = refl
+kind_one Gate Line e = absurd (omega (arith, e))
+kind_one Gate Quay e = absurd (omega (arith, e))
+kind_one Gate Yard e = absurd (omega (arith, e))
+kind_one Line Gate e = absurd (omega (arith, e))
+kind_one Line Line e = refl
+kind_one Line Quay e = absurd (omega (arith, e))
+kind_one Line Yard e = absurd (omega (arith, e))
+kind_one Quay Gate e = absurd (omega (arith, e))
+kind_one Quay Line e = absurd (omega (arith, e))
+kind_one Quay Quay e = refl
+kind_one Quay Yard e = absurd (omega (arith, e))
+kind_one Yard Gate e = absurd (omega (arith, e))
+kind_one Yard Line e = absurd (omega (arith, e))
+kind_one Yard Quay e = absurd (omega (arith, e))
+kind_one Yard Yard e = refl
+
+partner_one : (a b : Partner) → Unit {0} → Unit {0} → partner_values a ≡ partner_values b → a ≡ b
+partner_one a b _ _ e =
+    let id = number_one a.id b.id (ap (λ r. column r 0) e) in
+    let code = text_one a.code b.code (ap (λ r. column r 1) e) in
+    let kind = kind_one a.kind b.kind (number_one _ _ (ap (λ r. column r 2) e)) in
+    let next = number_one a.next b.next (ap (λ r. column r 3) e) in
+    λ i. record { id = id i; code = code i; kind = kind i; next = next i }
+
+numbered_one : (i j : Interchange) → reply_values i ≡ columns_at (0 ∷ 1 ∷ 3 ∷ []) (interchange_values j) → numbered i ≡ numbered j
+numbered_one i j e =
+    let partner : i.partner ≡ j.partner = number_one i.partner j.partner (ap (λ r. column r 0) e) in
+    let own : i.number ≡ j.number = number_one i.number j.number (ap (λ r. column r 1) e) in
+    let reply : i.reply ≡ j.reply = text_one i.reply j.reply (ap (λ r. column r 2) e) in
+    λ k. numbered (record { partner = partner k; number = own k; body = i.body; reply = reply k })
+
+numbers_same : (xs ys : List Interchange) → map reply_values xs ≡ map (columns_at (0 ∷ 1 ∷ 3 ∷ [])) (map interchange_values ys) → map numbered xs ≡ map numbered ys
+numbers_same [] [] e = refl
+numbers_same [] (y ∷ ys) e = cc
+numbers_same (x ∷ xs) [] e = cc
+numbers_same (x ∷ xs) (y ∷ ys) e =
+    let first : reply_values x ≡ columns_at (0 ∷ 1 ∷ 3 ∷ []) (interchange_values y) = cc in
+    let rest : map reply_values xs ≡ map (columns_at (0 ∷ 1 ∷ 3 ∷ [])) (map interchange_values ys) = cc in
+    ap₂ ◌∷◌ (numbered_one x y first) (numbers_same xs ys rest)
+
+-- ---- the accounts
+
+-- the accounts by id, each with the number after its partner's run, and what is kept for them
+pub record KeepsAccounts (content : SetupContent) (rows : Rows) : Type 0 where
+  pub runs : ℕ → ℕ
+  pub high : (p : ℕ) → runs p ≤ 999999999
+  pub by_id : IsPermutation rows.partners (accounts_from 1 (λ p. runs p + 1) content.partners)
+  pub keeps : KeepsNumbers (length content.partners) runs rows
+
+pub keeps_accounts : (content : SetupContent) (rows : Rows) (terminal : TerminalState) (db : Database) → HasRows rows db → (loads : Loads db content terminal) →
+    (its : KeepsAccounts content rows) × (loads.0.partners ≡ accounts_from 1 (λ p. its.runs p + 1) content.partners)
+keeps_accounts content rows terminal db has loads =
+    let shown = loads.0 in
+    let shows = loads.1 in
+    let office = loads.2 in
+    let its = have_runs 1 shown.partners content.partners office.accounts in
+    let in_order = shown_in partners_table (0 ∷ 1 ∷ 2 ∷ 3 ∷ []) (0 ∷ []) partner_values rows.partners db (map partner_values shown.partners) (λ p. refl) has.rows_are.partners shows.partners in
+    let same : shown.partners ≡ in_order.0 = same_records (λ _. Unit {0}) partner_values partner_one shown.partners in_order.0 (λ _ _. tt) (λ _ _. tt) in_order.2 in
+    let table = shows.numbers.shown in
+    let placed = unmapped interchange_values rows.interchanges table.by_key (IsPermutation-trans _ _ _ has.rows_are.interchanges.same table.same) in
+    let numbers : shown.numbers ≡ map numbered placed.0 =
+    shows.numbers.are ∙ numbers_same shows.numbers.interchanges placed.0 (table.is ∙ ap (map (columns_at (0 ∷ 1 ∷ 3 ∷ []))) placed.2) in (
+      record {
+        runs = its.runs;
+        high = its.high;
+        by_id = subst (IsPermutation rows.partners) (sym same ∙ its.are) in_order.1;
+        keeps = kept_numbers shown.partners content.partners rows placed.0 its placed.1 (kept_once db rows shown content terminal has shows office) (subst (AreKept shown.partners) numbers office.kept);
+      },
+      its.are,
+    )
+
+account_there : (id : ℕ) (f : ℕ → ℕ) (accounts : List (List ℕ × PartnerKind)) (p : ℕ) → id ≤ p → p < id + length accounts → (q : Partner) × Contains (accounts_from id f accounts) q × (q.id ≡ p) × (q.next ≡ f p)
+account_there id f [] p low below = absurd (omega (arith, low, below))
+account_there id f (account ∷ accounts) p low below = elim (cases_order id p) [
+  | inl same ↦ (record { id = id; code = account.0; kind = account.1; next = f id }, head_in _ _, same, ap f same)
+  | inr o ↦ elim o [
+    | inl less ↦
+        let rest = account_there (id + 1) f accounts p (omega (arith, less)) (omega (arith, below)) in
+        (rest.0, tail_in _ rest.0 _ rest.1, rest.2, rest.3)
+    | inr more ↦ absurd (omega (arith, more, low))
+  ]
+]
+
+module _ (content : SetupContent) (rows : Rows) (its : KeepsAccounts content rows) where
+  -- a partner's next number follows its run
+  pub next_follows : (p next : ℕ) → IsNextOf p rows next → next ≡ its.runs p + 1
+  next_follows p next is =
+      let own = has_filtered (has_id p) rows.partners is.0 (has_contained _ is.0 is.1) in
+      let here : is.0.id ≡ p = eqb-true is.0.id p own.1 in
+      sym is.2 ∙ next_by (λ q. its.runs q + 1) content.partners rows its.by_id is.0 (contains_had rows.partners is.0 own.0) ∙ ap (λ q. its.runs q + 1) here
+
+  next_there : (p : ℕ) → 1 ≤ p → p ≤ length content.partners → IsNextOf p rows (its.runs p + 1)
+  next_there p one most =
+      let account = account_there 1 (λ q. its.runs q + 1) content.partners p one (omega (arith, most)) in
+      let inside = Contains-permutation _ rows.partners account.0 (IsPermutation-sym _ _ its.by_id) account.1 in
+      (account.0, contains_had _ account.0 (has_kept (has_id p) rows.partners account.0 (has_contained _ account.0 inside) (eq-eqb account.0.id p account.2)), account.3)
+
+  -- the number that stands at a partner's place is its next
+  pub next_at : (nexts : List ℕ) (p next : ℕ) → 1 ≤ p → p ≤ length content.partners → AreNexts rows nexts → with_number nexts p ≡ Some next → IsNextOf p rows next
+  next_at nexts p next one most are is =
+      let here : next ≡ its.runs p + 1 =
+      number_of (λ q. its.runs q + 1) (length content.partners) p next (sym (ap (λ l. with_number l p) (nexts_are (λ q. its.runs q + 1) content.partners rows its.by_id nexts are)) ∙ is) in
+      subst (IsNextOf p rows) (sym here) (next_there p one most)

@@ -1,0 +1,107 @@
+-- What a desk answers by what it keeps, whether or not events led to its rows.
+use Rattle.std.specs.Prelude.{◌≡◌, ℕ, ◌∷◌, List, Option, None, Some, Result, Ok, Err}
+use Rattle.sqlite.specs.Effect.{Database}
+use Rattle.sqlite.specs.Held.{state}
+use Rattle.sqlite_trees.specs.declared.store.Store.{Ghosts}
+use Rattle.edi_segments.specs.Interchange.{interchange_of, segments_in}
+use Rattle.edi_syntax.specs.Envelope.{header_of}
+use Rattle.partner_core.specs.Answers.{Told, Taken, Waiting, Clash, answer_by}
+use Rattle.partner_core.specs.Deliveries.{Delivery, delivery}
+use Rattle.partner_core.specs.Standings.{standing_of}
+use Rattle.partner_core.specs.declared.standing.Standing.{Standing}
+use Rattle.partner_core.specs.declared.standing.Standing.TheVariants.{Known, Other, Early, Next}
+use Rattle.terminal_core.specs.State.{TerminalState}
+use Rattle.office_replies.specs.Contents.{content_of}
+use Rattle.office_replies.specs.declared.fault.Fault.{Fault}
+use Rattle.office_replies.specs.declared.response.Response.{Response}
+use Rattle.office_replies.specs.declared.response.Response.TheVariants as response
+use Rattle.office_rows.specs.Rows.{Rows}
+use Rattle.office_rows.specs.Effects.{with_kept}
+use Rattle.office_rows.specs.Stored.{HasRows}
+use Rattle.office_setup.specs.Parties.{parties_of}
+use Rattle.office_setup.specs.Setups.{SetupContent, setup_content}
+use Rattle.office_admission.specs.Admission.{admission}
+use Rattle.office_admission.specs.Refusals.{refusal_of, MayBeNotNow}
+use Rattle.office_tables.specs.Answers.{IsNextOf}
+use Rattle.office_tables.specs.declared.table_fault.TableFault.{TableFault}
+use Rattle.office_history.specs.After.{machine_with, reply_in}
+use Rattle.office_history.specs.Cascade.{TakenContent, AreTakenFrom, text_in, texts_with, with_run}
+use Rattle.office_desk.specs.Answers.{code_of, told_answer}
+use Rattle.office_desk.specs.Beside.{IsOf, IsOrNone}
+use Rattle.office_desk.specs.Offices.{DeskHolds, HoldsOffice}
+use Rattle.office_desk.specs.declared.beside.Beside.{Beside}
+use Rattle.office_desk.specs.declared.desk.Desk.{Desk}
+use Rattle.office_desk.specs.declared.found.Found.{Found}
+
+-- the rows of an office, and its terminal
+pub record Office : Type 0 where
+  pub rows : Rows
+  pub terminal : TerminalState
+
+-- the partner's next number is the one that was found, and so is what stands beside the rows
+pub record IsFoundIn (old : Office) (partner : ℕ) (found : Found) : Type 0 where
+  pub next : IsNextOf partner old.rows found.next
+  pub there : IsOf old.rows old.terminal found.there
+
+-- ---- what a delivery makes of an office
+
+-- it is taken, and the texts that become next by it; it is told with its own reply
+pub record IsRunTaken (content : SetupContent) (d : Delivery) (told : Told) (old new : Office) : Type 0 where
+  pub first : TakenContent
+  pub later : List TakenContent
+  pub taken : AreTakenFrom d.partner (texts_with old.rows d.partner d.number d.text) d.number
+      (machine_with content old.terminal) (first ∷ later) (machine_with content new.terminal)
+  pub rows : new.rows ≡ with_run d.partner d.number d.text (first ∷ later) old.rows
+  pub is_told : told ≡ Taken (Some first.reply)
+
+-- how it stands to what is kept, and to its partner's next number
+abbrev pub standing_in : Office → Delivery → (next : ℕ) → Standing
+standing_in old d next = standing_of next d.number (text_in old.rows d.partner d.number) d.text
+
+-- by that standing: what is used leaves the office, what is early is kept, and what is next is taken
+abbrev pub TakesIn : Standing → SetupContent → Delivery → (next : ℕ) → Told → (old new : Office) → Type 0
+TakesIn Known content d next told old new =
+    (told ≡ answer_by Known next (reply_in old.rows d.partner d.number) None) × (new ≡ old)
+TakesIn Other content d next told old new = (told ≡ Clash) × (new ≡ old)
+TakesIn Early content d next told old new =
+    (told ≡ Waiting next) × (new ≡ record old { rows = with_kept d.partner d.number d.text old.rows })
+TakesIn Next content d next told old new = (d.number ≡ next) × IsRunTaken content d told old new
+
+-- ---- what is answered
+
+-- the response to the partner with that code is what is to be told of the delivery, and the office that it makes is
+-- held
+pub record AnswersByKept (content : SetupContent) (d : Delivery) (code : List ℕ) (old : Office) (response : Response)
+    (db : Database) (there : Option Beside) : Type 0 where
+  pub next : ℕ
+  pub is_next : IsNextOf d.partner old.rows next
+  pub told : Told
+  pub new : Office
+  pub takes : TakesIn (standing_in old d next) content d next told old new
+  pub answers : content_of response ≡ told_answer code d.number told
+  pub holds : HoldsOffice content new.rows new.terminal db there
+
+-- it is answered so, or the call failed and the office is held as it was
+abbrev pub AnswersOrStays : SetupContent → Delivery → List ℕ → Office → Result Response TableFault → Database →
+    Option Beside → Type 0
+AnswersOrStays content d code old (Ok response) db there = AnswersByKept content d code old response db there
+AnswersOrStays content d code old (Err fault) db there = HoldsOffice content old.rows old.terminal db there
+
+-- ---- what a desk answers
+
+-- a text that is refused is answered so, and the office stays; one that is admitted is answered by what is kept
+abbrev pub AnswersAt : {S : Type 0} (g : Ghosts S) → Result (ℕ × ℕ) Fault → List ℕ → Office → Response → Desk S g →
+    Type 0
+AnswersAt g (Err fault) text old given desk =
+    (content_of given ≡ refusal_of (parties_of desk.setup) (header_of (segments_in text)) fault)
+    × DeskHolds g desk old.rows old.terminal
+AnswersAt g (Ok place) text old given desk =
+    AnswersByKept (setup_content desk.setup) (delivery place.0 place.1 text) (code_of (parties_of desk.setup) place.0)
+    old given (state g desk.conn).committed desk.beside
+
+-- what is delivered to a desk over that office is answered so, or NotNow if that may be, and the office stays
+abbrev pub AnswersOver : {S : Type 0} (g : Ghosts S) → Office → List ℕ → Response → Desk S g → Type 0
+AnswersOver g old sent response.NotNow desk =
+    MayBeNotNow (parties_of desk.setup) (interchange_of sent) × DeskHolds g desk old.rows old.terminal
+AnswersOver g old sent given desk =
+    AnswersAt g (admission (parties_of desk.setup) (interchange_of sent)) (interchange_of sent) old given desk
