@@ -85,31 +85,44 @@ impl Trial {
     }
 }
 
+/// A terminal where these lines were listed, in that order.
+fn listed(
+    rt: &impl Abort,
+    alloc: Global,
+    lines: [(Side, &'static str); 3],
+) -> Result<Trial, AllocError> {
+    let mut trial = Trial::new(rt, alloc)?;
+    for (side, text) in lines {
+        trial.list(alloc, side, number(rt, text))?;
+    }
+    Ok(trial)
+}
+
+/// Discharges a container there.
+fn discharge(
+    rt: &impl Abort,
+    alloc: Global,
+    trial: &mut Trial,
+    text: &str,
+) -> Result<(), AllocError> {
+    trial.discharge(rt, alloc, text)?;
+    Ok(())
+}
+
 #[test]
 fn lines_are_dropped_by_their_numbers(rt: HostRuntime) -> Result<(), Fail> {
     let alloc = rt.alloc();
-    let mut trial = Trial::new(&rt, alloc)?;
-    for text in [SECOND, "ABCU0000038", FIRST] {
-        trial.list(alloc, Side::Load, number(&rt, text))?;
-    }
+    let lines = [
+        (Side::Load, SECOND),
+        (Side::Load, "ABCU0000038"),
+        (Side::Load, FIRST),
+    ];
+    let mut trial = listed(&rt, alloc, lines)?;
     assert_eq!(rt; trial.drop_open(alloc, Side::Load)?, 3);
     for (place, text) in [FIRST, SECOND, "ABCU0000038"].iter().enumerate() {
         assert!(rt; trial.dropped(place) == Some(number(&rt, text)));
     }
     Ok(())
-}
-
-/// The first container on both lists, then the second to be discharged: its row is the last one.
-fn three_lines(rt: &impl Abort, alloc: Global) -> Result<Trial, AllocError> {
-    let mut trial = Trial::new(rt, alloc)?;
-    for (side, text) in [
-        (Side::Load, FIRST),
-        (Side::Discharge, FIRST),
-        (Side::Discharge, SECOND),
-    ] {
-        trial.list(alloc, side, number(rt, text))?;
-    }
-    Ok(trial)
 }
 
 /// The load list is gone, the second container's line is done, and the first one's is not there.
@@ -119,13 +132,19 @@ fn assert_left(rt: &impl Abort, trial: &Trial) {
     assert!(rt; trial.state(rt, Side::Discharge, SECOND) == Some(LineState::Done));
 }
 
+/// The first container is on both lists, and the second one's row is the last.
 #[test]
 fn a_line_whose_row_was_moved_is_found(rt: HostRuntime) -> Result<(), Fail> {
     let alloc = rt.alloc();
-    let mut trial = three_lines(&rt, alloc)?;
+    let lines = [
+        (Side::Load, FIRST),
+        (Side::Discharge, FIRST),
+        (Side::Discharge, SECOND),
+    ];
+    let mut trial = listed(&rt, alloc, lines)?;
     assert_eq!(rt; trial.drop_open(alloc, Side::Load)?, 1);
     assert!(rt; trial.state(&rt, Side::Discharge, SECOND) == Some(LineState::Pending));
-    trial.discharge(&rt, alloc, SECOND)?;
+    discharge(&rt, alloc, &mut trial, SECOND)?;
     assert_eq!(rt; trial.drop_open(alloc, Side::Discharge)?, 1);
     assert_left(&rt, &trial);
     Ok(())
