@@ -1,8 +1,6 @@
 -- What a desk answers by what it keeps.
-use Rattle.std.proofs.Common.{◌≡◌, ℕ, ◌+◌, ◌-◌, ◌<◌, ◌≤◌, List, [], ◌∷◌, length, map, Bool, true, false, cond, Option, None, Some, Result, Ok, Err, IfOk, OnOk, OnErr, refl, sym, ap, ap₂, subst, ◌∙◌, arith, string_bytes}
-use Rattle.std.specs.Prelude.{◌==◌, find, nat_lt, slice_set, Contains}
-use Rattle.std.specs.List.{range_with_len}
-use Rattle.std.specs.List.Sorted.{IsPermutation}
+use Rattle.std.proofs.Common.{◌≡◌, ℕ, ◌+◌, ◌<◌, ◌≤◌, List, ◌∷◌, length, Bool, true, false, cond, Option, None, Some, Result, Ok, Err, IfOk, OnOk, OnErr, refl, sym, ap, subst, ◌∙◌, arith, string_bytes}
+use Rattle.std.specs.Prelude.{find, nat_lt}
 use Rattle.std.specs.Option.{option_map}
 use Rattle.std.specs.Result.{IsErrAnd}
 use Rattle.std.proofs.lemmas.Bool.{lt-ltb, ltb-true}
@@ -14,7 +12,6 @@ use Rattle.partner_core.specs.Deliveries.{Delivery}
 use Rattle.partner_core.specs.Numbered.{with_number}
 use Rattle.partner_core.specs.Standings.{standing_of, is_same_text}
 use Rattle.partner_core.specs.declared.standing.Standing.TheVariants.{Known, Other, Early, Next}
-use Rattle.terminal_core.specs.State.{TerminalState}
 use Rattle.office_replies.specs.Contents.{content_of}
 use Rattle.office_replies.specs.declared.response.Response.{Response}
 use Rattle.office_rows.specs.Rows.{Interchange, Rows}
@@ -35,7 +32,7 @@ use Rattle.office_delivery.specs.Writing.{Commits}
 use Rattle.office_delivery.proofs.ReadLemmas.{text_kept}
 use Rattle.office_desk.specs.Answers.{told_answer}
 use Rattle.office_desk.specs.Beside.{IsOf}
-use Rattle.office_desk.specs.Kept.{Office, IsFoundIn, IsRunTaken, TakesIn, AnswersByKept, AnswersOrStays}
+use Rattle.office_desk.specs.Kept.{Office, IsFoundIn, TakesIn, AnswersByKept, AnswersOrStays}
 use Rattle.office_desk.specs.Offices.{HoldsOffice}
 use Rattle.office_desk.specs.Telling.{TakesNext}
 use Rattle.office_desk.specs.declared.beside.Beside.{Beside}

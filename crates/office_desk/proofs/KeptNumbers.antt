@@ -1,5 +1,5 @@
 -- What an office keeps for its partners: each number below a partner's next was taken, and those beyond it wait.
-use Rattle.std.proofs.Common.{◌≡◌, ◌⊎◌, ℕ, zero, suc, ◌+◌, ◌-◌, ◌<◌, ◌≤◌, inl, inr, List, [], ◌∷◌, ◌++◌, length, map, Bool, true, false, cond, Option, None, Some, is_some, refl, sym, ap, ap₂, subst, ◌∙◌, arith, Ordering, Less, Equal, Greater, is_lt}
+use Rattle.std.proofs.Common.{◌≡◌, ◌⊎◌, ℕ, zero, suc, ◌+◌, ◌-◌, ◌<◌, ◌≤◌, inl, inr, List, [], ◌∷◌, ◌++◌, length, map, Bool, true, false, cond, Option, None, Some, is_some, refl, sym, ap, ap₂, subst, ◌∙◌, arith, Less, Equal, is_lt}
 use Rattle.std.specs.Prelude.{◌==◌, ◌&&◌, not, find, count_by, sum_by, Contains, slice_index_or}
 use Rattle.std.specs.List.{range_with_len, AllByRecursion}
 use Rattle.std.specs.List.Sorted.{IsPermutation}

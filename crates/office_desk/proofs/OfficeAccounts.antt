@@ -1,12 +1,12 @@
 -- The rows of an office: its accounts and what is kept for them, whether or not deliveries led to them.
-use Rattle.std.proofs.Common.{◌≡◌, ℕ, zero, suc, ◌+◌, ◌-◌, ◌<◌, ◌≤◌, List, [], ◌∷◌, ◌++◌, length, map, inl, inr, Option, None, Some, refl, sym, ap, ap₂, subst, ◌∙◌, arith}
-use Rattle.std.specs.Prelude.{◌==◌, Contains}
+use Rattle.std.proofs.Common.{◌≡◌, ℕ, ◌+◌, ◌<◌, ◌≤◌, List, [], ◌∷◌, length, map, inl, inr, Some, refl, sym, ap, ap₂, subst, ◌∙◌, arith}
+use Rattle.std.specs.Prelude.{Contains}
 use Rattle.std.specs.List.Sorted.{IsPermutation}
 use Rattle.std.proofs.lemmas.Bool.{cases_order, eq-eqb, eqb-true}
 use Rattle.std.proofs.lemmas.List.Sorted.{Contains-permutation, IsPermutation-sym, IsPermutation-trans}
 use Rattle.sqlite.specs.declared.types.Value.{Value}
 use Rattle.sqlite.specs.declared.types.Value.TheVariants.{Text}
-use Rattle.sqlite.specs.Order.{Row, column}
+use Rattle.sqlite.specs.Order.{column}
 use Rattle.sqlite.specs.Effect.{Database}
 use Rattle.sqlite_rules.proofs.ListLemmas.{contains_had, has_contained, has_filtered, has_kept}
 use Rattle.edi_messages.specs.declared.partner_kind.PartnerKind.{PartnerKind}
@@ -17,8 +17,8 @@ use Rattle.office_rows.specs.Rows.{Partner, Interchange, Rows}
 use Rattle.office_rows.specs.Values.{number, kind_code, interchange_values, partner_values}
 use Rattle.office_rows.specs.Stored.{HasRows}
 use Rattle.office_rows.specs.Shown.{AreNexts, columns_at}
-use Rattle.office_rows.specs.Opened.{OpenedRows, Shows, numbered, reply_values}
-use Rattle.office_rows.specs.Office.{AreKept, IsOffice}
+use Rattle.office_rows.specs.Opened.{numbered, reply_values}
+use Rattle.office_rows.specs.Office.{AreKept}
 use Rattle.office_rows.specs.Tables.{partner as partners_table}
 use Rattle.office_rows.proofs.Listed.{unmapped}
 use Rattle.office_setup.specs.Setups.{SetupContent}
@@ -27,7 +27,7 @@ use Rattle.office_history.specs.After.{accounts_from}
 use Rattle.office_history.proofs.Once.{kept_once}
 use Rattle.office_history.proofs.Shown.{head_in, tail_in, same_records, shown_in}
 use Rattle.office_loading.specs.Tables.{Loads}
-use Rattle.office_desk.proofs.KeptNumbers.{HaveRuns, KeepsNumbers, have_runs, kept_numbers}
+use Rattle.office_desk.proofs.KeptNumbers.{KeepsNumbers, have_runs, kept_numbers}
 use Rattle.office_desk.proofs.NumberLemmas.{next_by, nexts_are, number_of}
 
 -- ---- what the tables show, as records

@@ -1,9 +1,8 @@
 -- What a delivery makes of an office is one again.
 use Rattle.std.proofs.Common.{◌≡◌, ℕ, ◌+◌, ◌<◌, ◌≤◌, List, [], ◌∷◌, ◌++◌, length, map, Bool, true, false, cond, Option, None, Some, is_some, refl, sym, ap, subst, ◌∙◌, arith}
-use Rattle.std.specs.Prelude.{◌==◌, ◌&&◌, find, if◌then◌else◌}
+use Rattle.std.specs.Prelude.{◌==◌, ◌&&◌, find}
 use Rattle.std.specs.Option.{option_map, option_and_then, option_or}
-use Rattle.std.specs.List.Sorted.{IsPermutation}
-use Rattle.std.proofs.lemmas.Bool.{and_parts, eqb-true, cond-true, cond-false}
+use Rattle.std.proofs.lemmas.Bool.{and_parts, eqb-true, cond-false}
 use Rattle.std.proofs.lemmas.List.Sorted.{IsPermutation-sym, IsPermutation-trans}
 use Rattle.sqlite.specs.Order.{Row}
 use Rattle.sqlite.specs.Table.{Table}
@@ -24,7 +23,7 @@ use Rattle.office_history.proofs.ByKeys.{none_found, once_more}
 use Rattle.office_history.proofs.Sorting.{by_keys, shows_records}
 use Rattle.office_loading.specs.Tables.{Loads}
 use Rattle.office_desk.proofs.KeptNumbers.{KeepsNumbers, numbers_kept}
-use Rattle.office_desk.proofs.OfficeAccounts.{KeepsAccounts, keeps_accounts}
+use Rattle.office_desk.proofs.OfficeAccounts.{keeps_accounts}
 
 -- ---- a text more
 

@@ -1,6 +1,6 @@
 -- The rows behind a run are those of an office again.
-use Rattle.std.proofs.Common.{◌≡◌, ◌≢◌, ℕ, ◌+◌, ◌-◌, ◌<◌, ◌≤◌, inl, inr, List, [], ◌∷◌, ◌++◌, length, map, Bool, true, false, cond, Option, None, Some, is_some, refl, sym, ap, subst, ◌∙◌, arith, Equal, is_lt, Greater}
-use Rattle.std.specs.Prelude.{◌==◌, ◌&&◌, Contains, sum_by, count_by}
+use Rattle.std.proofs.Common.{◌≡◌, ◌≢◌, ℕ, ◌+◌, ◌<◌, ◌≤◌, inl, inr, List, [], ◌∷◌, length, map, Bool, true, false, cond, Option, None, Some, is_some, refl, sym, ap, subst, ◌∙◌, arith, Equal, is_lt, Greater}
+use Rattle.std.specs.Prelude.{◌==◌, ◌&&◌}
 use Rattle.std.specs.List.Sorted.{IsPermutation}
 use Rattle.std.specs.Ordering.{nat_cmp, ordering_then}
 use Rattle.std.proofs.lemmas.Bool.{cases_eq, cases_order, cond-true, cond-false, eq-eqb, eqb-true, ne_eqb}
@@ -11,13 +11,12 @@ use Rattle.sqlite.specs.Order.{Row}
 use Rattle.sqlite.specs.Table.{Table}
 use Rattle.sqlite.specs.Effect.{Database}
 use Rattle.sqlite_value.specs.Order.{value_cmp}
-use Rattle.partner_core.specs.Cascade.{TakesTexts}
 use Rattle.partner_core.proofs.Cascades.{takes_none}
 use Rattle.partner_core.proofs.Firsts.{some_of}
 use Rattle.terminal_core.specs.Rows.{VisitContent}
 use Rattle.terminal_core.specs.State.{TerminalState}
 use Rattle.terminal_core.specs.Changes.{TerminalRows}
-use Rattle.office_rows.specs.Rows.{Interchange, ListingContent, Partner, PlaceContent, Rows}
+use Rattle.office_rows.specs.Rows.{Partner, Rows}
 use Rattle.office_rows.specs.Values.{number, interchange_values, partner_values, visit_values, place_values, line_values, setting_values, block_values}
 use Rattle.office_rows.specs.Stored.{HasRows, Holds, columns_of}
 use Rattle.office_rows.specs.Effects.{is_line, stands_for, with_kept}
@@ -26,8 +25,8 @@ use Rattle.office_rows.specs.Opened.{OpenedRows, Shows, numbered, reply_values}
 use Rattle.office_rows.specs.Office.{AreAccounts, AreKept, HasAccounts, IsOffice}
 use Rattle.office_rows.specs.Tables.{partner, interchange, visit, place, listed, block, setting}
 use Rattle.office_setup.specs.Setups.{SetupContent}
-use Rattle.office_taking.specs.Taking.{MachineState, interchange_taken}
-use Rattle.office_history.specs.After.{accounts_from, machine_with, parties_in, reply_in}
+use Rattle.office_taking.specs.Taking.{interchange_taken}
+use Rattle.office_history.specs.After.{accounts_from, machine_with, reply_in}
 use Rattle.office_history.specs.Cascade.{TakenContent, AreTakenFrom, text_in, texts_with, with_run}
 use Rattle.office_history.proofs.Kept.{accounts_are}
 use Rattle.office_history.proofs.Loads.{accounts_rise, lines_same, numbered_rise, places_same}
@@ -35,7 +34,6 @@ use Rattle.office_history.proofs.Runs.{RunLeaves, run_leaves}
 use Rattle.office_history.proofs.Shown.{Rises, shown_in}
 use Rattle.office_history.proofs.Sorting.{InTurn, by_keys, is_before, number_order, shows_records}
 use Rattle.office_loading.specs.Tables.{Loads}
-use Rattle.office_desk.proofs.AccountedSteps.{IsAccounted}
 use Rattle.office_desk.proofs.KeptNumbers.{KeepsNumbers, numbers_kept}
 use Rattle.office_desk.proofs.OfficeAccounts.{KeepsAccounts, keeps_accounts}
 use Rattle.office_desk.proofs.OfficeSteps.{once_with, reply_with, shows_again, text_with}

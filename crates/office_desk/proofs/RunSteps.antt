@@ -1,10 +1,10 @@
 -- What a run leaves of an office's terminal.
-use Rattle.std.proofs.Common.{◌≡◌, ℕ, zero, suc, ◌+◌, ◌-◌, ◌<◌, ◌≤◌, inl, inr, List, [], ◌∷◌, ◌++◌, length, Bool, true, false, cond, Option, None, Some, is_some, refl, sym, ap, subst, ◌∙◌, arith}
+use Rattle.std.proofs.Common.{◌≡◌, ℕ, zero, suc, ◌+◌, ◌-◌, ◌<◌, ◌≤◌, inl, inr, List, [], ◌∷◌, length, true, cond, Option, None, Some, is_some, refl, sym, ap, subst, ◌∙◌, arith}
 use Rattle.std.specs.Prelude.{◌==◌, ◌&&◌, if◌then◌else◌}
 use Rattle.std.specs.Option.{option_or}
 use Rattle.std.proofs.lemmas.Bool.{cases_order, cond-true, cond-false, eq-eqb, ne_eqb}
 use Rattle.partner_core.specs.Cascade.{TakesTexts, for_each_partner}
-use Rattle.partner_core.specs.Deliveries.{Delivery, delivery, run}
+use Rattle.partner_core.specs.Deliveries.{delivery, run}
 use Rattle.partner_core.specs.Keeping.{Holdings, Keeps, TakesRun}
 use Rattle.partner_core.specs.Machine.{Taking}
 use Rattle.partner_core.specs.Order.{numbers_above, order, reply_among, reply_of, state}
@@ -13,7 +13,6 @@ use Rattle.partner_core.proofs.Keepings.{keeps_run}
 use Rattle.partner_core.proofs.OnePartner.{run_of_none}
 use Rattle.terminal_core.specs.Forms.{IsWellFormed}
 use Rattle.terminal_core.specs.State.{IsWhole}
-use Rattle.office_setup.specs.Parties.{Parties}
 use Rattle.office_taking.specs.Taking.{MachineState, interchange_taken}
 use Rattle.office_taking.proofs.Forming.{interchange_formed}
 use Rattle.office_taking.proofs.Turning.{interchange_leads}

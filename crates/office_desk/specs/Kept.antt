@@ -17,7 +17,6 @@ use Rattle.office_replies.specs.declared.response.Response.{Response}
 use Rattle.office_replies.specs.declared.response.Response.TheVariants as response
 use Rattle.office_rows.specs.Rows.{Rows}
 use Rattle.office_rows.specs.Effects.{with_kept}
-use Rattle.office_rows.specs.Stored.{HasRows}
 use Rattle.office_setup.specs.Parties.{parties_of}
 use Rattle.office_setup.specs.Setups.{SetupContent, setup_content}
 use Rattle.office_admission.specs.Admission.{admission}
@@ -27,7 +26,7 @@ use Rattle.office_tables.specs.declared.table_fault.TableFault.{TableFault}
 use Rattle.office_history.specs.After.{machine_with, reply_in}
 use Rattle.office_history.specs.Cascade.{TakenContent, AreTakenFrom, text_in, texts_with, with_run}
 use Rattle.office_desk.specs.Answers.{code_of, told_answer}
-use Rattle.office_desk.specs.Beside.{IsOf, IsOrNone}
+use Rattle.office_desk.specs.Beside.{IsOf}
 use Rattle.office_desk.specs.Offices.{DeskHolds, HoldsOffice}
 use Rattle.office_desk.specs.declared.beside.Beside.{Beside}
 use Rattle.office_desk.specs.declared.desk.Desk.{Desk}

@@ -139,8 +139,7 @@ pub returns-in-Err-taken-clause-office : goal.returns-in-Err-taken-clause-office
 returns-in-Err-taken-clause-office g c = λ sound old holds.
     let desk = c.args.self.now in
     let taken : c.take_in-taken.result ≡ Err c.in-Err-taken.fault = let e = c.in-Err-taken.is in cc in
-    let P = parties_of desk.setup in
-    (
+    let P = parties_of desk.setup in (
       not_now_surely P (interchange_of c.args.delivered.now) (admitted_surely P c.args.delivered.now c.interchange_text-text.result.now _ NotNow c.interchange_text-text.ensures.exact c.in-Ok.ensures.ok.admits),
       rw taken at (c.take_in-taken.ensures.office sound.0 sound.1 old holds),
     )
