@@ -1,3 +1,5 @@
 mod DemoGiven
 mod Leaving
 mod OpenedLemmas
+mod StreamLemmas
+mod ReportLemmas

@@ -74,10 +74,6 @@ pub record DemoDelivered (ports : PortBytes) : Type 0 where
   pub delivered : Delivered (StandsFor over_memory (setup_content opening.setup))
       (answers_for (setup_content opening.setup)) [] ports desk
 
--- how many reads of the input are made
-abbrev pub demo_turns : ℕ
-demo_turns = 100000000
-
 -- What was done before a fault. If the desk did not open, nothing was read or written. A read that failed leaves what
 -- was answered before, and so do too many reads. So does a write that failed, but for the line that it cut short.
 abbrev pub DemoLeft : PortBytes → DemoFault → Type 0

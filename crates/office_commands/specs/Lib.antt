@@ -1,3 +1,6 @@
 pub mod Opening
+pub mod Ending
 pub mod Demo
 pub mod Command
+pub mod Delivering
+pub mod Reporting

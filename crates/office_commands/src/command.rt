@@ -1,10 +1,10 @@
-ghost use Rattle.std.specs.Prelude.{◌≡◌};
 ghost use Rattle.office_stream.specs.Streams.{port_bytes};
 ghost use Rattle.office_commands.specs.Demo.{port_failures};
-ghost use Rattle.office_commands.specs.Command.{status_of, Tells, DemoEnds};
+ghost use Rattle.office_commands.specs.Command.{DemoEnds};
+ghost use Rattle.office_commands.specs.Ending.{Tells};
 
 use crate::demo::run_demo;
-use office_replies::Worst;
+use crate::telling::{status_of, tell};
 use office_stream::Port;
 use std::alloc::Global;
 use std::io::{Read, Write};
@@ -30,23 +30,5 @@ pub fn demonstrate<R: Read, W: Write, E: Write>(
             tell(errors, fault.text());
             3
         }
-    }
-}
-
-/// Tells a text. If that fails, the exit status alone is left to tell.
-fn tell<E: Write>(errors: &mut Port<E>, text: &str)
-    ensures { Tells errors.new.failed (E.contents errors.old.inner) (E.contents errors.new.inner) text.now }
-{
-    let _ = errors.write_all(text.as_bytes());
-}
-
-/// The exit status of a stream that was run to its end.
-fn status_of(worst: Worst) -> u8
-    ensures { result ≡ status_of worst }
-{
-    match worst {
-        Worst::Fine => 0,
-        Worst::Refused => 1,
-        Worst::NotNow => 3,
     }
 }

@@ -1,18 +1,17 @@
 ghost use Rattle.std.specs.Prelude.{◌≡◌, ◌≤◌, ◌+◌, ◌-◌, ◌^◌, min, IfOk, IfErr, OnOk, false};
-ghost use Rattle.office_commands.specs.Demo.{DemoRuns, DemoLeft, port_failures, IsOfPorts, demo_turns};
+ghost use Rattle.office_commands.specs.Demo.{DemoRuns, DemoLeft, port_failures, IsOfPorts};
+ghost use Rattle.office_commands.specs.Ending.{most_turns};
 ghost use Rattle.office_stream.specs.Streams.{port_bytes};
 ghost use Rattle.office_commands.specs.declared.demo_fault.DemoFault.{DemoFault};
 ghost use Rattle.office_stream.specs.declared.stream_fault.StreamFault.{StreamFault};
 
+use crate::deliver::TURNS;
 use crate::demo_fault::DemoFault;
 use crate::open_demo::open_demo;
 use office_replies::Worst;
 use office_stream::{Port, run_stream};
 use std::alloc::Global;
 use std::io::{Read, Write};
-
-/// How many reads of the input are made.
-const TURNS: u64 = 100_000_000;
 
 /// Delivers the interchanges of a reader to a desk of the demonstration's set-up over tables in memory, and writes the
 /// answer to each as a line. Answers the worst of them. A fault is that the desk did not open, or that of the stream.
@@ -34,9 +33,9 @@ pub fn run_demo<R: Read, W: Write>(
 
     // No more reads are made than turns, and if the stream is left for their number, as many, of which the last had
     // not found the end.
-    ensures reads { reader.new.reads ≤ reader.old.reads + demo_turns }
+    ensures reads { reader.new.reads ≤ reader.old.reads + most_turns }
     ensures turns { IfErr result (λ fault. fault ≡ DemoFault.Stream StreamFault.Turns →
-        (min (reader.old.reads + demo_turns) (2 ^ 64 - 1) ≤ reader.new.reads)
+        (min (reader.old.reads + most_turns) (2 ^ 64 - 1) ≤ reader.new.reads)
         × (reader.new.ended ≡ false)) }
 {
     let mut desk = match open_demo(alloc) {

@@ -1,5 +1,6 @@
 ghost use Rattle.std.specs.Prelude.{◌≡◌};
 
+use crate::telling::{store_text, stream_text};
 use office_stream::StreamFault;
 use office_tables::TableFault;
 use thiserror::Error;
@@ -23,13 +24,8 @@ impl DemoFault {
         ensures { result.now ≡ fault_text self.now }
     {
         match self {
-            DemoFault::Store(TableFault::Store(_)) => "store: Store\n",
-            DemoFault::Store(TableFault::Damaged) => "store: Damaged\n",
-            DemoFault::Store(TableFault::Version) => "store: Version\n",
-            DemoFault::Store(TableFault::Memory) => "store: Memory\n",
-            DemoFault::Stream(StreamFault::Read) => "cannot read\n",
-            DemoFault::Stream(StreamFault::Turns) => "turns\n",
-            DemoFault::Stream(StreamFault::Write) => "",
+            DemoFault::Store(fault) => store_text(fault),
+            DemoFault::Stream(fault) => stream_text(*fault),
         }
     }
 }

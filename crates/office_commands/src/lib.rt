@@ -1,16 +1,23 @@
-//! How the program opens a store in files; and the demonstration, over whatever is read and written: it takes
-//! interchanges to a terminal whose tables are in memory, and prints the answer to each.
+//! How the program opens a store in files, and what it does with it over whatever is read and written: it takes
+//! interchanges, and prints reports. And the demonstration, which takes interchanges to a terminal whose tables are in
+//! memory.
 #![tactic(auto)]
 
 mod command;
+mod deliver;
 mod demo;
 mod demo_fault;
 pub mod demo_setup;
 pub mod open_demo;
 pub mod open_desk;
 mod opening;
+mod report;
+mod telling;
 
 pub use command::demonstrate;
+pub use deliver::{TURNS, deliver_over, deliver_to};
 pub use demo::run_demo;
 pub use demo_fault::DemoFault;
 pub use opening::{make_store, open_store};
+pub use report::{report_on, report_over};
+pub use telling::{tell_fault, tell_outcome};

@@ -1,0 +1,85 @@
+-- What a desk tells, by a set-up that only says the same, and by the tables that the files held.
+use Rattle.std.proofs.Common.{◌≡◌, inl, inr, ℕ, List, Option, Some, option_map, Result, Ok, Err, IfOk, ap, sym, subst, ◌∙◌}
+use Rattle.std.specs.Prelude.{string_bytes}
+use Rattle.sqlite_disk.specs.declared.Disk.{Ghosts}
+use Rattle.sqlite.specs.Effect.{Database}
+use Rattle.sqlite.specs.Files.{over_files}
+use Rattle.sqlite.specs.Tree.{Trees}
+use Rattle.sqlite.specs.declared.FileStore.{FileStore}
+use Rattle.terminal_core.specs.State.{TerminalState}
+use Rattle.office_replies.specs.Events.{Event}
+use Rattle.office_setup.specs.Parties.{partner_from}
+use Rattle.office_setup.specs.Setups.{SetupContent, setup_content}
+use Rattle.office_rows.specs.Rows.{Rows}
+use Rattle.office_rows.specs.Stored.{HasRows}
+use Rattle.office_loading.specs.Tables.{Loads}
+use Rattle.office_history.specs.After.{SaysSame, parties_in}
+use Rattle.office_history.proofs.Alike.{parties_same}
+use Rattle.office_queries.specs.declared.query.Query.{Query}
+use Rattle.office_queries.specs.declared.query.Query.TheVariants as query
+use Rattle.office_queries.specs.declared.report_kind.ReportKind.{ReportKind}
+use Rattle.office_reports.specs.Visits.{visit_report}
+use Rattle.office_desk.specs.Reports.{TellsOf, TellsAfter, TellsReplyOf, DeskTells, ticket_of, partner_called}
+use Rattle.office_desk.specs.declared.desk.Desk.{Desk}
+use Rattle.office_desk.proofs.AlikeLemmas.{answers_alike}
+use Rattle.office_commands.specs.Opening.{OpensOver}
+use Rattle.office_commands.specs.Reporting.{TellsKey, TellsOver, in_lines, report_text, report_status}
+
+-- what is told at each query is told at that of a key
+pub key_also : (tells tells' : Query → Option (List ℕ) → Type 0) (kind : ReportKind) (key : List ℕ) (found : Option (List ℕ))
+    → ((query : Query) → tells query found → tells' query found) → TellsKey tells kind key found → TellsKey tells' kind key found
+key_also tells tells' kind key found also told = elim told [
+  | inl none ↦ inl none
+  | inr asked ↦ inr (asked.0, asked.1, also asked.0 asked.2)
+]
+
+module _ (one other : SetupContent) (says : SaysSame one other) where
+  called_alike : (code : List ℕ) → partner_called one code ≡ partner_called other code
+  called_alike code = ap (λ parties. partner_from 1 code parties.partners) (parties_same one other says)
+
+  of_alike : (state : TerminalState) (rows : Rows) (asked : Query) (found : Option (List ℕ)) → TellsOf one state rows asked found → TellsOf other state rows asked found
+  of_alike state rows query.Yard found told = told
+  of_alike state rows query.YardTable found told = told
+  of_alike state rows (query.Visits container) found told =
+      told ∙ (λ i. visit_report (record { terminal = one.terminal; codes = one.codes; partners = says.partners i; blocks = one.blocks; visit_limit = one.visit_limit }) state container)
+  of_alike state rows (query.List call side) found told = told
+  of_alike state rows (query.Ticket partner number) found told =
+      told ∙ ap (ticket_of state.visits rows (string_bytes partner) number) (called_alike (string_bytes partner))
+  of_alike state rows (query.Reply partner number) found told =
+      subst (λ called. TellsReplyOf rows (string_bytes partner) number called found) (called_alike (string_bytes partner)) told
+
+  pub after_alike : (es : List Event) (asked : Query) (found : Option (List ℕ)) → TellsAfter one es asked found → TellsAfter other es asked found
+  after_alike es asked found told =
+      let alike = answers_alike one other says es in
+      record {
+        rows = told.rows;
+        after = alike.rows told.rows told.after;
+        tells = subst (λ state. TellsOf other state told.rows asked found) alike.terminal
+            (of_alike _ told.rows asked found told.tells);
+      }
+
+-- what a desk that was opened over those tables tells
+pub told_over : {D : Type 0} {g : Ghosts D} (db : Trees) (desk : Desk (FileStore D g) over_files) (asked : Query) (found : Option (List ℕ)) → OpensOver db desk
+    → DeskTells over_files desk asked found → TellsOver db asked found
+told_over db desk asked found over told =
+    let content = setup_content desk.setup in
+    let terminal = over.office.there.terminal in
+    record {
+      content = content;
+      terminal = terminal;
+      loads = subst (λ (d : Database). Loads d content terminal) over.shows over.office.loads;
+      tells = λ rows has. told.office rows terminal (over.office.holds rows (subst (HasRows rows) (sym over.shows) has));
+    }
+
+-- what follows of a result from what holds of it if something else does
+pub if_held : {T E : Type 0} (Held : Type 0) (P Q : T → Type 0) (r : Result T E) → ((value : T) → P value → Q value) → (Held → IfOk r P) → IfOk r (λ value. Held → Q value)
+if_held Held P Q (Ok value) also told = λ held. also value (told held)
+if_held Held P Q (Err e) also told = tt
+
+-- what was found was printed in whole lines
+pub printed_found : {T : Type 0} (prints : List ℕ → ℕ → Type 0) (bytes : T → List ℕ) (found : Option T) (text : T) (lines printed : List ℕ) → found ≡ Some text
+    → lines ≡ in_lines (bytes text) → printed ≡ lines → prints printed 0
+    → prints (report_text (option_map bytes found)) (report_status (option_map bytes found))
+printed_found prints bytes found text lines printed is are same given =
+    subst (λ it. prints (report_text (option_map bytes it)) (report_status (option_map bytes it))) (sym is)
+    (subst (λ it. prints it 0) (same ∙ are) given)

@@ -1,0 +1,30 @@
+use Rattle.sqlite.specs.Files.{over_files}
+use Rattle.office_setup.specs.Setups.{setup_content}
+use Rattle.office_desk.specs.Reports.{DeskTells, TellsAfter}
+use Rattle.office_commands.specs.Reporting.{TellsOver}
+use Rattle.office_commands.proofs.ReportLemmas.{key_also, after_alike, told_over}
+use Rattle.office_commands.proofs.report.report_over.Goals as goal
+
+-- The desk was opened with a set-up that says the same as that of the files, so it tells what the files' rows tell.
+pub returns-clause-ok : goal.returns-clause-ok
+returns-clause-ok g c =
+    let desk = c.in_ok-desk.desk in
+    let ends = c.in_ok-status.ensures.ok in
+    let kind = c.args.kind in
+    let key = c.args.key.now in
+    record {
+      found = ends.found;
+      printed = ends.printed;
+      is = λ sound.
+          let told = ends.is sound in
+          let was = c.report_on.ensures.stays sound in
+          record {
+            after = λ content es begins.
+                let at = c.in_ok-desk.ensures.opens was content es begins.0 begins.1 in
+                key_also (DeskTells over_files desk) (TellsAfter content es) kind key ends.found
+                (λ asked tells. after_alike (setup_content desk.setup) content at.says es asked ends.found (tells.after es at.stands.holds)) told;
+            office = λ db held.
+                key_also (DeskTells over_files desk) (TellsOver db) kind key ends.found
+                (λ asked tells. told_over db desk asked ends.found (c.in_ok-desk.ensures.office was db held) tells) told;
+          };
+    }

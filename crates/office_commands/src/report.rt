@@ -1,0 +1,91 @@
+ghost use Rattle.std.specs.Prelude.{◌≡◌, ℕ, List, Option, IfOk, IfErr, OnErr, option_map, string_bytes};
+ghost use Rattle.sqlite.specs.Files.{over_files};
+ghost use Rattle.sqlite.specs.WalFiles.{image_at};
+ghost use Rattle.office_desk.specs.Desks.{IsSound};
+ghost use Rattle.office_desk.specs.Reports.{DeskTells};
+ghost use Rattle.office_commands.specs.Ending.{Prints};
+ghost use Rattle.office_commands.specs.Reporting.{Reports, TellsKey, TellsHeld, in_lines};
+
+use crate::opening::open_store;
+use crate::telling::print;
+use office_desk::Desk;
+use office_queries::{ReportKind, read_query};
+use office_stream::Port;
+use office_tables::TableFault;
+use sqlite::{Alter, FileFrom, FileStore, Start};
+use std::alloc::{AllocError, Global};
+use std::io::Write;
+
+/// Prints the report that a key asks for, from the store in the file at a path, and answers the exit status and the desk
+/// as it was left: 0, 1 if there is nothing to tell, which prints `none`, and 3 if printing failed. A fault is that of
+/// the store, and then nothing was printed.
+pub fn report_over<S: Start, W: Write>(
+    rt: &HostRuntime,
+    path: &str,
+    start: S,
+    kind: ReportKind,
+    key: &str,
+    writer: &mut Port<W>,
+) -> Result<(u8, Desk<FileStore<FileFrom<S>>>), TableFault>
+    ensures ok { IfOk result (λ ended.
+        Reports (λ found. IsSound over_files ended.1 → TellsHeld (image_at S.Start) kind key.now found)
+        (Prints writer.old.failed writer.new.failed writer.new.flushed
+        (W.contents writer.old.inner) (W.contents writer.new.inner)) ended.0) }
+    ensures err { OnErr result (writer.new ≡ writer.old) }
+{
+    let mut desk = open_store(rt, path, start)?;
+    let status = report_on(rt.alloc(), &mut desk, kind, key, writer)?;
+    Ok((status, desk))
+}
+
+/// Prints the report that a key asks for, from a desk, and answers the exit status, as `report_over` does.
+pub fn report_on<S: Alter + Drop, W: Write>(
+    alloc: Global,
+    desk: &mut Desk<S>,
+    kind: ReportKind,
+    key: &str,
+    writer: &mut Port<W>,
+) -> Result<u8, TableFault>
+    ensures ok { IfOk result (λ status.
+        Reports (λ found. IsSound S.Store desk.new → TellsKey (DeskTells S.Store desk.old) kind key.now found)
+        (Prints writer.old.failed writer.new.failed writer.new.flushed
+        (W.contents writer.old.inner) (W.contents writer.new.inner)) status) }
+    ensures err { OnErr result (writer.new ≡ writer.old) }
+    ensures stays { IsSound S.Store desk.new → IsSound S.Store desk.old }
+{
+    match find(alloc, desk, kind, key)? {
+        Some(text) => {
+            let lines = in_lines(text)?;
+            Ok(print(writer, lines.as_str(), 0))
+        }
+        None => Ok(print(writer, "none\n", 1)),
+    }
+}
+
+/// What a desk tells under a key, if there is something.
+fn find<S: Alter + Drop>(
+    alloc: Global,
+    desk: &mut Desk<S>,
+    kind: ReportKind,
+    key: &str,
+) -> Result<Option<String>, TableFault>
+    ensures found { IfOk result (λ found. IsSound S.Store desk.new →
+        TellsKey (DeskTells S.Store desk.old) kind key.now (option_map string_bytes found)) }
+    ensures stays { IsSound S.Store desk.new → IsSound S.Store desk.old }
+{
+    match read_query(alloc, kind, key)? {
+        Some(query) => desk.told(alloc, &query),
+        None => Ok(None),
+    }
+}
+
+/// A text in whole lines: a reply is a line without its end.
+fn in_lines(text: String) -> Result<String, AllocError>
+    ensures { IfOk result (λ lines. string_bytes lines ≡ in_lines (string_bytes text)) }
+{
+    let mut text = text;
+    if !text.as_bytes().ends_with(b"\n") {
+        text.push('\n')?;
+    }
+    Ok(text)
+}
