@@ -1,14 +1,13 @@
 -- Set-up files could give the demonstration's set-up.
-use Rattle.std.proofs.Common.{◌≡◌, ℕ, zero, suc, Bool, true, false, not, ◌&&◌, List, [], ◌∷◌, Option, None, Some, IsTrue, refl, sym, ap, subst, ◌∙◌, arith, rules}
+use Rattle.std.proofs.Common.{◌≡◌, ℕ, zero, suc, Bool, true, false, not, ◌&&◌, List, [], ◌∷◌, None, Some, refl, sym, ap, subst, ◌∙◌, arith, rules}
 use Rattle.std.specs.Prelude.{slice_get}
 use Rattle.std.specs.Str.{bytes_eq}
-use Rattle.std.proofs.lemmas.Bool.{and_parts, true≢false}
+use Rattle.std.proofs.lemmas.Bool.{and_parts}
 use Rattle.edi_messages.specs.CodeText.{table_fault}
 use Rattle.edi_messages.specs.Codes.{table_texts}
 use Rattle.edi_messages.specs.declared.code_table.CodeTable.{CodeTable}
 use Rattle.edi_messages.specs.declared.partner_kind.PartnerKind.{PartnerKind}
 use Rattle.terminal_core.proofs.Boxes.{same_self}
-use Rattle.yard_core.specs.declared.block.Block.{Block}
 use Rattle.yard_core.specs.Plan.{AreApart}
 use Rattle.office_setup.specs.Given.{IsGiven, AreDistinct}
 use Rattle.office_setup.specs.Setups.{SetupContent}

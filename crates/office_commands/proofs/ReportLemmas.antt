@@ -13,7 +13,7 @@ use Rattle.office_setup.specs.Setups.{SetupContent, setup_content}
 use Rattle.office_rows.specs.Rows.{Rows}
 use Rattle.office_rows.specs.Stored.{HasRows}
 use Rattle.office_loading.specs.Tables.{Loads}
-use Rattle.office_history.specs.After.{SaysSame, parties_in}
+use Rattle.office_history.specs.After.{SaysSame}
 use Rattle.office_history.proofs.Alike.{parties_same}
 use Rattle.office_queries.specs.declared.query.Query.{Query}
 use Rattle.office_queries.specs.declared.query.Query.TheVariants as query

@@ -10,7 +10,7 @@ use Rattle.office_replies.specs.declared.response.Response.{Response}
 use Rattle.office_replies.specs.declared.response.Response.TheVariants.{Taken, Repeat, Waiting, Clash, Refused, Rejected, NotNow}
 use Rattle.office_replies.specs.declared.worst.Worst.{Worst}
 use Rattle.office_admission.specs.Refusals.{MayBeNotNow}
-use Rattle.office_setup.specs.Setups.{SetupContent, setup_content}
+use Rattle.office_setup.specs.Setups.{SetupContent}
 use Rattle.office_history.specs.After.{SaysSame}
 use Rattle.office_history.proofs.Alike.{parties_same}
 use Rattle.office_stream.specs.Faults.{MatchFault}

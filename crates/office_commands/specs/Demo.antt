@@ -1,5 +1,5 @@
 -- The set-up of the demonstration.
-use Rattle.std.specs.Prelude.{◌≡◌, ℕ, Bool, true, List, [], ◌∷◌, Option, codes}
+use Rattle.std.specs.Prelude.{◌≡◌, ℕ, Bool, true, List, [], ◌∷◌, codes}
 use Rattle.edi_segments.specs.Bytes.{capital_a}
 use Rattle.edi_messages.specs.Codes.{table_texts}
 use Rattle.edi_messages.specs.declared.code_table.CodeTable.{CodeTable}
