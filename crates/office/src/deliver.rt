@@ -51,7 +51,7 @@ fn deliver_watched<R: Read, W: Write, E: Write>(
 ) -> u8 {
     let alloc = rt.alloc();
     let mut desk = match open_store(rt, store) {
-        Ok(desk) => Watched::new(desk, rt, true, store),
+        Ok(desk) => Watched::new(desk, rt, store),
         Err(fault) => return tell_store(rt, errors, store, &fault),
     };
     let mut placed = Port::new(Placed::new(alloc, reader));
