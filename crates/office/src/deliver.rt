@@ -1,9 +1,11 @@
+use crate::faults::Faults;
 use crate::looked_at::is_looked_at;
 use crate::placed::Placed;
 use crate::store::open_store;
 use crate::telling::{tell_line, tell_store, tell_unread};
 use crate::watched::Watched;
 use office_commands::{TURNS, deliver_over, tell_outcome};
+use office_replies::Deliver;
 use office_stream::{Port, run_stream};
 use sqlite::Unknown;
 use std::fs::File;
@@ -41,7 +43,6 @@ fn deliver_all<R: Read, W: Write, E: Write>(
     status
 }
 
-/// A person sees how far it is, and in the end how the interchanges were answered, and where a cut is.
 fn deliver_watched<R: Read, W: Write, E: Write>(
     rt: &HostRuntime,
     store: &str,
@@ -49,14 +50,26 @@ fn deliver_watched<R: Read, W: Write, E: Write>(
     writer: &mut Port<W>,
     errors: &mut Port<E>,
 ) -> u8 {
+    match open_store(rt, store) {
+        Ok(desk) => watch(rt, store, desk, reader, writer, errors),
+        Err(fault) => tell_store(rt, errors, store, &fault),
+    }
+}
+
+/// A person sees how far it is, and in the end how the interchanges were answered, and where a cut is.
+fn watch<D: Deliver + Faults, R: Read, W: Write, E: Write>(
+    rt: &HostRuntime,
+    store: &str,
+    desk: D,
+    reader: &mut Port<R>,
+    writer: &mut Port<W>,
+    errors: &mut Port<E>,
+) -> u8 {
     let alloc = rt.alloc();
-    let mut desk = match open_store(rt, store) {
-        Ok(desk) => Watched::new(desk, rt, store),
-        Err(fault) => return tell_store(rt, errors, store, &fault),
-    };
+    let mut watched = Watched::new(desk, rt, store);
     let mut placed = Port::new(Placed::new(alloc, reader));
-    let outcome = run_stream(alloc, &mut placed, writer, &mut desk, TURNS);
-    tell_line(alloc, errors, desk.tally());
+    let outcome = run_stream(alloc, &mut placed, writer, &mut watched, TURNS);
+    tell_line(alloc, errors, watched.tally());
     if let (Ok(_), Some(cut)) = (&outcome, placed.into_inner().cut()) {
         tell_line(alloc, errors, cut);
     }
