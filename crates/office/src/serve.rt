@@ -1,10 +1,11 @@
+use crate::faults::Faults;
 use crate::logged::Logged;
 use crate::looked_at::is_looked_at;
 use crate::request_log::RequestLog;
-use crate::store::{Store, open_store};
+use crate::store::open_store;
 use crate::telling::{DONE, FAILED, print, tell, tell_store};
-use office_desk::Desk;
 use office_http::serve_on;
+use office_queries::Report;
 use office_stream::Port;
 use std::io::Write;
 use std::net::TcpListener;
@@ -20,18 +21,28 @@ pub(crate) fn serve<W: Write, E: Write>(
     errors: &mut Port<E>,
 ) -> u8 {
     match open_store(rt, store) {
-        Ok(desk) => {
-            let log = RequestLog::new(rt, log || is_looked_at(rt));
-            let mut logged = Logged::new(desk, rt, &log, store);
-            serve_desk(rt, &mut logged, &log, place, writer, errors)
-        }
+        Ok(desk) => serve_logged(rt, store, desk, place, log, writer, errors),
         Err(fault) => tell_store(rt, errors, store, &fault),
     }
 }
 
-fn serve_desk<W: Write, E: Write>(
+fn serve_logged<D: Report + Faults, W: Write, E: Write>(
     rt: &HostRuntime,
-    desk: &mut Logged<'_, Desk<Store>>,
+    store: &str,
+    desk: D,
+    place: (u16, u32),
+    log: bool,
+    writer: &mut Port<W>,
+    errors: &mut Port<E>,
+) -> u8 {
+    let log = RequestLog::new(rt, log || is_looked_at(rt));
+    let mut logged = Logged::new(desk, rt, &log, store);
+    serve_desk(rt, &mut logged, &log, place, writer, errors)
+}
+
+fn serve_desk<D: Report + Faults, W: Write, E: Write>(
+    rt: &HostRuntime,
+    desk: &mut Logged<'_, D>,
     log: &RequestLog<'_>,
     place: (u16, u32),
     writer: &mut Port<W>,

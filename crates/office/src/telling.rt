@@ -1,7 +1,7 @@
 use crate::cause::cause_of;
 use crate::looked_at::is_looked_at;
-use office_replies::Worst;
-use office_stream::{Port, StreamFault};
+use office_commands::tell_fault;
+use office_stream::Port;
 use office_tables::TableFault;
 use std::alloc::Global;
 use std::fmt;
@@ -52,29 +52,6 @@ pub(crate) fn tell_store<E: Write>(
         let _ = errors.write_all(b"\n");
     }
     status
-}
-
-/// Tells the name of a store's fault.
-fn tell_fault<E: Write>(errors: &mut Port<E>, fault: &TableFault) -> u8 {
-    let text = match fault {
-        TableFault::Store(_) => "store: Store\n",
-        TableFault::Damaged => "store: Damaged\n",
-        TableFault::Version => "store: Version\n",
-        TableFault::Memory => "store: Memory\n",
-    };
-    tell(errors, text, FAILED)
-}
-
-/// Tells why a stream was left, if it was, and gives its status.
-pub(crate) fn tell_stream<E: Write>(errors: &mut Port<E>, ended: Result<Worst, StreamFault>) -> u8 {
-    match ended {
-        Ok(Worst::Fine) => DONE,
-        Ok(Worst::Refused) => REFUSED,
-        Ok(Worst::NotNow) => FAILED,
-        Err(StreamFault::Read) => tell_unread(errors),
-        Err(StreamFault::Turns) => tell(errors, "turns\n", FAILED),
-        Err(StreamFault::Write) => FAILED,
-    }
 }
 
 /// Tells a person something in lines of their own.

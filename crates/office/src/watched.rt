@@ -9,27 +9,20 @@ use std::alloc::Global;
 /// After how many interchanges a person is told how far it is.
 const STEP: u64 = 1000;
 
-/// What interchanges are delivered to while a person may look on: what it is made of answers, and it counts.
+/// What interchanges are delivered to while a person looks on: what it is made of answers, and it counts.
 #[derive(Drop)]
 pub(crate) struct Watched<'a, D> {
     desk: D,
     rt: &'a HostRuntime,
-    looked_at: bool,
     tally: Tally,
     causes: Causes<'a>,
 }
 
 impl<'a, D: Deliver + Faults> Watched<'a, D> {
-    pub(crate) fn new(
-        desk: D,
-        rt: &'a HostRuntime,
-        looked_at: bool,
-        path: &'a str,
-    ) -> Watched<'a, D> {
+    pub(crate) fn new(desk: D, rt: &'a HostRuntime, path: &'a str) -> Watched<'a, D> {
         Watched {
             desk,
             rt,
-            looked_at,
             tally: Tally::new(),
             causes: Causes::new(path),
         }
@@ -68,9 +61,7 @@ impl<D: Deliver + Faults> Deliver for Watched<'_, D> {
 
     fn deliver(&mut self, alloc: Global, delivered: &[u8]) -> Response {
         let response = self.desk.deliver(alloc, delivered);
-        if self.looked_at {
-            self.tell(&response);
-        }
+        self.tell(&response);
         response
     }
 }

@@ -2,6 +2,7 @@ use Rattle.std.proofs.Common.{inl, inr, ap, ◌∙◌}
 use Rattle.std.proofs.lemmas.Result.{err_from_is_err_and}
 use Rattle.sqlite.specs.Held.{state}
 use Rattle.sqlite.specs.State.{HasCleanDisk, IsUnchanged}
+use Rattle.office_rows.specs.Stored.{HasRows}
 use Rattle.office_setup.specs.Setups.{setup_content}
 use Rattle.office_delivery.specs.Reading.{OnlyReads}
 use Rattle.office_delivery.proofs.ReadLemmas.{reads_then, same_unchanged}
@@ -27,6 +28,26 @@ returns-clause-reads g c =
     let first : OnlyReads old mid = record { clean = one.clean; was_open = one.was_open; mode = one.mode; keeps = one.keeps; survives = λ clean is. one.survives is } in
     let second : OnlyReads mid new = record { clean = other.clean; was_open = other.was_open; mode = other.mode; keeps = other.keeps; survives = λ clean is. other.survives is } in
     reads_then old mid new (λ clean is. same_unchanged old mid (c.in_ok-setup.ensures.same clean is)) first second
+
+pub returns-in_err-nexts-clause-reads : goal.returns-in_err-nexts-clause-reads
+returns-in_err-nexts-clause-reads g c =
+    let old = state g.S.Store c.args.conn.now in
+    let mid = state g.S.Store c.load.new.conn in
+    let new = state g.S.Store c.nexts.new.conn in
+    let one = c.load.ensures in
+    let other = c.nexts.ensures in
+    let first : OnlyReads old mid = record { clean = one.clean; was_open = one.was_open; mode = one.mode; keeps = one.keeps; survives = λ clean is. one.survives is } in
+    let second : OnlyReads mid new = record { clean = other.clean; was_open = other.was_open; mode = other.mode; keeps = other.keeps; survives = λ clean is. other.survives is } in
+    reads_then old mid new (λ clean is. same_unchanged old mid (c.in_ok-setup.ensures.same clean is)) first second
+
+-- Loading has left the rows from which the numbers are read.
+pub returns-clause-nexts : goal.returns-clause-nexts
+returns-clause-nexts g c clean rows has =
+    let old = state g.S.Store c.args.conn.now in
+    let mid = state g.S.Store c.load.new.conn in
+    let first : IsUnchanged old mid = c.in_ok-setup.ensures.unchanged (c.nexts.ensures.clean clean) in
+    let there : HasRows rows mid.now = rw first.0.now_is has in
+    c.in_ok-nexts.ensures.answer clean rows there
 
 -- What isn't loaded is refused as loading refuses it.
 pub returns-in_err-setup-clause-refused : goal.returns-in_err-setup-clause-refused
