@@ -1,12 +1,17 @@
 use office_tables::TableFault;
 use sqlite::{Error, ErrorCode};
+use sqlite_resolve::CompileError;
 use std::fs;
 use std::os::unix::fs::MetadataExt;
+
+/// What `init` meets where an office's tables are.
+const HAS_TABLES: &str = "it has its tables already: work on it, or name another file";
 
 /// Why a store could not be worked on, and what to do about it, for a person. `path` is the store's.
 pub(crate) fn cause_of(rt: &HostRuntime, path: &str, fault: &TableFault) -> &'static str {
     match fault {
         TableFault::Store(Error::SqliteFailure(code)) => cause_of_code(rt, path, *code),
+        TableFault::Store(Error::SqlInputError(CompileError::Exists)) => HAS_TABLES,
         TableFault::Store(_) => {
             "it is a database without the tables of an office: see that the path is right"
         }
@@ -23,7 +28,7 @@ fn cause_of_code(rt: &HostRuntime, path: &str, code: ErrorCode) -> &'static str 
         ErrorCode::DatabaseBusy => {
             "another process works on it: wait for its end, or ask `office serve` over HTTP"
         }
-        ErrorCode::NameTaken => "it has its tables already: work on it, or name another file",
+        ErrorCode::NameTaken => HAS_TABLES,
         ErrorCode::NotADatabase => "it is no database: see that the path is right",
         ErrorCode::DatabaseCorrupt => {
             "it is damaged, or the log beside it is not its own: put the last copy of both back"
