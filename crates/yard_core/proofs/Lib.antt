@@ -4,7 +4,6 @@ pub mod Cells
 pub mod Sounds
 pub mod Keeps
 pub mod Decides
-pub mod LeastHeights
 pub mod Placings
 pub mod Refusals
 pub mod Searches
