@@ -19,11 +19,11 @@ use Rattle.edi_messages.specs.declared.verdict.Verdict.{Verdict}
 use Rattle.edi_messages.specs.declared.verdict.Verdict.TheVariants.{Accepted, Rejected}
 
 -- segments that neither begin nor end anything
-abbrev AreInner : List Content → Type 0
+abbrev pub AreInner : List Content → Type 0
 AreInner [] = Unit {0}
 AreInner (segment ∷ segments) = (begins_message segment ≡ false) × (ends_message segment ≡ false) × (is_inner segment ≡ true) × AreInner segments
 
-ucms_inner : (verdicts : List Verdict) (messages : List Message) → AreInner (map ucm (zip verdicts messages))
+pub ucms_inner : (verdicts : List Verdict) (messages : List Message) → AreInner (map ucm (zip verdicts messages))
 ucms_inner [] messages = tt
 ucms_inner (verdict ∷ verdicts) [] = tt
 ucms_inner (verdict ∷ verdicts) (message ∷ messages) = (refl, refl, refl, ucms_inner verdicts messages)
@@ -44,7 +44,7 @@ none_begins : (between : List Content) (header : Content) (n : ℕ) → AreInner
 none_begins [] header n inner = refl
 none_begins (segment ∷ between) header n (begins, ends, is, others) = rw begins (none_begins between header n others)
 
-last : (between : List Content) (first header : Content) (n : ℕ) → last_of first (between ++ unt n ∷ unz header ∷ []) ≡ unz header
+pub last : (between : List Content) (first header : Content) (n : ℕ) → last_of first (between ++ unt n ∷ unz header ∷ []) ≡ unz header
 last [] first header n = refl
 last (segment ∷ between) first header n = last between segment header n
 
@@ -68,7 +68,7 @@ same_bytes : (value : List ℕ) → bytes_eq value value ≡ true
 same_bytes [] = refl
 same_bytes (b ∷ value) = rw (eq-eqb b b refl) (same_bytes value)
 
-faultless : (header : Content) (between : List Content) → AreInner between → length between + 2 < 10 ^ 6 → body_fault_of (answer_segments header between) ≡ None
+pub faultless : (header : Content) (between : List Content) → AreInner between → length between + 2 < 10 ^ 6 → body_fault_of (answer_segments header between) ≡ None
 faultless header between inner few =
     let n = length between + 2 in
     rw (

@@ -7,5 +7,9 @@ pub mod SurveyLemmas
 pub mod LineLemmas
 pub mod ContrlLemmas
 pub mod ContrlCounts
+pub mod SameSegments
+pub mod WrittenText
+pub mod WritableContrl
+pub mod ContrlFaults
 pub mod OrderForms
 mod Replacing

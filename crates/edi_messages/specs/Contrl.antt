@@ -1,12 +1,15 @@
 -- CONTRL, the answer to an interchange (syntax version 3), as a function of the parts of the interchange that it
 -- answers: an interchange of its own, UNB, one message from UNH to UNT, UNZ (ISO 9735). Values are written anew under
 -- the default service characters, without empty components and elements at an end.
-use Rattle.std.specs.Prelude.{◌≡◌, ℕ, ◌+◌, ◌<◌, None, List, [], ◌∷◌, ◌++◌, length, map, zip, codes, decimal}
+use Rattle.std.specs.Prelude.{◌≡◌, ℕ, ◌+◌, ◌<◌, ◌≤◌, None, List, [], ◌∷◌, ◌++◌, length, map, zip, codes, decimal}
 use Rattle.edi_segments.specs.Text.{Content}
+use Rattle.edi_segments.specs.Interchange.{most_bytes, segments_in}
 use Rattle.edi_segments.specs.Spelling.{segments_text}
+use Rattle.edi_segments.specs.Written.{AreSameSegments}
 use Rattle.edi_syntax.specs.Header.{sender, recipient, preparation_date, preparation_time, control_reference}
 use Rattle.edi_syntax.specs.Messages.{Message, message_reference, message_identity}
-use Rattle.edi_syntax.specs.Faults.{body_fault_of}
+use Rattle.edi_syntax.specs.Envelope.{header_of, messages_of}
+use Rattle.edi_syntax.specs.Faults.{fault_of, header_fault_of, body_fault_of}
 use Rattle.edi_messages.specs.declared.verdict.Verdict.{Verdict}
 use Rattle.edi_messages.specs.declared.verdict.Verdict.TheVariants.{Accepted, Rejected}
 
@@ -91,7 +94,7 @@ contrl_text header messages verdicts = segments_text (contrl_segments header mes
 unfoldable pub rejection_text : Content → ℕ → List ℕ
 rejection_text header code = segments_text (rejection_segments header code)
 
--- ---- a law
+-- ---- laws
 
 -- Its segments have none of the faults of what a header announces: there is one message, from UNH to UNT, with as many
 -- segments as it says and its reference in both, and UNZ counts it and repeats the control reference.
@@ -102,3 +105,19 @@ ContrlsAreCounted =
     length verdicts < 999997
     → body_fault_of (contrl_segments header messages verdicts) ≡ None)
     × ((code : ℕ) → body_fault_of (rejection_segments header code) ≡ None)
+
+-- A text of segments that has no fault, and is read as these.
+abbrev pub IsReadAs : List Content → List ℕ → Type 0
+IsReadAs segments text = (fault_of text ≡ None) × AreSameSegments (segments_in text) segments
+
+-- An answer is read as its segments, and has no fault, if it is no longer than a text may be: one that acknowledges an
+-- interchange without fault, and one that rejects an interchange whose header has none.
+abbrev pub ContrlsAreWithoutFault : Type 0
+ContrlsAreWithoutFault =
+    (segments : List Content) → header_fault_of segments ≡ None
+    → ((verdicts : List Verdict) → body_fault_of segments ≡ None
+    → length (contrl_text (header_of segments) (messages_of segments) verdicts) ≤ most_bytes
+    → IsReadAs (contrl_segments (header_of segments) (messages_of segments) verdicts)
+    (contrl_text (header_of segments) (messages_of segments) verdicts))
+    × ((code : ℕ) → length (rejection_text (header_of segments) code) ≤ most_bytes
+    → IsReadAs (rejection_segments (header_of segments) code) (rejection_text (header_of segments) code))

@@ -1,4 +1,4 @@
-ghost use Rattle.edi_messages.specs.Contrl.{ContrlsAreCounted};
+ghost use Rattle.edi_messages.specs.Contrl.{ContrlsAreCounted, ContrlsAreWithoutFault};
 ghost use Rattle.edi_messages.specs.Forms.{OrdersAreFormed};
 ghost use Rattle.edi_messages.specs.Laws.{FaultlessAreRead, LinesAnswerTheirFirstFault, ReplacingIsOfAList};
 
@@ -27,4 +27,10 @@ pub fn contrls_are_counted()
 /// port.
 pub fn orders_are_formed()
     ensures { OrdersAreFormed }
+{}
+
+/// The text of a written CONTRL is read as its segments and has none of faults 1 to 15, if it is no longer than a text
+/// may be.
+pub fn contrls_are_without_fault()
+    ensures { ContrlsAreWithoutFault }
 {}

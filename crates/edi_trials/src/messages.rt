@@ -1,6 +1,7 @@
-//! Tables of codes, and how many lines a message may have. What messages say and how they are answered goes through the
-//! program: the model's cases.
+//! Tables of codes, how many lines a message may have, and answers to several messages. What messages say, and what
+//! comes of it, goes through the program: the model's cases.
 
+mod contrl;
 mod table;
 
 use edi_messages::{CodeTable, Codes, MessageFault, PartnerKind, read_message};

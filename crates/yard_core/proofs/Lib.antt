@@ -4,6 +4,7 @@ pub mod Cells
 pub mod Sounds
 pub mod Keeps
 pub mod Decides
+pub mod LeastHeights
 pub mod Placings
 pub mod Refusals
 pub mod Searches

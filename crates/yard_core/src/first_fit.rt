@@ -54,6 +54,9 @@ fn first_in_block(yard: &Yard, size: Length, block: Block, corner: Slot) -> Opti
     ensures { MatchOption result (NoneOpen yard.now size (IsInBlock corner))
         (IsFirstOpen yard.now size (IsInBlock corner)) }
 {
+    if yard.is_too_high(block, corner) {
+        return None;
+    }
     for bay in 1..2 * block.bays as u16 {
         let corner = Slot { bay, ..corner };
         if is_kind(size, corner)

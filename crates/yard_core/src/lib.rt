@@ -8,6 +8,7 @@ mod columns;
 pub mod decided;
 mod first_fit;
 pub mod laws;
+mod least_height;
 pub mod placement;
 mod placements;
 pub mod plan;

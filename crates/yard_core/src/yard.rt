@@ -43,8 +43,10 @@ impl Yard {
     ghost use Rattle.std.specs.Option.{option_map};
     ghost use Rattle.std.specs.FinMap as finite_map;
     ghost use Rattle.yard_core.specs.Plan.{block_of, IsPlan, IsSized};
+    ghost use Rattle.box6346.specs.declared.length.Length.{Length};
     ghost use Rattle.yard_core.specs.YardMap.{placement};
     ghost use Rattle.yard_core.specs.SoundYard.{IsSound};
+    ghost use Rattle.yard_core.specs.Search.{IsInBlock, NoneOpen};
     ghost use Rattle.yard_core.specs.FitsAndFree.{IsFree, IsOpen, Misfits};
     ghost use Rattle.yard_core.specs.Calls.{Places, PlacesFirst, Removes, Shifts, RefusesPlace, RefusesFirst, RefusesRemove, RefusesShift};
 
@@ -54,7 +56,7 @@ impl Yard {
         ensures sound { IfOk result (λ y. IsSound y.plan (finite_map.get y.boxes)) }
         ensures plan { IfOk result (λ y. IsPlan y.plan) }
     {
-        let columns = Columns::new(alloc, plan.columns())?;
+        let columns = Columns::new(alloc, plan.blocks())?;
         Ok(Yard {
             plan,
             columns,
@@ -168,6 +170,16 @@ impl Yard {
         ensures sized { IfSome result IsSized }
     {
         self.plan.block(letter)
+    }
+
+    /// Whether it is known that each column of the corner's block is too high for a slot of its tier.
+    pub(crate) fn is_too_high(&self, block: Block, corner: Slot) -> bool
+        requires { block_of self.now.plan corner.block ≡ Some block }
+        ensures { IsTrue result → (length : Length) → NoneOpen self.now length (IsInBlock corner) }
+    {
+        let position = self.plan.position(corner.block);
+        self.columns
+            .are_at_least(position, block, corner.tier as usize)
     }
 
     /// Whether a container fits there.

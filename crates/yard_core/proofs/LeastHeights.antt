@@ -1,0 +1,173 @@
+-- The least heights of the blocks' columns, and that no slot below them is open.
+use Rattle.std.proofs.Common.{◌≡◌, ◌≢◌, ◌⊎◌, inl, inr, ℕ, ◌+◌, ◌-◌, ◌*◌, ◌/◌, ◌<◌, ◌≤◌, ◌==◌, ◌&&◌, true, List, [], ◌∷◌, ◌++◌, length, take, drop, map, replicate, refl, sym, ap, subst, ◌∙◌, Option, Some, None, arith, slice_get, get_or, set, get_or-set_same, get_or-set_other, All}
+use Rattle.std.specs.Option.{IsSomeAnd, option_map}
+use Rattle.std.proofs.lemmas.Bool.Decides.{nat_tests}
+use Rattle.std.proofs.lemmas.List.{length-append, get_or-take, get_or-drop, length-take-le, length-drop, length-replicate, length-map, length-set}
+use Rattle.std.proofs.lemmas.List.Elements.{All-from_get_or, All-get_or, All-map, All-set}
+use Rattle.std.proofs.lemmas.Option.{get_or_from_slice_get, slice_get_within, slice_get_read, slice_get-map, none-some, same_Some}
+use Rattle.box6346.specs.declared.length.Length.{Length}
+use Rattle.box6346.specs.declared.length.Length.TheVariants.{Twenty, Forty}
+use Rattle.box6346.specs.declared.slot.Slot.{Slot}
+use Rattle.yard_core.specs.declared.block.Block.{Block}
+use Rattle.yard_core.specs.declared.least_height.LeastHeight.{LeastHeight}
+use Rattle.yard_core.specs.declared.placement.Placement.{Placement}
+use Rattle.yard_core.specs.Plan.{block_of, InBlock, IsSized}
+use Rattle.yard_core.specs.YardMap.{Box, placement}
+use Rattle.yard_core.specs.FitsAndFree.{IsOpen}
+use Rattle.yard_core.specs.Search.{IsInBlock}
+use Rattle.yard_core.specs.Columns.{column_at, column_of, first_cell, IsKept}
+use Rattle.yard_core.specs.LeastHeights.{AreAtLeast, AreLeastHeights, ground_height}
+use Rattle.yard_core.proofs.Cells.{place, bounds, first_in_plan}
+use Rattle.yard_core.proofs.Decides.{IsReady-open}
+
+on_ground : (plan : List Block) (position : ℕ) (h : LeastHeight) → slice_get (map ground_height plan) position ≡ Some h → h.height ≡ 0
+on_ground plan position h here =
+    elim (slice_get plan position) as (λ o. option_map ground_height o ≡ Some h → h.height ≡ 0) [
+      | None ↦ λ e. absurd (none-some h e)
+      | Some b ↦ λ e. sym (ap (λ (x : LeastHeight). x.height) (same_Some (ground_height b) h e))
+    ] (sym (slice_get-map ground_height plan position) ∙ here)
+
+-- no column is below the ground
+pub AreLeastHeights-none : (plan : List Block) (columns : List (List Box)) (heights : List LeastHeight) → columns ≡ replicate (480 * length plan) [] → heights ≡ map ground_height plan → All IsSized plan → AreLeastHeights columns heights
+AreLeastHeights-none plan columns heights made least sized = record {
+  long = ap length made ∙ length-replicate (480 * length plan) [] ∙ ap (λ n. 480 * n) (sym (ap length least ∙ length-map plan ground_height));
+  sized = subst (All (λ (h : LeastHeight). IsSized h.block)) (sym least) (All-map (λ (h : LeastHeight). IsSized h.block) ground_height plan sized);
+  least = λ position h here bay row b r.
+      let ground = on_ground plan position h (ap (λ (hs : List LeastHeight). slice_get hs position) (sym least) ∙ here) in omega (arith, ground);
+}
+
+same_or_apart : (a b : ℕ) → (a ≡ b) ⊎ (a ≢ b)
+same_or_apart a b = grind arith
+
+-- how high a column is once one of them is written
+written : (columns : List (List Box)) (column : ℕ) (boxes : List Box) (i : ℕ) → column < length columns
+    → (length (column_at (set columns column boxes) i) ≡ length (column_at columns i)) ⊎ ((i ≡ column) × (length (column_at (set columns column boxes) i) ≡ length boxes))
+written columns column boxes i within = elim (same_or_apart i column) [
+  | inl same ↦ inr (same, ap length (ap (column_at (set columns column boxes)) same ∙ get_or-set_same columns column boxes [] within))
+  | inr apart ↦ inl (ap length (get_or-set_other columns column i boxes [] apart))
+]
+
+-- a column higher leaves the least heights
+AreLeastHeights-higher : (columns : List (List Box)) (heights : List LeastHeight) (column : ℕ) (boxes : List Box) → column < length columns → length (column_at columns column) ≤ length boxes → AreLeastHeights columns heights → AreLeastHeights (set columns column boxes) heights
+AreLeastHeights-higher columns heights column boxes within high are = record {
+  long = length-set columns column boxes ∙ are.long;
+  sized = are.sized;
+  least = λ position h here bay row b r.
+      let old = are.least position h here bay row b r in
+      elim (written columns column boxes (480 * position + 12 * bay + row) within) [
+        | inl same ↦ omega (arith, old, same)
+        | inr (is, new) ↦ (let was = ap (λ i. length (column_at columns i)) is in omega (arith, old, new, was, high))
+      ];
+}
+
+-- so does a box more on a column
+pub AreLeastHeights-grown : (columns : List (List Box)) (heights : List LeastHeight) (column : ℕ) (boxes more : List Box) (b : Box) → column < length columns → boxes ≡ get_or columns column boxes → more ≡ boxes ++ b ∷ [] → AreLeastHeights columns heights
+    → AreLeastHeights (set columns column more) heights
+AreLeastHeights-grown columns heights column boxes more b within here grown are =
+    let same = ap length (get_or_from_slice_get columns column boxes [] (slice_get_read columns (length columns) column boxes refl within here)) in
+    let long = ap length grown ∙ length-append boxes (b ∷ []) in
+    AreLeastHeights-higher columns heights column more within (omega (arith, same, long)) are
+
+-- where none of a block's columns is below another height, that may be its least
+pub AreLeastHeights-set : (columns : List (List Box)) (heights : List LeastHeight) (position height : ℕ) (h : LeastHeight) → position < length heights → h ≡ get_or heights position h → AreAtLeast columns (480 * position) h.block height → AreLeastHeights columns heights
+    → AreLeastHeights columns (set heights position (record h { height = height }))
+AreLeastHeights-set columns heights position height h within here high are =
+    let g : LeastHeight = record h { height = height } in
+    record {
+      long = are.long ∙ ap (λ n. 480 * n) (sym (length-set heights position g));
+      sized = All-set (λ (x : LeastHeight). IsSized x.block) heights position g (subst (λ (x : LeastHeight). IsSized x.block) (sym here) (are.sized position h within)) are.sized;
+      least = λ k l there. elim (same_or_apart k position) [
+        | inl is ↦ (let e : l ≡ g = sym (get_or_from_slice_get (set heights position g) k l g there) ∙ ap (λ n. get_or (set heights position g) n g) is ∙ get_or-set_same heights position g g within in
+            subst (λ n. AreAtLeast columns (480 * n) l.block l.height) (sym is) (subst (λ (x : LeastHeight). AreAtLeast columns (480 * position) x.block x.height) (sym e) high))
+        | inr apart ↦ are.least k l (slice_get_read heights (length heights) k l refl (let low = slice_get_within (set heights position g) k l there in let long = length-set heights position g in omega (arith, low, long))
+            (sym (get_or_from_slice_get (set heights position g) k l l there) ∙ get_or-set_other heights position k g l apart))
+      ];
+    }
+
+-- the block of a column
+pub block_of_column : (columns : List (List Box)) (heights : List LeastHeight) (column : ℕ) → AreLeastHeights columns heights → column < length columns → column / 480 < length heights
+block_of_column columns heights column are within = let long = are.long in omega (arith, long)
+
+its_block : (position bay row column : ℕ) → column ≡ 480 * position + 12 * bay + row → bay < 40 → row < 12 → column / 480 ≡ position
+its_block position bay row column is b r = omega arith
+
+-- a column that is no lower than the least height of its block leaves the least heights
+pub AreLeastHeights-lower : (columns : List (List Box)) (heights : List LeastHeight) (column : ℕ) (boxes : List Box) (h : LeastHeight) → column < length columns → h ≡ get_or heights (column / 480) h → h.height ≤ length boxes → AreLeastHeights columns heights → AreLeastHeights (set columns column boxes) heights
+AreLeastHeights-lower columns heights column boxes h within here low are = record {
+  long = length-set columns column boxes ∙ are.long;
+  sized = are.sized;
+  least = λ position l there bay row b r.
+      let old = are.least position l there bay row b r in
+      let sized : IsSized l.block = subst (λ (x : LeastHeight). IsSized x.block) (get_or_from_slice_get heights position l l there) (are.sized position l (slice_get_within heights position l there)) in
+      elim (written columns column boxes (480 * position + 12 * bay + row) within) [
+        | inl same ↦ omega (arith, old, same)
+        | inr (is, new) ↦ (let place_is : column / 480 ≡ position = its_block position bay row column (sym is) (omega (arith, b, sized.1)) (omega (arith, r, sized.3)) in
+            let same : l ≡ h = sym (get_or_from_slice_get heights position l h there) ∙ ap (λ n. get_or heights n h) (sym place_is) ∙ sym here in
+            let heights_same = ap (λ (x : LeastHeight). x.height) same in omega (arith, heights_same, low, new))
+      ];
+}
+
+-- a lower column, and its block's least height with it
+pub AreLeastHeights-fallen : (columns : List (List Box)) (heights : List LeastHeight) (column : ℕ) (boxes : List Box) (height : ℕ) (h : LeastHeight) → column < length columns → h ≡ get_or heights (column / 480) h → height < h.height → height ≡ length boxes → AreLeastHeights columns heights
+    → AreLeastHeights (set columns column boxes) (set heights (column / 480) (record h { height = height }))
+AreLeastHeights-fallen columns heights column boxes height h within here less told are =
+    let g : LeastHeight = record h { height = height } in
+    let position = block_of_column columns heights column are within in
+    let old = are.least (column / 480) h (slice_get_read heights (length heights) (column / 480) h refl position here) in
+    AreLeastHeights-lower columns (set heights (column / 480) g) column boxes g within (sym (get_or-set_same heights (column / 480) g g position)) (omega (arith, told))
+    (AreLeastHeights-set columns heights (column / 480) height h position here (λ bay row b r. (let high = old bay row b r in omega (arith, less, high))) are)
+
+same_size : (a b : Block) → true ≡ ((a.letter == b.letter) && ((a.bays == b.bays) && ((a.rows == b.rows) && (a.tiers == b.tiers)))) → (a.bays ≡ b.bays) × (a.rows ≡ b.rows)
+same_size a b e = grind (arith, nat_tests)
+
+-- what a block's least height says of the same block
+pub at_least : (columns : List (List Box)) (heights : List LeastHeight) (position height : ℕ) (block : Block) (h : LeastHeight) → position < length heights → h ≡ get_or heights position h
+    → true ≡ ((h.block.letter == block.letter) && ((h.block.bays == block.bays) && ((h.block.rows == block.rows) && (h.block.tiers == block.tiers)))) → height ≤ h.height → AreLeastHeights columns heights → AreAtLeast columns (480 * position) block height
+at_least columns heights position height block h within here same low have bay row b r =
+    let size = same_size h.block block same in
+    let old = have.least position h (slice_get_read heights (length heights) position h refl within here) bay row (omega (arith, b, size.0)) (omega (arith, r, size.1)) in
+    omega (arith, old, low)
+
+-- a column among some that are all higher
+pub higher_among : (columns : List (List Box)) (start count height i : ℕ) → start + count ≤ length columns → All (λ (boxes : List Box). height < length boxes) (take (start + count - start) (drop start columns)) → start ≤ i → i < start + count
+    → height + 1 ≤ length (column_at columns i)
+higher_among columns start count height i within all low high =
+    let n = start + count - start in
+    let k = i - start in
+    let here : k < n = omega arith in
+    let long : length (take n (drop start columns)) ≡ n = length-take-le n (drop start columns) (let rest = length-drop start columns in omega (arith, rest)) in
+    let there : start + k ≡ i = omega arith in
+    let same : get_or (take n (drop start columns)) k [] ≡ column_at columns i = get_or-take n (drop start columns) k [] here ∙ get_or-drop start columns k [] ∙ ap (column_at columns) there in
+    let higher : height < length (get_or (take n (drop start columns)) k []) = All-get_or (λ (boxes : List Box). height < length boxes) (take n (drop start columns)) k [] (omega (arith, long, here)) all in
+    let lengths = ap length same in omega (arith, higher, lengths)
+
+-- all of them are higher, if each is
+pub all_higher : (columns : List (List Box)) (start count height : ℕ) → start + count ≤ length columns → ((row : ℕ) → row < count → height + 1 ≤ length (column_at columns (start + row)))
+    → All (λ (boxes : List Box). height < length boxes) (take (start + count - start) (drop start columns))
+all_higher columns start count height within each =
+    let n = start + count - start in
+    let long : length (take n (drop start columns)) ≡ n = length-take-le n (drop start columns) (let rest = length-drop start columns in omega (arith, rest)) in
+    All-from_get_or (λ (boxes : List Box). height < length boxes) (take n (drop start columns)) []
+    (λ row low.
+    let here : row < n = omega (arith, long, low) in
+    let same = ap length (get_or-take n (drop start columns) row [] here ∙ get_or-drop start columns row []) in
+    let higher = each row (omega (arith, here)) in
+    omega (arith, same, higher))
+
+first_letter : (size : Length) (slot : Slot) → (first_cell size slot).block ≡ slot.block
+first_letter Twenty slot = refl
+first_letter Forty slot = refl
+
+-- in a block whose columns are all as high as a tier, no slot of the tier is open
+pub none_open : (plan : List Block) (columns : List (List Box)) (at : Box → Option Placement) → IsKept plan columns at → (block : Block) (corner : Slot) → block_of plan corner.block ≡ Some block
+    → AreAtLeast columns (480 * place plan corner.block) block corner.tier → (size : Length) (slot : Slot) → IsInBlock corner slot → ¬ IsOpen plan at (placement size slot)
+none_open plan columns at kept block corner here high size slot (tier, letter) open_ =
+    let cell = first_cell size slot in
+    let same : cell.block ≡ corner.block = first_letter size slot ∙ letter in
+    let inside : InBlock cell block = subst (λ o. IsSomeAnd o (InBlock cell)) (ap (block_of plan) same ∙ here) (first_in_plan plan size slot open_.in_plan open_.of_kind) in
+    let ready = (IsReady-open plan columns at kept (placement size slot) open_.in_plan open_.of_kind open_).near in
+    let column : column_of plan cell ≡ 480 * place plan corner.block + 12 * (cell.bay / 2) + (cell.row - 1) = ap (λ letter. 480 * place plan letter + 12 * (cell.bay / 2) + (cell.row - 1)) same in
+    let over : corner.tier ≤ length (column_at columns (column_of plan cell)) =
+    subst (λ i. corner.tier ≤ length (column_at columns i)) (sym column) (high (cell.bay / 2) (cell.row - 1) (omega (arith, inside.1)) (omega (arith, inside.2, inside.3))) in
+    let low = (bounds plan slot kept.valid.sized open_.in_plan).tier_low in
+    omega (arith, over, ready, tier, low)
