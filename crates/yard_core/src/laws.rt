@@ -1,13 +1,13 @@
 //! What follows from the definitions alone, and says that the answers of a yard's calls are exact.
 
-ghost use Rattle.yard_core.specs.Laws.{MisfitsDoNotFit, FreeBoxFitsAtHome, OneBlocker, OneFirstFit, PlaceHasOneAnswer, PlaceFirstHasOneAnswer, RemoveHasOneAnswer, ShiftHasOneAnswer};
+ghost use Rattle.yard_core.specs.Laws.{MisfitsDoNotFit, FreeBoxFitsAtHome, OneBlocker, OneFirstFit, PlaceHasOneAnswer, PutBackHasOneAnswer, BelowCarries, PlaceFirstHasOneAnswer, RemoveHasOneAnswer, ShiftHasOneAnswer};
 
-/// If NoSlot, SlotKind, Taken or OnAir applies, the container does not fit.
+/// If NoSlot, SlotKind, Taken or OnAir applies, the yard is not sound with the container there.
 pub fn misfits_do_not_fit()
     ensures { MisfitsDoNotFit }
 {}
 
-/// A container fits where it stands, in the yard without it.
+/// The yard without a container is sound with it where it stood.
 pub fn free_box_fits_at_home()
     ensures { FreeBoxFitsAtHome }
 {}
@@ -25,6 +25,16 @@ pub fn one_first_fit()
 /// No two answers of `place` hold of one yard, but for Memory if the container fits.
 pub fn place_has_one_answer()
     ensures { PlaceHasOneAnswer }
+{}
+
+/// No two answers of `put_back` hold of one yard, but for Memory if the container may stand there.
+pub fn put_back_has_one_answer()
+    ensures { PutBackHasOneAnswer }
+{}
+
+/// What is right below a container carries it: one of its length in the slot below, or one of two twenties.
+pub fn below_carries()
+    ensures { BelowCarries }
 {}
 
 /// No two answers of `place_first` hold of one yard, but for Memory if the container fits.
