@@ -1,6 +1,6 @@
 //! What follows from the definitions alone, and says that the answers of a yard's calls are exact.
 
-ghost use Rattle.yard_core.specs.Laws.{MisfitsDoNotFit, FreeBoxFitsAtHome, OneBlocker, OneFirstFit, PlaceHasOneAnswer, PutBackHasOneAnswer, BelowCarries, PlaceFirstHasOneAnswer, RemoveHasOneAnswer, ShiftHasOneAnswer};
+ghost use Rattle.yard_core.specs.Laws.{MisfitsDoNotFit, FreeBoxFitsAtHome, BelowCarries, OneBlocker, OneFirstFit, PlaceHasOneAnswer, PutBackHasOneAnswer, PlaceFirstHasOneAnswer, RemoveHasOneAnswer, ShiftHasOneAnswer};
 
 /// If NoSlot, SlotKind, Taken or OnAir applies, the yard is not sound with the container there.
 pub fn misfits_do_not_fit()
@@ -10,6 +10,12 @@ pub fn misfits_do_not_fit()
 /// The yard without a container is sound with it where it stood.
 pub fn free_box_fits_at_home()
     ensures { FreeBoxFitsAtHome }
+{}
+
+/// What is right below a container is what carries it: one of its length in the slot below, or one of two
+/// twenties.
+pub fn below_carries()
+    ensures { BelowCarries }
 {}
 
 /// Never more than one container stands on another, so there is one blocker.
@@ -30,11 +36,6 @@ pub fn place_has_one_answer()
 /// No two answers of `put_back` hold of one yard, but for Memory if the container may stand there.
 pub fn put_back_has_one_answer()
     ensures { PutBackHasOneAnswer }
-{}
-
-/// What is right below a container carries it: one of its length in the slot below, or one of two twenties.
-pub fn below_carries()
-    ensures { BelowCarries }
 {}
 
 /// No two answers of `place_first` hold of one yard, but for Memory if the container fits.
