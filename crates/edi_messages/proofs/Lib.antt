@@ -11,5 +11,6 @@ pub mod SameSegments
 pub mod WrittenText
 pub mod WritableContrl
 pub mod ContrlFaults
+pub mod Weights
 pub mod OrderForms
 mod Replacing

@@ -30,6 +30,7 @@ use Rattle.edi_messages.specs.Parts.{EquipmentGroup, groups_of, is_qualified, st
 use Rattle.edi_messages.specs.Purposes.{CallContent, Purpose, purpose_with}
 use Rattle.edi_messages.specs.Purposes as purpose
 use Rattle.edi_messages.specs.Texts.{is_name}
+use Rattle.edi_messages.proofs.Weights.{weight_short}
 use Rattle.edi_messages.specs.declared.line_fault.LineFault.{LineFault}
 use Rattle.edi_messages.specs.declared.line_fault.LineFault.TheVariants.{Moment, Size, SlotText}
 use Rattle.edi_messages.specs.declared.message_fault.MessageFault.{MessageFault}
