@@ -33,11 +33,12 @@ def size_of(serial):
 class Group:
     """What a message says of one container."""
 
-    def __init__(self, number, size='', slot='', booking='', port='', moment='', laden=True):
+    def __init__(self, number, size='', slot='', booking='', port='', moment='', laden=True, weights=()):
         self.head = 'EQD+CN+%s+%s:102:5+++%s' % (number, size, '5' if laden else '4')
         self.parts = [
             part % value for part, value in (
                 ('RFF+BN:%s', booking), ('DTM+7:%s:203', moment), ('LOC+ZZZ+%s', slot), ('LOC+11+%s:139:6', port)) if value]
+        self.parts += ['MEA+AAE+' + weight for weight in weights]
 
     def segments(self):
         """Its segments."""
@@ -128,7 +129,10 @@ def filling(count):
 
 # ---- all orders, and what is refused of them
 
-SLOTS = ['A001011', 'A001012', 'A002011', 'A002012', 'A003021', 'A004021', 'B001011', 'B002011', 'B009011', 'A001015', '']
+SLOTS = [
+    'A001011', 'A001012', 'A002011', 'A002012', 'A003021', 'A004021', 'A003022', 'A005012', 'B001012', 'B001011', 'B002011', 'B009011',
+    'A001015', '']
+WEIGHTS = ['G+KGM:24000', 'G+KGM:007', 'G+KGM:24.5', 'G+KGM:1000000', 'G+LBR:52911', 'T+KGM:2200']
 CALLS = [('9123456', 'V1'), ('9123456', 'V2'), ('VESSEL B', 'W?+1')]
 SENDERS = {'34': 'HAULA', '36': 'HAULB', 'YMV': 'YARDA', '43': 'LINEA', '45': 'LINEA', '44': 'QUAYA', '46': 'QUAYA'}
 
@@ -140,7 +144,8 @@ def drawn_group(chance, code):
     return Group(
         box(serial), size_of(serial), slot if chance.random() < 0.6 or code == 'YMV' else '',
         booking=chance.choice(['', 'B?:1', 'BOOKING 7']), port=chance.choice(['', 'NLRTM']),
-        moment=chance.choice(['', '202403061200']), laden=chance.random() < 0.7)
+        moment=chance.choice(['', '202403061200']), laden=chance.random() < 0.6,
+        weights=chance.sample(WEIGHTS, chance.choice([0, 0, 1, 2])))
 
 
 def drawn_messages(chance, code):
@@ -156,7 +161,7 @@ def mixed(count):
     some again, some under a number that is used."""
     chance, numbers, texts = random.Random(SEED), Numbers(), []
     while len(texts) < count:
-        code = chance.choice(['34', '34', '36', 'YMV', '43', '45', '44', '46'])
+        code = chance.choice(['34', '34', '36', '36', 'YMV', 'YMV', '43', '45', '44', '46'])
         text = numbers.send(SENDERS[code], *drawn_messages(chance, code))
         texts.insert(max(0, len(texts) - chance.choice([0, 0, 0, 1, 3])), text)
         if chance.random() < 0.1:

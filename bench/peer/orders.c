@@ -54,6 +54,11 @@ static struct order *next_order(struct orders *orders) {
 static const char *read_detail(const struct interchange *all, size_t at, struct order *order, bool *has_moment) {
     struct text tag = all->segments[at].tag, what = value(all, at, 1, 1);
     if (is(tag, "RFF") && is(what, "BN") && !order->booking.at) order->booking = kept_text(value(all, at, 1, 2));
+    if (is(tag, "MEA") && is(value(all, at, 2, 1), "G") && is(value(all, at, 3, 1), "KGM") && !order->has_weight) {
+        struct text weight = value(all, at, 3, 2);
+        order->kilos = are_digits(weight, 1, 6) ? number_of(weight) : 0;
+        order->has_weight = true;
+    }
     if (is(tag, "LOC") && is(what, "11") && !order->port.at) order->port = kept_text(value(all, at, 2, 1));
     if (is(tag, "LOC") && is(what, "ZZZ") && (reads_size(order->action) || order->action == MOVE) && !order->names_slot) {
         struct text name = value(all, at, 2, 1);
@@ -179,8 +184,8 @@ static const char *enter(struct office *office, const struct order *order, int p
     int length = order->size.at[0] == '2' ? 20 : 40;
     if (office->visits >= office->most_visits) return "VisitLimit";
     *slot = order->slot;
-    if (!order->names_slot && !first_slot(&office->yard, length, slot)) return "NoRoom";
-    const char *reason = misfit(&office->yard, length, *slot, NULL);
+    if (!order->names_slot && !first_slot(&office->yard, length, order->laden, slot)) return "NoRoom";
+    const char *reason = misfit(&office->yard, length, *slot, NULL, order->laden);
     if (reason) return reason;
     struct container *container = malloc(sizeof *container);
     if (!container) die("memory");
@@ -193,8 +198,8 @@ static const char *enter(struct office *office, const struct order *order, int p
     slot_name(*slot, name);
     long way = order->action == GATE_IN ? 1 : 2;
     struct text booking = order->booking.at ? order->booking : (struct text){ "", 0 };
-    run(office, OPEN_VISIT, "ittitiiitt", container->visit, order->box, order->size, (long)order->laden, booking, way,
-        (long)partner, number, (struct text){ order->moment, 12 }, name_text(name));
+    run(office, OPEN_VISIT, "ittitiiitti", container->visit, order->box, order->size, (long)order->laden, booking, way,
+        (long)partner, number, (struct text){ order->moment, 12 }, name_text(name), order->kilos);
     run(office, ADD_PLACE, "tit", order->box, container->visit, name_text(name));
     return NULL;
 }
@@ -209,7 +214,8 @@ static void leave(struct office *office, const struct order *order, int partner,
 }
 
 static void move(struct office *office, const struct order *order, struct container *container, long line) {
-    const char *reason = misfit(&office->yard, container->length, order->slot, container);
+    bool is_home = memcmp(&container->slot, &order->slot, sizeof order->slot) == 0;
+    const char *reason = misfit(&office->yard, container->length, order->slot, container, container->laden && !is_home);
     char name[8];
     if (reason) return refuse(office, order, line, reason, NULL);
     unstand(&office->yard, container);

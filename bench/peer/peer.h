@@ -55,8 +55,8 @@ struct block { int bays, rows, tiers; };
 struct yard { struct block blocks[26]; struct container *cells[26][40][12][6]; struct map boxes; };
 
 struct container *standing(struct yard *yard, struct text box);
-const char *misfit(struct yard *yard, int length, struct slot slot, const struct container *without);
-bool first_slot(struct yard *yard, int length, struct slot *slot);
+const char *misfit(struct yard *yard, int length, struct slot slot, const struct container *without, bool is_wary);
+bool first_slot(struct yard *yard, int length, bool is_wary, struct slot *slot);
 struct container *blocker(struct yard *yard, const struct container *container);
 void stand(struct yard *yard, struct container *container);
 void unstand(struct yard *yard, const struct container *container);
@@ -70,7 +70,8 @@ struct order {
     enum action action;
     size_t message;
     struct text box, size, booking, port, vessel, voyage;
-    bool laden, names_slot;
+    bool laden, names_slot, has_weight;
+    long kilos;
     struct slot slot;
     char moment[12];
 };

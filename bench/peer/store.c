@@ -13,7 +13,7 @@ static const char *const texts[STATEMENTS] = {
     [KEEP] = "INSERT INTO interchange (partner, number, body, reply) VALUES (?1, ?2, ?3, ?4)",
     [SET_REPLY] = "UPDATE interchange SET reply = ?3 WHERE partner = ?1 AND number = ?2",
     [SET_NEXT] = "UPDATE partner SET next = ?2 WHERE id = ?1",
-    [OPEN_VISIT] = "INSERT INTO visit VALUES (?1, ?2, ?3, ?4, ?5, ?6, ?7, ?8, ?9, ?10, 0, 0, 0, '')",
+    [OPEN_VISIT] = "INSERT INTO visit VALUES (?1, ?2, ?3, ?4, ?5, ?6, ?7, ?8, ?9, ?10, 0, 0, 0, '', ?11)",
     [CLOSE_VISIT] = "UPDATE visit SET out_by = ?2, out_partner = ?3, out_number = ?4, out_at = ?5 WHERE visit = ?1",
     [ADD_PLACE] = "INSERT INTO place (box, visit, slot) VALUES (?1, ?2, ?3)",
     [SET_SLOT] = "UPDATE place SET slot = ?2 WHERE box = ?1",

@@ -26,7 +26,13 @@ static bool is_carried(struct yard *yard, int length, struct slot slot, const st
     return (first->length == 20 && last->length == 20) || first == last;
 }
 
-const char *misfit(struct yard *yard, int length, struct slot slot, const struct container *without) {
+static bool is_on_empty(struct yard *yard, struct slot slot) {
+    return slot.tier > 1 && (!(*cell(yard, slot, first_half(slot), slot.tier - 1))->laden
+        || !(*cell(yard, slot, last_half(slot), slot.tier - 1))->laden);
+}
+
+/* A container that is wary does not fit where an empty one carries it. */
+const char *misfit(struct yard *yard, int length, struct slot slot, const struct container *without, bool is_wary) {
     const struct block *block = &yard->blocks[slot.block];
     if (slot.bay < 1 || slot.bay > 2 * block->bays - 1 || slot.row < 1 || slot.row > block->rows || slot.tier < 1
         || slot.tier > block->tiers) return "NoSlot";
@@ -35,17 +41,18 @@ const char *misfit(struct yard *yard, int length, struct slot slot, const struct
         struct container *there = *cell(yard, slot, half, slot.tier);
         if (there && there != without) return "Taken";
     }
-    return is_carried(yard, length, slot, without) ? NULL : "OnAir";
+    if (!is_carried(yard, length, slot, without)) return "OnAir";
+    return is_wary && is_on_empty(yard, slot) ? "OnEmpty" : NULL;
 }
 
 /* By tier, block, bay and row. */
-bool first_slot(struct yard *yard, int length, struct slot *found) {
+bool first_slot(struct yard *yard, int length, bool is_wary, struct slot *found) {
     for (int tier = 1; tier <= 6; tier++)
         for (int block = 0; block < 26; block++)
             for (int bay = length == 20 ? 1 : 2; bay < 2 * yard->blocks[block].bays; bay += 2)
                 for (int row = 1; row <= yard->blocks[block].rows; row++) {
                     *found = (struct slot){ block, bay, row, tier };
-                    if (!misfit(yard, length, *found, NULL)) return true;
+                    if (!misfit(yard, length, *found, NULL, is_wary)) return true;
                 }
     return false;
 }

@@ -5,7 +5,7 @@ import sys
 from collections import Counter
 from functools import partial
 
-from . import cases, crowded, damaged, replaced, stores, worked
+from . import cases, counts, crowded, damaged, replaced, stores, worked
 from .days import stream
 from .messages import MESSAGE_FAULTS
 from .office import Office
@@ -19,27 +19,35 @@ PROGRAM = os.path.join(TOP, 'crates/office/out/office')
 MIXES = [(60, 300, 0.0), (600, 20, 0.1)]
 LONGEST_ANEW = 25           # in longer streams the model keeps the fold of the order so far
 
-# every kind that may come in a stream for `office demo`, as `kinds_of` counts them. TooLong, Service and Segment cut a
+# every kind that may come in a stream for `office demo`, as `kinds_of` and `counts` count them. TooLong, Service and Segment cut a
 # stream, and VisitLimit needs another set-up: as answers to a delivery they are in the worked rows alone.
 REFUSED = [name for name, _applies in FAULTS if name not in ('TooLong', 'Service', 'Segment')]
 REASONS = (
     'Form CheckDigit Size Moment SlotText AlreadyIn NotIn AlreadyListed NotListed ListLineDone Buried NoSlot SlotKind '
-    'Taken OnAir NoRoom').split()
+    'Taken OnAir OnEmpty NoRoom').split()
 EVERY_KIND = (
     ['answer taken', 'answer repeat', 'answer waiting', 'answer clash']
     + ['answer refused ' + name for name in REFUSED + ['UnknownSender', 'WrongRecipient']]
     + ['answer cut ' + name for name in ('TooLong', 'Service', 'Segment', 'End')]
     + ['message accepted'] + ['message rejected ' + name for name, _applies in MESSAGE_FAULTS]
-    + ['line done', 'line gone', 'line listed'] + ['line refused ' + name for name in REASONS])
+    + ['line done', 'line gone', 'line listed'] + ['line refused ' + name for name in REASONS] + counts.EVERY)
 
-USAGE = """usage: scripts/beside [STREAMS DELIVERIES SHARE [SEED]]
+USAGE = """usage: scripts/beside [demo | model | STREAMS DELIVERIES SHARE [SEED]]
 
 Compares crates/office/out/office with the model: first the worked rows, the day of examples/day and the cases of
 scripts/model/cases.txt, as `office demo` and over stores in files; then the changed stores of scripts/model/damaged.txt
 a crowded yard and full lists replaced; then random set-ups, deliveries and reports over stores, and requests by HTTP;
 then random streams. With arguments the rows, and STREAMS streams of DELIVERIES interchanges each, SHARE of them (0 to 1) with
 altered bytes, with the seeds from SEED on (1 where none is given). Without arguments: %s.
+With `demo` no store is made. With `model` the program isn't needed: rows and cases are held to the model alone, and what
+comes in the streams is counted.
 """ % ', then '.join('%d %d %s' % mix for mix in MIXES)
+
+
+def answered_by_model(text):
+    """The lines and the exit status of the model for a stream."""
+    given = answers(Office(keeps_fold=True), text)
+    return lines(given), status(given)
 
 
 def answered_by_program(text):
@@ -58,15 +66,20 @@ def kinds_of(answer):
     return kinds
 
 
-def compare(mix, first_seed):
+def counted_as(office, given):
+    """How many of each kind there are in the answers of an office, and in what it took."""
+    return Counter(kind for answer in given for kind in kinds_of(answer)) + counts.counted_in(office.setup, office.deliveries)
+
+
+def compare(mix, first_seed, answered_by):
     """Runs a mix; gives how many of each kind were compared and how many streams differ."""
     streams, deliveries, share = mix
     counted, differing = Counter(), 0
     for seed in range(first_seed, first_seed + streams):
-        text = stream(seed, deliveries, share)
-        given = answers(Office(keeps_fold=deliveries > LONGEST_ANEW), text)
-        counted.update(kind for answer in given for kind in kinds_of(answer))
-        shown = differences('seed %d' % seed, (lines(given), status(given)), answered_by_program(text))
+        text, office = stream(seed, deliveries, share), Office(keeps_fold=deliveries > LONGEST_ANEW)
+        given = answers(office, text)
+        counted.update(counted_as(office, given))
+        shown = differences('seed %d' % seed, (lines(given), status(given)), answered_by(text))
         differing += bool(shown)
         if shown:
             print('\n'.join(shown))
@@ -96,10 +109,24 @@ def read_arguments(words):
     return [(int(words[0]), int(words[1]), share)], int(words[3]) if len(words) == 4 else 1
 
 
+def by_model_alone():
+    """The worked rows, the day, the cases and the stores of damaged.txt, by the model alone, and what comes in each mix.
+    Gives the status."""
+    failed = worked.check(TOP, answered_by_model, lambda row, setup, text: None)
+    failed += cases.check(None, with_stores=False)
+    failed += damaged.judge_all(os.path.join(TOP, 'docs/TABLES.md'))
+    crowded.count_all()
+    for mix in MIXES:
+        report(mix, *compare(mix, 1, answered_by_model))
+    return 1 if failed else 0
+
+
 def main():
     """The worked rows and the cases, changed stores, a crowded yard and full lists; without arguments set-ups, stores and
     requests; then each mix. With `demo` alone no store is made. Gives the status."""
     demo_alone = sys.argv[1:] == ['demo']
+    if sys.argv[1:] == ['model']:
+        return by_model_alone()
     try:
         mixes, first_seed = read_arguments([] if demo_alone else sys.argv[1:])
     except ValueError:
@@ -120,7 +147,7 @@ def main():
         stores.try_all(beside)
     failed += stores.told(beside)
     for mix in mixes:
-        counted, differing = compare(mix, first_seed)
+        counted, differing = compare(mix, first_seed, answered_by_program)
         report(mix, counted, differing)
         failed += differing
     return 1 if failed else 0

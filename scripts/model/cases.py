@@ -82,7 +82,7 @@ def fed(path, pieces):
 
 
 class Cases:
-    """The program, whether stores are made, and what came of the comparisons so far."""
+    """The program (None for the model alone), whether stores are made, and what came of the comparisons so far."""
 
     def __init__(self, path, with_stores):
         self.path, self.with_stores = path, with_stores
@@ -98,9 +98,9 @@ class Cases:
         """A stream: what is printed, what is told of faults, and the status."""
         given = answers(Office(case.setup), text)
         self.expect(case.name, 'the model', wanted, (text_of(lines(given)), '', status(given)))
-        if case.setup == DEMO:
+        if self.path and case.setup == DEMO:
             self.expect(case.name, 'demo', wanted, Program(self.path, '').run('demo', given=text))
-        if case.is_cut:
+        if self.path and case.is_cut:
             self.pieces(case, text, wanted)
         if self.with_stores:
             with tempfile.TemporaryDirectory(prefix='beside-') as folder:

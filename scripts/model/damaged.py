@@ -2,13 +2,15 @@
 that is refused has the same rows behind it.
 """
 import os
+import re
 import shutil
 import sqlite3
 import tempfile
 
+from .office import Office
 from .opened import fault_of_rows
 from .reports import text_of
-from .rows import faults_of, tables_of
+from .rows import faults_of, rows_of, tables_of
 from .setup import DEMO
 from .setups import files_of
 from .stores import Program
@@ -103,12 +105,16 @@ def held(path):
 
 # ---- trials
 
+def judged(path):
+    """The fault of a store by the model, which knows what rows an office has, and leaves what a schema allows to SQLite."""
+    tables, faults = read_by_sqlite(path)
+    return 'Store' if faults else fault_of_rows(tables) or NOTHING
+
+
 def try_one(beside, program, fault, change):
-    """Opens a changed store by a report and by a delivery. The model knows what rows an office has, and leaves what a
-    schema allows to SQLite."""
-    tables, faults = read_by_sqlite(program.store)
-    judged = 'Store' if faults else fault_of_rows(tables) or NOTHING
-    beside.expect('changed stores, the model', change, fault, judged)
+    """Opens a changed store by a report and by a delivery."""
+    beside.expect('changed stores, the model', change, fault, judged(program.store))
+    tables, _faults = read_by_sqlite(program.store)
     before = held(program.store)
     if fault == NOTHING:
         reported, delivered, text = (yard_of(tables), '', 0), ('', '', 0), ''
@@ -118,6 +124,38 @@ def try_one(beside, program, fault, change):
     beside.expect('changed stores, report', change, reported, program.report('yard', ''))
     beside.expect('changed stores, deliver', change, delivered, program.deliver(text))
     beside.expect('changed stores, rows', change, before, held(program.store))
+
+
+def made_by_page(path, page):
+    """Makes the store by SQLite's own library, with the schema that docs/TABLES.md writes out."""
+    with open(page, encoding='utf-8') as file:
+        schema = re.search(r'```sql\n(CREATE TABLE .*?)```', file.read(), re.S).group(1)
+
+    def make(store):
+        store.executescript(schema)
+        for table, rows in rows_of(Office(SETUP)).items():
+            for row in rows:
+                store.execute('INSERT INTO %s VALUES (%s)' % (table, ', '.join('?' * len(row))), row)
+        store.commit()
+    with_store(path, make)
+
+
+def judge_all(page):
+    """Each store of damaged.txt by the model alone. Gives how many it judges otherwise."""
+    rows, changes = cases()
+    wrong = []
+    with tempfile.TemporaryDirectory(prefix='beside-') as folder:
+        made, other = os.path.join(folder, 'made'), os.path.join(folder, 'changed')
+        made_by_page(made, page)
+        for row in rows:
+            changed(made, row)
+        for fault, change in changes:
+            shutil.copyfile(made, other)
+            changed(other, change)
+            if judged(other) != fault:
+                wrong.append('wrong: %s is %s, by the model %s' % (change, fault, judged(other)))
+    print('\n'.join(wrong + ['%d changed stores, %d wrong' % (len(changes), len(wrong))]))
+    return len(wrong)
 
 
 def try_all(beside):

@@ -18,6 +18,11 @@ MESSAGE_SPOILED = 0.06      # a message of MESSAGE_SPOILS
 MANY = 0.0004               # a message of 999 containers, or of one too many
 OTHER_SERVICE = 0.04        # other service characters, told by UNA
 BREAKS_WITHIN = 0.08        # a line break behind each segment
+WEIGHED = 0.35              # a MEA behind an EQD, whatever is ordered
+WEIGHED_AGAIN = 0.25        # of these: another one
+WEIGHED_AT_FRONT = 0.05     # a MEA before the first EQD
+ASKED_AGAIN = 0.25          # of the slots that are named: the one that was named for that container before
+ON_TOP = 0.35               # of the others: the one above a slot that was named before, of whatever container
 
 # how many different containers a stream has, and of how many messages an interchange, of how many containers a message
 CONTAINERS = [(1, 5), (2, 14), (1, 30)]
@@ -78,6 +83,13 @@ MOMENTS = [
     (4, '7:202403080700:203'), (3, '7:20240308:102'), (1, '137:0:999'), (1, ':000002292359:203'),
     (0.4, '7:20240230:102'), (0.4, '7:20240308:203'), (0.4, '7:202403080700:102'), (0.4, '7:202403082400:203'),
     (0.4, '7:202403082360:203')]
+MEASURES = [
+    (6, 'AAE+G+KGM:24000'), (3, 'AAE+G+KGM:3900'), (1, '+G+KGM:7'), (1, 'WT+G+KGM:999999'), (1, 'AAE+G+KGM:024000'),
+    (1, 'AAE+G:3+KGM:2500:1:9+X'), (1, 'AAE+G+KGM:000000'), (1, 'AAE+G+KGM:0024000'), (1, 'AAE+G+KGM:1000000'),
+    (1, 'AAE+G+KGM:24.5'), (1, 'AAE+G+KGM:'), (0.5, 'AAE+G+KGM'), (0.5, 'AAE+G+KGM: 240'), (0.5, 'AAE+G+KGM:24 '),
+    (0.5, 'AAE+G+KGM:-5'), (0.5, 'AAE+G+KGM:?+5'), (0.5, 'AAE+G+KGM:2?:4'), (0.5, 'AAE+G+KGM:24A'), (0.5, 'AAE+G+:24000'),
+    (2, 'AAE+G+LBR:52911'), (1, 'AAE+G+TNE:24'), (1, 'AAE+G+kgm:24000'), (2, 'AAE+T+KGM:2200'), (1, 'AAE+AET+KGM:26200'),
+    (0.5, 'AAE++KGM:24000'), (0.5, 'G+KGM+KGM:24000'), (0.5, '')]
 PORTS = [(2, 'DEHAM:139:6'), (2, 'NLRTM'), (1, '')]
 REFERENCES = [(8, '%d'), (4, "M?'%d"), (2, 'M??%d'), (2, 'M?:?+%d'), (2, '%014d')]
 TRANSPORTS = [(6, 'TDT+20+V12++++++9123456:146'), (2, 'TDT+20+V13++++++9123456')]
@@ -85,7 +97,7 @@ TRANSPORTS = [(6, 'TDT+20+V12++++++9123456:146'), (2, 'TDT+20+V13++++++9123456')
 BETWEEN = [(3, ''), (3, '\n'), (3, '\r\n'), (1, '\n\n')]
 TAILS = [
     (20, ''), (0.5, 'UNB+'), (0.5, 'UNB+?'), (0.5, 'UNA:+'), (1, 'AAAA'), (1, "UNA++.? '"),
-    (0.1, 'FTX+' + 'A' * 1048573)]
+    (0.3, 'FTX+' + 'A' * 1048573)]
 PLACED_BYTES = "'+:?UNZBHT0159 ~\r\n\x00\x1f\x7f\x80\xe9"
 
 
@@ -97,7 +109,7 @@ class Day:
         self.sent = {code: {} for code in setup.partners}
         self.senders = [(SENDERS[kind][0], (code, SENDERS[kind][1])) for code, kind in setup.partners.items()]
         self.codes = {meant.order: (meant.type_name, setup.codes[name]) for name, meant in CODE_NAMES.items()}
-        self.containers = []
+        self.containers, self.asked = [], {}
         for number in range(1, self.pick(CONTAINERS) + 1):
             first_ten = 'ABCU%06d' % number
             self.containers.append(first_ten + str(check_digit(first_ten)))
@@ -132,11 +144,26 @@ class Day:
         row = self.random.randint(1, min(2, block.rows))
         return '%s%03d%02d%d' % (block.letter, bay, row, min(self.random.choice([1, 1, 2, 2, 3]), block.tiers))
 
+    def slot_for(self, number):
+        """A slot for a container, often the one that was named for it before, where it may stand, or one above another that
+        was named."""
+        if number in self.asked and self.happens(ASKED_AGAIN):
+            return self.asked[number]
+        below = [slot for slot in self.asked.values() if slot[-1:] in ('1', '2')]
+        if below and self.happens(ON_TOP):
+            slot = self.random.choice(below)
+            self.asked[number] = slot[:-1] + str(int(slot[-1]) + 1)
+        else:
+            self.asked[number] = self.slot()
+        return self.asked[number]
+
     def group(self, order, equipment):
         """An EQD and what stands behind it, in any order."""
-        behind = []
+        number, behind = self.number(), []
         if order == 'Move' or self.happens(0.3):
-            behind.append('LOC+ZZZ+' + self.slot())
+            behind.append('LOC+ZZZ+' + self.slot_for(number))
+        if self.happens(WEIGHED):
+            behind += ['MEA+' + self.pick(MEASURES) for _measure in range(2 if self.happens(WEIGHED_AGAIN) else 1)]
         if self.happens(0.2):
             behind.append('LOC+11+' + self.pick(PORTS))
         if self.happens(0.25):
@@ -146,7 +173,7 @@ class Day:
         if self.happens(0.1):
             behind.append(self.random.choice(['FTX+AAI+++WHY??', 'CNT+7:2']))
         self.random.shuffle(behind)
-        eqd = '+'.join(['EQD', equipment, self.number(), self.pick(SIZES)]) + self.pick(FULL_OR_EMPTY)
+        eqd = '+'.join(['EQD', equipment, number, self.pick(SIZES)]) + self.pick(FULL_OR_EMPTY)
         return [eqd] + behind
 
     # ---- a message
@@ -157,6 +184,8 @@ class Day:
         body = ['BGM+%s+G1%s' % (code, self.pick(LIST_FUNCTIONS if type_name == 'COPRAR' else OTHER_FUNCTIONS))]
         if type_name != 'CODECO':
             body.append(self.pick(TRANSPORTS))
+        if self.happens(WEIGHED_AT_FRONT):
+            body.append('MEA+' + self.pick(MEASURES))
         is_long = self.happens(MANY)
         for _line in range(self.pick(MANY_LINES if is_long else LINES)):
             body += self.group(order, 'CN' if is_long else self.pick(EQUIPMENT))

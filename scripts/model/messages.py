@@ -7,7 +7,7 @@ type and 1001.
 from collections import namedtuple
 from itertools import takewhile
 
-from .moments import moment_of
+from .moments import are_digits, moment_of
 from .names import length_of, number_fault, slot_of
 from .syntax import is_count, is_printable
 
@@ -15,9 +15,11 @@ READ_SIZE = ('GateIn', 'Discharge')
 READ_SLOT = ('GateIn', 'Discharge', 'Move')
 LISTS = ('ListLoad', 'ListDischarge')
 READ_MOMENT = ('GateIn', 'GateOut', 'Discharge', 'Load')
+READ_WEIGHT = ('GateIn', 'Discharge')
 
-# what a line orders: `name` is the order's, `slot` None where none is asked for, `call` is (vessel, voyage) or None
-Order = namedtuple('Order', 'name number size_type is_full booking moment slot call port')
+# what a line orders: `name` is the order's, `slot` None where none is asked for, `call` is (vessel, voyage) or None, `kilos`
+# the gross weight, 0 where none is told
+Order = namedtuple('Order', 'name number size_type is_full booking moment slot call port kilos')
 
 # a line: its fault or None, the container's number where it could be read, its order where there is no fault
 Line = namedtuple('Line', 'fault number order')
@@ -183,6 +185,13 @@ def booking_in(group):
     return rff.value(1, 2) if rff else ''
 
 
+def kilos_in(group):
+    """6314 of the first MEA whose 6313 is G and whose 6411 is KGM: the gross weight in kilograms. 0 where there is none, or
+    where it isn't 1 to 6 digits (own)."""
+    mea = first(group, 'MEA', lambda segment: (segment.value(2, 1), segment.value(3, 1)) == ('G', 'KGM'))
+    return int(mea.value(3, 2)) if mea and are_digits(mea.value(3, 2), 1, 6) else 0
+
+
 def kept(value):
     """A port or a booking that isn't 1 to 35 printable bytes is kept as empty (own)."""
     return value if has_limits(value) else ''
@@ -218,7 +227,8 @@ def order_in(group, order, moment_of_interchange, call):
         moment=moment_in(group, moment_of_interchange),
         slot=slot_of(slot) if order in READ_SLOT and slot else None,
         call=call,
-        port=kept(place_in(group, '11')) if order == 'ListLoad' else '')
+        port=kept(place_in(group, '11')) if order == 'ListLoad' else '',
+        kilos=kilos_in(group) if order in READ_WEIGHT else 0)
 
 
 def list_replaced(message, may_order):

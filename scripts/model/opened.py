@@ -4,17 +4,18 @@ Each check is a predicate of all tables, which are dicts of lists of rows.
 """
 from .moments import moment_of
 from .names import length_of, number_fault, slot_of
-from .rows import COLUMNS
+from .rows import COLUMNS, VERSION
 from .setup import (
     BLOCKS_HEADER, CODE_NAMES, KINDS, MOST_VISITS, PARTNERS_HEADER, are_bad_blocks, are_bad_codes, are_bad_partners,
     is_bad_limit, is_bad_terminal)
-from .yard import Block, Place, cells, covered, is_carried, is_in_plan
+from .yard import Block, Place, is_sound
 
 SETTINGS = {'version', 'terminal', 'visits', *CODE_NAMES}
 NUMBERS = {
     'id', 'kind', 'next', 'partner', 'number', 'visit', 'laden', 'in_by', 'in_partner', 'in_number', 'out_by', 'out_partner',
-    'out_number', 'side', 'done', 'bays', 'lanes', 'tiers'}
+    'out_number', 'kilos', 'side', 'done', 'bays', 'lanes', 'tiers'}
 MOST_NUMBER = 999999999
+MOST_KILOS = 999999
 
 
 def are_readable(tables):
@@ -77,8 +78,8 @@ def are_visits(tables):
     return all(
         number_fault(box) is None and length_of(size) and laden in (0, 1) and is_kept_name(booking)
         and is_passage(tables, *passages[:4]) and slot_of(passages[4])
-        and (passages[5:] == [0, 0, 0, ''] or is_passage(tables, *passages[5:]))
-        for _visit, box, size, laden, booking, *passages in visits)
+        and (passages[5:] == [0, 0, 0, ''] or is_passage(tables, *passages[5:])) and 0 <= kilos <= MOST_KILOS
+        for _visit, box, size, laden, booking, *passages, kilos in visits)
 
 
 def are_lines(tables):
@@ -90,19 +91,16 @@ def are_lines(tables):
 
 
 def are_places(tables):
-    """Just the open visits' containers, in a yard that is sound."""
+    """Just the open visits' containers, in a yard that is sound. A full one may stand on an empty one."""
     opened = {visit[1]: visit for visit in tables['visit'] if visit[10] == 0}
     placed = {box: (visit, slot) for box, visit, slot in tables['place']}
     if len(opened) != sum(visit[10] == 0 for visit in tables['visit']) or set(placed) != set(opened):
         return False
     if not all(visit == opened[box][0] and slot_of(slot) for box, (visit, slot) in placed.items()):
         return False
-    plan = [Block(*block) for block in tables['block']]
-    yard = {box: Place(length_of(opened[box][2]), slot_of(slot)) for box, (_visit, slot) in placed.items()}
-    every = covered(yard)
-    return len(every) == len(set(every)) and all(
-        is_in_plan(plan, place.slot) and len(cells(place)) == 2 - place.slot.bay % 2 and is_carried(yard, place)
-        for place in yard.values())
+    yard = {
+        box: Place(length_of(opened[box][2]), slot_of(slot), opened[box][3] == 1) for box, (_visit, slot) in placed.items()}
+    return is_sound([Block(*block) for block in tables['block']], yard)
 
 
 def fault_of_rows(tables):
@@ -110,7 +108,7 @@ def fault_of_rows(tables):
     settings; Damaged where the rows are those of no office; else None."""
     if not isinstance(tables.get('setting'), list):
         return 'Store'
-    if dict(tables['setting']).get('version') != '2':
+    if dict(tables['setting']).get('version') != VERSION:
         return 'Version'
     if not all(isinstance(tables.get(table), list) for table in COLUMNS):
         return 'Store'

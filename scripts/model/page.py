@@ -46,7 +46,9 @@ def with_values(text, values):
 
 
 def edited(text, edits):
-    """A text with what is said behind it: from whom, to whom, with a segment in place of the one with its tag."""
+    """A text with what is said behind it: empty, from whom, to whom, with a segment in place of the one with its tag."""
+    if re.match(r' E\b', edits):
+        text = text.replace("+++5'", "+++4'")
     words = r'(from|to|without its|with|and) (?:with )?`?([^`, ]+)`?( behind its EQD| at the end of its UNB)?'
     for word, value, where in re.findall(words, edits):
         what, by = edit(word, value, where)

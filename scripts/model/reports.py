@@ -62,11 +62,13 @@ def yardcsv(office):
 # ---- visits
 
 def visit_text(place, visit):
-    """Its number, how it came, where it was put, its booking, how it went and after how many days."""
+    """Its number, how it came, where it was put, its booking and its weight, how it went and after how many days."""
     text = '%d %s %s IN %s %s' % (
         place, visit.size_type, load_text(visit), passage_text(visit.entry), slot_text(visit.entry_slot))
     if visit.booking:
         text += ' BOOKING ' + visit.booking
+    if visit.kilos:
+        text += ' GROSS %d' % visit.kilos
     if visit.exit is None:
         return text + ' OUT -'
     days = day_number(visit.exit.moment) - day_number(visit.entry.moment)

@@ -16,12 +16,13 @@ COLUMNS = {
     'partner': 'id code kind next',
     'interchange': 'partner number body reply',
     'visit': (
-        'visit box size laden booking in_by in_partner in_number in_at in_slot out_by out_partner out_number out_at'),
+        'visit box size laden booking in_by in_partner in_number in_at in_slot out_by out_partner out_number out_at kilos'),
     'place': 'box visit slot',
     'listed': 'vessel voyage side box port done',
     'setting': 'name value',
     'block': 'letter bays lanes tiers',
 }
+VERSION = '3'
 WAYS = {'gate': 1, 'ship': 2}
 SIDES = {'load': 1, 'discharge': 2}
 
@@ -63,7 +64,7 @@ def visit_rows(office):
     """All visits, numbered as they were opened."""
     return [
         (place, visit.number, visit.size_type, int(visit.is_full), visit.booking, *passage_columns(office, visit.entry),
-         slot_text(visit.entry_slot), *passage_columns(office, visit.exit))
+         slot_text(visit.entry_slot), *passage_columns(office, visit.exit), visit.kilos)
         for place, visit in enumerate(office.fold().terminal.visits, start=1)]
 
 
@@ -83,9 +84,9 @@ def listed_rows(office):
 
 
 def setting_rows(office):
-    """The set-up: version 2 of the tables, and each number without leading zeros."""
+    """The set-up: the version of the tables, and each number without leading zeros."""
     setup = office.setup
-    return [('version', '2'), ('terminal', setup.terminal), ('visits', str(setup.most_visits)), *setup.codes.items()]
+    return [('version', VERSION), ('terminal', setup.terminal), ('visits', str(setup.most_visits)), *setup.codes.items()]
 
 
 def block_rows(office):

@@ -6,11 +6,12 @@ outcome is what the answer tells of it.
 from collections import namedtuple
 
 from .names import length_of, slot_text
-from .yard import Place, blocker, first_slot, misfit
+from .yard import Place, blocker, first_slot, misfit, shift_misfit
 
 # how a container came or went: by gate or ship, by which partner's number, when
 Passage = namedtuple('Passage', 'way source moment')
-Visit = namedtuple('Visit', 'number size_type is_full booking entry entry_slot exit')
+# `kilos` is the gross weight that came with it, 0 where none did
+Visit = namedtuple('Visit', 'number size_type is_full booking entry entry_slot exit kilos')
 ListLine = namedtuple('ListLine', 'port is_done')
 
 # on which side of a call an order's line is
@@ -54,17 +55,16 @@ class Terminal:
     # ---- the yard
 
     def move(self, source, order):
-        """Refused where it is not in the yard, or buried, or where the slot does not fit the yard without it."""
+        """Refused where it is not in the yard, or buried, or where the slot does not fit the yard without it. It may stay
+        where it is."""
         if order.number not in self.yard:
             return refused('NotIn')
         if blocker(self.yard, order.number):
             return refused('Buried', blocker=blocker(self.yard, order.number))
-        place = Place(self.yard[order.number].length, order.slot)
-        others = {number: place for number, place in self.yard.items() if number != order.number}
-        reason = misfit(self.plan, others, place)
+        reason = shift_misfit(self.plan, self.yard, order.number, order.slot)
         if reason:
             return refused(reason)
-        self.yard[order.number] = place
+        self.yard[order.number] = self.yard[order.number]._replace(slot=order.slot)
         return dict(outcome='done', slot=slot_text(order.slot))
 
     # ---- vessels
@@ -126,14 +126,16 @@ class Terminal:
         if len(self.visits) >= self.most_visits:
             return refused('VisitLimit')
         length = length_of(order.size_type)
-        slot = order.slot or first_slot(self.plan, self.yard, length)
+        slot = order.slot or first_slot(self.plan, self.yard, length, order.is_full)
         if slot is None:
             return refused('NoRoom')
-        reason = misfit(self.plan, self.yard, Place(length, slot))
+        place = Place(length, slot, order.is_full)
+        reason = misfit(self.plan, self.yard, place, is_wary=order.is_full)
         if reason:
             return refused(reason)
-        self.yard[order.number] = Place(length, slot)
-        self.visits.append(Visit(order.number, order.size_type, order.is_full, order.booking, entry, slot, exit=None))
+        self.yard[order.number] = place
+        self.visits.append(Visit(
+            order.number, order.size_type, order.is_full, order.booking, entry, slot, exit=None, kilos=order.kilos))
         return dict(outcome='done', slot=slot_text(slot))
 
     def leave(self, passage, order):

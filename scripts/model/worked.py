@@ -15,10 +15,12 @@ from .page import Page, is_told, short_of
 from .setup import DEMO, read_setup
 from .stream import answers, differences, lines, status
 from .worked_stores import EVERY, check_told, has_own_calls, told_in
-from .yard import Block, Place, blocker, first_slot, misfit
+from .yard import Block, Place, blocker, first_slot, misfit, shift_misfit
 
 OTHER_SETUPS = {
     'No room': DEMO._replace(plan=[Block('A', bays=1, rows=1, tiers=2)]),
+    'Room for an empty container alone': DEMO._replace(plan=[Block('A', bays=1, rows=1, tiers=2)]),
+    'The first slot that fits a full container': DEMO._replace(plan=[Block('A', bays=2, rows=1, tiers=2)]),
     'No more visits': DEMO._replace(most_visits=1),
     'No more visits, opened again': DEMO._replace(most_visits=1),
 }
@@ -196,20 +198,44 @@ def size_types(rows):
         rows.expect('Size-types', text, text in rows.page.quoted('Size-types') and length_of(text) == length)
 
 
+LENGTHS = {'twenty': 20, 'forty': 40}
+LOADS = {'full': True, 'empty': False}
+
+
 def twenties_and_forties(rows):
     """Calls on a yard by itself, each container going by its slot. What fits is placed. (Of Present and Absent the model
     has no call: it asks the yard before.)"""
     row = 'Twenties and forties on one another'
-    yard = {name: Place(20, slot_of(name)) for name in ('A001011', 'A003011')}
+    yard = {name: Place(20, slot_of(name), True) for name in ('A001011', 'A003011')}
     for call, wanted in rows.page.table(row):
         words = call.split()
         if words[:2] in (['a', 'twenty'], ['a', 'forty']) and words[2:3] == ['in'] and slot_of(words[3]):
-            place = Place({'twenty': 20, 'forty': 40}[words[1]], slot_of(words[3]))
-            got = misfit(DEMO.plan, yard, place) or 'fits'
+            place = Place(LENGTHS[words[1]], slot_of(words[3]), True)
+            got = misfit(DEMO.plan, yard, place, is_wary=True) or 'fits'
             rows.expect(row, call, got == wanted.split(':')[0])
             yard.update({words[3]: place} if got == 'fits' else {})
     rows.expect(row, 'the twenty of A001011 is buried', blocker(yard, 'A001011') == 'A002012')
-    rows.expect(row, 'the first slot for a forty', slot_text(first_slot(DEMO.plan, yard, 40)) == 'A002021')
+    rows.expect(row, 'the first slot for a forty', slot_text(first_slot(DEMO.plan, yard, 40, True)) == 'A002021')
+
+
+def full_and_empty(rows):
+    """The same of full and empty ones: placing, putting back, and moving the one that was put last."""
+    row = 'Full and empty on one another'
+    yard = {'A001011': Place(20, slot_of('A001011'), False), 'A003011': Place(20, slot_of('A003011'), True)}
+    last = None
+    for call, wanted in rows.page.table(row):
+        words = re.fullmatch(r'(?:an? |(putting) an? )(full|empty) (twenty|forty) (?:back )?in (A\d{6})|moving it to (A\d{6})', call)
+        is_put, load, length, name, to = words.groups() if words else [None] * 5
+        slot = slot_of(name or to)
+        place = yard[last]._replace(slot=slot) if to else Place(LENGTHS[length], slot, LOADS[load])
+        if to:
+            got = shift_misfit(DEMO.plan, yard, last, slot)
+        else:
+            got = misfit(DEMO.plan, yard, place, is_wary=place.is_full and not is_put)
+        rows.expect(row, call, (got or 'fits') == wanted.split(':')[0])
+        if got is None:
+            last = last if to else name
+            yard[last] = place
 
 
 # ---- nothing delivered
@@ -270,7 +296,7 @@ def check(top, program, over_store):
     for check_row in (
             rows_of_tables, what_no_contrl_answers, rejected_messages, first_and_again, numbers,
             other_service_characters, released_characters, two_messages, wrong_count, each_line, check_digits,
-            size_types, twenties_and_forties, nothing_delivered, two_interchanges, no_interchange, *EVERY):
+            size_types, twenties_and_forties, full_and_empty, nothing_delivered, two_interchanges, no_interchange, *EVERY):
         check_row(rows)
     said = read_setup(*(read(os.path.join(top, 'examples/setup', name)) for name in ('partners.csv', 'blocks.csv')))
     rows.expect('The day of examples/day', 'examples/setup is the set-up of the demonstration', said == (DEMO, None))

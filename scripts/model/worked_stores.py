@@ -10,6 +10,7 @@ import sqlite3
 import tempfile
 
 from .commands import CLAP, outcome
+from .crowded import empty
 from .http import response
 from .office import Office
 from .opened import fault_of_rows
@@ -225,7 +226,7 @@ def has_own_calls(page, row):
 
 def calls_of_their_own(rows):
     """Each delivery by a call of its own."""
-    for row in [row for row in rows.page.rows if has_own_calls(rows.page, row)]:
+    for row in [row for row, text in rows.page.rows.items() if has_own_calls(rows.page, row) and '| Delivered |' in text]:
         office, texts = Office(rows.setup(row)), []
         for short, cell in rows.page.table(row):
             texts.append(rows.page.interchange(short))
@@ -259,6 +260,29 @@ def change(path, statement):
     store.close()
 
 
+def full_on_empty(rows):
+    """Another hand empties a container that carries a full one; then each delivery is a call of its own."""
+    row, box = 'A full container that stands on an empty one', 'ABCU0000017'
+    before = '\n'.join(rows.page.interchange(short) for short in ('IN(1, 17)', 'IN(2, 22, A001012)'))
+    statement, table = rows.page.quoted(row)[0], rows.page.table(row)
+    office = Office(rows.setup(row), keeps_fold=True)
+    answers(office, before)
+    emptied = changed_tables(office, statement)
+    empty(office.fold().terminal, [box])
+    rows.expect(row, statement, emptied == changed_tables(office, 'SELECT 1'))
+    for short, cell in table:
+        [given] = answers(office, rows.page.interchange(short))
+        rows.expect(row, '%s, and not %s' % (cell, lines([given])), is_told(cell, given))
+    if rows.beside:
+        with Store(rows.beside, row, office.setup) as store:
+            store.deliver(before)
+            change(store.program.store, statement)
+            empty(store.office.fold().terminal, [box])
+            for short, _cell in table:
+                store.deliver(rows.page.interchange(short))
+            rows.beside.rows(row, store.program, store.office)
+
+
 def changed_rows(rows):
     """A statement on a copy of a store, and what is told as it is opened."""
     row = 'Rows that another hand changed'
@@ -283,4 +307,4 @@ def changed_rows(rows):
                 rows.beside.expect('changed rows', statement, ['store: %s\n' % fault, 3] if fault else ['', 0], got)
 
 
-EVERY = [keys, setup_files, commands, requests, calls_of_their_own, changed_rows]
+EVERY = [keys, setup_files, commands, requests, calls_of_their_own, full_on_empty, changed_rows]

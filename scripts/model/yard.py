@@ -1,7 +1,7 @@
 """The yard (own): docs/crates/yard_core.md.
 
-A plan is a list of blocks. A yard is a dict from each container's number to its place: its length (20 or 40) and its
-slot. All is decided by the cells of all containers.
+A plan is a list of blocks. A yard is a dict from each container's number to its place: its length (20 or 40), its slot
+and whether it is full. All is decided by the cells of all containers.
 """
 from collections import namedtuple
 
@@ -9,7 +9,7 @@ from .names import Slot
 
 # `bays` is the number of odd bays: 1, 3 and so on to 2 * bays - 1
 Block = namedtuple('Block', 'letter bays rows tiers')
-Place = namedtuple('Place', 'length slot')
+Place = namedtuple('Place', 'length slot is_full')
 
 
 def slots(plan):
@@ -37,39 +37,77 @@ def cells(place):
     return [place.slot._replace(bay=place.slot.bay - 1), place.slot._replace(bay=place.slot.bay + 1)]
 
 
+def is_of_kind(place):
+    """An odd bay is a twenty's, an even one a forty's."""
+    return (place.slot.bay % 2 == 1) == (place.length == 20)
+
+
 def covered(yard):
     """All cells that a container covers."""
     return [cell for place in yard.values() for cell in cells(place)]
 
 
+def standing_in(yard, length, slot):
+    """The containers of that length in a slot. In a sound yard there is one at most."""
+    return [place for place in yard.values() if (place.length, place.slot) == (length, slot)]
+
+
+def carriers(yard, place):
+    """What carries it above tier 1: a twenty stands on the twenty below, a forty on a forty of its own bay or on two
+    twenties, one in each of its bays. None where there is only air."""
+    below = place._replace(slot=place.slot._replace(tier=place.slot.tier - 1))
+    alike = standing_in(yard, below.length, below.slot)
+    twenties = [standing_in(yard, 20, cell) for cell in cells(below)]
+    return alike or (sum(twenties, []) if all(twenties) else [])
+
+
 def is_carried(yard, place):
-    """In tier 1 it stands on the ground. Above, a twenty stands on a twenty, and a forty on a forty of its own bay or on
-    two twenties, one in each of its bays."""
-    if place.slot.tier == 1:
-        return True
-    below = Place(place.length, place.slot._replace(tier=place.slot.tier - 1))
-    standing = list(yard.values())
-    return below in standing or all(Place(20, cell) in standing for cell in cells(below))
+    """In tier 1 it stands on the ground."""
+    return place.slot.tier == 1 or bool(carriers(yard, place))
 
 
-def misfit(plan, yard, place):
+def rests_on_empty(yard, place):
+    """One that carries it is empty; of two twenties, either."""
+    return place.slot.tier > 1 and any(not carrier.is_full for carrier in carriers(yard, place))
+
+
+def misfit(plan, yard, place, is_wary):
     """Why one container more would not fit there, the first reason that applies, or None where it fits: the slot is not
-    in the plan; it is of the other kind; a cell of it is covered; nothing carries it."""
+    in the plan; it is of the other kind; a cell of it is covered; nothing carries it; it is wary, and one that carries it
+    is empty. A full container is wary, but not of the slot in which it stands, nor where it is put back."""
     if not is_in_plan(plan, place.slot):
         return 'NoSlot'
-    if (place.slot.bay % 2 == 1) != (place.length == 20):
+    if not is_of_kind(place):
         return 'SlotKind'
     if any(cell in covered(yard) for cell in cells(place)):
         return 'Taken'
-    return None if is_carried(yard, place) else 'OnAir'
+    if not is_carried(yard, place):
+        return 'OnAir'
+    return 'OnEmpty' if is_wary and rests_on_empty(yard, place) else None
 
 
-def first_slot(plan, yard, length):
+def first_slot(plan, yard, length, is_full):
     """The first of the plan's slots that fits, or None."""
     for slot in slots(plan):
-        if misfit(plan, yard, Place(length, slot)) is None:
+        if misfit(plan, yard, Place(length, slot, is_full), is_wary=is_full) is None:
             return slot
     return None
+
+
+def shift_misfit(plan, yard, number, slot):
+    """Why a container of the yard does not fit in another slot of the yard without it, or None where it does. Where it
+    stands it may stay."""
+    place = yard[number]
+    others = {other: standing for other, standing in yard.items() if other != number}
+    return misfit(plan, others, place._replace(slot=slot), is_wary=place.is_full and slot != place.slot)
+
+
+def is_sound(plan, yard):
+    """Each container stands in a slot of the plan, of its kind and carried, and no cell is covered twice. What is full or
+    empty makes no difference: where a full one stands on an empty one, both stay."""
+    every = covered(yard)
+    return len(every) == len(set(every)) and all(
+        is_in_plan(plan, place.slot) and is_of_kind(place) and is_carried(yard, place) for place in yard.values())
 
 
 def blocker(yard, number):
