@@ -9,7 +9,7 @@ use Rattle.box6346.specs.declared.slot.Slot.{Slot}
 use Rattle.yard_core.specs.declared.block.Block.{Block}
 use Rattle.yard_core.specs.declared.placement.Placement.{Placement}
 use Rattle.yard_core.specs.declared.stowed.Stowed.{Stowed}
-use Rattle.yard_core.specs.YardMap.{Boxes, YardMap, placement, placement_of, stowed}
+use Rattle.yard_core.specs.YardMap.{Boxes, YardMap, placement_of}
 use Rattle.yard_core.specs.Plan.{IsPlan, InPlan}
 use Rattle.yard_core.specs.SoundYard.{IsSound}
 use Rattle.yard_core.specs.Calls.{Adds, Places, Removes, Shifts}
