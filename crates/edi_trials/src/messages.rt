@@ -1,8 +1,9 @@
-//! Tables of codes, how many lines a message may have, and answers to several messages. What messages say, and what
-//! comes of it, goes through the program: the model's cases.
+//! Tables of codes, how many lines a message may have, gross weights, and answers to several messages. What messages
+//! say, and what comes of it, goes through the program: the model's cases.
 
 mod contrl;
 mod table;
+mod weight;
 
 use edi_messages::{CodeTable, Codes, MessageFault, PartnerKind, read_message};
 use edi_syntax::open_envelope;
@@ -24,12 +25,17 @@ fn gate_in(alloc: Global, count: u32, segments: &[u8]) -> Result<Vec<u8>, AllocE
     Ok(text)
 }
 
+/// The agreed codes of a kind of partner.
+fn codes_of(kind: PartnerKind) -> Option<Codes> {
+    let table = CodeTable::new([b"34", b"36", b"YMV", b"43", b"45", b"44", b"46"]).ok()?;
+    Some(Codes::for_kind(&table, kind))
+}
+
 /// How many lines the first message has, or its fault.
 fn lines_of(alloc: Global, text: &[u8]) -> Option<Result<usize, MessageFault>> {
     let envelope = open_envelope(text).ok()?;
     let frame = envelope.frames().next()?;
-    let table = CodeTable::new([b"34", b"36", b"YMV", b"43", b"45", b"44", b"46"]).ok()?;
-    let codes = Codes::for_kind(&table, PartnerKind::Gate);
+    let codes = codes_of(PartnerKind::Gate)?;
     Some(
         match read_message(alloc, &frame, envelope.head().moment(), &codes) {
             Ok(message) => Ok(message.lines.len()),
