@@ -145,7 +145,7 @@ entry_formed opened group its =
     after_size IsFormedEntry group _ (λ size_type size_is.
     after_moment IsFormedEntry opened group _ its (λ moment moment_is.
     slot_step IsFormedEntry (names_slot group) (slot_of (location (codes "ZZZ") group)) _ (λ slot.
-    record { container = number_is; size_type = size_is; booking = booking_named group; moment = moment_is }))))
+    record { container = number_is; size_type = size_is; booking = booking_named group; moment = moment_is; kilos = weight_short group }))))
 
 moment_formed : (opened : CivilMoment) (group : EquipmentGroup) (f : BoxNumber → CivilMoment → OrderContent) → IsCivil opened → ((n : BoxNumber) (m : CivilMoment) → IsCivil m → IsFormedOrder (f n m)) →
     Gives IsFormedOrder (then_read (read_number group) (λ number. then_read (read_moment opened group) (λ moment. Ok (f number moment))))

@@ -1,5 +1,5 @@
 -- The forms of what messages order.
-use Rattle.std.specs.Prelude.{◌≡◌, ℕ, Bool, ◌||◌, ◌==◌, List, [], length, Ok, IsTrue, All}
+use Rattle.std.specs.Prelude.{◌≡◌, ℕ, ◌≤◌, Bool, ◌||◌, ◌==◌, List, [], length, Ok, IsTrue, All}
 use Rattle.box6346.specs.NumberText.{is_number}
 use Rattle.box6346.specs.SizeText.{is_size}
 use Rattle.box6346.specs.declared.box_number.BoxNumber.{BoxNumber}
@@ -26,6 +26,7 @@ pub record IsFormedEntry (entry : EntryContent) : Type 0 where
   pub size_type : IsTrue (is_size entry.size_type)
   pub booking : IsTrue (is_name_if_any entry.booking)
   pub moment : IsTrue (is_moment entry.moment)
+  pub kilos : entry.kilos ≤ 999999
 
 pub record IsFormedListing (call : CallContent) (container : BoxNumber) (port : List ℕ) : Type 0 where
   pub call_formed : IsFormedCall call

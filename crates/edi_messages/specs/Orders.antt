@@ -1,5 +1,5 @@
 -- What a message orders for each of its containers, in the terms of directory D.95B.
-use Rattle.std.specs.Prelude.{ℕ, Bool, not, ◌==◌, List, [], length, codes, Option, None, Some, Result, Ok, Err, if◌then◌else◌}
+use Rattle.std.specs.Prelude.{ℕ, Bool, not, ◌==◌, List, [], length, codes, Option, None, Some, unwrap_or, Result, Ok, Err, if◌then◌else◌}
 use Rattle.std.specs.Option.{option_map_or, ok_or}
 use Rattle.std.specs.Result.{result_map_both}
 use Rattle.std.specs.List.{find}
@@ -13,8 +13,9 @@ use Rattle.box6346.specs.declared.slot.Slot.{Slot}
 use Rattle.box6346.specs.declared.number_fault.NumberFault.{NumberFault}
 use Rattle.box6346.specs.declared.number_fault.NumberFault as number_fault
 use Rattle.edi_syntax.specs.Moments.{CivilMoment, moment_of}
+use Rattle.edi_syntax.specs.Numbers as numbers
 use Rattle.edi_segments.specs.Text.{Content, component_of}
-use Rattle.edi_messages.specs.Parts.{EquipmentGroup, is_qualified, states_moment}
+use Rattle.edi_messages.specs.Parts.{EquipmentGroup, is_qualified, states_moment, states_weight}
 use Rattle.edi_messages.specs.Texts.{is_name}
 use Rattle.edi_messages.specs.Purposes.{CallContent, Purpose}
 use Rattle.edi_messages.specs.Purposes as purpose
@@ -29,6 +30,7 @@ pub record EntryContent : Type 0 where
   pub booking : List ℕ
   pub moment : CivilMoment
   pub slot : Option Slot
+  pub kilos : ℕ
 
 -- what is ordered for a container
 pub data OrderContent : Type 0 where
@@ -67,6 +69,12 @@ abbrev pub booking : EquipmentGroup → List ℕ
 booking group =
     option_map_or (λ segment. name_kept (component_of segment 1 2))
     (find (is_qualified (codes "RFF") (codes "BN")) group.details) []
+
+-- the gross weight in kilograms: what the first MEA that states one gives in 1 to 6 digits (6314), or else 0
+abbrev pub weight : EquipmentGroup → ℕ
+weight group =
+    option_map_or (λ segment. unwrap_or (numbers.number_of 6 (component_of segment 3 2)) 0)
+    (find states_weight group.details) 0
 
 -- the first LOC with 3227 11, port of discharge
 abbrev pub port : EquipmentGroup → List ℕ
@@ -131,6 +139,7 @@ read_entry opened group =
       booking = booking group;
       moment = moment;
       slot = slot;
+      kilos = weight group;
     })))))
 
 abbrev pub read_gate_in : CivilMoment → EquipmentGroup → Result OrderContent LineFault

@@ -22,6 +22,7 @@ entry_content entry = record {
   booking = string_bytes entry.booking;
   moment = entry.moment;
   slot = entry.slot;
+  kilos = entry.kilos;
 }
 
 abbrev pub order_content : Order → OrderContent

@@ -50,3 +50,9 @@ abbrev pub states_moment : Content → Bool
 states_moment segment =
     has_tag (codes "DTM") segment
     && (bytes_eq (component_of segment 1 3) (codes "203") || bytes_eq (component_of segment 1 3) (codes "102"))
+
+-- a gross (6313 G) measurement (MEA) in kilograms (6411 KGM), whatever its purpose (6311)
+abbrev pub states_weight : Content → Bool
+states_weight segment =
+    has_tag (codes "MEA") segment
+    && bytes_eq (component_of segment 2 1) (codes "G") && bytes_eq (component_of segment 3 1) (codes "KGM")

@@ -27,6 +27,7 @@ entry_with booking facts = record {
   booking = booking;
   moment = facts.moment;
   slot = facts.slot;
+  kilos = facts.kilos;
 }
 
 abbrev pub purpose_spanned : PurposeSpan → Purpose

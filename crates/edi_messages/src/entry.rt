@@ -16,4 +16,6 @@ pub struct Entry {
     pub moment: Moment,
     /// The slot that is asked for, if one is named.
     pub slot: Option<Slot>,
+    /// Its gross weight in kilograms (6314 behind `G` and `KGM`), up to 999,999, or 0 if none is stated.
+    pub kilos: u32,
 }

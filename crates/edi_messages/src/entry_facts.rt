@@ -9,4 +9,5 @@ pub(crate) struct EntryFacts {
     pub is_laden: bool,
     pub moment: Moment,
     pub slot: Option<Slot>,
+    pub kilos: u32,
 }

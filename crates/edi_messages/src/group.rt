@@ -3,10 +3,10 @@ ghost use Rattle.std.specs.List.{find};
 ghost use Rattle.std.specs.Option.{option_map};
 ghost use Rattle.std.proofs.Props.{props};
 ghost use Rattle.edi_segments.specs.Segment.{content};
-ghost use Rattle.edi_messages.specs.Parts.{part_left, is_qualified, states_moment};
+ghost use Rattle.edi_messages.specs.Parts.{part_left, is_qualified, states_moment, states_weight};
 
 use crate::part::{
-    Part, is_qualified, keep_first, keep_first_places, next_of_group, states_moment,
+    Part, is_qualified, keep_first, keep_first_places, next_of_group, states_moment, states_weight,
 };
 use edi_segments::Segment;
 use edi_syntax::MessageSegments;
@@ -26,6 +26,8 @@ pub(crate) struct Group<'a> {
     pub port: Option<Segment<'a>>,
     /// The first that is about a booking.
     pub booking: Option<Segment<'a>>,
+    /// The first that states a gross weight in kilograms.
+    pub weight: Option<Segment<'a>>,
     /// What stands behind them.
     pub behind: MessageSegments<'a>,
     ghost timed: { option_map content moment
@@ -36,6 +38,8 @@ pub(crate) struct Group<'a> {
         ≡ find (is_qualified (codes "LOC") (codes "11")) (part_left details) } by { Prim.hlevel props },
     ghost booked: { option_map content booking
         ≡ find (is_qualified (codes "RFF") (codes "BN")) (part_left details) } by { Prim.hlevel props },
+    ghost weighed: { option_map content weight
+        ≡ find states_weight (part_left details) } by { Prim.hlevel props },
 }
 
 impl<'a> Group<'a> {
@@ -59,11 +63,13 @@ impl<'a> Group<'a> {
         let mut slot = None;
         let mut port = None;
         let mut booking = None;
+        let mut weight = None;
         let mut behind = segments;
         while let Some(segment) = next_of_group(&mut behind) {
             keep_first(&mut moment, segment, states_moment(&segment));
             keep_first_places(&mut slot, &mut port, segment);
             keep_first(&mut booking, segment, is_qualified(&segment, b"RFF", b"BN"));
+            keep_first(&mut weight, segment, states_weight(&segment));
         }
         Group {
             equipment,
@@ -72,6 +78,7 @@ impl<'a> Group<'a> {
             slot,
             port,
             booking,
+            weight,
             behind,
         }
     }

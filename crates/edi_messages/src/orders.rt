@@ -171,6 +171,7 @@ fn read_entry(
                 booking,
                 moment: facts.moment,
                 slot: facts.slot,
+                kilos: facts.kilos,
             }))
         }
         Err(fault) => Ok(Err(fault)),

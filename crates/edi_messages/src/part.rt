@@ -3,7 +3,7 @@ ghost use Rattle.std.specs.Option.{option_map, option_or};
 ghost use Rattle.std.specs.Str.{bytes_eq};
 ghost use Rattle.edi_syntax.specs.Frames.{message_segments_left};
 ghost use Rattle.edi_segments.specs.Segment.{content, value};
-ghost use Rattle.edi_messages.specs.Parts.{is_equipment, ends_group, before_end, part_left, is_qualified, states_moment};
+ghost use Rattle.edi_messages.specs.Parts.{is_equipment, ends_group, before_end, part_left, is_qualified, states_moment, states_weight};
 
 use edi_segments::{Component, Segment};
 use edi_syntax::MessageSegments;
@@ -75,6 +75,14 @@ pub(crate) fn states_moment(segment: &Segment<'_>) -> bool
     }
     let format = segment.component(1, 3);
     is_value(format, b"203") || is_value(format, b"102")
+}
+
+pub(crate) fn states_weight(segment: &Segment<'_>) -> bool
+    ensures { result ≡ states_weight (content segment.now) }
+{
+    segment.has_tag(b"MEA")
+        && is_value(segment.component(2, 1), b"G")
+        && is_value(segment.component(3, 1), b"KGM")
 }
 
 /// Keeps the segment if it is what is sought and none was found before it.

@@ -5,7 +5,7 @@ ghost use Rattle.box6346.specs.ContainerNumber.{number_of};
 ghost use Rattle.box6346.specs.SizeCode.{size_of};
 ghost use Rattle.box6346.specs.SlotName.{slot_of};
 ghost use Rattle.edi_segments.specs.Segment.{content, value};
-ghost use Rattle.edi_messages.specs.Orders.{is_laden, booking, moment_stated, moment_of_length, read_number, read_size, read_moment, read_slot, read_slot_if_named, read_entry};
+ghost use Rattle.edi_messages.specs.Orders.{is_laden, booking, weight, moment_stated, moment_of_length, read_number, read_size, read_moment, read_slot, read_slot_if_named, read_entry};
 ghost use Rattle.edi_messages.specs.Spans.{group_content, entry_with};
 
 use crate::entry_facts::EntryFacts;
@@ -15,6 +15,7 @@ use crate::part::is_value;
 use box6346::{BoxNumber, NumberFault, SizeFault, SizeType, Slot};
 use edi_moments::Moment;
 use edi_segments::{Component, Segment};
+use edi_syntax::numbers;
 
 /// What a group says of a container that comes into the yard, or the first fault of its line.
 pub(crate) fn read_entry_facts(opened: Moment, group: &Group<'_>) -> Result<EntryFacts, LineFault>
@@ -31,6 +32,7 @@ pub(crate) fn read_entry_facts(opened: Moment, group: &Group<'_>) -> Result<Entr
         is_laden: is_laden(group),
         moment,
         slot,
+        kilos: kilos(group),
     })
 }
 
@@ -88,6 +90,19 @@ fn is_laden(group: &Group<'_>) -> bool
     ensures { result ≡ is_laden (group_content group.now) }
 {
     !is_value(group.equipment.component(6, 1), b"4")
+}
+
+/// The gross weight in kilograms, or 0.
+fn kilos(group: &Group<'_>) -> u32
+    ensures { result ≡ weight (group_content group.now) }
+{
+    let Some(segment) = group.weight else {
+        return 0;
+    };
+    match numbers::number_of(segment.component(3, 2), 6) {
+        Some(number) => number as u32,
+        None => 0,
+    }
 }
 
 fn moment_stated(segment: &Segment<'_>) -> Option<Moment>

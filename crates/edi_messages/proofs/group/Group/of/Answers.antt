@@ -2,7 +2,7 @@
 use Rattle.std.proofs.Common.{sym, ap, ◌∙◌, refl, arith, codes, length}
 use Rattle.edi_segments.specs.Segment.{content}
 use Rattle.edi_syntax.specs.Frames.{message_segments_left}
-use Rattle.edi_messages.specs.Parts.{is_qualified, states_moment}
+use Rattle.edi_messages.specs.Parts.{is_qualified, states_moment, states_weight}
 use Rattle.edi_messages.proofs.SurveyLemmas.{first_step, group_goes_on, same_groups}
 use Rattle.edi_messages.proofs.group.Group.of.Goals as goal
 
@@ -27,6 +27,8 @@ loop-segment-preserved c =
       booking = i.booking
           ∙ first_step _ _ (is_qualified (codes "RFF") (codes "BN")) _ segment _ _
           c.keep_first-in-Some.ensures c.is_qualified.ensures within;
+      weight = i.weight
+          ∙ first_step _ _ states_weight _ segment _ _ c.keep_first-in-Some-2.ensures c.states_weight.ensures within;
       others = sym (same_groups segment _ _ inside left) ∙ i.others;
       shorter = omega (arith, i.shorter, ap length left);
     }

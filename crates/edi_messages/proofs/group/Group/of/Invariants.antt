@@ -3,7 +3,7 @@ use Rattle.std.specs.List.{find}
 use Rattle.std.specs.Option.{option_map}
 use Rattle.edi_segments.specs.Segment.{content}
 use Rattle.edi_syntax.specs.Frames.{message_segments_left}
-use Rattle.edi_messages.specs.Parts.{before_end, groups_of, is_qualified, states_moment}
+use Rattle.edi_messages.specs.Parts.{before_end, groups_of, is_qualified, states_moment, states_weight}
 use Rattle.edi_messages.proofs.SurveyLemmas.{first_in}
 use Rattle.edi_messages.proofs.group.Group.of.Given as goal
 
@@ -19,6 +19,7 @@ invariant-loop-segment l =
           ≡ first_in (option_map content l.port) (is_qualified (codes "LOC") (codes "11")) left;
       booking : find (is_qualified (codes "RFF") (codes "BN")) all
           ≡ first_in (option_map content l.booking) (is_qualified (codes "RFF") (codes "BN")) left;
+      weight : find states_weight all ≡ first_in (option_map content l.weight) states_weight left;
       others : groups_of (message_segments_left l.behind) ≡ groups_of (message_segments_left l.segments);
       shorter : length (message_segments_left l.behind) ≤ length (message_segments_left l.segments);
     }
