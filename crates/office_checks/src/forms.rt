@@ -34,7 +34,7 @@ fn is_sound_visit(count: usize, visit: &Visit) -> bool
     is_number(visit.container);
     is_size(visit.size_type);
     let is_sound = is_sound_arrival(count, visit.arrival) && is_sound_exit(count, visit.departure);
-    is_sound && is_name_if_any(visit.booking.as_str())
+    is_sound && is_name_if_any(visit.booking.as_str()) && visit.kilos <= 999_999
 }
 
 fn is_sound_arrival(count: usize, arrival: Arrival) -> bool

@@ -28,7 +28,7 @@ pub(crate) fn read_settings(alloc: Global, settings: &[Setting]) -> Result<Setti
     if !are_named(settings) {
         return Err(RestoreFault::Unsound);
     }
-    if !are_same(value(settings, VERSION), "2") {
+    if !are_same(value(settings, VERSION), "3") {
         return Err(RestoreFault::Unsound);
     }
     let name = value(settings, TERMINAL);

@@ -128,6 +128,7 @@ visit_fit visit small is = record {
   booking = any_name_text visit.booking is.booking;
   arrival = record { source = source_fit visit.arrival.source is.source; moment = read_back visit.arrival.moment is.moment; slot = names_are_read_again_lem visit.arrival.slot is.slot };
   exit = exit_fit visit.departure is.exit;
+  kilos = omega (arith, is.kilos);
 }
 
 pub visits_fit : (from : ℕ) (visits : List VisitContent) → AreNumbered from visits → from + length visits ≤ 1000000000 → AllByRecursion IsFormedVisit visits → AllByRecursion FitsVisit visits

@@ -98,9 +98,9 @@ module _ (rows : OpenedRows) (content : SetupContent) (state : TerminalState) (o
 
     one_visits : rows.visits ≡ other.visits
     one_visits =
-        let same = one_showing table.visit (0 ∷ 1 ∷ 2 ∷ 3 ∷ 4 ∷ 5 ∷ 6 ∷ 7 ∷ 8 ∷ 9 ∷ 10 ∷ 11 ∷ 12 ∷ 13 ∷ []) (0 ∷ []) (λ r. refl) db visit_values rows.visits other.visits shown.visits that.visits (λ x y p q tied.
+        let same = one_showing table.visit (0 ∷ 1 ∷ 2 ∷ 3 ∷ 4 ∷ 5 ∷ 6 ∷ 7 ∷ 8 ∷ 9 ∷ 10 ∷ 11 ∷ 12 ∷ 13 ∷ 14 ∷ []) (0 ∷ []) (λ r. refl) db visit_values rows.visits other.visits shown.visits that.visits (λ x y p q tied.
         ap visit_values (visits_differ 1 state.visits x y office.whole.numbered (subst (λ l. Has l x) visits_are p) (subst (λ l. Has l y) visits_are q) (number_tied x.number y.number Equal tied).0)) in
-        one_reading table.visit (0 ∷ 1 ∷ 2 ∷ 3 ∷ 4 ∷ 5 ∷ 6 ∷ 7 ∷ 8 ∷ 9 ∷ 10 ∷ 11 ∷ 12 ∷ 13 ∷ []) (0 ∷ []) (λ r. refl) db visit_values FitsVisit one_visit rows.visits other.visits office_fits.visits fits.visits same
+        one_reading table.visit (0 ∷ 1 ∷ 2 ∷ 3 ∷ 4 ∷ 5 ∷ 6 ∷ 7 ∷ 8 ∷ 9 ∷ 10 ∷ 11 ∷ 12 ∷ 13 ∷ 14 ∷ []) (0 ∷ []) (λ r. refl) db visit_values FitsVisit one_visit rows.visits other.visits office_fits.visits fits.visits same
 
     one_places : rows.places ≡ other.places
     one_places =

@@ -148,6 +148,7 @@ one_visit x y p q same =
     let digits : moment_digits x.arrival.moment ≡ moment_digits y.arrival.moment = cc in
     let text : slot_text x.arrival.slot ≡ slot_text y.arrival.slot = cc in
     let exits : exit_values x.departure ≡ exit_values y.departure = cc in
+    let kilos : x.kilos ≡ y.kilos = cc in
     let is_laden = laden_is x.is_laden y.is_laden laden in
     let w = way_is x.arrival.way y.arrival.way code in
     let moment = moment_is x.arrival.moment y.arrival.moment p.arrival.moment q.arrival.moment digits in
@@ -161,6 +162,7 @@ one_visit x y p q same =
       booking = booking i;
       arrival = record { way = w i; source = record { partner = partner i; number = from i }; moment = moment i; slot = slot i };
       departure = exit i;
+      kilos = kilos i;
     }
 
 -- ---- keys that differ

@@ -106,7 +106,7 @@ SaysNumbered row n = (i : Interchange) × (columns_at (0 ∷ 1 ∷ 2 ∷ []) row
 
 abbrev pub SaysVisit : Row → VisitContent → Type 0
 SaysVisit row visit =
-    (columns_at (0 ∷ 1 ∷ 2 ∷ 3 ∷ 4 ∷ 5 ∷ 6 ∷ 7 ∷ 8 ∷ 9 ∷ 10 ∷ 11 ∷ 12 ∷ 13 ∷ []) row ≡ visit_values visit)
+    (columns_at (0 ∷ 1 ∷ 2 ∷ 3 ∷ 4 ∷ 5 ∷ 6 ∷ 7 ∷ 8 ∷ 9 ∷ 10 ∷ 11 ∷ 12 ∷ 13 ∷ 14 ∷ []) row ≡ visit_values visit)
     × FitsVisit visit
 
 abbrev pub SaysPlace : Row → PlaceContent → Type 0

@@ -59,6 +59,7 @@ pub record FitsVisit (visit : VisitContent) : Type 0 where
   pub booking : IsUtf8 visit.booking
   pub arrival : FitsArrival visit.arrival
   pub exit : FitsExit visit.departure
+  pub kilos : visit.kilos < 2 ^ 32
 
 pub record FitsPlace (place : PlaceContent) : Type 0 where
   pub container : IsTrue (is_number place.container)

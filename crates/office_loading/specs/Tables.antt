@@ -27,7 +27,7 @@ abbrev pub ShowsPartners : Database → List Partner → Type 0
 ShowsPartners db all = ShowsTable table.partner (0 ∷ 1 ∷ 2 ∷ 3 ∷ []) (0 ∷ []) db (map partner_values all)
 
 abbrev pub ShowsVisits : Database → List VisitContent → Type 0
-ShowsVisits db all = ShowsTable table.visit (0 ∷ 1 ∷ 2 ∷ 3 ∷ 4 ∷ 5 ∷ 6 ∷ 7 ∷ 8 ∷ 9 ∷ 10 ∷ 11 ∷ 12 ∷ 13 ∷ [])
+ShowsVisits db all = ShowsTable table.visit (0 ∷ 1 ∷ 2 ∷ 3 ∷ 4 ∷ 5 ∷ 6 ∷ 7 ∷ 8 ∷ 9 ∷ 10 ∷ 11 ∷ 12 ∷ 13 ∷ 14 ∷ [])
     (0 ∷ []) db (map visit_values all)
 
 abbrev pub ShowsPlaces : Database → List PlaceContent → Type 0

@@ -56,7 +56,7 @@ fn has_version(rows: &[Row]) -> bool
 fn is_version(row: &Row) -> bool
     ensures { result ≡ is_version row.now }
 {
-    is_text(row, 0, b"version") && is_text(row, 1, b"2")
+    is_text(row, 0, b"version") && is_text(row, 1, b"3")
 }
 
 /// Whether a column is this text.

@@ -25,6 +25,7 @@ impl Record for Visit {
         let booking = text_at(row, 4)?;
         let arrival = read_arrival(row)?;
         let departure = read_exit(row)?;
+        let kilos = number_at(row, 14)?;
         Ok(Visit {
             number,
             container,
@@ -33,6 +34,7 @@ impl Record for Visit {
             booking,
             arrival,
             departure,
+            kilos,
         })
     }
 }

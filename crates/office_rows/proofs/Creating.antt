@@ -38,7 +38,7 @@ unfolding understood everything
 interchange_defined = refl
 
 abbrev pub create_visit : List ℕ
-create_visit = codes "CREATE TABLE visit (visit INTEGER PRIMARY KEY, box TEXT NOT NULL, size TEXT NOT NULL, laden INTEGER NOT NULL, booking TEXT NOT NULL, in_by INTEGER NOT NULL, in_partner INTEGER NOT NULL, in_number INTEGER NOT NULL, in_at TEXT NOT NULL, in_slot TEXT NOT NULL, out_by INTEGER NOT NULL, out_partner INTEGER NOT NULL, out_number INTEGER NOT NULL, out_at TEXT NOT NULL) STRICT"
+create_visit = codes "CREATE TABLE visit (visit INTEGER PRIMARY KEY, box TEXT NOT NULL, size TEXT NOT NULL, laden INTEGER NOT NULL, booking TEXT NOT NULL, in_by INTEGER NOT NULL, in_partner INTEGER NOT NULL, in_number INTEGER NOT NULL, in_at TEXT NOT NULL, in_slot TEXT NOT NULL, out_by INTEGER NOT NULL, out_partner INTEGER NOT NULL, out_number INTEGER NOT NULL, out_at TEXT NOT NULL, kilos INTEGER NOT NULL) STRICT"
 
 pub create_visit_is : (command_of (understood (schema_of (partner ∷ interchange ∷ [])) create_visit) ≡ CreateTable) × (statement_of create_visit (understood (schema_of (partner ∷ interchange ∷ [])) create_visit) ≡ create_visit)
 unfolding understood everything

@@ -53,16 +53,16 @@ unfolding understood everything
 select_interchange_plain = (refl, refl)
 
 abbrev pub select_visit : List ℕ
-select_visit = codes "SELECT visit, box, size, laden, booking, in_by, in_partner, in_number, in_at, in_slot, out_by, out_partner, out_number, out_at FROM visit ORDER BY visit"
+select_visit = codes "SELECT visit, box, size, laden, booking, in_by, in_partner, in_number, in_at, in_slot, out_by, out_partner, out_number, out_at, kilos FROM visit ORDER BY visit"
 
 abbrev pub select_visit_shown : List Term
-select_visit_shown = col 1 0 ∷ col 1 2 ∷ col 1 3 ∷ col 1 4 ∷ col 1 5 ∷ col 1 6 ∷ col 1 7 ∷ col 1 8 ∷ col 1 9 ∷ col 1 10 ∷ col 1 11 ∷ col 1 12 ∷ col 1 13 ∷ col 1 14 ∷ []
+select_visit_shown = col 1 0 ∷ col 1 2 ∷ col 1 3 ∷ col 1 4 ∷ col 1 5 ∷ col 1 6 ∷ col 1 7 ∷ col 1 8 ∷ col 1 9 ∷ col 1 10 ∷ col 1 11 ∷ col 1 12 ∷ col 1 13 ∷ col 1 14 ∷ col 1 15 ∷ []
 
 abbrev pub select_visit_order : List (Term × Key)
 select_visit_order = (col 1 0, ascending Binary) ∷ []
 
 abbrev pub select_visit_names : List (List ℕ)
-select_visit_names = codes "visit" ∷ codes "box" ∷ codes "size" ∷ codes "laden" ∷ codes "booking" ∷ codes "in_by" ∷ codes "in_partner" ∷ codes "in_number" ∷ codes "in_at" ∷ codes "in_slot" ∷ codes "out_by" ∷ codes "out_partner" ∷ codes "out_number" ∷ codes "out_at" ∷ []
+select_visit_names = codes "visit" ∷ codes "box" ∷ codes "size" ∷ codes "laden" ∷ codes "booking" ∷ codes "in_by" ∷ codes "in_partner" ∷ codes "in_number" ∷ codes "in_at" ∷ codes "in_slot" ∷ codes "out_by" ∷ codes "out_partner" ∷ codes "out_number" ∷ codes "out_at" ∷ codes "kilos" ∷ []
 
 pub select_visit_is : (command_of (understood office_schema select_visit) ≡ Select (record { lets = []; body = record (rows_of 4 [] select_visit_shown) { order = select_visit_order } }) select_visit_names) × (reads_listing office_schema select_visit ≡ false)
 unfolding understood everything

@@ -45,12 +45,12 @@ unfolding understood everything
 insert_interchange_plain = (refl, refl)
 
 abbrev pub insert_visit : List ℕ
-insert_visit = codes "INSERT INTO visit (visit, box, size, laden, booking, in_by, in_partner, in_number, in_at, in_slot, out_by, out_partner, out_number, out_at) VALUES (?1, ?2, ?3, ?4, ?5, ?6, ?7, ?8, ?9, ?10, ?11, ?12, ?13, ?14)"
+insert_visit = codes "INSERT INTO visit (visit, box, size, laden, booking, in_by, in_partner, in_number, in_at, in_slot, out_by, out_partner, out_number, out_at, kilos) VALUES (?1, ?2, ?3, ?4, ?5, ?6, ?7, ?8, ?9, ?10, ?11, ?12, ?13, ?14, ?15)"
 
 abbrev pub insert_visit_terms : List Term
-insert_visit_terms = col 0 0 ∷ lit Null ∷ col 0 1 ∷ col 0 2 ∷ col 0 3 ∷ col 0 4 ∷ col 0 5 ∷ col 0 6 ∷ col 0 7 ∷ col 0 8 ∷ col 0 9 ∷ col 0 10 ∷ col 0 11 ∷ col 0 12 ∷ col 0 13 ∷ []
+insert_visit_terms = col 0 0 ∷ lit Null ∷ col 0 1 ∷ col 0 2 ∷ col 0 3 ∷ col 0 4 ∷ col 0 5 ∷ col 0 6 ∷ col 0 7 ∷ col 0 8 ∷ col 0 9 ∷ col 0 10 ∷ col 0 11 ∷ col 0 12 ∷ col 0 13 ∷ col 0 14 ∷ []
 
-pub insert_visit_is : command_of (understood office_schema insert_visit) ≡ Insert 2 (Values insert_visit_terms 15)
+pub insert_visit_is : command_of (understood office_schema insert_visit) ≡ Insert 2 (Values insert_visit_terms 16)
 unfolding understood everything
 insert_visit_is = refl
 
@@ -155,7 +155,7 @@ abbrev pub update_exit_tests : List Term
 update_exit_tests = equals (col 1 0) (col 0 0) ∷ []
 
 abbrev pub update_exit_shown : List Term
-update_exit_shown = col 1 0 ∷ col 1 0 ∷ lit Null ∷ col 1 2 ∷ col 1 3 ∷ col 1 4 ∷ col 1 5 ∷ col 1 6 ∷ col 1 7 ∷ col 1 8 ∷ col 1 9 ∷ col 1 10 ∷ col 0 1 ∷ col 0 2 ∷ col 0 3 ∷ col 0 4 ∷ []
+update_exit_shown = col 1 0 ∷ col 1 0 ∷ lit Null ∷ col 1 2 ∷ col 1 3 ∷ col 1 4 ∷ col 1 5 ∷ col 1 6 ∷ col 1 7 ∷ col 1 8 ∷ col 1 9 ∷ col 1 10 ∷ col 0 1 ∷ col 0 2 ∷ col 0 3 ∷ col 0 4 ∷ col 1 15 ∷ []
 
 pub update_exit_is : command_of (understood office_schema update_exit) ≡ Update 2 (record { lets = []; body = rows_of 4 update_exit_tests update_exit_shown })
 unfolding understood everything

@@ -74,8 +74,8 @@ module _ (old new : State) (rows : Rows) (count : ℕ) (has : HasRows rows old.n
       let params = visit_values a in
       let source = column (visit_values a) 0 ∷ Null ∷ drop 1 (visit_values a) in
       let text = statement_of texts.insert_visit (understood office_schema texts.insert_visit) in
-      let w = runs_as texts.insert_visit params old new office_schema has.schema (Insert 2 (Values texts.insert_visit_terms 15)) texts.insert_visit_is texts.insert_visit_plain count h in
-      let it = inserts old new has.schema 2 visit refl refl params text count texts.insert_visit_terms 15 w in
+      let w = runs_as texts.insert_visit params old new office_schema has.schema (Insert 2 (Values texts.insert_visit_terms 16)) texts.insert_visit_is texts.insert_visit_plain count h in
+      let it = inserts old new has.schema 2 visit refl refl params text count texts.insert_visit_terms 16 w in
       only_visits rows old.now new.now has [] Chosen 0 (source ∷ []) (rows.visits ++ a ∷ []) it.edits
       (holds_inserted visit visit_values rows.visits old.now new.now has.rows_are.visits source a (simp (cast_null, cast_int)) it)
 
@@ -155,7 +155,7 @@ module _ (old new : State) (rows : Rows) (count : ℕ) (has : HasRows rows old.n
       let changed : VisitContent → VisitContent = λ v. record v { departure = Some departure } in
       only_visits rows old.now new.now has (ids_of it.answer) Given 1 it.answer (map (λ a. cond (chosen a) (changed a) a) rows.visits) it.edits
       (holds_updated visit visit_values rows.visits old.now new.now has.rows_are.visits params texts.update_exit_tests texts.update_exit_shown
-      (λ c. equals c 0 number_of && true) (λ c. cast kind.Integer (column c 0) ∷ cast kind.Text (column c 1) ∷ cast kind.Text (column c 2) ∷ cast kind.Integer (column c 3) ∷ cast kind.Text (column c 4) ∷ cast kind.Integer (column c 5) ∷ cast kind.Integer (column c 6) ∷ cast kind.Integer (column c 7) ∷ cast kind.Text (column c 8) ∷ cast kind.Text (column c 9) ∷ cast kind.Integer (number (way_code departure.way)) ∷ cast kind.Integer (number departure.source.partner) ∷ cast kind.Integer (number departure.source.number) ∷ Text (moment_digits departure.moment) ∷ []) chosen changed
+      (λ c. equals c 0 number_of && true) (λ c. cast kind.Integer (column c 0) ∷ cast kind.Text (column c 1) ∷ cast kind.Text (column c 2) ∷ cast kind.Integer (column c 3) ∷ cast kind.Text (column c 4) ∷ cast kind.Integer (column c 5) ∷ cast kind.Integer (column c 6) ∷ cast kind.Integer (column c 7) ∷ cast kind.Text (column c 8) ∷ cast kind.Text (column c 9) ∷ cast kind.Integer (number (way_code departure.way)) ∷ cast kind.Integer (number departure.source.partner) ∷ cast kind.Integer (number departure.source.number) ∷ Text (moment_digits departure.moment) ∷ cast kind.Integer (column c 14) ∷ []) chosen changed
       (λ r. refl) (λ r. refl) (λ r. refl) (λ a. and_true _ ∙ equal_numbers a.number number_of) (λ a. simp cast_int) it)
 
   pub update_slotd : (container : BoxNumber) (slot : Slot) → Executes texts.update_slot (Text container ∷ Text (slot_text slot) ∷ []) old new (Ok count) → HasRows (with_change (moved_to container slot) rows) new.now

@@ -43,7 +43,7 @@ pub record ShowsNumbers (db : Database) (numbers : List Numbered) : Type 0 where
 pub record Shows (db : Database) (rows : OpenedRows) : Type 0 where
   pub partners : ShowsTable partner (0 ∷ 1 ∷ 2 ∷ 3 ∷ []) (0 ∷ []) db (map partner_values rows.partners)
   pub numbers : ShowsNumbers db rows.numbers
-  pub visits : ShowsTable visit (0 ∷ 1 ∷ 2 ∷ 3 ∷ 4 ∷ 5 ∷ 6 ∷ 7 ∷ 8 ∷ 9 ∷ 10 ∷ 11 ∷ 12 ∷ 13 ∷ []) (0 ∷ []) db
+  pub visits : ShowsTable visit (0 ∷ 1 ∷ 2 ∷ 3 ∷ 4 ∷ 5 ∷ 6 ∷ 7 ∷ 8 ∷ 9 ∷ 10 ∷ 11 ∷ 12 ∷ 13 ∷ 14 ∷ []) (0 ∷ []) db
       (map visit_values rows.visits)
   pub places : ShowsTable place (0 ∷ 1 ∷ 2 ∷ []) (0 ∷ []) db (map place_values rows.places)
   pub lines : ShowsTable listed (0 ∷ 1 ∷ 2 ∷ 3 ∷ 4 ∷ 5 ∷ []) (0 ∷ 1 ∷ 2 ∷ 3 ∷ []) db (map line_values rows.lines)

@@ -33,7 +33,7 @@ code_settings table = settings_named code_names (table_texts table)
 
 -- the version of these tables
 abbrev pub tables_version : List ℕ
-tables_version = codes "2"
+tables_version = codes "3"
 
 -- the version of the tables, the terminal's code, the limit of visits, and the codes of document names
 abbrev pub settings_of : SetupContent → List Setting

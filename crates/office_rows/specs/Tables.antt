@@ -78,7 +78,7 @@ visit = record {
       ∷ required (codes "laden") Integer ∷ required (codes "booking") Text ∷ required (codes "in_by") Integer
       ∷ required (codes "in_partner") Integer ∷ required (codes "in_number") Integer ∷ required (codes "in_at") Text
       ∷ required (codes "in_slot") Text ∷ required (codes "out_by") Integer ∷ required (codes "out_partner") Integer
-      ∷ required (codes "out_number") Integer ∷ required (codes "out_at") Text ∷ [];
+      ∷ required (codes "out_number") Integer ∷ required (codes "out_at") Text ∷ required (codes "kilos") Integer ∷ [];
   key = Some 0;
   primary = 0 ∷ [];
   uniques = [];

@@ -73,7 +73,7 @@ visit_values v =
     ∷ number (way_code v.arrival.way) ∷ number v.arrival.source.partner ∷ number v.arrival.source.number
     ∷ Text (moment_digits v.arrival.moment) ∷ Text (slot_text v.arrival.slot)
     ∷ number (out_by v.departure) ∷ number (out_partner v.departure) ∷ number (out_number v.departure)
-    ∷ Text (out_at v.departure) ∷ []
+    ∷ Text (out_at v.departure) ∷ number v.kilos ∷ []
 
 abbrev pub place_values : PlaceContent → Row
 place_values p = Text p.container ∷ number p.visit ∷ Text (slot_text p.slot) ∷ []

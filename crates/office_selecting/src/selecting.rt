@@ -68,7 +68,7 @@ pub fn select_interchanges<S: Alter>(conn: &mut Connection<S>) -> Result<Vec<Row
 pub fn select_visits<S: Alter>(conn: &mut Connection<S>) -> Result<Vec<Row>, TableFault>
     ensures shown { HasCleanDisk (state S.Store conn.new) → (state S.Store conn.old).now.schema ≡ office_schema
         → IfOk result (λ answer.
-        ShowsTable visit (0 ∷ 1 ∷ 2 ∷ 3 ∷ 4 ∷ 5 ∷ 6 ∷ 7 ∷ 8 ∷ 9 ∷ 10 ∷ 11 ∷ 12 ∷ 13 ∷ []) (0 ∷ [])
+        ShowsTable visit (0 ∷ 1 ∷ 2 ∷ 3 ∷ 4 ∷ 5 ∷ 6 ∷ 7 ∷ 8 ∷ 9 ∷ 10 ∷ 11 ∷ 12 ∷ 13 ∷ 14 ∷ []) (0 ∷ [])
         (state S.Store conn.old).now answer.items) }
     ensures same { HasCleanDisk (state S.Store conn.new) → (state S.Store conn.old).now.schema ≡ office_schema →
         OnOk result (IsUnchanged (state S.Store conn.old) (state S.Store conn.new)) }
@@ -80,7 +80,7 @@ pub fn select_visits<S: Alter>(conn: &mut Connection<S>) -> Result<Vec<Row>, Tab
 {
     select(
         conn,
-        "SELECT visit, box, size, laden, booking, in_by, in_partner, in_number, in_at, in_slot, out_by, out_partner, out_number, out_at FROM visit ORDER BY visit",
+        "SELECT visit, box, size, laden, booking, in_by, in_partner, in_number, in_at, in_slot, out_by, out_partner, out_number, out_at, kilos FROM visit ORDER BY visit",
     )
 }
 

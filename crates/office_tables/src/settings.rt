@@ -27,7 +27,7 @@ pub(crate) fn insert_settings<S: Alter>(
     ensures survives { Survives (state S.Store tx.old.conn.now) (state S.Store tx.new.conn.now) (λ _. ⊥) }
     ensures fault { IfErr result IsOfStore }
 {
-    insert_setting(tx, "version", b"2")?;
+    insert_setting(tx, "version", b"3")?;
     insert_setting(tx, "terminal", setup.terminal.as_bytes())?;
     let mut buffer = Buffer::new();
     insert_setting(tx, "visits", buffer.format(setup.visit_limit).as_bytes())?;

@@ -64,7 +64,7 @@ fn insert_columns<'a, S: Alter>(
     let in_at = visit.arrival.moment.digits();
     let in_slot = visit.arrival.slot.text();
     tx.execute(
-        "INSERT INTO visit (visit, box, size, laden, booking, in_by, in_partner, in_number, in_at, in_slot, out_by, out_partner, out_number, out_at) VALUES (?1, ?2, ?3, ?4, ?5, ?6, ?7, ?8, ?9, ?10, ?11, ?12, ?13, ?14)",
+        "INSERT INTO visit (visit, box, size, laden, booking, in_by, in_partner, in_number, in_at, in_slot, out_by, out_partner, out_number, out_at, kilos) VALUES (?1, ?2, ?3, ?4, ?5, ?6, ?7, ?8, ?9, ?10, ?11, ?12, ?13, ?14, ?15)",
         &[
             integer(visit.number),
             characters(&container),
@@ -80,6 +80,7 @@ fn insert_columns<'a, S: Alter>(
             integer(u32::from(out_partner)),
             integer(out_number),
             characters(out_at),
+            integer(visit.kilos),
         ],
     )?;
     Ok(())

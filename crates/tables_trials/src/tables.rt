@@ -5,6 +5,7 @@ ghost use Rattle.std.specs.Prelude.{◌≡◌, ◌≤◌, IfOk, length, string_b
 
 mod desk;
 mod opening;
+mod weights;
 
 use edi_messages::{CodeTable, PartnerKind};
 use office_changes::mark_taken;

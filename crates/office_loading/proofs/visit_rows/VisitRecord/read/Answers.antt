@@ -9,10 +9,12 @@ returns c =
     let booking = c.in_ok-booking.ensures in
     let arrival = c.in_ok-arrival.ensures in
     let exit = c.in_ok-departure.ensures in
+    let kilos = c.in_ok-kilos.ensures in
     let number_is = number.0 in
     let container_is = container.0 in
     let size_is = size.0 in
     let booking_is = booking.0 in
     let arrival_is = arrival.0 in
     let exit_is = exit.0 in
-    ((cc), record { number = number.1; container = container.1; size_type = size.1; booking = booking.1; arrival = arrival.1; exit = exit.1 })
+    let kilos_is = kilos.0 in
+    ((cc), record { number = number.1; container = container.1; size_type = size.1; booking = booking.1; arrival = arrival.1; exit = exit.1; kilos = kilos.1 })
