@@ -5,7 +5,7 @@ use Rattle.serde_json.specs.Written.{has_float, items_have_float, members_have_f
 use Rattle.terminal_core.specs.declared.outcome.Outcome.{Outcome}
 use Rattle.terminal_core.specs.declared.outcome.Outcome.TheVariants.{Done, Gone, Listed, Refused}
 use Rattle.terminal_core.specs.declared.reason.Reason.{Reason}
-use Rattle.terminal_core.specs.declared.reason.Reason.TheVariants.{Form, CheckDigit, Size, Moment, SlotText, AlreadyIn, NotIn, AlreadyListed, NotListed, ListLineDone, Buried, NoSlot, SlotKind, Taken, OnAir, NoRoom, VisitLimit}
+use Rattle.terminal_core.specs.declared.reason.Reason.TheVariants.{Form, CheckDigit, Size, Moment, SlotText, AlreadyIn, NotIn, AlreadyListed, NotListed, ListLineDone, Buried, NoSlot, SlotKind, Taken, OnAir, OnEmpty, NoRoom, VisitLimit}
 use Rattle.office_replies.specs.declared.line_report.LineReport.{LineReport}
 use Rattle.office_replies.specs.Members.{refused_members}
 use Rattle.office_replies.specs.Lines.{refusal_members, outcome_members, lines_from}
@@ -31,6 +31,7 @@ refusal_has_no_float name line NoSlot = refused_has_no_float name line _
 refusal_has_no_float name line SlotKind = refused_has_no_float name line _
 refusal_has_no_float name line Taken = refused_has_no_float name line _
 refusal_has_no_float name line OnAir = refused_has_no_float name line _
+refusal_has_no_float name line OnEmpty = refused_has_no_float name line _
 refusal_has_no_float name line NoRoom = refused_has_no_float name line _
 refusal_has_no_float name line VisitLimit = refused_has_no_float name line _
 

@@ -1,7 +1,7 @@
 -- The names that replies give to reasons and faults.
 use Rattle.std.specs.Prelude.{ℕ, List, codes}
 use Rattle.terminal_core.specs.declared.reason.Reason.{Reason}
-use Rattle.terminal_core.specs.declared.reason.Reason.TheVariants.{Form, CheckDigit, Size, Moment, SlotText, AlreadyIn, NotIn, AlreadyListed, NotListed, ListLineDone, Buried, NoSlot, SlotKind, Taken, OnAir, NoRoom, VisitLimit}
+use Rattle.terminal_core.specs.declared.reason.Reason.TheVariants.{Form, CheckDigit, Size, Moment, SlotText, AlreadyIn, NotIn, AlreadyListed, NotListed, ListLineDone, Buried, NoSlot, SlotKind, Taken, OnAir, OnEmpty, NoRoom, VisitLimit}
 use Rattle.edi_segments.specs.declared.syntax_fault.SyntaxFault.{SyntaxFault}
 use Rattle.edi_segments.specs.declared.syntax_fault.SyntaxFault.TheVariants as syntax
 use Rattle.office_replies.specs.declared.fault.Fault.{Fault}
@@ -25,6 +25,7 @@ reason_name NoSlot = codes "NoSlot"
 reason_name SlotKind = codes "SlotKind"
 reason_name Taken = codes "Taken"
 reason_name OnAir = codes "OnAir"
+reason_name OnEmpty = codes "OnEmpty"
 reason_name NoRoom = codes "NoRoom"
 reason_name VisitLimit = codes "VisitLimit"
 

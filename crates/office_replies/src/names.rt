@@ -24,6 +24,7 @@ pub(crate) fn reason_name(reason: Reason) -> &'static str
         Reason::SlotKind => "SlotKind",
         Reason::Taken => "Taken",
         Reason::OnAir => "OnAir",
+        Reason::OnEmpty => "OnEmpty",
         Reason::NoRoom => "NoRoom",
         Reason::VisitLimit => "VisitLimit",
     }
