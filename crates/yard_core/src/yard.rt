@@ -198,12 +198,11 @@ impl Yard {
             return Err(fault);
         }
         let target = site_of(&self.plan, moved);
-        let is_laden = stowed.is_laden;
         self.placements.replace(
             number,
             Stowed {
                 placement: moved,
-                is_laden,
+                ..stowed
             },
         );
         self.columns.raise(target.near, target.far, number);
@@ -250,7 +249,7 @@ impl Yard {
         self.misfit(Placement { length, slot }, is_laden).is_none()
     }
 
-    /// Why a container does not fit there, if it does not.
+    /// Why a container does not fit there, if it does not. A wary one does not stand on an empty one.
     fn misfit(&self, placement: Placement, is_wary: bool) -> Option<YardFault>
         ensures { MatchOption result (IsOpen self.now.plan (placement_of self.now.boxes) placement
             × (is_wary ≡ true → ¬ RestsOnEmpty self.now.boxes placement))
