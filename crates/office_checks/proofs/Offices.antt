@@ -18,6 +18,7 @@ use Rattle.edi_messages.specs.declared.partner_kind.PartnerKind.{PartnerKind}
 use Rattle.yard_core.specs.declared.block.Block.{Block}
 use Rattle.yard_core.specs.Plan.{IsPlan, InPlan}
 use Rattle.yard_core.specs.declared.placement.Placement.{Placement}
+use Rattle.yard_core.specs.YardMap.{placement_of}
 use Rattle.terminal_core.specs.declared.listing.Listing.{Listing}
 use Rattle.terminal_core.specs.declared.restore_fault.RestoreFault.{RestoreFault}
 use Rattle.terminal_core.specs.declared.restore_fault.RestoreFault.TheVariants.{Unsound, Memory}
@@ -203,7 +204,7 @@ module _ (tables : OpenedTables) (content : SetupContent) (state : TerminalState
       All-contains (IsSoundVisit (length tables.partners.items)) (map visit_content tables.visits.items) visit (All-map (IsSoundVisit (length tables.partners.items)) visit_content tables.visits.items terminal.visits_sound)
       (subst P terminal.rows.visits_are inside)
 
-  named_slot : (container : BoxNumber) (s : Placement) → finite_map.get state.yard.boxes container ≡ Some s → IsNamed s.slot
+  named_slot : (container : BoxNumber) (s : Placement) → placement_of state.yard.boxes container ≡ Some s → IsNamed s.slot
   named_slot container s at = planned_named state.yard.plan s.slot terminal.rows.whole.plan (terminal.rows.whole.sound.in_plan container s at)
 
   pub office_of : IsOffice (opened_rows tables) content state

@@ -1,5 +1,5 @@
 -- The report on a container's visits (our own).
-use Rattle.std.specs.Prelude.{ℕ, zero, suc, Bool, List, [], ◌∷◌, ◌++◌, map, filter, slice_index_or, if◌then◌else◌, codes, decimal, ◌-ℤ◌, Option, None, Some}
+use Rattle.std.specs.Prelude.{ℕ, zero, suc, ◌==◌, Bool, List, [], ◌∷◌, ◌++◌, map, filter, slice_index_or, if◌then◌else◌, codes, decimal, ◌-ℤ◌, Option, None, Some}
 use Rattle.std.specs.Fmt.{signed_decimal}
 use Rattle.std.specs.List.{flat_map, list_any}
 use Rattle.std.specs.Str.{bytes_eq}
@@ -40,6 +40,10 @@ abbrev pub booking_words : List ℕ → List (List ℕ)
 booking_words [] = []
 booking_words (b ∷ bs) = codes "BOOKING" ∷ (b ∷ bs) ∷ []
 
+-- GROSS W, the gross weight in kilograms, if one was stated
+abbrev pub gross_words : ℕ → List (List ℕ)
+gross_words kilos = if kilos == 0 then [] else codes "GROSS" ∷ decimal kilos ∷ []
+
 -- GATE PARTNER NUMBER MOMENT DAYS d, with the days from the date of entry to that of exit; a dash while it is here
 abbrev pub departure_words : SetupContent → CivilMoment → Option Departure → List (List ℕ)
 departure_words setup entry None = codes "-" ∷ []
@@ -49,7 +53,7 @@ departure_words setup entry (Some departure) =
 
 abbrev pub visit_line : SetupContent → VisitContent → List ℕ
 visit_line setup visit =
-    line (phrase (arrival_words setup visit) ∷ booking_words visit.booking
+    line (phrase (arrival_words setup visit) ∷ booking_words visit.booking ++ gross_words visit.kilos
     ++ codes "OUT" ∷ phrase (departure_words setup visit.arrival.moment visit.departure) ∷ [])
 
 abbrev pub is_visit_of : BoxNumber → VisitContent → Bool

@@ -1,10 +1,10 @@
-ghost use Rattle.std.specs.Prelude.{◌≡◌, ◌++◌, map, IfOk, OnOk, string_bytes};
+ghost use Rattle.std.specs.Prelude.{◌≡◌, ◌++◌, ◌∷◌, [], codes, decimal, map, IfOk, OnOk, string_bytes};
 ghost use Rattle.std.specs.List.{list_any};
 ghost use Rattle.std.specs.Option.{option_map};
 ghost use Rattle.terminal_core.specs.Rows.{visit_content};
 ghost use Rattle.office_setup.specs.Setups.{setup_content};
-ghost use Rattle.office_reports.specs.Names.{phrase};
-ghost use Rattle.office_reports.specs.Visits.{way_name, code_of, passage_words, arrival_words, departure_words};
+ghost use Rattle.office_reports.specs.Names.{phrase, line};
+ghost use Rattle.office_reports.specs.Visits.{way_name, code_of, passage_words, arrival_words, booking_words, departure_words};
 ghost use Rattle.office_reports.specs.Visits.{visit_line, visit_lines, is_visit_of, visit_report};
 
 use crate::texts::{load_name, moment_text, number_text, phrase, push_line, size_text, slot_text};
@@ -15,8 +15,8 @@ use std::alloc::{AllocError, Global};
 use terminal_core::{Departure, Source, Terminal, Visit, Way};
 
 /// The visits of a container, by their numbers: `VISITS BOX`, and for each a line
-/// `N SIZE FULL IN GATE PARTNER NUMBER MOMENT SLOT` with the slot of entry, then ` BOOKING B` if it has one, then
-/// ` OUT -` or ` OUT GATE PARTNER NUMBER MOMENT DAYS d`, d being the days from the date of entry to that of exit. Each
+/// `N SIZE FULL IN GATE PARTNER NUMBER MOMENT SLOT` with the slot of entry, then ` BOOKING B` if it has one,
+/// ` GROSS W` with its gross weight in kilograms if one was stated, then ` OUT -` or ` OUT GATE PARTNER NUMBER MOMENT DAYS d`, d being the days from the date of entry to that of exit. Each
 /// line ends with LF. `None` if it has no visit.
 pub fn visit_report(
     alloc: Global,
@@ -74,20 +74,62 @@ fn push_visit(
     let arrival = arrival_text(alloc, setup, visit)?;
     let departure = departure_text(alloc, setup, visit.arrival.moment, &visit.departure)?;
     let booking = visit.booking.as_str();
+    if visit.kilos == 0 {
+        push_unweighed(alloc, text, arrival.as_str(), booking, departure.as_str())
+    } else {
+        push_weighed(
+            alloc,
+            text,
+            arrival.as_str(),
+            booking,
+            visit.kilos,
+            departure.as_str(),
+        )
+    }
+}
+
+fn push_unweighed(
+    alloc: Global,
+    text: &mut String,
+    arrival: &str,
+    booking: &str,
+    departure: &str,
+) -> Result<(), AllocError>
+    ensures { OnOk result (string_bytes text.new ≡ string_bytes text.old
+        ++ line (arrival.now ∷ booking_words booking.now ++ codes "OUT" ∷ departure.now ∷ [])) }
+{
     if booking.is_empty() {
-        push_line(alloc, text, &[arrival.as_str(), "OUT", departure.as_str()])
+        push_line(alloc, text, &[arrival, "OUT", departure])
     } else {
         push_line(
             alloc,
             text,
-            &[
-                arrival.as_str(),
-                "BOOKING",
-                booking,
-                "OUT",
-                departure.as_str(),
-            ],
+            &[arrival, "BOOKING", booking, "OUT", departure],
         )
+    }
+}
+
+fn push_weighed(
+    alloc: Global,
+    text: &mut String,
+    arrival: &str,
+    booking: &str,
+    kilos: u32,
+    departure: &str,
+) -> Result<(), AllocError>
+    ensures { OnOk result (string_bytes text.new ≡ string_bytes text.old
+        ++ line (arrival.now ∷ booking_words booking.now ++ codes "GROSS" ∷ decimal kilos ∷ codes "OUT"
+        ∷ departure.now ∷ [])) }
+{
+    let gross = kilos.to_string(alloc)?;
+    let gross = gross.as_str();
+    if booking.is_empty() {
+        push_line(alloc, text, &[arrival, "GROSS", gross, "OUT", departure])
+    } else {
+        let words = [
+            arrival, "BOOKING", booking, "GROSS", gross, "OUT", departure,
+        ];
+        push_line(alloc, text, &words)
     }
 }
 

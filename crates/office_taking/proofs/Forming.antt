@@ -23,6 +23,7 @@ use Rattle.edi_messages.specs.declared.message_fault.MessageFault.{MessageFault}
 use Rattle.edi_messages.specs.declared.partner_kind.PartnerKind.{PartnerKind}
 use Rattle.edi_messages.proofs.OrderForms.{IfThere, IsCivil, text_civil, if_civil, orders_are_formed}
 use Rattle.partner_core.specs.Numbered.{with_number}
+use Rattle.terminal_core.specs.Versions.{newest}
 use Rattle.terminal_core.specs.declared.side.Side.{Side}
 use Rattle.terminal_core.specs.declared.source.Source.{Source}
 use Rattle.terminal_core.specs.Forms.{IsSource, IsWellFormed}
@@ -92,7 +93,7 @@ partner_in kinds (suc i) kind e = let within : i < length kinds = slice_get_with
 -- ---- lines and messages
 
 line_formed : (state : TerminalState) (source : Source) (line : LineContent) → IsWhole state → IsWellFormed state → IsSource source → OrdersWell line → IsWellFormed (line_taken state source line).0
-line_formed state source (ordered order) whole formed from its = formed_step state source order whole formed from its
+line_formed state source (ordered order) whole formed from its = formed_step newest state source order whole formed from its
 line_formed state source (refused fault number) whole formed from its = formed
 
 lines_formed : (state : TerminalState) (source : Source) (lines : List LineContent) → IsWhole state → IsWellFormed state → IsSource source → All OrdersWell lines → IsWellFormed (lines_taken state source lines).0

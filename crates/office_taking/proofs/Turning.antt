@@ -21,6 +21,7 @@ use Rattle.terminal_core.proofs.Applying.{all_appended, applicable_joined, appli
 use Rattle.terminal_core.proofs.Changing.{turned_step}
 use Rattle.terminal_core.proofs.Dropping.{drop_turned, drop_applicable, drop_whole}
 use Rattle.terminal_core.proofs.Keeping.{whole_step}
+use Rattle.terminal_core.specs.Versions.{newest}
 use Rattle.office_admission.specs.Admission.{admission, is_for}
 use Rattle.office_taking.specs.Taking.{MachineState, cleared, cleared_for, list_replaced, line_taken, line_changes, lines_taken, lines_changes, verdict_on, verdict_changes, messages_taken, messages_changes, codes_for, source_in, nothing_taken, taken_at, taken_of, interchange_taken, changes_at, changes_of, interchange_changes}
 
@@ -43,7 +44,7 @@ leads_on a b c first second one two = record {
 -- ---- a line, a message
 
 pub line_leads : (state : TerminalState) (source : Source) (line : LineContent) → IsWhole state → Leads state (line_changes state source line) (line_taken state source line).0
-line_leads state source (ordered order) whole = record { whole = whole_step state source order whole; turned = turned_step state source order whole; applicable = applicable_step state source order whole }
+line_leads state source (ordered order) whole = record { whole = whole_step newest state source order whole; turned = turned_step newest state source order whole; applicable = applicable_step newest state source order whole }
 line_leads state source (refused fault number) whole = stays state whole
 
 lines_lead : (state : TerminalState) (source : Source) (lines : List LineContent) → IsWhole state → Leads state (lines_changes state source lines) (lines_taken state source lines).0

@@ -74,7 +74,7 @@ fn a_block_is_filled_to_the_last_slot(rt: HostRuntime) -> Result<(), Fail> {
 pub(crate) fn slot_in(tier: u8, serial: u32) -> Slot {
     Slot {
         block: b'K',
-        bay: (serial % 480 / 12) as u8 * 2 + 1,
+        bay: (serial % 480 / 12) as u16 * 2 + 1,
         row: (serial % 12) as u8 + 1,
         tier,
     }

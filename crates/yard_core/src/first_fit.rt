@@ -7,7 +7,7 @@ use crate::site::is_kind;
 use crate::yard::Yard;
 use box6346::{Length, Slot};
 
-/// The first slot that fits a container of this length, full or empty, by tier, block letter, bay and row.
+/// The first slot that fits a container of this length, by tier, block letter, bay and row.
 pub(crate) fn first_fit(yard: &Yard, size: Length, is_laden: bool) -> Option<Slot>
     requires { IsPlan yard.now.plan }
     ensures { MatchOption result (NoneOpen yard.now size is_laden (λ _. Unit {0}))

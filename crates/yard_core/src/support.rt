@@ -1,4 +1,4 @@
-ghost use Rattle.std.specs.Prelude.{◌≡◌, ◌≢◌, ◌+◌, ◌*◌, ◌<◌, ◌≤◌, ◌⊎◌, ◌||◌, ◌↔◌, true, false, Option, Some, None, length, All, IsTrue, IfErr, IfOk, MatchOption, OnErr};
+ghost use Rattle.std.specs.Prelude.{◌||◌, ◌↔◌, IsTrue, ◌≢◌, false, ◌≡◌, ◌+◌, ◌*◌, ◌<◌, ◌≤◌, ◌⊎◌, true, Option, Some, None, length, All, IfErr, IfOk, MatchOption, OnErr};
 ghost use Rattle.std.specs.FinMap as finite_map;
 ghost use Rattle.yard_core.specs.Plan.{IsSized};
 ghost use Rattle.yard_core.specs.YardMap.{Boxes, placement_of, placed, yard_map};
@@ -16,8 +16,7 @@ use crate::yard_fault::YardFault;
 use box6346::{BoxNumber, Length, Slot};
 
 /// Why a container does not fit there, if it does not, by the heights of its columns and what is on top of
-/// them. A wary one, which is full and not at home, does not stand on an empty one. The map may have boxes
-/// that the columns don't.
+/// them. The map may have boxes that the columns don't.
 pub(crate) fn misfit(
     plan: &Plan,
     columns: &Columns,
@@ -30,8 +29,7 @@ pub(crate) fn misfit(
     ensures { (boxes : Boxes) → IsKept plan.now columns.now (placement_of boxes) →
         AgreeOn columns.now (finite_map.get placements.now) (finite_map.get boxes) →
         MatchOption result
-        (IsReady plan.now columns.now (placement_of boxes) placement ×
-        (is_wary ≡ true → ¬ RestsOnEmpty boxes placement))
+        (IsReady plan.now columns.now (placement_of boxes) placement × (is_wary ≡ true → ¬ RestsOnEmpty boxes placement))
         (λ f. MisfitsBy is_wary plan.now boxes placement f) }
 {
     if !plan.has(placement.slot) {

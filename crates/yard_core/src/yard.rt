@@ -198,11 +198,12 @@ impl Yard {
             return Err(fault);
         }
         let target = site_of(&self.plan, moved);
+        let is_laden = stowed.is_laden;
         self.placements.replace(
             number,
             Stowed {
                 placement: moved,
-                ..stowed
+                is_laden,
             },
         );
         self.columns.raise(target.near, target.far, number);
@@ -249,7 +250,7 @@ impl Yard {
         self.misfit(Placement { length, slot }, is_laden).is_none()
     }
 
-    /// Why a container does not fit there, if it does not. A wary one does not stand on an empty one.
+    /// Why a container does not fit there, if it does not.
     fn misfit(&self, placement: Placement, is_wary: bool) -> Option<YardFault>
         ensures { MatchOption result (IsOpen self.now.plan (placement_of self.now.boxes) placement
             × (is_wary ≡ true → ¬ RestsOnEmpty self.now.boxes placement))
