@@ -77,12 +77,13 @@ fn push_visit(
     if visit.kilos == 0 {
         push_unweighed(alloc, text, arrival.as_str(), booking, departure.as_str())
     } else {
+        let gross = visit.kilos.to_string(alloc)?;
         push_weighed(
             alloc,
             text,
             arrival.as_str(),
             booking,
-            visit.kilos,
+            gross.as_str(),
             departure.as_str(),
         )
     }
@@ -114,22 +115,23 @@ fn push_weighed(
     text: &mut String,
     arrival: &str,
     booking: &str,
-    kilos: u32,
+    gross: &str,
     departure: &str,
 ) -> Result<(), AllocError>
     ensures { OnOk result (string_bytes text.new ≡ string_bytes text.old
-        ++ line (arrival.now ∷ booking_words booking.now ++ codes "GROSS" ∷ decimal kilos ∷ codes "OUT"
+        ++ line (arrival.now ∷ booking_words booking.now ++ codes "GROSS" ∷ gross.now ∷ codes "OUT"
         ∷ departure.now ∷ [])) }
 {
-    let gross = kilos.to_string(alloc)?;
-    let gross = gross.as_str();
     if booking.is_empty() {
         push_line(alloc, text, &[arrival, "GROSS", gross, "OUT", departure])
     } else {
-        let words = [
-            arrival, "BOOKING", booking, "GROSS", gross, "OUT", departure,
-        ];
-        push_line(alloc, text, &words)
+        push_line(
+            alloc,
+            text,
+            &[
+                arrival, "BOOKING", booking, "GROSS", gross, "OUT", departure,
+            ],
+        )
     }
 }
 
