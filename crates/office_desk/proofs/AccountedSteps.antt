@@ -21,6 +21,7 @@ use Rattle.partner_core.specs.Numbered.{with_number}
 use Rattle.yard_core.specs.declared.placement.Placement.{Placement}
 use Rattle.yard_core.specs.Decisions.{Refusal, yard_without, yard_with_move}
 use Rattle.yard_core.specs.YardMap.{YardMap}
+use Rattle.terminal_core.specs.Versions.{newest, spares}
 use Rattle.terminal_core.specs.declared.departure.Departure.{Departure}
 use Rattle.terminal_core.specs.declared.line_state.LineState.{LineState}
 use Rattle.terminal_core.specs.declared.line_state.LineState.TheVariants.{Pending, Done as LineIsDone}
@@ -61,9 +62,9 @@ module _ (count : ℕ) where
     | inr same ↦ subst (HasAccounts count) same (record { came = has; left = tt })
   ]
 
-  enters_keeps : (state : TerminalState) (way : Way) (source : Source) (entry : EntryContent) → source.partner ≤ count → AreAccounted state → Keeps (after_entry state way source entry)
+  enters_keeps : (state : TerminalState) (way : Way) (source : Source) (entry : EntryContent) → source.partner ≤ count → AreAccounted state → Keeps (after_entry newest state way source entry)
   enters_keeps state way source entry has are =
-      either Keeps (is_full state) (with_refusal state VisitLimit) (entered_at state way source entry (yard_with_entry state.yard entry)) are (entered_keeps state way source entry (yard_with_entry state.yard entry) has are)
+      either Keeps (is_full state) (with_refusal state VisitLimit) (entered_at state way source entry (yard_with_entry newest state.yard entry)) are (entered_keeps state way source entry (yard_with_entry newest state.yard entry) has are)
 
   closed_has : (departure : Departure) (v : VisitContent) (is : Bool) → departure.source.partner ≤ count → HasAccounts count v → HasAccounts count (cond is (record v { departure = Some departure }) v)
   closed_has departure v true has old = record { came = old.came; left = has }
@@ -101,14 +102,14 @@ module _ (count : ℕ) where
   line_keeps state call side b (Some line) after are then = state_keeps state call side b line after line.state are then
 
   step_keeps : (state : TerminalState) (source : Source) (order : OrderContent) → source.partner ≤ count → AreAccounted state → Keeps (step state source order)
-  step_keeps state source (gate_in entry) has are = either Keeps (is_in state entry.number) (with_refusal state AlreadyIn) (after_entry state Gate source entry) are (enters_keeps state Gate source entry has are)
+  step_keeps state source (gate_in entry) has are = either Keeps (is_in state entry.number) (with_refusal state AlreadyIn) (after_entry newest state Gate source entry) are (enters_keeps state Gate source entry has are)
   step_keeps state source (gate_out b moment) has are = departs_keeps state Gate source b moment has are
-  step_keeps state source (move b slot) has are = moved_keeps state b slot (yard_with_move state.yard b slot) are
+  step_keeps state source (move b slot) has are = moved_keeps state b slot (yard_with_move (spares newest) state.yard b slot) are
   step_keeps state source (list_discharge call b) has are = listed_keeps state call Discharge b [] (line_of state call Discharge b) are
   step_keeps state source (list_load call b port) has are = listed_keeps state call Load b port (line_of state call Load b) are
   step_keeps state source (discharge call entry) has are =
-      either Keeps (is_in state entry.number) (with_refusal state AlreadyIn) (by_line state call Discharge entry.number (line_of state call Discharge entry.number) (after_entry state Ship source entry)) are
-      (line_keeps state call Discharge entry.number (line_of state call Discharge entry.number) (after_entry state Ship source entry) are (enters_keeps state Ship source entry has are))
+      either Keeps (is_in state entry.number) (with_refusal state AlreadyIn) (by_line state call Discharge entry.number (line_of state call Discharge entry.number) (after_entry newest state Ship source entry)) are
+      (line_keeps state call Discharge entry.number (line_of state call Discharge entry.number) (after_entry newest state Ship source entry) are (enters_keeps state Ship source entry has are))
   step_keeps state source (load call b moment) has are =
       either Keeps (is_in state b) (by_line state call Load b (line_of state call Load b) (after_departure state Ship source b moment)) (with_refusal state NotIn)
       (line_keeps state call Load b (line_of state call Load b) (after_departure state Ship source b moment) are (departs_keeps state Ship source b moment has are)) are

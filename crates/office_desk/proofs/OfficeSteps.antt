@@ -143,7 +143,7 @@ early_loads content rows p k text terminal db db' has has' loads one most high f
           shown = shows_records interchange (0 ∷ 1 ∷ 3 ∷ []) (0 ∷ 1 ∷ []) interchange_values reply_values (with_kept p k text rows).interchanges placed.0 db' (λ i. refl) new.interchanges placed.1 placed.2;
           are = refl;
         };
-        visits = shows_again visit (0 ∷ 1 ∷ 2 ∷ 3 ∷ 4 ∷ 5 ∷ 6 ∷ 7 ∷ 8 ∷ 9 ∷ 10 ∷ 11 ∷ 12 ∷ 13 ∷ []) (0 ∷ []) visit_values rows.visits db db' _ old.visits new.visits shows.visits;
+        visits = shows_again visit (0 ∷ 1 ∷ 2 ∷ 3 ∷ 4 ∷ 5 ∷ 6 ∷ 7 ∷ 8 ∷ 9 ∷ 10 ∷ 11 ∷ 12 ∷ 13 ∷ 14 ∷ []) (0 ∷ []) visit_values rows.visits db db' _ old.visits new.visits shows.visits;
         places = shows_again place (0 ∷ 1 ∷ 2 ∷ []) (0 ∷ []) place_values rows.places db db' _ old.places new.places shows.places;
         lines = shows_again listed (0 ∷ 1 ∷ 2 ∷ 3 ∷ 4 ∷ 5 ∷ []) (0 ∷ 1 ∷ 2 ∷ 3 ∷ []) line_values rows.lines db db' _ old.lines new.lines shows.lines;
         settings = shows_again setting (0 ∷ 1 ∷ []) (0 ∷ []) setting_values rows.settings db db' _ old.settings new.settings shows.settings;

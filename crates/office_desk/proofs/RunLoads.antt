@@ -71,7 +71,7 @@ has_in_order rows shown db has shows = record {
   rows_are = record {
     partners = holds_shown partner (0 ∷ 1 ∷ 2 ∷ 3 ∷ []) (0 ∷ []) partner_values rows.partners shown.partners db (λ p. refl) has.rows_are.partners shows.partners;
     interchanges = has.rows_are.interchanges;
-    visits = holds_shown visit (0 ∷ 1 ∷ 2 ∷ 3 ∷ 4 ∷ 5 ∷ 6 ∷ 7 ∷ 8 ∷ 9 ∷ 10 ∷ 11 ∷ 12 ∷ 13 ∷ []) (0 ∷ []) visit_values rows.visits shown.visits db (λ v. refl) has.rows_are.visits shows.visits;
+    visits = holds_shown visit (0 ∷ 1 ∷ 2 ∷ 3 ∷ 4 ∷ 5 ∷ 6 ∷ 7 ∷ 8 ∷ 9 ∷ 10 ∷ 11 ∷ 12 ∷ 13 ∷ 14 ∷ []) (0 ∷ []) visit_values rows.visits shown.visits db (λ v. refl) has.rows_are.visits shows.visits;
     places = holds_shown place (0 ∷ 1 ∷ 2 ∷ []) (0 ∷ []) place_values rows.places shown.places db (λ p. refl) has.rows_are.places shows.places;
     lines = holds_shown listed (0 ∷ 1 ∷ 2 ∷ 3 ∷ 4 ∷ 5 ∷ []) (0 ∷ 1 ∷ 2 ∷ 3 ∷ []) line_values rows.lines shown.lines db (λ l. refl) has.rows_are.lines shows.lines;
     settings = holds_shown setting (0 ∷ 1 ∷ []) (0 ∷ []) setting_values rows.settings shown.settings db (λ s. refl) has.rows_are.settings shows.settings;
@@ -316,7 +316,7 @@ module _ (content : SetupContent) (rows : Rows) (terminal : TerminalState) (db :
               shown = shows_records interchange (0 ∷ 1 ∷ 3 ∷ []) (0 ∷ 1 ∷ []) interchange_values reply_values after.interchanges interchanges.0 db' (λ i. refl) has'.rows_are.interchanges interchanges.1 interchanges.2;
               are = refl;
             };
-            visits = shows_records visit (0 ∷ 1 ∷ 2 ∷ 3 ∷ 4 ∷ 5 ∷ 6 ∷ 7 ∷ 8 ∷ 9 ∷ 10 ∷ 11 ∷ 12 ∷ 13 ∷ []) (0 ∷ []) visit_values visit_values after.visits after.visits db' (λ v. refl) has'.rows_are.visits (IsPermutation-refl after.visits) visits_in_turn;
+            visits = shows_records visit (0 ∷ 1 ∷ 2 ∷ 3 ∷ 4 ∷ 5 ∷ 6 ∷ 7 ∷ 8 ∷ 9 ∷ 10 ∷ 11 ∷ 12 ∷ 13 ∷ 14 ∷ []) (0 ∷ []) visit_values visit_values after.visits after.visits db' (λ v. refl) has'.rows_are.visits (IsPermutation-refl after.visits) visits_in_turn;
             places = shows_records place (0 ∷ 1 ∷ 2 ∷ []) (0 ∷ []) place_values place_values after.places places.0 db' (λ p. refl) has'.rows_are.places places.1 places.2;
             lines = shows_records listed (0 ∷ 1 ∷ 2 ∷ 3 ∷ 4 ∷ 5 ∷ []) (0 ∷ 1 ∷ 2 ∷ 3 ∷ []) line_values line_values after.lines lines.0 db' (λ l. refl) has'.rows_are.lines lines.1 lines.2;
             settings = shows_again setting (0 ∷ 1 ∷ []) (0 ∷ []) setting_values shown.settings db db' _ (has_in_order rows shown db has shows).rows_are.settings

@@ -1,5 +1,5 @@
 -- The plan of the yard and the limit of visits, which no delivery changes.
-use Rattle.std.proofs.Common.{◌≡◌, ℕ, List, [], ◌∷◌, Option, None, Some, is_some, Result, Ok, Err, refl, ◌∙◌}
+use Rattle.std.proofs.Common.{◌≡◌, ◌&&◌, not, Bool, ℕ, List, [], ◌∷◌, Option, None, Some, is_some, Result, Ok, Err, refl, ◌∙◌}
 use Rattle.std.specs.FinMap as finite_map
 use Rattle.box6346.specs.SizeCode.{length_of}
 use Rattle.box6346.specs.declared.box_number.BoxNumber.{BoxNumber}
@@ -21,8 +21,9 @@ use Rattle.partner_core.specs.Deliveries.{Delivery}
 use Rattle.partner_core.specs.Numbered.{with_number}
 use Rattle.partner_core.specs.Order.{state, state_after, order, text_under}
 use Rattle.yard_core.specs.declared.placement.Placement.{Placement}
-use Rattle.yard_core.specs.Decisions.{Refusal, present, misfit_of, first_fit, blocker_of, unless_buried, with_misfit, with_slot as with_first_slot, yard_with, yard_without, removed_at, yard_with_move, shifted_at}
-use Rattle.yard_core.specs.YardMap.{Boxes, YardMap, yard_map, placement}
+use Rattle.yard_core.specs.declared.stowed.Stowed.{Stowed}
+use Rattle.yard_core.specs.Decisions.{Refusal, present, is_same_slot, misfit_of, first_fit, blocker_of, unless_buried, with_misfit, with_slot as with_first_slot, yard_with, yard_without, removed_at, yard_with_move, shifted_at}
+use Rattle.yard_core.specs.YardMap.{Boxes, YardMap, yard_map, placement, placement_of, stowed}
 use Rattle.terminal_core.specs.declared.departure.Departure.{Departure}
 use Rattle.terminal_core.specs.declared.line_state.LineState.{LineState}
 use Rattle.terminal_core.specs.declared.line_state.LineState.TheVariants.{Pending, Done as LineIsDone}
@@ -36,6 +37,7 @@ use Rattle.terminal_core.specs.declared.way.Way.{Way}
 use Rattle.terminal_core.specs.declared.way.Way.TheVariants.{Gate, Ship}
 use Rattle.terminal_core.specs.State.{TerminalState, LineContent, line_of, is_in}
 use Rattle.terminal_core.specs.Step.{Stepped, with_refusal, step, yard_with_entry, settled_in, with_slot, is_full, after_entry, entered_at, after_departure, departed_at, departure_by, moved_at, listed_at, then_line_done_at, by_line, by_state}
+use Rattle.terminal_core.specs.Versions.{newest, spares}
 use Rattle.terminal_core.proofs.Changing.{either}
 use Rattle.office_admission.specs.Admission.{admission, is_for}
 use Rattle.office_taking.specs.Taking.{MachineState, cleared, cleared_for, list_replaced, line_taken, lines_taken, verdict_on, messages_taken, codes_for, source_in, nothing_taken, taken_at, taken_of, interchange_taken}
@@ -62,19 +64,21 @@ slot_plan : (y : YardMap) (slot : Slot) (r : Result YardMap Refusal) → IfYard 
 slot_plan y slot (Ok new) h = h
 slot_plan y slot (Err refusal) h = tt
 
-first_plan : (y : YardMap) (o : Option Slot) (b : BoxNumber) (length : Length) → IfSlot y (with_first_slot o y b length)
-first_plan y None b length = tt
-first_plan y (Some slot) b length = refl
+first_plan : (y : YardMap) (o : Option Slot) (b : BoxNumber) (length : Length) (is_laden : Bool) → IfSlot y (with_first_slot o y b length is_laden)
+first_plan y None b length is_laden = tt
+first_plan y (Some slot) b length is_laden = refl
 
-settled_plan : (y : YardMap) (entry : EntryContent) (o : Option Slot) → IfSlot y (settled_in y entry o)
+settled_plan : (y : YardMap) (entry : EntryContent) (o : Option Slot) → IfSlot y (settled_in newest y entry o)
 settled_plan y entry (Some slot) =
     let s = placement (length_of entry.size_type) slot in
-    slot_plan y slot (yard_with y entry.number (length_of entry.size_type) slot)
-    (either (IfYard y) (is_some (finite_map.get y.boxes entry.number)) (Err present) (with_misfit (misfit_of y.plan y.boxes s) (yard_map y.plan (finite_map.insert y.boxes entry.number s))) tt
-    (misfit_plan y (misfit_of y.plan y.boxes s) (finite_map.insert y.boxes entry.number s)))
+    let misfit = misfit_of (spares newest && entry.is_laden) y.plan y.boxes s in
+    slot_plan y slot (yard_with (spares newest) y entry.number (length_of entry.size_type) entry.is_laden slot)
+    (either (IfYard y) (is_some (finite_map.get y.boxes entry.number)) (Err present) (with_misfit misfit (yard_map y.plan (finite_map.insert y.boxes entry.number (stowed s entry.is_laden)))) tt
+    (misfit_plan y misfit (finite_map.insert y.boxes entry.number (stowed s entry.is_laden))))
 settled_plan y entry None =
-    either (IfSlot y) (is_some (finite_map.get y.boxes entry.number)) (Err present) (with_first_slot (first_fit y.plan y.boxes (length_of entry.size_type)) y entry.number (length_of entry.size_type)) tt
-    (first_plan y (first_fit y.plan y.boxes (length_of entry.size_type)) entry.number (length_of entry.size_type))
+    let first = first_fit (spares newest && entry.is_laden) y.plan y.boxes (length_of entry.size_type) in
+    either (IfSlot y) (is_some (finite_map.get y.boxes entry.number)) (Err present) (with_first_slot first y entry.number (length_of entry.size_type) entry.is_laden) tt
+    (first_plan y first entry.number (length_of entry.size_type) entry.is_laden)
 
 unburied : (y : YardMap) (o : Option BoxNumber) (r : Result (YardMap × Placement) Refusal) → IfStood y r → IfStood y (unless_buried o r)
 unburied y None r h = h
@@ -88,11 +92,13 @@ removed_plan : (y : YardMap) (b : BoxNumber) (o : Option Placement) → IfStood 
 removed_plan y b None = tt
 removed_plan y b (Some s) = unburied y (blocker_of y.boxes s) (Ok (yard_map y.plan (finite_map.remove y.boxes b), s)) refl
 
-shifted_plan : (y : YardMap) (b : BoxNumber) (slot : Slot) (o : Option Placement) → IfYard y (shifted_at o y b slot)
+shifted_plan : (y : YardMap) (b : BoxNumber) (slot : Slot) (o : Option Stowed) → IfYard y (shifted_at (spares newest) o y b slot)
 shifted_plan y b slot None = tt
-shifted_plan y b slot (Some s) =
-    unburied_yard y (blocker_of y.boxes s) (with_misfit (misfit_of y.plan (finite_map.remove y.boxes b) (placement s.length slot)) (yard_map y.plan (finite_map.insert y.boxes b (placement s.length slot))))
-    (misfit_plan y (misfit_of y.plan (finite_map.remove y.boxes b) (placement s.length slot)) (finite_map.insert y.boxes b (placement s.length slot)))
+shifted_plan y b slot (Some w) =
+    let moved = placement w.placement.length slot in
+    let misfit = misfit_of (spares newest && (w.is_laden && not (is_same_slot slot w.placement.slot))) y.plan (finite_map.remove y.boxes b) moved in
+    unburied_yard y (blocker_of y.boxes w.placement) (with_misfit misfit (yard_map y.plan (finite_map.insert y.boxes b (stowed moved w.is_laden))))
+    (misfit_plan y misfit (finite_map.insert y.boxes b (stowed moved w.is_laden)))
 
 -- ---- an order
 
@@ -111,17 +117,17 @@ entered_stays : (state : TerminalState) (way : Way) (source : Source) (entry : E
 entered_stays state way source entry (Ok (y, slot)) h = record { plan = h; limit = refl }
 entered_stays state way source entry (Err refusal) h = still state
 
-enters_stays : (state : TerminalState) (way : Way) (source : Source) (entry : EntryContent) → Stays state (after_entry state way source entry)
+enters_stays : (state : TerminalState) (way : Way) (source : Source) (entry : EntryContent) → Stays state (after_entry newest state way source entry)
 enters_stays state way source entry =
-    either (Stays state) (is_full state) (with_refusal state VisitLimit) (entered_at state way source entry (yard_with_entry state.yard entry)) (still state)
-    (entered_stays state way source entry (yard_with_entry state.yard entry) (settled_plan state.yard entry entry.slot))
+    either (Stays state) (is_full state) (with_refusal state VisitLimit) (entered_at state way source entry (yard_with_entry newest state.yard entry)) (still state)
+    (entered_stays state way source entry (yard_with_entry newest state.yard entry) (settled_plan state.yard entry entry.slot))
 
 departed_stays : (state : TerminalState) (b : BoxNumber) (departure : Departure) (r : Result (YardMap × Placement) Refusal) → IfStood state.yard r → Stays state (departed_at state b departure r)
 departed_stays state b departure (Ok (y, s)) h = record { plan = h; limit = refl }
 departed_stays state b departure (Err refusal) h = still state
 
 departs_stays : (state : TerminalState) (way : Way) (source : Source) (b : BoxNumber) (moment : CivilMoment) → Stays state (after_departure state way source b moment)
-departs_stays state way source b moment = departed_stays state b (departure_by way source moment) (yard_without state.yard b) (removed_plan state.yard b (finite_map.get state.yard.boxes b))
+departs_stays state way source b moment = departed_stays state b (departure_by way source moment) (yard_without state.yard b) (removed_plan state.yard b (placement_of state.yard.boxes b))
 
 moved_stays : (state : TerminalState) (b : BoxNumber) (slot : Slot) (r : Result YardMap Refusal) → IfYard state.yard r → Stays state (moved_at state b slot r)
 moved_stays state b slot (Ok y) h = record { plan = h; limit = refl }
@@ -146,14 +152,14 @@ line_stays state call side b None after h = still state
 line_stays state call side b (Some line) after h = state_stays state call side b line after line.state h
 
 step_stays : (state : TerminalState) (source : Source) (order : OrderContent) → Stays state (step state source order)
-step_stays state source (gate_in entry) = either (Stays state) (is_in state entry.number) (with_refusal state AlreadyIn) (after_entry state Gate source entry) (still state) (enters_stays state Gate source entry)
+step_stays state source (gate_in entry) = either (Stays state) (is_in state entry.number) (with_refusal state AlreadyIn) (after_entry newest state Gate source entry) (still state) (enters_stays state Gate source entry)
 step_stays state source (gate_out b moment) = departs_stays state Gate source b moment
-step_stays state source (move b slot) = moved_stays state b slot (yard_with_move state.yard b slot) (shifted_plan state.yard b slot (finite_map.get state.yard.boxes b))
+step_stays state source (move b slot) = moved_stays state b slot (yard_with_move (spares newest) state.yard b slot) (shifted_plan state.yard b slot (finite_map.get state.yard.boxes b))
 step_stays state source (list_discharge call b) = listed_stays state call Discharge b [] (line_of state call Discharge b)
 step_stays state source (list_load call b port) = listed_stays state call Load b port (line_of state call Load b)
 step_stays state source (discharge call entry) =
-    either (Stays state) (is_in state entry.number) (with_refusal state AlreadyIn) (by_line state call Discharge entry.number (line_of state call Discharge entry.number) (after_entry state Ship source entry)) (still state)
-    (line_stays state call Discharge entry.number (line_of state call Discharge entry.number) (after_entry state Ship source entry) (enters_stays state Ship source entry))
+    either (Stays state) (is_in state entry.number) (with_refusal state AlreadyIn) (by_line state call Discharge entry.number (line_of state call Discharge entry.number) (after_entry newest state Ship source entry)) (still state)
+    (line_stays state call Discharge entry.number (line_of state call Discharge entry.number) (after_entry newest state Ship source entry) (enters_stays state Ship source entry))
 step_stays state source (load call b moment) =
     either (Stays state) (is_in state b) (by_line state call Load b (line_of state call Load b) (after_departure state Ship source b moment)) (with_refusal state NotIn)
     (line_stays state call Load b (line_of state call Load b) (after_departure state Ship source b moment) (departs_stays state Ship source b moment)) (still state)

@@ -1,5 +1,5 @@
 -- The laws of one delivery more, of the rows after deliveries.
-use Rattle.std.proofs.Common.{◌≡◌, ℕ, ◌+◌, ◌<◌, List, [], ◌∷◌, ◌++◌, length, None, Some, Err, refl, sym, ap, subst, ◌∙◌, arith}
+use Rattle.std.proofs.Common.{Option, ◌≡◌, ℕ, ◌+◌, ◌<◌, List, [], ◌∷◌, ◌++◌, length, None, Some, Err, refl, sym, ap, subst, ◌∙◌, arith}
 use Rattle.std.specs.Prelude.{is_some}
 use Rattle.std.specs.Cmp.Lexicographic.{slice_cmp}
 use Rattle.std.specs.Ordering.{nat_cmp}
@@ -11,6 +11,8 @@ use Rattle.partner_core.specs.Deliveries.{Delivery, delivery, run}
 use Rattle.partner_core.specs.Order.{state, order, reply_of}
 use Rattle.partner_core.proofs.Growths.{adds_nothing, adds_text, other_run-stays}
 use Rattle.partner_core.proofs.OnePartner.{run_of_none}
+use Rattle.yard_core.specs.declared.stowed.Stowed.{Stowed}
+use Rattle.yard_core.specs.YardMap.{placed}
 use Rattle.terminal_core.specs.Changes.{standing_in, rows_of}
 use Rattle.yard_core.specs.declared.placement.Placement.{Placement}
 use Rattle.terminal_core.specs.Step.{number_of_visit}
@@ -52,7 +54,7 @@ opening_after content = record {
   replies = λ p k. sym (none_replied content p k);
   kept_once = λ p k. omega arith;
   terminal =
-      (λ i. record { visits = []; places = λ q. sym (ap (option_map (λ (s : Placement). standing_in (number_of_visit (open_visit (opening_of content).terminal q)) s.slot)) (finite_map.get-empty (slice_cmp nat_cmp) q)) i; lines = finite_map.empty })
+      (λ i. record { visits = []; places = λ q. sym (ap (λ (w : Option Stowed). option_map (λ (s : Placement). standing_in (number_of_visit (open_visit (opening_of content).terminal q)) s.slot) (placed w)) (finite_map.get-empty (slice_cmp nat_cmp) q)) i; lines = finite_map.empty })
       ∙ ap (λ (m : MachineState). rows_of m.terminal) (sym (none_ordered content));
   placed_once = λ q. omega arith;
   listed_once = λ c s b. omega arith;

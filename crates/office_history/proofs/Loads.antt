@@ -25,6 +25,7 @@ use Rattle.edi_messages.specs.Codes.{table_texts}
 use Rattle.yard_core.specs.declared.block.Block.{Block}
 use Rattle.yard_core.specs.declared.placement.Placement.{Placement}
 use Rattle.yard_core.specs.Plan.{AreApart}
+use Rattle.yard_core.specs.YardMap.{placement_of}
 use Rattle.terminal_core.specs.declared.departure.Departure.{Departure}
 use Rattle.terminal_core.specs.declared.line_state.LineState.{LineState}
 use Rattle.terminal_core.specs.declared.line_state.LineState.TheVariants.{Pending, Done}
@@ -131,6 +132,7 @@ visit_one a b fa fb e =
     let when = moment_one a.arrival.moment b.arrival.moment fa.moment fb.moment (text_one _ _ (at 8 ra rb e)) in
     let slot = slot_one a.arrival.slot b.arrival.slot fa.slot fb.slot (text_one _ _ (at 9 ra rb e)) in
     let exit = exit_one a.departure b.departure fa.exit fb.exit (number_one _ _ (at 10 ra rb e)) (number_one _ _ (at 11 ra rb e)) (number_one _ _ (at 12 ra rb e)) (text_one _ _ (at 13 ra rb e)) in
+    let kilos = number_one a.kilos b.kilos (at 14 ra rb e) in
     λ i. record {
       number = n i;
       container = container i;
@@ -139,6 +141,7 @@ visit_one a b fa fb e =
       booking = booking i;
       arrival = record { way = way i; source = record { partner = partner i; number = own i }; moment = when i; slot = slot i };
       departure = exit i;
+      kilos = kilos i;
     }
 
 place_one : (a b : PlaceContent) → IsNamed a.slot → IsNamed b.slot → place_values a ≡ place_values b → a ≡ b
@@ -258,7 +261,7 @@ any_head (b ∷ blocks) = omega arith
 -- ---- places
 
 -- the container of a place stands in a slot that has a name
-named_at : (state : TerminalState) (place : PlaceContent) (o : Option Placement) (n : ℕ) → finite_map.get state.yard.boxes place.container ≡ o
+named_at : (state : TerminalState) (place : PlaceContent) (o : Option Placement) (n : ℕ) → placement_of state.yard.boxes place.container ≡ o
     → Some (standing_in place.visit place.slot) ≡ option_map (λ (s : Placement). standing_in n s.slot) o → IsWellFormed state → IsNamed place.slot
 named_at state place None n there e formed = cc
 named_at state place (Some s) n there e formed =
@@ -267,7 +270,7 @@ named_at state place (Some s) n there e formed =
 
 named_place : (places : List PlaceContent) (state : TerminalState) → ArePlacedOnce places → standing_by places ≡ standing_of state → IsWellFormed state → (place : PlaceContent) → Contains places place → IsNamed place.slot
 named_place places state once same formed place inside =
-    named_at state place (finite_map.get state.yard.boxes place.container) (number_of_visit (open_visit state place.container)) refl
+    named_at state place (placement_of state.yard.boxes place.container) (number_of_visit (open_visit state place.container)) refl
     (sym (ap (option_map (λ (p : PlaceContent). standing_in p.visit p.slot)) (found_only (stands_for place.container) places place (once place.container) inside (same_self place.container)))
     ∙ ap (λ f. f place.container) same) formed
 
@@ -341,7 +344,7 @@ module _ (content : SetupContent) (es : List Event) (rows : Rows) (db : Database
 
   visits_same : shown.visits ≡ rows.visits
   visits_same =
-      let in_order = shown_in visit (0 ∷ 1 ∷ 2 ∷ 3 ∷ 4 ∷ 5 ∷ 6 ∷ 7 ∷ 8 ∷ 9 ∷ 10 ∷ 11 ∷ 12 ∷ 13 ∷ []) (0 ∷ []) visit_values rows.visits db (map visit_values shown.visits) (λ v. refl) has.rows_are.visits shows.visits in
+      let in_order = shown_in visit (0 ∷ 1 ∷ 2 ∷ 3 ∷ 4 ∷ 5 ∷ 6 ∷ 7 ∷ 8 ∷ 9 ∷ 10 ∷ 11 ∷ 12 ∷ 13 ∷ 14 ∷ []) (0 ∷ []) visit_values rows.visits db (map visit_values shown.visits) (λ v. refl) has.rows_are.visits shows.visits in
       let same : shown.visits ≡ in_order.0 = same_records IsFormedVisit visit_values visit_one shown.visits in_order.0
       (λ v inside. office.formed.visits v (subst (λ l. Contains l v) shown_visits_are inside))
       (λ v inside. sound_formed.visits v (subst (λ l. Contains l v) visits_are (Contains-permutation in_order.0 rows.visits v (IsPermutation-sym rows.visits in_order.0 in_order.1) inside)))
@@ -443,7 +446,7 @@ module _ (db : Database) (one two : OpenedRows) (content other : SetupContent) (
 
   both_visits : one.visits ≡ two.visits
   both_visits =
-      let in_order = shown_twice visit (0 ∷ 1 ∷ 2 ∷ 3 ∷ 4 ∷ 5 ∷ 6 ∷ 7 ∷ 8 ∷ 9 ∷ 10 ∷ 11 ∷ 12 ∷ 13 ∷ []) (0 ∷ []) visit_values one.visits two.visits db shows.visits also.visits in
+      let in_order = shown_twice visit (0 ∷ 1 ∷ 2 ∷ 3 ∷ 4 ∷ 5 ∷ 6 ∷ 7 ∷ 8 ∷ 9 ∷ 10 ∷ 11 ∷ 12 ∷ 13 ∷ 14 ∷ []) (0 ∷ []) visit_values one.visits two.visits db shows.visits also.visits in
       let same : two.visits ≡ in_order.0 = same_records IsFormedVisit visit_values visit_one two.visits in_order.0
       (λ v inside. second.formed.visits v (subst (λ l. Contains l v) other_visits_of inside))
       (λ v inside. office.formed.visits v (subst (λ l. Contains l v) visits_of (Contains-permutation in_order.0 one.visits v (IsPermutation-sym one.visits in_order.0 in_order.1) inside)))

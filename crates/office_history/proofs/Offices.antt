@@ -328,7 +328,7 @@ module _ (content : SetupContent) (es : List Event) (rows : Rows) (db : Database
         shown = shows_records interchange (0 ∷ 1 ∷ 3 ∷ []) (0 ∷ 1 ∷ []) interchange_values reply_values rows.interchanges interchanges.0 db (λ i. refl) has.rows_are.interchanges interchanges.1 interchanges.2;
         are = refl;
       };
-      visits = shows_records visit (0 ∷ 1 ∷ 2 ∷ 3 ∷ 4 ∷ 5 ∷ 6 ∷ 7 ∷ 8 ∷ 9 ∷ 10 ∷ 11 ∷ 12 ∷ 13 ∷ []) (0 ∷ []) visit_values visit_values rows.visits rows.visits db (λ v. refl) has.rows_are.visits (IsPermutation-refl rows.visits) visits_in_turn;
+      visits = shows_records visit (0 ∷ 1 ∷ 2 ∷ 3 ∷ 4 ∷ 5 ∷ 6 ∷ 7 ∷ 8 ∷ 9 ∷ 10 ∷ 11 ∷ 12 ∷ 13 ∷ 14 ∷ []) (0 ∷ []) visit_values visit_values rows.visits rows.visits db (λ v. refl) has.rows_are.visits (IsPermutation-refl rows.visits) visits_in_turn;
       places = shows_records place (0 ∷ 1 ∷ 2 ∷ []) (0 ∷ []) place_values place_values rows.places places.0 db (λ p. refl) has.rows_are.places places.1 places.2;
       lines = shows_records listed (0 ∷ 1 ∷ 2 ∷ 3 ∷ 4 ∷ 5 ∷ []) (0 ∷ 1 ∷ 2 ∷ 3 ∷ []) line_values line_values rows.lines lines.0 db (λ l. refl) has.rows_are.lines lines.1 lines.2;
       settings = shows_records settings_table (0 ∷ 1 ∷ []) (0 ∷ []) setting_values setting_values rows.settings (settings_by_name content) db (λ s. refl) has.rows_are.settings

@@ -9,6 +9,7 @@ use Rattle.box6346.specs.SlotName.{IsNamed}
 use Rattle.box6346.specs.declared.box_number.BoxNumber.{BoxNumber}
 use Rattle.box6346.proofs.SlotNames.{names_are_read_again_lem}
 use Rattle.yard_core.specs.declared.placement.Placement.{Placement}
+use Rattle.yard_core.specs.YardMap.{placement_of}
 use Rattle.terminal_core.specs.Changes.{Standing, standing_in, standing_of}
 use Rattle.terminal_core.specs.Forms.{IsWellFormed}
 use Rattle.terminal_core.specs.Rows.{VisitContent}
@@ -46,7 +47,7 @@ module _ (state : TerminalState) (places : List PlaceContent) (whole : IsWhole s
   pub place_fits : (p : PlaceContent) → Has places p → FitsPlace p
   place_fits p has =
       let stands : standing_by places p.container ≡ Some (standing_in p.visit p.slot) = ap (option_map (λ (place : PlaceContent). standing_in place.visit place.slot)) (found_place places p once has) in
-      let there = mapped_some (λ (s : Placement). standing_in (number_of_visit (open_visit state p.container)) s.slot) (finite_map.get state.yard.boxes p.container) (standing_in p.visit p.slot) (sym (same p.container) ∙ stands) in
+      let there = mapped_some (λ (s : Placement). standing_in (number_of_visit (open_visit state p.container)) s.slot) (placement_of state.yard.boxes p.container) (standing_in p.visit p.slot) (sym (same p.container) ∙ stands) in
       let slot_is : there.0.slot ≡ p.slot = ap (λ (s : Standing). s.slot) there.2 in
       let number_is : number_of_visit (open_visit state p.container) ≡ p.visit = ap (λ (s : Standing). s.visit) there.2 in
       let here : is_some (open_visit state p.container) ≡ true = sym (whole.here p.container) ∙ ap is_some there.1 in

@@ -1,6 +1,7 @@
 use Rattle.std.proofs.Common.{◌≡◌, Some, length, refl, sym, ap, subst, ◌∙◌, arith}
 use Rattle.std.proofs.lemmas.List.{length-map}
 use Rattle.office_rows.specs.Stored.{HasRows}
+use Rattle.office_rows.proofs.StepLemmas.{if_ok}
 use Rattle.sqlite.specs.Held.{state}
 use Rattle.office_setup.specs.Setups.{setup_content}
 use Rattle.partner_core.specs.Deliveries.{delivery}
@@ -9,7 +10,8 @@ use Rattle.office_desk.specs.Telling.{IsRunDone}
 use Rattle.office_desk.proofs.KeptLemmas.{early_or_stays, failed_stays, next_answers_so}
 use Rattle.office_desk.proofs.OfficeLemmas.{office_with}
 use Rattle.office_desk.proofs.HoldLemmas.{early_answers, machine_same, next_answers, numbered, if_on}
-use Rattle.office_desk.proofs.CrashLemmas.{early_after, either_of, on_err, on_ok, run_after}
+use Rattle.office_desk.proofs.CrashLemmas.{early_after, either_of, on_err, on_err_then, on_ok, run_after}
+use Rattle.office_desk.proofs.DeliverLemmas.{is_now}
 use Rattle.office_desk.proofs.taking.take_new.Goals as goal
 
 pub returns-then-next-number-clause-ok : goal.returns-then-next-number-clause-ok
@@ -21,6 +23,15 @@ returns-then-next-number-clause-ok g c clean is_open =
     if_on c.take_early.result (λ response told wrote. λ es sent rows has settled after beside free is comes.
     early_answers content es rows sent a.text.now a.admitted.now.partner a.number a.next a.code.now response old new (Some a.there) after has settled beside comes free is c.if-next-number.true told wrote)
     c.take_early.ensures.told (c.take_early.ensures.ok clean)
+
+pub returns-then-next-number-clause-now : goal.returns-then-next-number-clause-now
+returns-then-next-number-clause-now g c = if_ok c.take_early.result (λ response told. is_now response c.args.code.now c.args.number _ told) c.take_early.ensures.told
+
+pub returns-then-next-number-clause-err : goal.returns-then-next-number-clause-err
+returns-then-next-number-clause-err g c clean is_open =
+    on_err_then c.take_early.result (λ same. λ es rows has settled after beside.
+    record { rows = rows; has = subst (HasRows rows) (sym same) (subst (HasRows rows) settled has); after = after; beside = beside })
+    (c.take_early.ensures.err clean is_open)
 
 pub returns-clause-ok : goal.returns-clause-ok
 returns-clause-ok g c clean is_open es sent rows has settled after beside free is comes =
