@@ -135,6 +135,23 @@ def counts(stores):
     return rows + [Row('the latter by the former', 'times', ratios[0], ratios[1], 'at most 1.2')]
 
 
+def nearly_full(stores):
+    """Instructions of a gate-in that names no slot, where the yard has 20 blocks, the largest that there may be, and is empty,
+    and where it is full of twenties but for the slots that these gate-ins take."""
+    if not shutil.which('valgrind'):
+        return []
+    texts, empty = streams.twenties_behind(MORE), stores.new('empty', 'whole')
+    full = stores.copy(empty, stores.path('full'))
+    office = Stream(stores.office, 'deliver', full, '-')
+    office.feed(streams.twenties(streams.SLOTS_FOR_TWENTIES - MORE))
+    office.close()
+    costs = [counted(stores, stores.office, store, texts) for store in (empty, full)]
+    return [
+        Row('a gate-in, 20 blocks, the yard empty', 'thousands', costs[0] / 1000),
+        Row('the same, the yard nearly full', 'thousands', costs[1] / 1000),
+        Row('the latter by the former', 'times', costs[1] / costs[0], None, 'at most 1.2')]
+
+
 def own_work(stores):
     """`office demo`, over tables in memory, beside the peer with no statement run."""
     texts = streams.gates(MARKS[1] + PARTS * PART, IN_DEMO)

@@ -20,7 +20,7 @@ class Stores:
     def __init__(self, folder, office, peer):
         self.folder, self.office, self.peer = folder, office, peer
         partners = self.file('partners.csv', streams.PARTNERS)
-        for name, blocks in (('large', streams.LARGE_YARD), ('small', streams.SMALL_YARD)):
+        for name, blocks in (('whole', streams.WHOLE_YARD), ('large', streams.LARGE_YARD), ('small', streams.SMALL_YARD)):
             command(office, 'init', self.path(name), partners, self.file(name + '.csv', blocks))
         command(office, 'init', self.path('demo'), *(os.path.join(EXAMPLE, name) for name in ('partners.csv', 'blocks.csv')))
 

@@ -10,6 +10,8 @@ PARTNERS = '\n'.join([
     'what,name,value', 'terminal,TERM1,', 'partner,HAULA,gate', 'partner,HAULB,gate', 'partner,LINEA,line',
     'partner,QUAYA,quay', 'partner,YARDA,yard', ''])
 LARGE_YARD = 'block,bays,rows,tiers\n' + ''.join('%s,40,12,6\n' % letter for letter in 'ABCDEFGH')
+WHOLE_YARD = 'block,bays,rows,tiers\n' + ''.join('%s,40,12,6\n' % letter for letter in 'ABCDEFGHIJKLMNOPQRST')
+SLOTS_FOR_TWENTIES = 20 * 40 * 12 * 6   # of the whole yard
 SMALL_YARD = 'block,bays,rows,tiers\nA,3,2,3\nB,2,1,2\n'
 
 TYPES = {'34': 'CODECO', '36': 'CODECO', 'YMV': 'CODECO', '43': 'COPRAR', '45': 'COPRAR', '44': 'COARRI', '46': 'COARRI'}
@@ -125,6 +127,23 @@ def filling(count):
         groups = [Group(box(serial), size_of(serial), moment='202403050910') for serial in range(first, first + 100)]
         texts.append(numbers.send('HAULA', message(1, '34', groups)))
     return texts
+
+
+def twenties(count):
+    """Gate-ins of so many full twenties, in messages that are as long as they may be, from the second haulier."""
+    numbers, texts = Numbers(), []
+    for first in range(0, count, FULL):
+        groups = [Group(box(serial), '22G1', moment='202403050910') for serial in range(first, min(first + FULL, count))]
+        texts.append(numbers.send('HAULB', message(1, '34', groups)))
+    return texts
+
+
+def twenties_behind(count):
+    """Gate-ins of so many full twenties more, one at a time, from the first haulier."""
+    numbers = Numbers()
+    return [
+        numbers.send('HAULA', message(1, '34', [Group(box(serial), '22G1', moment='202403050910')]))
+        for serial in range(SLOTS_FOR_TWENTIES, SLOTS_FOR_TWENTIES + count)]
 
 
 # ---- all orders, and what is refused of them
