@@ -9,7 +9,8 @@ use Rattle.box6346.specs.SlotName.{IsNamed}
 use Rattle.box6346.specs.declared.box_number.BoxNumber.{BoxNumber}
 use Rattle.box6346.proofs.SlotNames.{names_are_read_again_lem}
 use Rattle.yard_core.specs.declared.placement.Placement.{Placement}
-use Rattle.yard_core.specs.YardMap.{placement_of}
+use Rattle.yard_core.specs.declared.stowed.Stowed.{Stowed}
+use Rattle.yard_core.specs.YardMap.{placed, placement_of}
 use Rattle.terminal_core.specs.Changes.{Standing, standing_in, standing_of}
 use Rattle.terminal_core.specs.Forms.{IsWellFormed}
 use Rattle.terminal_core.specs.Rows.{VisitContent}
@@ -38,6 +39,10 @@ found_place places p once has =
     let found = found_is (stands_for p.container) places some.0 some.1 in
     some.1 ∙ ap Some (one_passes (stands_for p.container) places some.0 p (once p.container) (contained places found.0 some.0 found.1) inside found.2 (own_place p))
 
+placed_some : (o : Option Stowed) → is_some (placed o) ≡ is_some o
+placed_some None = refl
+placed_some (Some w) = refl
+
 mapped_some : {A B : Type 0} (f : A → B) (o : Option A) (y : B) → option_map f o ≡ Some y → (x : A) × (o ≡ Some x) × (f x ≡ y)
 mapped_some f None y e = absurd cc
 mapped_some f (Some x) y e = (x, refl, (let h : Some (f x) ≡ Some y = e in cc))
@@ -50,7 +55,7 @@ module _ (state : TerminalState) (places : List PlaceContent) (whole : IsWhole s
       let there = mapped_some (λ (s : Placement). standing_in (number_of_visit (open_visit state p.container)) s.slot) (placement_of state.yard.boxes p.container) (standing_in p.visit p.slot) (sym (same p.container) ∙ stands) in
       let slot_is : there.0.slot ≡ p.slot = ap (λ (s : Standing). s.slot) there.2 in
       let number_is : number_of_visit (open_visit state p.container) ≡ p.visit = ap (λ (s : Standing). s.visit) there.2 in
-      let here : is_some (open_visit state p.container) ≡ true = sym (whole.here p.container) ∙ ap is_some there.1 in
+      let here : is_some (open_visit state p.container) ≡ true = sym (whole.here p.container) ∙ sym (placed_some (finite_map.get state.yard.boxes p.container)) ∙ ap is_some there.1 in
       let visit = some_of (open_visit state p.container) here in
       let found = found_is (is_open_visit p.container) state.visits visit.0 visit.1 in
       let listed = contained state.visits found.0 visit.0 found.1 in

@@ -1,3 +1,4 @@
+use Rattle.std.specs.Prelude.{[], ◌∷◌, ◌++◌}
 use Rattle.office_loading.proofs.visit_rows.VisitRecord.read.Goals as goal
 
 pub returns : goal.returns
@@ -17,4 +18,4 @@ returns c =
     let arrival_is = arrival.0 in
     let exit_is = exit.0 in
     let kilos_is = kilos.0 in
-    ((cc), record { number = number.1; container = container.1; size_type = size.1; booking = booking.1; arrival = arrival.1; exit = exit.1; kilos = kilos.1 })
+    ((λ i. number_is i ∷ container_is i ∷ size_is i ∷ laden i ∷ booking_is i ∷ (arrival_is i ++ (exit_is i ++ (kilos_is i ∷ [])))), record { number = number.1; container = container.1; size_type = size.1; booking = booking.1; arrival = arrival.1; exit = exit.1; kilos = kilos.1 })
