@@ -9,7 +9,7 @@ use Rattle.box6346.specs.declared.slot.Slot.{Slot}
 use Rattle.edi_moments.specs.Moments.{CivilMoment}
 use Rattle.edi_messages.specs.Purposes.{CallContent}
 use Rattle.edi_messages.specs.Orders.{EntryContent, OrderContent, gate_in, gate_out, move, list_discharge, list_load, discharge, load}
-use Rattle.yard_core.specs.YardMap.{YardMap, placement}
+use Rattle.yard_core.specs.YardMap.{YardMap, placement, placement_of}
 use Rattle.yard_core.specs.Decisions.{Refusal, yard_without, yard_with_move}
 use Rattle.yard_core.specs.declared.placement.Placement.{Placement}
 use Rattle.terminal_core.specs.declared.departure.Departure.{Departure}
@@ -21,15 +21,18 @@ use Rattle.terminal_core.specs.declared.reason.Reason.TheVariants.{AlreadyIn, No
 use Rattle.terminal_core.specs.declared.side.Side.{Side}
 use Rattle.terminal_core.specs.declared.side.Side.TheVariants.{Load, Discharge}
 use Rattle.terminal_core.specs.declared.source.Source.{Source}
+use Rattle.terminal_core.specs.declared.version.Version.{Version}
 use Rattle.terminal_core.specs.declared.way.Way.{Way}
 use Rattle.terminal_core.specs.declared.way.Way.TheVariants.{Gate, Ship}
 use Rattle.terminal_core.specs.Rows.{VisitContent, ChangeContent, line_done}
 use Rattle.terminal_core.specs.State.{TerminalState, LineContent, Lines, line_key, line_of, is_in, is_open_visit, open_visit, AreNumbered, IsWhole}
-use Rattle.terminal_core.specs.Step.{Stepped, with_refusal, step, yard_with_entry, is_full, after_entry, entered_at, number_of_visit, after_departure, departed_at, departure_by, moved_at, listed_at, then_line_done_at, by_line, by_state}
+use Rattle.terminal_core.specs.Versions.{spares}
+use Rattle.terminal_core.specs.Step.{Stepped, with_refusal, step_by, yard_with_entry, is_full, after_entry, entered_at, number_of_visit, after_departure, departed_at, departure_by, moved_at, listed_at, then_line_done_at, by_line, by_state}
 use Rattle.terminal_core.specs.Changes.{TerminalRows, rows_of, rows_with, all_changed, is_numbered, IsOneOpenVisit, IsApplicable, AreApplicable}
+use Rattle.terminal_core.proofs.Boxes.{there_placed}
 use Rattle.terminal_core.proofs.Counting.{find_skips, find_meets}
 use Rattle.terminal_core.proofs.Shared.{new_place, new_slot}
-use Rattle.terminal_core.proofs.Changing.{Comes, comes, goes, shifts, numbered_from, found, turned_entered, turned_departed, entered_keeps, departed_keeps, either, placed_by, Turns, KeepsLines}
+use Rattle.terminal_core.proofs.Changing.{Comes, comes, brought, goes, shifts, numbered_from, found, turned_entered, turned_departed, entered_keeps, departed_keeps, either, placed_by, Turns, KeepsLines}
 
 -- ---- numbers
 
@@ -94,32 +97,32 @@ one_open_visit state b whole is =
 abbrev Applies : TerminalState → Stepped → Type 0
 Applies state after = AreApplicable (rows_of state) after.changes
 
-applies_entered_at : (state : TerminalState) (way : Way) (source : Source) (entry : EntryContent) (r : Result (YardMap × Slot) Refusal) → IsWhole state → yard_with_entry state.yard entry ≡ r → Applies state (entered_at state way source entry r)
-applies_entered_at state way source entry (Err f) whole e = tt
-applies_entered_at state way source entry (Ok (y, slot)) whole e =
-    let came : Comes state.yard y entry.number (placement (length_of entry.size_type) slot) = comes state.yard y entry entry.slot slot e in (
+applies_entered_at : (version : Version) (state : TerminalState) (way : Way) (source : Source) (entry : EntryContent) (r : Result (YardMap × Slot) Refusal) → IsWhole state → yard_with_entry version state.yard entry ≡ r → Applies state (entered_at state way source entry r)
+applies_entered_at version state way source entry (Err f) whole e = tt
+applies_entered_at version state way source entry (Ok (y, slot)) whole e =
+    let came : Comes state.yard y entry.number (brought entry slot) = comes version state.yard y entry entry.slot slot e in (
       record { next = refl; absent = none_after (length state.visits + 1) 1 state.visits whole.numbered (omega arith); stays = refl },
-      (new_place state entry.number (placement (length_of entry.size_type) slot) whole came.absent came.fits, tt),
+      (new_place came.is_wary state entry.number (placement (length_of entry.size_type) slot) whole came.absent came.fits, tt),
     )
 
-applies_entered : (state : TerminalState) (way : Way) (source : Source) (entry : EntryContent) → IsWhole state → Applies state (after_entry state way source entry)
-applies_entered state way source entry whole =
-    either (Applies state) (is_full state) (with_refusal state VisitLimit) (entered_at state way source entry (yard_with_entry state.yard entry)) tt (applies_entered_at state way source entry (yard_with_entry state.yard entry) whole refl)
+applies_entered : (version : Version) (state : TerminalState) (way : Way) (source : Source) (entry : EntryContent) → IsWhole state → Applies state (after_entry version state way source entry)
+applies_entered version state way source entry whole =
+    either (Applies state) (is_full state) (with_refusal state VisitLimit) (entered_at state way source entry (yard_with_entry version state.yard entry)) tt (applies_entered_at version state way source entry (yard_with_entry version state.yard entry) whole refl)
 
 applies_departed_at : (state : TerminalState) (b : BoxNumber) (departure : Departure) (r : Result (YardMap × Placement) Refusal) → IsWhole state → yard_without state.yard b ≡ r → Applies state (departed_at state b departure r)
 applies_departed_at state b departure (Err f) whole e = tt
 applies_departed_at state b departure (Ok (y, s)) whole e =
-    let went = goes (finite_map.get state.yard.boxes b) state.yard y b s e in
-    (ap (λ o. is_some (placed_by (open_visit state b) o)) went.0, (one_open_visit state b whole (sym (whole.here b) ∙ ap is_some went.0), tt))
+    let went = goes (placement_of state.yard.boxes b) state.yard y b s e in
+    (ap (λ o. is_some (placed_by (open_visit state b) o)) went.0, (one_open_visit state b whole (sym (whole.here b) ∙ there_placed state.yard.boxes b s went.0), tt))
 
 applies_departed : (state : TerminalState) (way : Way) (source : Source) (b : BoxNumber) (moment : CivilMoment) → IsWhole state → Applies state (after_departure state way source b moment)
 applies_departed state way source b moment whole = applies_departed_at state b (departure_by way source moment) (yard_without state.yard b) whole refl
 
-applies_moved_at : (state : TerminalState) (b : BoxNumber) (slot : Slot) (r : Result YardMap Refusal) → IsWhole state → yard_with_move state.yard b slot ≡ r → Applies state (moved_at state b slot r)
-applies_moved_at state b slot (Err f) whole e = tt
-applies_moved_at state b slot (Ok y) whole e =
-    let is = shifts (finite_map.get state.yard.boxes b) state.yard y b slot e in
-    (new_slot state b is.0 slot whole is.1 is.3, tt)
+applies_moved_at : (version : Version) (state : TerminalState) (b : BoxNumber) (slot : Slot) (r : Result YardMap Refusal) → IsWhole state → yard_with_move (spares version) state.yard b slot ≡ r → Applies state (moved_at state b slot r)
+applies_moved_at version state b slot (Err f) whole e = tt
+applies_moved_at version state b slot (Ok y) whole e =
+    let is = shifts version (finite_map.get state.yard.boxes b) state.yard y b slot e in
+    (new_slot is.2.is_wary state b is.0 slot whole is.1 is.2.fits, tt)
 
 applies_listed : (state : TerminalState) (call : CallContent) (side : Side) (b : BoxNumber) (port : List ℕ) (o : Option LineContent) → line_of state call side b ≡ o → Applies state (listed_at state call side b port o)
 applies_listed state call side b port (Some line) e = tt
@@ -165,17 +168,17 @@ applies_by_line state call side b (Some line) after applies turns keeps e =
 
 -- ---- orders
 
-pub applicable_step : (state : TerminalState) (source : Source) (order : OrderContent) → IsWhole state → Applies state (step state source order)
-applicable_step state source (gate_in entry) whole = either (Applies state) (is_in state entry.number) (with_refusal state AlreadyIn) (after_entry state Gate source entry) tt (applies_entered state Gate source entry whole)
-applicable_step state source (gate_out b moment) whole = applies_departed state Gate source b moment whole
-applicable_step state source (move b slot) whole = applies_moved_at state b slot (yard_with_move state.yard b slot) whole refl
-applicable_step state source (list_discharge call b) whole = applies_listed state call Discharge b [] (line_of state call Discharge b) refl
-applicable_step state source (list_load call b port) whole = applies_listed state call Load b port (line_of state call Load b) refl
-applicable_step state source (discharge call entry) whole =
-    either (Applies state) (is_in state entry.number) (with_refusal state AlreadyIn) (by_line state call Discharge entry.number (line_of state call Discharge entry.number) (after_entry state Ship source entry)) tt
-    (applies_by_line state call Discharge entry.number (line_of state call Discharge entry.number) (after_entry state Ship source entry) (applies_entered state Ship source entry whole) (turned_entered state Ship source entry whole)
-    (either (KeepsLines state) (is_full state) (with_refusal state VisitLimit) (entered_at state Ship source entry (yard_with_entry state.yard entry)) refl (entered_keeps state Ship source entry (yard_with_entry state.yard entry))) refl)
-applicable_step state source (load call b moment) whole =
+pub applicable_step : (version : Version) (state : TerminalState) (source : Source) (order : OrderContent) → IsWhole state → Applies state (step_by version state source order)
+applicable_step version state source (gate_in entry) whole = either (Applies state) (is_in state entry.number) (with_refusal state AlreadyIn) (after_entry version state Gate source entry) tt (applies_entered version state Gate source entry whole)
+applicable_step version state source (gate_out b moment) whole = applies_departed state Gate source b moment whole
+applicable_step version state source (move b slot) whole = applies_moved_at version state b slot (yard_with_move (spares version) state.yard b slot) whole refl
+applicable_step version state source (list_discharge call b) whole = applies_listed state call Discharge b [] (line_of state call Discharge b) refl
+applicable_step version state source (list_load call b port) whole = applies_listed state call Load b port (line_of state call Load b) refl
+applicable_step version state source (discharge call entry) whole =
+    either (Applies state) (is_in state entry.number) (with_refusal state AlreadyIn) (by_line state call Discharge entry.number (line_of state call Discharge entry.number) (after_entry version state Ship source entry)) tt
+    (applies_by_line state call Discharge entry.number (line_of state call Discharge entry.number) (after_entry version state Ship source entry) (applies_entered version state Ship source entry whole) (turned_entered version state Ship source entry whole)
+    (either (KeepsLines state) (is_full state) (with_refusal state VisitLimit) (entered_at state Ship source entry (yard_with_entry version state.yard entry)) refl (entered_keeps state Ship source entry (yard_with_entry version state.yard entry))) refl)
+applicable_step version state source (load call b moment) whole =
     either (Applies state) (is_in state b) (by_line state call Load b (line_of state call Load b) (after_departure state Ship source b moment)) (with_refusal state NotIn)
     (applies_by_line state call Load b (line_of state call Load b) (after_departure state Ship source b moment) (applies_departed state Ship source b moment whole) (turned_departed state Ship source b moment whole)
     (departed_keeps state b (departure_by Ship source moment) (yard_without state.yard b)) refl) tt

@@ -14,9 +14,10 @@ use Rattle.edi_moments.specs.Moments.{CivilMoment}
 use Rattle.edi_messages.specs.Purposes.{CallContent}
 use Rattle.edi_messages.specs.Orders.{EntryContent, OrderContent, gate_in, gate_out, move, list_discharge, list_load, discharge, load}
 use Rattle.yard_core.specs.declared.block.Block.{Block}
-use Rattle.yard_core.specs.YardMap.{Boxes, YardMap, yard_map, placement}
-use Rattle.yard_core.specs.Decisions.{Refusal, present, yard_without, removed_at, yard_with_move, shifted_at, unless_buried, with_misfit, with_slot as with_first_slot, misfit_of, first_fit, every_slot, blocker_of}
+use Rattle.yard_core.specs.YardMap.{Boxes, YardMap, yard_map, placement, placement_of, placed, stowed}
+use Rattle.yard_core.specs.Decisions.{Refusal, present, yard_without, removed_at, yard_with_move, shifted_at, unless_buried, with_misfit, with_slot as with_first_slot, misfit_of, first_fit, every_slot, blocker_of, is_same_slot}
 use Rattle.yard_core.specs.declared.placement.Placement.{Placement}
+use Rattle.yard_core.specs.declared.stowed.Stowed.{Stowed}
 use Rattle.terminal_core.specs.declared.departure.Departure.{Departure}
 use Rattle.terminal_core.specs.declared.line_state.LineState.{LineState}
 use Rattle.terminal_core.specs.declared.line_state.LineState.TheVariants.{Pending, Done as LineIsDone}
@@ -26,13 +27,16 @@ use Rattle.terminal_core.specs.declared.reason.Reason.TheVariants.{AlreadyIn, No
 use Rattle.terminal_core.specs.declared.side.Side.{Side}
 use Rattle.terminal_core.specs.declared.side.Side.TheVariants.{Load, Discharge}
 use Rattle.terminal_core.specs.declared.source.Source.{Source}
+use Rattle.terminal_core.specs.declared.version.Version.{Version}
 use Rattle.terminal_core.specs.declared.way.Way.{Way}
 use Rattle.terminal_core.specs.declared.way.Way.TheVariants.{Gate, Ship}
 use Rattle.terminal_core.specs.Rows.{VisitContent, ChangeContent, line_done}
 use Rattle.terminal_core.specs.State.{TerminalState, LineContent, Lines, line_key, line_of, is_in, is_open_visit, open_visit, AreNumbered, IsWhole}
-use Rattle.terminal_core.specs.Step.{Stepped, with_refusal, step, yard_with_entry, settled_in, with_slot, is_full, visit_of, after_entry, entered_at, closed_visit, close_visit, number_of_visit, after_departure, departed_at, departure_by, moved_at, listed_at, then_line_done_at, by_line, by_state}
+use Rattle.terminal_core.specs.Versions.{spares}
+use Rattle.terminal_core.specs.Step.{Stepped, with_refusal, step_by, yard_with_entry, settled_in, with_slot, is_full, visit_of, after_entry, entered_at, closed_visit, close_visit, number_of_visit, after_departure, departed_at, departure_by, moved_at, listed_at, then_line_done_at, by_line, by_state}
 use Rattle.terminal_core.specs.Changes.{Standing, TerminalRows, standing_in, standing_of, rows_of, closed_as, standing_elsewhere, with_line_done, rows_with, all_changed}
-use Rattle.terminal_core.proofs.Boxes.{same_bytes, in_placed_map, in_removed_map}
+use Rattle.terminal_core.proofs.Boxes.{same_bytes, in_placed_map, in_removed_map, there_placed}
+use Rattle.terminal_core.proofs.Told.{moved_as}
 use Rattle.terminal_core.proofs.Open.{and_true, closed_open, find_last, find_new}
 use Rattle.terminal_core.proofs.Counted.{found_is}
 use Rattle.terminal_core.proofs.Counting.{count_keeps, count_skips, find_skips, find_meets}
@@ -44,14 +48,14 @@ slotted true o y new slot named e = cc
 slotted false (Some f) y new slot named e = cc
 slotted false None y new slot named e = let p : (y, named) ≡ (new, slot) = cc in (refl, sym (ap (λ (q : YardMap × Slot). q.0) p), ap (λ (q : YardMap × Slot). q.1) p, refl)
 
-first_slotted : (there : Bool) (o : Option Slot) (y new : YardMap) (b : BoxNumber) (length : Length) (slot : Slot) → cond there (Err present) (with_first_slot o y b length) ≡ Ok (new, slot)
-    → (there ≡ false) × (new ≡ yard_map y.plan (finite_map.insert y.boxes b (placement length slot))) × (o ≡ Some slot)
-first_slotted true o y new b length slot e = cc
-first_slotted false None y new b length slot e = cc
-first_slotted false (Some first) y new b length slot e =
-    let p : (yard_map y.plan (finite_map.insert y.boxes b (placement length first)), first) ≡ (new, slot) = cc in (
+first_slotted : (there : Bool) (o : Option Slot) (y new : YardMap) (b : BoxNumber) (length : Length) (is_laden : Bool) (slot : Slot) → cond there (Err present) (with_first_slot o y b length is_laden) ≡ Ok (new, slot)
+    → (there ≡ false) × (new ≡ yard_map y.plan (finite_map.insert y.boxes b (stowed (placement length slot) is_laden))) × (o ≡ Some slot)
+first_slotted true o y new b length is_laden slot e = cc
+first_slotted false None y new b length is_laden slot e = cc
+first_slotted false (Some first) y new b length is_laden slot e =
+    let p : (yard_map y.plan (finite_map.insert y.boxes b (stowed (placement length first) is_laden)), first) ≡ (new, slot) = cc in (
       refl,
-      sym (ap (λ (q : YardMap × Slot). q.0) p) ∙ ap (λ (s : Slot). yard_map y.plan (finite_map.insert y.boxes b (placement length s))) (ap (λ (q : YardMap × Slot). q.1) p),
+      sym (ap (λ (q : YardMap × Slot). q.0) p) ∙ ap (λ (s : Slot). yard_map y.plan (finite_map.insert y.boxes b (stowed (placement length s) is_laden))) (ap (λ (q : YardMap × Slot). q.1) p),
       ap Some (ap (λ (q : YardMap × Slot). q.1) p),
     )
 
@@ -59,33 +63,37 @@ no_misfit : (o : Option Refusal) → is_none o ≡ true → o ≡ None
 no_misfit None e = refl
 no_misfit (Some f) e = cc
 
-first_fits : (plan : List Block) (boxes : Boxes) (length : Length) (slot : Slot) → first_fit plan boxes length ≡ Some slot → misfit_of plan boxes (placement length slot) ≡ None
+first_fits : (is_wary : Bool) (plan : List Block) (boxes : Boxes) (length : Length) (slot : Slot) → first_fit is_wary plan boxes length ≡ Some slot → misfit_of is_wary plan boxes (placement length slot) ≡ None
 unfolding first_fit
-first_fits plan boxes length slot e = no_misfit (misfit_of plan boxes (placement length slot)) (found_is (λ other. is_none (misfit_of plan boxes (placement length other))) every_slot slot e).2
+first_fits is_wary plan boxes length slot e = no_misfit (misfit_of is_wary plan boxes (placement length slot)) (found_is (λ other. is_none (misfit_of is_wary plan boxes (placement length other))) every_slot slot e).2
 
--- one container more
-pub record Comes (old new : YardMap) (b : BoxNumber) (s : Placement) : Type 0 where
+-- how the container of an entry stands in a slot
+abbrev pub brought : EntryContent → Slot → Stowed
+brought entry slot = stowed (placement (length_of entry.size_type) slot) entry.is_laden
+
+-- one container more, which fits there as that version has it
+pub record Comes (old new : YardMap) (b : BoxNumber) (w : Stowed) : Type 0 where
   pub absent : is_some (finite_map.get old.boxes b) ≡ false
-  pub boxes : new.boxes ≡ finite_map.insert old.boxes b s
-  pub fits : misfit_of old.plan old.boxes s ≡ None
+  pub boxes : new.boxes ≡ finite_map.insert old.boxes b w
+  pub is_wary : Bool
+  pub fits : misfit_of is_wary old.plan old.boxes w.placement ≡ None
 
-pub comes : (y new : YardMap) (entry : EntryContent) (o : Option Slot) (slot : Slot) → settled_in y entry o ≡ Ok (new, slot) → Comes y new entry.number (placement (length_of entry.size_type) slot)
-comes y new entry (Some named) slot e =
-    let is = slotted (is_some (finite_map.get y.boxes entry.number)) (misfit_of y.plan y.boxes (placement (length_of entry.size_type) named)) (yard_map y.plan (finite_map.insert y.boxes entry.number (placement (length_of entry.size_type) named))) new slot named e in
+pub comes : (version : Version) (y new : YardMap) (entry : EntryContent) (o : Option Slot) (slot : Slot) → settled_in version y entry o ≡ Ok (new, slot) → Comes y new entry.number (brought entry slot)
+comes version y new entry (Some named) slot e =
+    let is_wary : Bool = spares version && entry.is_laden in
+    let is = slotted (is_some (finite_map.get y.boxes entry.number)) (misfit_of is_wary y.plan y.boxes (placement (length_of entry.size_type) named)) (yard_map y.plan (finite_map.insert y.boxes entry.number (brought entry named))) new slot named e in
     record {
       absent = is.0;
-      boxes = ap (λ (v : YardMap). v.boxes) is.1 ∙ ap (λ s. finite_map.insert y.boxes entry.number (placement (length_of entry.size_type) s)) is.2;
-      fits = ap (λ s. misfit_of y.plan y.boxes (placement (length_of entry.size_type) s)) (sym is.2) ∙ is.3;
+      boxes = ap (λ (v : YardMap). v.boxes) is.1 ∙ ap (λ s. finite_map.insert y.boxes entry.number (brought entry s)) is.2;
+      is_wary = is_wary;
+      fits = ap (λ s. misfit_of is_wary y.plan y.boxes (placement (length_of entry.size_type) s)) (sym is.2) ∙ is.3;
     }
-comes y new entry None slot e =
-    let is = first_slotted (is_some (finite_map.get y.boxes entry.number)) (first_fit y.plan y.boxes (length_of entry.size_type)) y new entry.number (length_of entry.size_type) slot e in
-    record { absent = is.0; boxes = ap (λ (v : YardMap). v.boxes) is.1; fits = first_fits y.plan y.boxes (length_of entry.size_type) slot is.2 }
+comes version y new entry None slot e =
+    let is_wary : Bool = spares version && entry.is_laden in
+    let is = first_slotted (is_some (finite_map.get y.boxes entry.number)) (first_fit is_wary y.plan y.boxes (length_of entry.size_type)) y new entry.number (length_of entry.size_type) entry.is_laden slot e in
+    record { absent = is.0; boxes = ap (λ (v : YardMap). v.boxes) is.1; is_wary = is_wary; fits = first_fits is_wary y.plan y.boxes (length_of entry.size_type) slot is.2 }
 
 -- one container less
-pub record Goes (old new : YardMap) (b : BoxNumber) (s : Placement) : Type 0 where
-  pub stood : finite_map.get old.boxes b ≡ Some s
-  pub boxes : new.boxes ≡ finite_map.remove old.boxes b
-
 goes_free : (o : Option BoxNumber) (y new : YardMap) (t s : Placement) → unless_buried {A = YardMap × Placement} o (Ok (y, t)) ≡ Ok (new, s) → (t ≡ s) × (new ≡ y)
 goes_free (Some b) y new t s e = cc
 goes_free None y new t s e = let p : (y, t) ≡ (new, s) = cc in (ap (λ (q : YardMap × Placement). q.1) p, sym (ap (λ (q : YardMap × Placement). q.0) p))
@@ -102,12 +110,18 @@ shifts_free (Some b) m y new e = cc
 shifts_free None (Some f) y new e = cc
 shifts_free None None y new e = let p : y ≡ new = cc in (sym p, refl)
 
-pub shifts : (o : Option Placement) (y new : YardMap) (b : BoxNumber) (slot : Slot) → shifted_at o y b slot ≡ Ok new
-    → (s : Placement) × (o ≡ Some s) × (new.boxes ≡ finite_map.insert y.boxes b (placement s.length slot)) × (misfit_of y.plan (finite_map.remove y.boxes b) (placement s.length slot) ≡ None)
-shifts None y new b slot e = cc
-shifts (Some s) y new b slot e =
-    let is = shifts_free (blocker_of y.boxes s) (misfit_of y.plan (finite_map.remove y.boxes b) (placement s.length slot)) (yard_map y.plan (finite_map.insert y.boxes b (placement s.length slot))) new e in
-    (s, refl, ap (λ (v : YardMap). v.boxes) is.0, is.1)
+-- the container is moved, to a slot that fits as that version has it
+pub record Moves (old new : YardMap) (b : BoxNumber) (w : Stowed) (slot : Slot) : Type 0 where
+  pub boxes : new.boxes ≡ finite_map.insert old.boxes b (moved_as w slot)
+  pub is_wary : Bool
+  pub fits : misfit_of is_wary old.plan (finite_map.remove old.boxes b) (placement w.placement.length slot) ≡ None
+
+pub shifts : (version : Version) (o : Option Stowed) (y new : YardMap) (b : BoxNumber) (slot : Slot) → shifted_at (spares version) o y b slot ≡ Ok new → (w : Stowed) × (o ≡ Some w) × Moves y new b w slot
+shifts version None y new b slot e = cc
+shifts version (Some w) y new b slot e =
+    let is_wary : Bool = spares version && (w.is_laden && not (is_same_slot slot w.placement.slot)) in
+    let is = shifts_free (blocker_of y.boxes w.placement) (misfit_of is_wary y.plan (finite_map.remove y.boxes b) (placement w.placement.length slot)) (yard_map y.plan (finite_map.insert y.boxes b (moved_as w slot))) new e in
+    (w, refl, record { boxes = ap (λ (v : YardMap). v.boxes) is.0; is_wary = is_wary; fits = is.1 })
 
 -- ---- places
 
@@ -116,15 +130,15 @@ placed_by visit o = option_map (λ s. standing_in (number_of_visit visit) s.slot
 
 -- ---- visits, one more
 
-came_place : (state : TerminalState) (y : YardMap) (v : VisitContent) (s : Placement) (q : BoxNumber) (is : Bool) → IsWhole state → Comes state.yard y v.container s → v.departure ≡ None → bytes_eq v.container q ≡ is
-    → cond is (Some (standing_in v.number s.slot)) (standing_of state q) ≡ placed_by (find (is_open_visit q) (state.visits ++ v ∷ [])) (cond is (Some s) (finite_map.get state.yard.boxes q))
-came_place state y v s q true whole came still e =
+came_place : (state : TerminalState) (y : YardMap) (v : VisitContent) (w : Stowed) (q : BoxNumber) (is : Bool) → IsWhole state → Comes state.yard y v.container w → v.departure ≡ None → bytes_eq v.container q ≡ is
+    → cond is (Some (standing_in v.number w.placement.slot)) (standing_of state q) ≡ placed_by (find (is_open_visit q) (state.visits ++ v ∷ [])) (placed (cond is (Some w) (finite_map.get state.yard.boxes q)))
+came_place state y v w q true whole came still e =
     let open_ : is_open_visit q v ≡ true = ap (λ d. bytes_eq v.container q && is_none d) still ∙ and_true _ ∙ e in
     let none : is_some (open_visit state q) ≡ false = sym (whole.here q) ∙ ap (is_in state) (same_bytes v.container q e) ∙ came.absent in
-    sym (ap (λ o. placed_by o (Some s)) (find_new (is_open_visit q) state.visits v open_ none))
-came_place state y v s q false whole came still e =
+    sym (ap (λ o. placed_by o (Some w.placement)) (find_new (is_open_visit q) state.visits v open_ none))
+came_place state y v w q false whole came still e =
     let shut : is_open_visit q v ≡ false = ap (λ d. bytes_eq v.container q && is_none d) still ∙ and_true _ ∙ e in
-    sym (ap (λ o. placed_by o (finite_map.get state.yard.boxes q)) (find_last (is_open_visit q) state.visits v shut))
+    sym (ap (λ o. placed_by o (placement_of state.yard.boxes q)) (find_last (is_open_visit q) state.visits v shut))
 
 -- ---- visits, one closed
 
@@ -196,18 +210,18 @@ other_number departure b q (v ∷ visits) e =
     (closed_open departure b q v ∙ ap (λ t. is_open_visit q v && not t) e ∙ and_true _) (kept_number departure v (is_open_visit b v)) (other_number departure b q visits e)
 
 went_place : (state : TerminalState) (departure : Departure) (b q : BoxNumber) (is : Bool) → bytes_eq b q ≡ is
-    → cond is None (standing_of state q) ≡ placed_by (find (is_open_visit q) (map (closed_visit departure b) state.visits)) (cond is None (finite_map.get state.yard.boxes q))
+    → cond is None (standing_of state q) ≡ placed_by (find (is_open_visit q) (map (closed_visit departure b) state.visits)) (placed (cond is None (finite_map.get state.yard.boxes q)))
 went_place state departure b q true e = refl
 went_place state departure b q false e =
-    sym (ap (λ n. option_map (λ s. standing_in n s.slot) (finite_map.get state.yard.boxes q)) (other_number departure b q state.visits e))
+    sym (ap (λ n. option_map (λ (s : Placement). standing_in n s.slot) (placement_of state.yard.boxes q)) (other_number departure b q state.visits e))
 
 -- ---- moving
 
-moved_place_is : (state : TerminalState) (b q : BoxNumber) (slot : Slot) (s : Placement) (is : Bool) → finite_map.get state.yard.boxes b ≡ Some s → bytes_eq b q ≡ is
-    → cond is (option_map (standing_elsewhere slot) (standing_of state b)) (standing_of state q) ≡ placed_by (open_visit state q) (cond is (Some (placement s.length slot)) (finite_map.get state.yard.boxes q))
-moved_place_is state b q slot s true stood e =
-    ap (λ o. option_map (standing_elsewhere slot) (placed_by (open_visit state b) o)) stood ∙ ap (λ c. Some (standing_in (number_of_visit (open_visit state c)) slot)) (sym (same_bytes b q e))
-moved_place_is state b q slot s false stood e = refl
+moved_place_is : (state : TerminalState) (b q : BoxNumber) (slot : Slot) (w : Stowed) (is : Bool) → finite_map.get state.yard.boxes b ≡ Some w → bytes_eq b q ≡ is
+    → cond is (option_map (standing_elsewhere slot) (standing_of state b)) (standing_of state q) ≡ placed_by (open_visit state q) (placed (cond is (Some (moved_as w slot)) (finite_map.get state.yard.boxes q)))
+moved_place_is state b q slot w true stood e =
+    ap (λ o. option_map (standing_elsewhere slot) (placed_by (open_visit state b) (placed o))) stood ∙ ap (λ c. Some (standing_in (number_of_visit (open_visit state c)) slot)) (sym (same_bytes b q e))
+moved_place_is state b q slot w false stood e = refl
 
 -- ---- steps
 
@@ -219,19 +233,19 @@ pub either : {A : Type 0} (P : A → Type 0) (v : Bool) (a b : A) → P a → P 
 either P true a b one other = one
 either P false a b one other = other
 
-turned_entered_at : (state : TerminalState) (way : Way) (source : Source) (entry : EntryContent) (r : Result (YardMap × Slot) Refusal) → IsWhole state → yard_with_entry state.yard entry ≡ r → Turns state (entered_at state way source entry r)
-turned_entered_at state way source entry (Err f) whole e = refl
-turned_entered_at state way source entry (Ok (y, slot)) whole e =
+turned_entered_at : (version : Version) (state : TerminalState) (way : Way) (source : Source) (entry : EntryContent) (r : Result (YardMap × Slot) Refusal) → IsWhole state → yard_with_entry version state.yard entry ≡ r → Turns state (entered_at state way source entry r)
+turned_entered_at version state way source entry (Err f) whole e = refl
+turned_entered_at version state way source entry (Ok (y, slot)) whole e =
     let v : VisitContent = visit_of state way source entry slot in
-    let s : Placement = placement (length_of entry.size_type) slot in
-    let came : Comes state.yard y entry.number s = comes state.yard y entry entry.slot slot e in
+    let w : Stowed = brought entry slot in
+    let came : Comes state.yard y entry.number w = comes version state.yard y entry entry.slot slot e in
     let places : (q : BoxNumber) → update bytes_eq (standing_of state) entry.number (Some (standing_in (length state.visits + 1) slot)) q ≡ standing_of (record state { yard = y; visits = state.visits ++ v ∷ [] }) q =
-    λ q. came_place state y v s q (bytes_eq entry.number q) whole came refl refl ∙ ap (placed_by (find (is_open_visit q) (state.visits ++ v ∷ []))) (sym (in_placed_map state.yard.boxes y.boxes entry.number q s came.boxes)) in
+    λ q. came_place state y v w q (bytes_eq entry.number q) whole came refl refl ∙ ap (λ o. placed_by (find (is_open_visit q) (state.visits ++ v ∷ [])) (placed o)) (sym (in_placed_map state.yard.boxes y.boxes entry.number q w came.boxes)) in
     λ i. record { visits = state.visits ++ v ∷ []; places = λ q. places q i; lines = state.lines }
 
-pub turned_entered : (state : TerminalState) (way : Way) (source : Source) (entry : EntryContent) → IsWhole state → Turns state (after_entry state way source entry)
-turned_entered state way source entry whole =
-    either (Turns state) (is_full state) (with_refusal state VisitLimit) (entered_at state way source entry (yard_with_entry state.yard entry)) refl (turned_entered_at state way source entry (yard_with_entry state.yard entry) whole refl)
+pub turned_entered : (version : Version) (state : TerminalState) (way : Way) (source : Source) (entry : EntryContent) → IsWhole state → Turns state (after_entry version state way source entry)
+turned_entered version state way source entry whole =
+    either (Turns state) (is_full state) (with_refusal state VisitLimit) (entered_at state way source entry (yard_with_entry version state.yard entry)) refl (turned_entered_at version state way source entry (yard_with_entry version state.yard entry) whole refl)
 
 pub found : {A : Type 0} (o : Option A) → is_some o ≡ true → (x : A) × (o ≡ Some x)
 found None e = cc
@@ -240,23 +254,23 @@ found (Some x) e = (x, refl)
 turned_departed_at : (state : TerminalState) (b : BoxNumber) (departure : Departure) (r : Result (YardMap × Placement) Refusal) → IsWhole state → yard_without state.yard b ≡ r → Turns state (departed_at state b departure r)
 turned_departed_at state b departure (Err f) whole e = refl
 turned_departed_at state b departure (Ok (y, s)) whole e =
-    let went = goes (finite_map.get state.yard.boxes b) state.yard y b s e in
-    let visit = found (open_visit state b) (sym (whole.here b) ∙ ap is_some went.0) in
+    let went = goes (placement_of state.yard.boxes b) state.yard y b s e in
+    let visit = found (open_visit state b) (sym (whole.here b) ∙ there_placed state.yard.boxes b s went.0) in
     let visits : map (closed_as (number_of_visit (open_visit state b)) departure) state.visits ≡ close_visit state b departure =
     ap (λ o. map (closed_as (number_of_visit o) departure) state.visits) visit.1 ∙ closed_by_number departure b 1 state.visits visit.0 whole.numbered (whole.one_visit b) visit.1 in
     let places : (q : BoxNumber) → update bytes_eq (standing_of state) b None q ≡ standing_of (record state { yard = y; visits = close_visit state b departure }) q =
-    λ q. went_place state departure b q (bytes_eq b q) refl ∙ ap (placed_by (find (is_open_visit q) (close_visit state b departure))) (sym (in_removed_map state.yard.boxes y.boxes b q went.1)) in
+    λ q. went_place state departure b q (bytes_eq b q) refl ∙ ap (λ o. placed_by (find (is_open_visit q) (close_visit state b departure)) (placed o)) (sym (in_removed_map state.yard.boxes y.boxes b q went.1)) in
     λ i. record { visits = visits i; places = λ q. places q i; lines = state.lines }
 
 pub turned_departed : (state : TerminalState) (way : Way) (source : Source) (b : BoxNumber) (moment : CivilMoment) → IsWhole state → Turns state (after_departure state way source b moment)
 turned_departed state way source b moment whole = turned_departed_at state b (departure_by way source moment) (yard_without state.yard b) whole refl
 
-turned_moved_at : (state : TerminalState) (b : BoxNumber) (slot : Slot) (r : Result YardMap Refusal) → yard_with_move state.yard b slot ≡ r → Turns state (moved_at state b slot r)
-turned_moved_at state b slot (Err f) e = refl
-turned_moved_at state b slot (Ok y) e =
-    let is = shifts (finite_map.get state.yard.boxes b) state.yard y b slot e in
+turned_moved_at : (version : Version) (state : TerminalState) (b : BoxNumber) (slot : Slot) (r : Result YardMap Refusal) → yard_with_move (spares version) state.yard b slot ≡ r → Turns state (moved_at state b slot r)
+turned_moved_at version state b slot (Err f) e = refl
+turned_moved_at version state b slot (Ok y) e =
+    let is = shifts version (finite_map.get state.yard.boxes b) state.yard y b slot e in
     let places : (q : BoxNumber) → update bytes_eq (standing_of state) b (option_map (standing_elsewhere slot) (standing_of state b)) q ≡ standing_of (record state { yard = y }) q =
-    λ q. moved_place_is state b q slot is.0 (bytes_eq b q) is.1 refl ∙ ap (placed_by (open_visit state q)) (sym (in_placed_map state.yard.boxes y.boxes b q (placement is.0.length slot) is.2)) in
+    λ q. moved_place_is state b q slot is.0 (bytes_eq b q) is.1 refl ∙ ap (λ o. placed_by (open_visit state q) (placed o)) (sym (in_placed_map state.yard.boxes y.boxes b q (moved_as is.0 slot) is.2.boxes)) in
     λ i. record { visits = state.visits; places = λ q. places q i; lines = state.lines }
 
 turned_listed : (state : TerminalState) (call : CallContent) (side : Side) (b : BoxNumber) (port : List ℕ) (o : Option LineContent) → Turns state (listed_at state call side b port o)
@@ -307,17 +321,17 @@ turned_by_line state call side b (Some line) after turned keeps there = turned_b
 
 -- ---- orders
 
-pub turned_step : (state : TerminalState) (source : Source) (order : OrderContent) → IsWhole state → Turns state (step state source order)
-turned_step state source (gate_in entry) whole = either (Turns state) (is_in state entry.number) (with_refusal state AlreadyIn) (after_entry state Gate source entry) refl (turned_entered state Gate source entry whole)
-turned_step state source (gate_out b moment) whole = turned_departed state Gate source b moment whole
-turned_step state source (move b slot) whole = turned_moved_at state b slot (yard_with_move state.yard b slot) refl
-turned_step state source (list_discharge call b) whole = turned_listed state call Discharge b [] (line_of state call Discharge b)
-turned_step state source (list_load call b port) whole = turned_listed state call Load b port (line_of state call Load b)
-turned_step state source (discharge call entry) whole =
-    either (Turns state) (is_in state entry.number) (with_refusal state AlreadyIn) (by_line state call Discharge entry.number (line_of state call Discharge entry.number) (after_entry state Ship source entry)) refl
-    (turned_by_line state call Discharge entry.number (line_of state call Discharge entry.number) (after_entry state Ship source entry) (turned_entered state Ship source entry whole)
-    (either (KeepsLines state) (is_full state) (with_refusal state VisitLimit) (entered_at state Ship source entry (yard_with_entry state.yard entry)) refl (entered_keeps state Ship source entry (yard_with_entry state.yard entry))) refl)
-turned_step state source (load call b moment) whole =
+pub turned_step : (version : Version) (state : TerminalState) (source : Source) (order : OrderContent) → IsWhole state → Turns state (step_by version state source order)
+turned_step version state source (gate_in entry) whole = either (Turns state) (is_in state entry.number) (with_refusal state AlreadyIn) (after_entry version state Gate source entry) refl (turned_entered version state Gate source entry whole)
+turned_step version state source (gate_out b moment) whole = turned_departed state Gate source b moment whole
+turned_step version state source (move b slot) whole = turned_moved_at version state b slot (yard_with_move (spares version) state.yard b slot) refl
+turned_step version state source (list_discharge call b) whole = turned_listed state call Discharge b [] (line_of state call Discharge b)
+turned_step version state source (list_load call b port) whole = turned_listed state call Load b port (line_of state call Load b)
+turned_step version state source (discharge call entry) whole =
+    either (Turns state) (is_in state entry.number) (with_refusal state AlreadyIn) (by_line state call Discharge entry.number (line_of state call Discharge entry.number) (after_entry version state Ship source entry)) refl
+    (turned_by_line state call Discharge entry.number (line_of state call Discharge entry.number) (after_entry version state Ship source entry) (turned_entered version state Ship source entry whole)
+    (either (KeepsLines state) (is_full state) (with_refusal state VisitLimit) (entered_at state Ship source entry (yard_with_entry version state.yard entry)) refl (entered_keeps state Ship source entry (yard_with_entry version state.yard entry))) refl)
+turned_step version state source (load call b moment) whole =
     either (Turns state) (is_in state b) (by_line state call Load b (line_of state call Load b) (after_departure state Ship source b moment)) (with_refusal state NotIn)
     (turned_by_line state call Load b (line_of state call Load b) (after_departure state Ship source b moment) (turned_departed state Ship source b moment whole)
     (departed_keeps state b (departure_by Ship source moment) (yard_without state.yard b)) refl) refl

@@ -6,16 +6,17 @@ use Rattle.std.specs.Option.{option_map}
 use Rattle.std.specs.Str.{bytes_eq}
 use Rattle.std.specs.Cmp.Lexicographic.{nat_list_cmp_total}
 use Rattle.std.proofs.lemmas.Option.{none-some}
-use Rattle.box6346.specs.SizeCode.{length_of}
 use Rattle.box6346.specs.declared.box_number.BoxNumber.{BoxNumber}
 use Rattle.yard_core.specs.declared.block.Block.{Block}
 use Rattle.yard_core.specs.declared.placement.Placement.{Placement}
-use Rattle.yard_core.specs.YardMap.{placement}
+use Rattle.yard_core.specs.declared.stowed.Stowed.{Stowed}
+use Rattle.yard_core.specs.YardMap.{placement_of, placed}
+use Rattle.yard_core.proofs.Boxes.{found_placed}
 use Rattle.terminal_core.specs.declared.listing.Listing.{Listing}
 use Rattle.terminal_core.specs.declared.place.Place.{Place}
 use Rattle.terminal_core.specs.declared.visit.Visit.{Visit}
 use Rattle.terminal_core.specs.Rows.{visit_content}
-use Rattle.terminal_core.specs.State.{TerminalState, is_open_visit, open_visit, IsWhole}
+use Rattle.terminal_core.specs.State.{TerminalState, is_open_visit, open_visit, stowed_by, IsWhole}
 use Rattle.terminal_core.specs.Step.{number_of_visit}
 use Rattle.terminal_core.specs.Listings.{lines_of}
 use Rattle.terminal_core.specs.Restoring.{Stands, ArePlacesOf, AreOnce, AreRowsOf}
@@ -58,17 +59,17 @@ module _ (state : TerminalState) (places : List Place) (whole : IsWhole state) (
       let same : container ≡ place.container = same_bytes place.container container found.2 in
       let stand = all.each place (contained places found.0 place found.1) in
       let open_ : open_visit state place.container ≡ Some stand.visit = found_one (is_open_visit place.container) state.visits stand.visit (few_open state whole place.container) stand.names.listed stand.names.is_open in
-      sym (ap (standing_of state) same ∙ ap (placed_by (open_visit state place.container)) stand.stands ∙ ap (λ v. Some (standing_in (number_of_visit v) place.slot)) open_
+      sym (ap (standing_of state) same ∙ ap (λ w. placed_by (open_visit state place.container) (placed w)) stand.stands ∙ ap (λ v. Some (standing_in (number_of_visit v) place.slot)) open_
       ∙ ap (λ n. Some (standing_in n place.slot)) stand.names.number)
 
   standing_absent : (container : BoxNumber) → find (at_place container) places ≡ None → None ≡ standing_of state container
   standing_absent container none =
-      let absent : finite_map.get state.yard.boxes container ≡ None = some_or_none (finite_map.get state.yard.boxes container) (λ s at.
-      let place = all.every container s at in
+      let absent : finite_map.get state.yard.boxes container ≡ None = some_or_none (finite_map.get state.yard.boxes container) (λ w at.
+      let place = all.every container w at in
       let some : is_some (find (at_place container) places) ≡ true = is_found (at_place container) places place.1.0 place.0 (found_at places place.0 place.1) (ap (λ b. bytes_eq b container) place.2 ∙ same_self container) in
       let bad : true ≡ false = sym some ∙ ap is_some none in
       cc) in
-      sym (ap (placed_by (open_visit state container)) absent)
+      sym (ap (λ w. placed_by (open_visit state container) (placed w)) absent)
 
   pub standing_same : (container : BoxNumber) → standing_by places container ≡ standing_of state container
   standing_same container =
@@ -92,19 +93,21 @@ module _ (state : TerminalState) (places : List Place) (whole : IsWhole state) (
   stands_so place inside =
       let told : Some (standing_in place.visit place.slot) ≡ standing_of state place.container =
       sym (ap (option_map (λ (p : Place). standing_in p.visit p.slot)) (found_one (at_place place.container) places place (once place.container) inside (same_self place.container))) ∙ same place.container in
-      let t = stands_of (finite_map.get state.yard.boxes place.container) (open_visit state place.container) (standing_in place.visit place.slot) (sym told) in
-      let visit = some_of (open_visit state place.container) (sym (whole.here place.container) ∙ ap is_some t.1) in
+      let t = stands_of (placement_of state.yard.boxes place.container) (open_visit state place.container) (standing_in place.visit place.slot) (sym told) in
+      let w = found_placed (finite_map.get state.yard.boxes place.container) t.0 t.1 in
+      let visit = some_of (open_visit state place.container) (sym (whole.here place.container) ∙ ap is_some w.1) in
       let found = found_is (is_open_visit place.container) state.visits visit.0 visit.1 in
-      let long : t.0.length ≡ length_of visit.0.size_type = whole.as_long place.container t.0 visit.0 t.1 visit.1 in
+      let told_so : w.0 ≡ stowed_by visit.0 w.0.placement.slot = whole.as_told place.container w.0 visit.0 w.1 visit.1 in
+      let slot_is : w.0.placement.slot ≡ place.slot = ap (λ (p : Placement). p.slot) w.2 ∙ sym t.2 in
       record {
         visit = visit.0;
         names = record { listed = contained state.visits found.0 visit.0 found.1; number = sym (t.3 ∙ ap number_of_visit visit.1); is_open = found.2 };
-        stands = t.1 ∙ ap (λ l. Some (placement l t.0.slot)) long ∙ ap (λ s. Some (placement (length_of visit.0.size_type) s)) (sym t.2);
+        stands = w.1 ∙ ap Some (told_so ∙ ap (stowed_by visit.0) slot_is);
       }
 
-  placed_so : (container : BoxNumber) (s : Placement) → finite_map.get state.yard.boxes container ≡ Some s → (place : Place) × Contains places place × (place.container ≡ container)
-  placed_so container s at =
-      let place = mapped_some (λ (p : Place). standing_in p.visit p.slot) (find (at_place container) places) _ (same container ∙ ap (placed_by (open_visit state container)) at) in
+  placed_so : (container : BoxNumber) (w : Stowed) → finite_map.get state.yard.boxes container ≡ Some w → (place : Place) × Contains places place × (place.container ≡ container)
+  placed_so container w at =
+      let place = mapped_some (λ (p : Place). standing_in p.visit p.slot) (find (at_place container) places) _ (same container ∙ ap (λ w. placed_by (open_visit state container) (placed w)) at) in
       let found = found_is (at_place container) places place.0 place.1 in
       (place.0, contained places found.0 place.0 found.1, sym (same_bytes place.0.container container found.2))
 
@@ -125,17 +128,18 @@ by_key_lists visits places lines state whole once lines_once e = record {
 
 -- ---- a state by its rows
 
-stands_alike : (one other : TerminalState) → IsWhole one → IsWhole other → rows_of one ≡ rows_of other → (container : BoxNumber) (s : Placement) → finite_map.get one.yard.boxes container ≡ Some s
-    → finite_map.get other.yard.boxes container ≡ Some s
-stands_alike one other whole also e container s at =
+stands_alike : (one other : TerminalState) → IsWhole one → IsWhole other → rows_of one ≡ rows_of other → (container : BoxNumber) (w : Stowed) → finite_map.get one.yard.boxes container ≡ Some w
+    → finite_map.get other.yard.boxes container ≡ Some w
+stands_alike one other whole also e container w at =
     let visit = some_of (open_visit one container) (sym (whole.here container) ∙ ap is_some at) in
     let same_visit : open_visit other container ≡ Some visit.0 = sym (ap (λ (r : TerminalRows). find (is_open_visit container) r.visits) e) ∙ visit.1 in
-    let t = stands_of (finite_map.get other.yard.boxes container) (open_visit other container) (standing_in (number_of_visit (open_visit one container)) s.slot)
-    (sym (ap (λ (r : TerminalRows). r.places container) e) ∙ ap (placed_by (open_visit one container)) at) in
-    let long : t.0.length ≡ s.length = also.as_long container t.0 visit.0 t.1 same_visit ∙ sym (whole.as_long container s visit.0 at visit.1) in
-    t.1 ∙ ap (λ l. Some (placement l t.0.slot)) long ∙ ap (λ slot. Some (placement s.length slot)) (sym t.2)
+    let t = stands_of (placement_of other.yard.boxes container) (open_visit other container) (standing_in (number_of_visit (open_visit one container)) w.placement.slot)
+    (sym (ap (λ (r : TerminalRows). r.places container) e) ∙ ap (λ v. placed_by (open_visit one container) (placed v)) at) in
+    let v = found_placed (finite_map.get other.yard.boxes container) t.0 t.1 in
+    let slot_is : v.0.placement.slot ≡ w.placement.slot = ap (λ (p : Placement). p.slot) v.2 ∙ sym t.2 in
+    v.1 ∙ ap Some (also.as_told container v.0 visit.0 v.1 same_visit ∙ ap (stowed_by visit.0) slot_is ∙ sym (whole.as_told container w visit.0 at visit.1))
 
-alike : (a b : Option Placement) → ((s : Placement) → a ≡ Some s → b ≡ Some s) → ((s : Placement) → b ≡ Some s → a ≡ Some s) → a ≡ b
+alike : (a b : Option Stowed) → ((w : Stowed) → a ≡ Some w → b ≡ Some w) → ((w : Stowed) → b ≡ Some w → a ≡ Some w) → a ≡ b
 alike (Some s) b h g = sym (h s refl)
 alike None None h g = refl
 alike None (Some s) h g = g s refl

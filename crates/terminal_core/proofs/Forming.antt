@@ -8,7 +8,6 @@ use Rattle.std.specs.Ordering.{eq_by_cmp}
 use Rattle.std.proofs.lemmas.Bool.{le-leb}
 use Rattle.std.proofs.lemmas.Option.{same_Some, none-some}
 use Rattle.std.proofs.lemmas.List.Elements.{Contains-push_cases}
-use Rattle.box6346.specs.SizeCode.{length_of}
 use Rattle.box6346.specs.SlotName.{IsNamed}
 use Rattle.box6346.specs.declared.box_number.BoxNumber.{BoxNumber}
 use Rattle.box6346.specs.declared.slot.Slot.{Slot}
@@ -18,12 +17,12 @@ use Rattle.edi_messages.specs.Forms.{IsFormedEntry, IsFormedListing, IsFormedOrd
 use Rattle.edi_messages.specs.Orders.{EntryContent, OrderContent, gate_in, gate_out, move, list_discharge, list_load, discharge, load}
 use Rattle.yard_core.specs.declared.block.Block.{Block}
 use Rattle.yard_core.specs.declared.placement.Placement.{Placement}
+use Rattle.yard_core.specs.declared.stowed.Stowed.{Stowed}
 use Rattle.yard_core.specs.Plan.{IsPlan}
-use Rattle.yard_core.specs.YardMap.{Boxes, YardMap, placement}
+use Rattle.yard_core.specs.YardMap.{Boxes, YardMap, placement_of, placed}
 use Rattle.yard_core.specs.FitsAndFree.{IsOpen}
 use Rattle.yard_core.specs.Decisions.{Refusal, misfit_of, yard_without, yard_with_move}
 use Rattle.yard_core.proofs.Exact.{numbered}
-use Rattle.yard_core.proofs.Fitting.{Judges, misfit_judges}
 use Rattle.terminal_core.specs.declared.departure.Departure.{Departure}
 use Rattle.terminal_core.specs.declared.line_state.LineState.{LineState}
 use Rattle.terminal_core.specs.declared.line_state.LineState.TheVariants.{Pending, Done as LineIsDone}
@@ -33,18 +32,21 @@ use Rattle.terminal_core.specs.declared.reason.Reason.TheVariants.{AlreadyIn, No
 use Rattle.terminal_core.specs.declared.side.Side.{Side}
 use Rattle.terminal_core.specs.declared.side.Side.TheVariants.{Load, Discharge}
 use Rattle.terminal_core.specs.declared.source.Source.{Source}
+use Rattle.terminal_core.specs.declared.version.Version.{Version}
 use Rattle.terminal_core.specs.declared.way.Way.{Way}
 use Rattle.terminal_core.specs.declared.way.Way.TheVariants.{Gate, Ship}
 use Rattle.terminal_core.specs.Rows.{VisitContent}
 use Rattle.terminal_core.specs.State.{TerminalState, LineContent, Lines, line_key, line_of, is_in, is_open_visit, empty_state, IsWhole}
-use Rattle.terminal_core.specs.Step.{Stepped, with_refusal, step, yard_with_entry, is_full, visit_of, after_entry, entered_at, closed_visit, after_departure, departed_at, departure_by, moved_at, listed_at, then_line_done_at, by_line, by_state}
+use Rattle.terminal_core.specs.Versions.{spares}
+use Rattle.terminal_core.specs.Step.{Stepped, with_refusal, step_by, yard_with_entry, is_full, visit_of, after_entry, entered_at, closed_visit, after_departure, departed_at, departure_by, moved_at, listed_at, then_line_done_at, by_line, by_state}
 use Rattle.terminal_core.specs.Forms.{IsSource, IsFormedDeparture, IsFormedVisit, IsFormedLine, IsWellFormed}
-use Rattle.terminal_core.proofs.Boxes.{in_placed_map, in_removed_map}
+use Rattle.terminal_core.proofs.Boxes.{in_placed_map, in_removed_map, open_of}
+use Rattle.terminal_core.proofs.Told.{moved_as}
 use Rattle.terminal_core.proofs.Lined.{order, keys_total, same_key}
 use Rattle.terminal_core.proofs.Numbered.{contained, found_at}
 use Rattle.terminal_core.proofs.Indexed.{mapped_at}
 use Rattle.terminal_core.proofs.Noted.{key_parts}
-use Rattle.terminal_core.proofs.Changing.{Comes, comes, goes, shifts, either}
+use Rattle.terminal_core.proofs.Changing.{Comes, comes, brought, goes, shifts, either}
 
 -- ---- slots
 
@@ -52,18 +54,17 @@ capital : (letter : ℕ) → 65 ≤ letter → letter ≤ 90 → IsTrue (is_asci
 capital letter low high = let a : nat_le 65 letter ≡ true = le-leb 65 letter low in let b : nat_le letter 90 ≡ true = le-leb letter 90 high in ap (λ v. v && nat_le letter 90) a ∙ b
 
 -- where a container fits is a slot with a name
-named : (plan : List Block) (boxes : Boxes) (s : Placement) → IsPlan plan → misfit_of plan boxes s ≡ None → IsNamed s.slot
-named plan boxes s valid fits =
-    let P : Option Refusal → Type 0 = Judges plan boxes s in
-    let open_ : IsOpen plan (finite_map.get boxes) s = subst P fits (misfit_judges plan boxes s) in
+named : (is_wary : Bool) (plan : List Block) (boxes : Boxes) (s : Placement) → IsPlan plan → misfit_of is_wary plan boxes s ≡ None → IsNamed s.slot
+named is_wary plan boxes s valid fits =
+    let open_ : IsOpen plan (placement_of boxes) s = open_of is_wary plan boxes s valid fits in
     let n = numbered plan s.slot valid open_.in_plan in
     record { block = capital s.slot.block n.letter_low (omega (arith, n.letter_high)); bay = omega (arith, n.bay_high); row = omega (arith, n.row_high); tier = omega (arith, n.tier_high) }
 
-placed_case : (boxes : Boxes) (s t : Placement) (q : BoxNumber) (is : Bool) → ((t : Placement) → finite_map.get boxes q ≡ Some t → IsNamed t.slot) → IsNamed s.slot → cond is (Some s) (finite_map.get boxes q) ≡ Some t → IsNamed t.slot
-placed_case boxes s t q true old new at = let P : Placement → Type 0 = λ p. IsNamed p.slot in subst P (same_Some s t at) new
-placed_case boxes s t q false old new at = old t at
+placed_case : (boxes : Boxes) (w : Stowed) (t : Placement) (q : BoxNumber) (is : Bool) → ((t : Placement) → placement_of boxes q ≡ Some t → IsNamed t.slot) → IsNamed w.placement.slot → placed (cond is (Some w) (finite_map.get boxes q)) ≡ Some t → IsNamed t.slot
+placed_case boxes w t q true old new at = let P : Placement → Type 0 = λ p. IsNamed p.slot in subst P (same_Some w.placement t at) new
+placed_case boxes w t q false old new at = old t at
 
-removed_case : (boxes : Boxes) (t : Placement) (q : BoxNumber) (is : Bool) → ((t : Placement) → finite_map.get boxes q ≡ Some t → IsNamed t.slot) → cond is None (finite_map.get boxes q) ≡ Some t → IsNamed t.slot
+removed_case : (boxes : Boxes) (t : Placement) (q : BoxNumber) (is : Bool) → ((t : Placement) → placement_of boxes q ≡ Some t → IsNamed t.slot) → placed (cond is None (finite_map.get boxes q)) ≡ Some t → IsNamed t.slot
 removed_case boxes t q true old at = absurd (none-some t at)
 removed_case boxes t q false old at = old t at
 
@@ -73,7 +74,7 @@ pub empty_formed : (yard : YardMap) (limit : ℕ) → yard.boxes ≡ finite_map.
 empty_formed yard limit none = record {
   visits = λ visit inside. (let bad : inside.0 < 0 = inside.1 in absurd (omega arith));
   lines = λ call side container line there. absurd (none-some line (sym (finite_map.get-empty _ (line_key call side container)) ∙ there));
-  slots = λ container s at. absurd (none-some s (sym (ap (λ (m : Boxes). finite_map.get m container) none ∙ finite_map.get-empty _ container) ∙ at));
+  slots = λ container s at. absurd (none-some s (sym (ap (λ (m : Boxes). placement_of m container) none ∙ ap placed (finite_map.get-empty _ container)) ∙ at));
 }
 
 -- ---- steps
@@ -81,55 +82,55 @@ empty_formed yard limit none = record {
 abbrev Forms : Stepped → Type 0
 Forms after = IsWellFormed after.state
 
-formed_entered_at : (state : TerminalState) (way : Way) (source : Source) (entry : EntryContent) (r : Result (YardMap × Slot) Refusal) → IsWhole state → IsWellFormed state → IsSource source → IsFormedEntry entry → yard_with_entry state.yard entry ≡ r
-    → Forms (entered_at state way source entry r)
-formed_entered_at state way source entry (Err f) whole formed from its e = formed
-formed_entered_at state way source entry (Ok (y, slot)) whole formed from its e =
-    let s : Placement = placement (length_of entry.size_type) slot in
-    let came : Comes state.yard y entry.number s = comes state.yard y entry entry.slot slot e in
-    let slot_named : IsNamed slot = named state.yard.plan state.yard.boxes s whole.plan came.fits in
+formed_entered_at : (version : Version) (state : TerminalState) (way : Way) (source : Source) (entry : EntryContent) (r : Result (YardMap × Slot) Refusal) → IsWhole state → IsWellFormed state → IsSource source → IsFormedEntry entry
+    → yard_with_entry version state.yard entry ≡ r → Forms (entered_at state way source entry r)
+formed_entered_at version state way source entry (Err f) whole formed from its e = formed
+formed_entered_at version state way source entry (Ok (y, slot)) whole formed from its e =
+    let w : Stowed = brought entry slot in
+    let came : Comes state.yard y entry.number w = comes version state.yard y entry entry.slot slot e in
+    let slot_named : IsNamed slot = named came.is_wary state.yard.plan state.yard.boxes w.placement whole.plan came.fits in
     let v : VisitContent = visit_of state way source entry slot in
     let V : VisitContent → Type 0 = IsFormedVisit in
-    let v_formed : V v = record { container = its.container; size_type = its.size_type; booking = its.booking; source = from; moment = its.moment; slot = slot_named; exit = tt } in
+    let v_formed : V v = record { container = its.container; size_type = its.size_type; booking = its.booking; source = from; moment = its.moment; slot = slot_named; exit = tt; kilos = its.kilos } in
     record {
       visits = λ visit inside. elim (Contains-push_cases state.visits v visit inside) [ inl old ↦ formed.visits visit old | inr same ↦ subst V same v_formed ];
       lines = formed.lines;
-      slots = λ q t at. placed_case state.yard.boxes s t q (bytes_eq entry.number q) (formed.slots q) slot_named (sym (in_placed_map state.yard.boxes y.boxes entry.number q s came.boxes) ∙ at);
+      slots = λ q t at. placed_case state.yard.boxes w t q (bytes_eq entry.number q) (formed.slots q) slot_named (ap placed (sym (in_placed_map state.yard.boxes y.boxes entry.number q w came.boxes)) ∙ at);
     }
 
-formed_entered : (state : TerminalState) (way : Way) (source : Source) (entry : EntryContent) → IsWhole state → IsWellFormed state → IsSource source → IsFormedEntry entry → Forms (after_entry state way source entry)
-formed_entered state way source entry whole formed from its =
-    either Forms (is_full state) (with_refusal state VisitLimit) (entered_at state way source entry (yard_with_entry state.yard entry)) formed (formed_entered_at state way source entry (yard_with_entry state.yard entry) whole formed from its refl)
+formed_entered : (version : Version) (state : TerminalState) (way : Way) (source : Source) (entry : EntryContent) → IsWhole state → IsWellFormed state → IsSource source → IsFormedEntry entry → Forms (after_entry version state way source entry)
+formed_entered version state way source entry whole formed from its =
+    either Forms (is_full state) (with_refusal state VisitLimit) (entered_at state way source entry (yard_with_entry version state.yard entry)) formed (formed_entered_at version state way source entry (yard_with_entry version state.yard entry) whole formed from its refl)
 
 closed_case : (departure : Departure) (v : VisitContent) (is : Bool) → IsFormedVisit v → IsFormedDeparture departure → IsFormedVisit (cond is (record v { departure = Some departure }) v)
-closed_case departure v true old new = record { container = old.container; size_type = old.size_type; booking = old.booking; source = old.source; moment = old.moment; slot = old.slot; exit = new }
+closed_case departure v true old new = record { container = old.container; size_type = old.size_type; booking = old.booking; source = old.source; moment = old.moment; slot = old.slot; exit = new; kilos = old.kilos }
 closed_case departure v false old new = old
 
 formed_departed_at : (state : TerminalState) (b : BoxNumber) (departure : Departure) (r : Result (YardMap × Placement) Refusal) → IsWellFormed state → IsFormedDeparture departure → yard_without state.yard b ≡ r → Forms (departed_at state b departure r)
 formed_departed_at state b departure (Err f) formed its e = formed
 formed_departed_at state b departure (Ok (y, s)) formed its e =
-    let went = goes (finite_map.get state.yard.boxes b) state.yard y b s e in
+    let went = goes (placement_of state.yard.boxes b) state.yard y b s e in
     record {
       visits = λ visit inside. (let V : VisitContent → Type 0 = IsFormedVisit in
           let row = mapped_at (closed_visit departure b) state.visits inside.0 visit (found_at (map (closed_visit departure b) state.visits) visit inside) in
           subst V row.2 (closed_case departure row.0 (is_open_visit b row.0) (formed.visits row.0 (contained state.visits inside.0 row.0 row.1)) its));
       lines = formed.lines;
-      slots = λ q t at. removed_case state.yard.boxes t q (bytes_eq b q) (formed.slots q) (sym (in_removed_map state.yard.boxes y.boxes b q went.1) ∙ at);
+      slots = λ q t at. removed_case state.yard.boxes t q (bytes_eq b q) (formed.slots q) (ap placed (sym (in_removed_map state.yard.boxes y.boxes b q went.1)) ∙ at);
     }
 
 formed_departed : (state : TerminalState) (way : Way) (source : Source) (b : BoxNumber) (moment : CivilMoment) → IsWellFormed state → IsFormedDeparture (departure_by way source moment) → Forms (after_departure state way source b moment)
 formed_departed state way source b moment formed its = formed_departed_at state b (departure_by way source moment) (yard_without state.yard b) formed its refl
 
-formed_moved_at : (state : TerminalState) (b : BoxNumber) (slot : Slot) (r : Result YardMap Refusal) → IsWhole state → IsWellFormed state → yard_with_move state.yard b slot ≡ r → Forms (moved_at state b slot r)
-formed_moved_at state b slot (Err f) whole formed e = formed
-formed_moved_at state b slot (Ok y) whole formed e =
-    let is = shifts (finite_map.get state.yard.boxes b) state.yard y b slot e in
-    let s : Placement = placement is.0.length slot in
+formed_moved_at : (version : Version) (state : TerminalState) (b : BoxNumber) (slot : Slot) (r : Result YardMap Refusal) → IsWhole state → IsWellFormed state → yard_with_move (spares version) state.yard b slot ≡ r → Forms (moved_at state b slot r)
+formed_moved_at version state b slot (Err f) whole formed e = formed
+formed_moved_at version state b slot (Ok y) whole formed e =
+    let is = shifts version (finite_map.get state.yard.boxes b) state.yard y b slot e in
+    let w : Stowed = moved_as is.0 slot in
     record {
       visits = formed.visits;
       lines = formed.lines;
-      slots = λ q t at. placed_case state.yard.boxes s t q (bytes_eq b q) (formed.slots q) (named state.yard.plan (finite_map.remove state.yard.boxes b) s whole.plan is.3)
-          (sym (in_placed_map state.yard.boxes y.boxes b q s is.2) ∙ at);
+      slots = λ q t at. placed_case state.yard.boxes w t q (bytes_eq b q) (formed.slots q) (named is.2.is_wary state.yard.plan (finite_map.remove state.yard.boxes b) w.placement whole.plan is.2.fits)
+          (ap placed (sym (in_placed_map state.yard.boxes y.boxes b q w is.2.boxes)) ∙ at);
     }
 
 -- ---- lists
@@ -182,16 +183,16 @@ listing_formed call b port its = record { call_formed = its.call_formed; contain
 discharge_formed : (call : CallContent) (b : BoxNumber) → IsFormedListing call b [] → IsFormedLine call Discharge b (record { port = []; state = Pending })
 discharge_formed call b its = record { call_formed = its.call_formed; container_formed = its.container_formed; port_formed = refl }
 
-pub formed_step : (state : TerminalState) (source : Source) (order : OrderContent) → IsWhole state → IsWellFormed state → IsSource source → IsFormedOrder order → Forms (step state source order)
-formed_step state source (gate_in entry) whole formed from its =
-    either Forms (is_in state entry.number) (with_refusal state AlreadyIn) (after_entry state Gate source entry) formed (formed_entered state Gate source entry whole formed from its)
-formed_step state source (gate_out b moment) whole formed from its = formed_departed state Gate source b moment formed (record { source = from; moment = its })
-formed_step state source (move b slot) whole formed from its = formed_moved_at state b slot (yard_with_move state.yard b slot) whole formed refl
-formed_step state source (list_discharge call b) whole formed from its = formed_listed state call Discharge b [] (line_of state call Discharge b) formed (discharge_formed call b its)
-formed_step state source (list_load call b port) whole formed from its = formed_listed state call Load b port (line_of state call Load b) formed (listing_formed call b port its)
-formed_step state source (discharge call entry) whole formed from its =
-    either Forms (is_in state entry.number) (with_refusal state AlreadyIn) (by_line state call Discharge entry.number (line_of state call Discharge entry.number) (after_entry state Ship source entry)) formed
-    (formed_by_line state call Discharge entry.number (line_of state call Discharge entry.number) (after_entry state Ship source entry) formed (formed_entered state Ship source entry whole formed from its) refl)
-formed_step state source (load call b moment) whole formed from its =
+pub formed_step : (version : Version) (state : TerminalState) (source : Source) (order : OrderContent) → IsWhole state → IsWellFormed state → IsSource source → IsFormedOrder order → Forms (step_by version state source order)
+formed_step version state source (gate_in entry) whole formed from its =
+    either Forms (is_in state entry.number) (with_refusal state AlreadyIn) (after_entry version state Gate source entry) formed (formed_entered version state Gate source entry whole formed from its)
+formed_step version state source (gate_out b moment) whole formed from its = formed_departed state Gate source b moment formed (record { source = from; moment = its })
+formed_step version state source (move b slot) whole formed from its = formed_moved_at version state b slot (yard_with_move (spares version) state.yard b slot) whole formed refl
+formed_step version state source (list_discharge call b) whole formed from its = formed_listed state call Discharge b [] (line_of state call Discharge b) formed (discharge_formed call b its)
+formed_step version state source (list_load call b port) whole formed from its = formed_listed state call Load b port (line_of state call Load b) formed (listing_formed call b port its)
+formed_step version state source (discharge call entry) whole formed from its =
+    either Forms (is_in state entry.number) (with_refusal state AlreadyIn) (by_line state call Discharge entry.number (line_of state call Discharge entry.number) (after_entry version state Ship source entry)) formed
+    (formed_by_line state call Discharge entry.number (line_of state call Discharge entry.number) (after_entry version state Ship source entry) formed (formed_entered version state Ship source entry whole formed from its) refl)
+formed_step version state source (load call b moment) whole formed from its =
     either Forms (is_in state b) (by_line state call Load b (line_of state call Load b) (after_departure state Ship source b moment)) (with_refusal state NotIn)
     (formed_by_line state call Load b (line_of state call Load b) (after_departure state Ship source b moment) formed (formed_departed state Ship source b moment formed (record { source = from; moment = its })) refl) formed

@@ -1,6 +1,6 @@
 pub mod Boxes
 pub mod Open
-pub mod Lengths
+pub mod Told
 pub mod Whole
 pub mod Settled
 pub mod Appended

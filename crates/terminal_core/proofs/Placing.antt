@@ -9,29 +9,28 @@ use Rattle.std.proofs.lemmas.Option.{none-some, same_Some}
 use Rattle.std.proofs.lemmas.List.{take_more, get_or-take, get_or_default, length-take-le}
 use Rattle.std.proofs.lemmas.List.Elements.{Contains-append_left, Contains-push, Contains-push_cases}
 use Rattle.std.proofs.lemmas.List.Sorted.{IsPermutation-sym, Contains-permutation, sum_by-IsPermutation}
-use Rattle.box6346.specs.SizeCode.{length_of}
 use Rattle.box6346.specs.declared.length.Length.{Length}
 use Rattle.box6346.specs.declared.length.Length.TheVariants.{Twenty, Forty}
 use Rattle.box6346.specs.declared.slot.Slot.{Slot}
 use Rattle.box6346.specs.declared.box_number.BoxNumber.{BoxNumber}
 use Rattle.yard_core.specs.declared.block.Block.{Block}
 use Rattle.yard_core.specs.declared.placement.Placement.{Placement}
+use Rattle.yard_core.specs.declared.stowed.Stowed.{Stowed}
 use Rattle.yard_core.specs.declared.yard_fault.YardFault.{YardFault}
 use Rattle.yard_core.specs.declared.yard_fault.YardFault.TheVariants as yard
 use Rattle.yard_core.specs.Plan.{IsSized, IsPlan}
-use Rattle.yard_core.specs.YardMap.{Box, Boxes, YardMap, placement, placement_of, in_bay, below}
+use Rattle.yard_core.specs.YardMap.{Box, Boxes, YardMap, placement, placement_of, placed, in_bay, below}
 use Rattle.yard_core.specs.SoundYard.{Has, IsCarried, IsSound}
 use Rattle.yard_core.specs.FitsAndFree.{IsOpen}
-use Rattle.yard_core.specs.Calls.{RefusesPlace}
-use Rattle.yard_core.proofs.Boxes.{Adds, Adds-insert, box_cases}
+use Rattle.yard_core.specs.Calls.{RefusesPutBack}
+use Rattle.yard_core.proofs.Boxes.{box_cases, get-inserted, get-others, found_placed}
 use Rattle.yard_core.proofs.Cells.{block_at}
 use Rattle.yard_core.proofs.Refusals.{misfits_not_open}
-use Rattle.yard_core.proofs.Sounds.{still}
 use Rattle.terminal_core.specs.declared.restore_fault.RestoreFault.{RestoreFault}
 use Rattle.terminal_core.specs.declared.restore_fault.RestoreFault.TheVariants.{Unsound, Memory}
 use Rattle.terminal_core.specs.declared.place.Place.{Place}
 use Rattle.terminal_core.specs.Rows.{VisitContent}
-use Rattle.terminal_core.specs.State.{AreNumbered}
+use Rattle.terminal_core.specs.State.{stowed_by, AreNumbered}
 use Rattle.terminal_core.specs.Restoring.{Names, Stands, ArePlacesOf, IsPut, RefusesPut, RefusesPlaces, cause_of}
 use Rattle.terminal_core.proofs.Boxes.{same_bytes, same_self}
 use Rattle.terminal_core.proofs.Numbered.{contained, one_named}
@@ -61,26 +60,27 @@ module _ (plan : List Block) (all now : Box → Option Placement) (s : Placement
   }
 
 -- an open slot is not refused
-pub not_refused : (y : YardMap) (b : Box) (s : Placement) (f : YardFault) → f ≢ yard.Memory → finite_map.get y.boxes b ≡ None → IsOpen y.plan (finite_map.get y.boxes) s → RefusesPlace y b s f → ⊥
-not_refused y b s yard.Present other absent open_ h = let bad : false ≡ true = sym (ap is_some absent) ∙ h in cc
-not_refused y b s yard.Memory other absent open_ h = other refl
-not_refused y b s yard.Absent other absent open_ h = misfits_not_open y.plan (finite_map.get y.boxes) s yard.Absent h.1 open_
-not_refused y b s (yard.Buried q) other absent open_ h = misfits_not_open y.plan (finite_map.get y.boxes) s (yard.Buried q) h.1 open_
-not_refused y b s yard.NoSlot other absent open_ h = misfits_not_open y.plan (finite_map.get y.boxes) s yard.NoSlot h.1 open_
-not_refused y b s yard.SlotKind other absent open_ h = misfits_not_open y.plan (finite_map.get y.boxes) s yard.SlotKind h.1 open_
-not_refused y b s yard.Taken other absent open_ h = misfits_not_open y.plan (finite_map.get y.boxes) s yard.Taken h.1 open_
-not_refused y b s yard.OnAir other absent open_ h = misfits_not_open y.plan (finite_map.get y.boxes) s yard.OnAir h.1 open_
-not_refused y b s yard.NoRoom other absent open_ h = misfits_not_open y.plan (finite_map.get y.boxes) s yard.NoRoom h.1 open_
+pub not_refused : (y : YardMap) (b : Box) (w : Stowed) (f : YardFault) → f ≢ yard.Memory → finite_map.get y.boxes b ≡ None → IsOpen y.plan (placement_of y.boxes) w.placement → RefusesPutBack y b w f → ⊥
+not_refused y b w yard.Present other absent open_ h = let bad : false ≡ true = sym (ap is_some absent) ∙ h in cc
+not_refused y b w yard.Memory other absent open_ h = other refl
+not_refused y b w yard.Absent other absent open_ h = misfits_not_open y.plan (placement_of y.boxes) w.placement yard.Absent h.1 open_
+not_refused y b w (yard.Buried q) other absent open_ h = misfits_not_open y.plan (placement_of y.boxes) w.placement (yard.Buried q) h.1 open_
+not_refused y b w yard.NoSlot other absent open_ h = misfits_not_open y.plan (placement_of y.boxes) w.placement yard.NoSlot h.1 open_
+not_refused y b w yard.SlotKind other absent open_ h = misfits_not_open y.plan (placement_of y.boxes) w.placement yard.SlotKind h.1 open_
+not_refused y b w yard.Taken other absent open_ h = misfits_not_open y.plan (placement_of y.boxes) w.placement yard.Taken h.1 open_
+not_refused y b w yard.OnAir other absent open_ h = misfits_not_open y.plan (placement_of y.boxes) w.placement yard.OnAir h.1 open_
+not_refused y b w yard.OnEmpty other absent open_ h = misfits_not_open y.plan (placement_of y.boxes) w.placement yard.OnEmpty h.1 open_
+not_refused y b w yard.NoRoom other absent open_ h = misfits_not_open y.plan (placement_of y.boxes) w.placement yard.NoRoom h.1 open_
 
 module _ (visits : List VisitContent) (are : AreNumbered 1 visits) (y : YardMap) (place : Place) (visit : VisitContent) (names : Names visits place visit) where
-  refused_for : (f : YardFault) → f ≢ yard.Memory → RefusesPlace y place.container (placement (length_of visit.size_type) place.slot) f → RefusesPut visits y place Unsound
+  refused_for : (f : YardFault) → f ≢ yard.Memory → RefusesPutBack y place.container (stowed_by visit place.slot) f → RefusesPut visits y place Unsound
   refused_for f other h = λ also named. (
     f,
     other,
-    (let P : VisitContent → Type 0 = λ v. RefusesPlace y place.container (placement (length_of v.size_type) place.slot) f in subst P (one_named visits are place visit also names named) h),
+    (let P : VisitContent → Type 0 = λ v. RefusesPutBack y place.container (stowed_by v place.slot) f in subst P (one_named visits are place visit also names named) h),
   )
 
-  pub refused_put : (f : YardFault) → RefusesPlace y place.container (placement (length_of visit.size_type) place.slot) f → RefusesPut visits y place (cause_of f)
+  pub refused_put : (f : YardFault) → RefusesPutBack y place.container (stowed_by visit place.slot) f → RefusesPut visits y place (cause_of f)
   refused_put yard.Memory h = tt
   refused_put yard.Present h = refused_for yard.Present (λ e. cc) h
   refused_put yard.Absent h = refused_for yard.Absent (λ e. cc) h
@@ -89,6 +89,7 @@ module _ (visits : List VisitContent) (are : AreNumbered 1 visits) (y : YardMap)
   refused_put yard.SlotKind h = refused_for yard.SlotKind (λ e. cc) h
   refused_put yard.Taken h = refused_for yard.Taken (λ e. cc) h
   refused_put yard.OnAir h = refused_for yard.OnAir (λ e. cc) h
+  refused_put yard.OnEmpty h = refused_for yard.OnEmpty (λ e. cc) h
   refused_put yard.NoRoom h = refused_for yard.NoRoom (λ e. cc) h
 
 -- ---- the places one after another
@@ -96,31 +97,37 @@ module _ (visits : List VisitContent) (are : AreNumbered 1 visits) (y : YardMap)
 module _ (visits : List VisitContent) (are : AreNumbered 1 visits) where
   pub same_stand : (one two : Boxes) (place : Place) → Stands visits one place → Stands visits two place → finite_map.get one place.container ≡ finite_map.get two place.container
   same_stand one two place is also =
-      is.stands ∙ ap (λ (v : VisitContent). Some (placement (length_of v.size_type) place.slot)) (one_named visits are place is.visit also.visit is.names also.names) ∙ sym also.stands
+      is.stands ∙ ap (λ (v : VisitContent). Some (stowed_by v place.slot)) (one_named visits are place is.visit also.visit is.names also.names) ∙ sym also.stands
 
 -- a place more
 module _ (visits : List VisitContent) (old new : YardMap) (places : List Place) (place : Place) (before : ArePlacesOf visits old.boxes places) (put : IsPut visits old new place) where
-  stood : Placement
-  stood = placement (length_of put.visit.size_type) place.slot
+  stood : Stowed
+  stood = stowed_by put.visit place.slot
 
-  adds : Adds (placement_of old.boxes) (placement_of new.boxes) place.container stood
+  here : finite_map.get new.boxes place.container ≡ Some stood
   unfolding stood
-  adds = let P : Boxes → Type 0 = λ m. Adds (placement_of old.boxes) (placement_of m) place.container (placement (length_of put.visit.size_type) place.slot) in subst P (sym put.places.boxes) (Adds-insert old.boxes place.container _)
+  here = ap (λ (m : Boxes). finite_map.get m place.container) put.puts.adds.boxes ∙ get-inserted old.boxes place.container (stowed_by put.visit place.slot)
 
-  stays : (q : Box) (t : Placement) → finite_map.get old.boxes q ≡ Some t → finite_map.get new.boxes q ≡ Some t
-  stays q t e = still old.plan (placement_of old.boxes) (placement_of new.boxes) place.container stood adds put.places.absent q t e
+  others : (q : Box) → q ≢ place.container → finite_map.get new.boxes q ≡ finite_map.get old.boxes q
+  others q apart = ap (λ (m : Boxes). finite_map.get m q) put.puts.adds.boxes ∙ get-others old.boxes place.container (stowed_by put.visit place.slot) q apart
+
+  stays : (q : Box) (w : Stowed) → finite_map.get old.boxes q ≡ Some w → finite_map.get new.boxes q ≡ Some w
+  stays q w e = elim (box_cases q place.container) [
+    | inl same ↦ absurd (none-some w (sym put.puts.adds.absent ∙ ap (finite_map.get old.boxes) (sym same) ∙ e))
+    | inr apart ↦ others q apart ∙ e
+  ]
 
   not_there : (other : Place) → Contains places other → bytes_eq other.container place.container ≡ true → ⊥
   not_there other inside same =
       let stand = before.each other inside in
-      none-some (placement (length_of stand.visit.size_type) other.slot) (sym put.places.absent ∙ ap (finite_map.get old.boxes) (same_bytes other.container place.container same) ∙ stand.stands)
+      none-some (stowed_by stand.visit other.slot) (sym put.puts.adds.absent ∙ ap (finite_map.get old.boxes) (same_bytes other.container place.container same) ∙ stand.stands)
 
   stands_now : (other : Place) → Contains places other → Stands visits new.boxes other
   stands_now other inside = let stand = before.each other inside in record { visit = stand.visit; names = stand.names; stands = stays other.container _ stand.stands }
 
   stands_here : Stands visits new.boxes place
   unfolding stood
-  stands_here = record { visit = put.visit; names = put.names; stands = adds.here }
+  stands_here = record { visit = put.visit; names = put.names; stands = here }
 
   none_of_it : (container : BoxNumber) → bytes_eq place.container container ≡ true → count_by (λ other. bytes_eq other.container container) places ≡ 0
   none_of_it container is =
@@ -137,9 +144,9 @@ module _ (visits : List VisitContent) (old new : YardMap) (places : List Place) 
       | inl old_one ↦ stands_now other old_one
       | inr same ↦ (let P : Place → Type 0 = Stands visits new.boxes in subst P same stands_here)
     ];
-    every = λ container s e. elim (box_cases container place.container) [
+    every = λ container w e. elim (box_cases container place.container) [
       | inl same ↦ (place, Contains-push places place, sym same)
-      | inr apart ↦ (let there = before.every container s (sym (adds.others container apart) ∙ e) in (there.0, Contains-append_left places (place ∷ []) there.0 there.1, there.2))
+      | inr apart ↦ (let there = before.every container w (sym (others container apart) ∙ e) in (there.0, Contains-append_left places (place ∷ []) there.0 there.1, there.2))
     ];
     once = λ container. (let more : count_by (λ other. bytes_eq other.container container) (places ++ place ∷ []) ≡ count_by (λ other. bytes_eq other.container container) places + counts (bytes_eq place.container container) =
         counted_more (λ other. bytes_eq other.container container) places place in
@@ -163,7 +170,7 @@ one_more_taken visits old new places i place low at before put =
 pub none_taken : (visits : List VisitContent) (boxes : Boxes) → boxes ≡ finite_map.empty → ArePlacesOf visits boxes []
 none_taken visits boxes e = record {
   each = λ other inside. (let bad : inside.0 < 0 = inside.1 in absurd (omega arith));
-  every = λ container s there. absurd (none-some s (sym (ap (λ (m : Boxes). finite_map.get m container) e ∙ finite_map.get-empty _ container) ∙ there));
+  every = λ container w there. absurd (none-some w (sym (ap (λ (m : Boxes). finite_map.get m container) e ∙ finite_map.get-empty _ container) ∙ there));
   once = λ container. omega arith;
 }
 
@@ -171,7 +178,7 @@ none_taken visits boxes e = record {
 pub places_moved : (visits : List VisitContent) (boxes : Boxes) (places moved : List Place) → IsPermutation places moved → ArePlacesOf visits boxes places → ArePlacesOf visits boxes moved
 places_moved visits boxes places moved perm all = record {
   each = λ other inside. all.each other (Contains-permutation moved places other (IsPermutation-sym places moved perm) inside);
-  every = λ container s there. (let stand = all.every container s there in (stand.0, Contains-permutation places moved stand.0 perm stand.1, stand.2));
+  every = λ container w there. (let stand = all.every container w there in (stand.0, Contains-permutation places moved stand.0 perm stand.1, stand.2));
   once = λ container. (let same : count_by (λ other. bytes_eq other.container container) moved ≡ count_by (λ other. bytes_eq other.container container) places =
       sum_by-IsPermutation (λ other. cond (bytes_eq other.container container) 1 0) places moved perm in
       let few : count_by (λ other. bytes_eq other.container container) places ≤ 1 = all.once container in
@@ -181,16 +188,16 @@ places_moved visits boxes places moved perm all = record {
 -- ---- where a sound yard has these places, the next is never refused
 
 module _ (plan : List Block) (valid : IsPlan plan) (visits : List VisitContent) (are : AreNumbered 1 visits) (places : List Place) (rising : IsNonDecreasingBy (λ (p : Place). p.slot.tier) places)
-    (boxes : Boxes) (sound : IsSound plan (finite_map.get boxes)) (all : ArePlacesOf visits boxes places)
+    (boxes : Boxes) (sound : IsSound plan (placement_of boxes)) (all : ArePlacesOf visits boxes places)
     (y : YardMap) (same_plan : y.plan ≡ plan) (i : ℕ) (place : Place) (low : i < length places) (at : place ≡ get_or places i place) (so_far : ArePlacesOf visits y.boxes (take i places)) where
   inside_all : (other : Place) → Contains (take i places) other → Contains places other
   inside_all other (k, short, is) =
       let long : length (take i places) ≡ i = length-take-le i places (omega arith) in
       (k, omega arith, sym (get_or-take i places k other (omega arith)) ∙ is)
 
-  kept : (q : Box) (t : Placement) → finite_map.get y.boxes q ≡ Some t → finite_map.get boxes q ≡ Some t
-  kept q t e =
-      let there = so_far.every q t e in
+  kept : (q : Box) (w : Stowed) → finite_map.get y.boxes q ≡ Some w → finite_map.get boxes q ≡ Some w
+  kept q w e =
+      let there = so_far.every q w e in
       ap (finite_map.get boxes) (sym there.2) ∙ sym (same_stand visits are y.boxes boxes there.0 (so_far.each there.0 there.1) (all.each there.0 (inside_all there.0 there.1)))
       ∙ ap (finite_map.get y.boxes) there.2 ∙ e
 
@@ -206,12 +213,12 @@ module _ (plan : List Block) (valid : IsPlan plan) (visits : List VisitContent) 
         absurd (omega arith))
   ]
 
-  lower : (q : Box) (t : Placement) → finite_map.get boxes q ≡ Some t → t.slot.tier < place.slot.tier → finite_map.get y.boxes q ≡ Some t
-  lower q t e under =
-      let there = all.every q t e in
+  lower : (q : Box) (w : Stowed) → finite_map.get boxes q ≡ Some w → w.placement.slot.tier < place.slot.tier → finite_map.get y.boxes q ≡ Some w
+  lower q w e under =
+      let there = all.every q w e in
       let stand = all.each there.0 there.1 in
-      let is : t ≡ placement (length_of stand.visit.size_type) there.0.slot = same_Some t _ (sym e ∙ ap (finite_map.get boxes) (sym there.2) ∙ stand.stands) in
-      let tier : t.slot.tier ≡ there.0.slot.tier = ap (λ (s : Placement). s.slot.tier) is in
+      let is : w ≡ stowed_by stand.visit there.0.slot = same_Some w _ (sym e ∙ ap (finite_map.get boxes) (sym there.2) ∙ stand.stands) in
+      let tier : w.placement.slot.tier ≡ there.0.slot.tier = ap (λ (v : Stowed). v.placement.slot.tier) is in
       let first : Contains (take i places) there.0 = taken_first there.0 there.1 (omega arith) in
       ap (finite_map.get y.boxes) (sym there.2) ∙ same_stand visits are y.boxes boxes there.0 (so_far.each there.0 first) stand ∙ ap (finite_map.get boxes) there.2 ∙ e
 
@@ -225,13 +232,23 @@ module _ (plan : List Block) (valid : IsPlan plan) (visits : List VisitContent) 
       some_counted (λ other. bytes_eq other.container place.container) (take i places) there.0 there.1 (ap (λ b. bytes_eq b place.container) there.2 ∙ self) in
       omega arith)
 
+  kept_placed : (q : Box) (t : Placement) → placement_of y.boxes q ≡ Some t → placement_of boxes q ≡ Some t
+  kept_placed q t e = let w = found_placed (finite_map.get y.boxes q) t e in ap placed (kept q w.0 w.1) ∙ ap Some w.2
+
+  lower_placed : (q : Box) (t : Placement) → placement_of boxes q ≡ Some t → t.slot.tier < place.slot.tier → placement_of y.boxes q ≡ Some t
+  lower_placed q t e under =
+      let w = found_placed (finite_map.get boxes q) t e in
+      let tier : w.0.placement.slot.tier ≡ t.slot.tier = ap (λ (s : Placement). s.slot.tier) w.2 in
+      ap placed (lower q w.0 w.1 (omega arith)) ∙ ap Some w.2
+
   pub not_unsound : RefusesPut visits y place Unsound → ⊥
   not_unsound refuses =
       let stand = all.each place place_inside in
       let why = refuses stand.visit stand.names in
-      let P : List Block → Type 0 = λ p. IsOpen p (finite_map.get y.boxes) (placement (length_of stand.visit.size_type) place.slot) in
-      let open_ : P plan = still_open plan (finite_map.get boxes) (finite_map.get y.boxes) (placement (length_of stand.visit.size_type) place.slot) kept lower place.container valid.sized sound stand.stands absent in
-      not_refused y place.container (placement (length_of stand.visit.size_type) place.slot) why.0 why.1 absent (subst P (sym same_plan) open_) why.2
+      let w : Stowed = stowed_by stand.visit place.slot in
+      let P : List Block → Type 0 = λ p. IsOpen p (placement_of y.boxes) w.placement in
+      let open_ : P plan = still_open plan (placement_of boxes) (placement_of y.boxes) w.placement kept_placed lower_placed place.container valid.sized sound (ap placed stand.stands) (ap placed absent) in
+      not_refused y place.container w why.0 why.1 absent (subst P (sym same_plan) open_) why.2
 
 pub refuses_places : (plan : List Block) (visits : List VisitContent) (places : List Place) (y : YardMap) (i : ℕ) (place : Place) (f : RestoreFault) → IsPlan plan → AreNumbered 1 visits → IsNonDecreasingBy (λ (p : Place). p.slot.tier) places → y.plan ≡ plan
     → i < length places → place ≡ get_or places i place → ArePlacesOf visits y.boxes (take i places) → RefusesPut visits y place f → RefusesPlaces plan visits places f

@@ -11,10 +11,9 @@ use Rattle.std.proofs.lemmas.List.Sums.{length-filter}
 use Rattle.std.proofs.lemmas.List.Sorted.{IsPermutation-sym}
 use Rattle.box6346.specs.declared.box_number.BoxNumber.{BoxNumber}
 use Rattle.yard_core.specs.declared.block.Block.{Block}
-use Rattle.yard_core.specs.declared.placement.Placement.{Placement}
+use Rattle.yard_core.specs.declared.stowed.Stowed.{Stowed}
 use Rattle.yard_core.specs.Plan.{IsPlan}
-use Rattle.box6346.specs.SizeCode.{length_of}
-use Rattle.yard_core.specs.YardMap.{Boxes, YardMap, placement}
+use Rattle.yard_core.specs.YardMap.{Boxes, YardMap, placement_of}
 use Rattle.yard_core.specs.SoundYard.{IsSound}
 use Rattle.terminal_core.specs.declared.restore_fault.RestoreFault.{RestoreFault}
 use Rattle.terminal_core.specs.declared.restore_fault.RestoreFault.TheVariants.{Unsound, Memory}
@@ -22,7 +21,7 @@ use Rattle.terminal_core.specs.declared.listing.Listing.{Listing}
 use Rattle.terminal_core.specs.declared.place.Place.{Place}
 use Rattle.terminal_core.specs.declared.visit.Visit.{Visit}
 use Rattle.terminal_core.specs.Rows.{VisitContent, visit_content}
-use Rattle.terminal_core.specs.State.{TerminalState, Lines, is_open_visit, AreNumbered, IsWhole}
+use Rattle.terminal_core.specs.State.{TerminalState, Lines, is_open_visit, stowed_by, AreNumbered, IsWhole}
 use Rattle.terminal_core.specs.Listings.{lines_of}
 use Rattle.terminal_core.specs.Restoring.{ArePlacesOf, AreNamed, AreOnce, AreRowsOf, IsYardOf, RefusesYard, RefusesPlaces, without_lines}
 use Rattle.terminal_core.proofs.Boxes.{same_bytes, same_self}
@@ -77,17 +76,17 @@ module _ (visits : List VisitContent) (are : AreNumbered 1 visits) (boxes : Boxe
       let stand = all.each place.0 place.1 in
       ap (λ b. is_some (finite_map.get boxes b)) (sym place.3) ∙ ap is_some stand.stands)
 
-  length_of_open : (container : BoxNumber) (s : Placement) (visit : VisitContent) → finite_map.get boxes container ≡ Some s → find (is_open_visit container) visits ≡ Some visit → s.length ≡ length_of visit.size_type
-  length_of_open container s visit at open_ =
-      let place = all.every container s at in
+  told_of_open : (container : BoxNumber) (w : Stowed) (visit : VisitContent) → finite_map.get boxes container ≡ Some w → find (is_open_visit container) visits ≡ Some visit → w ≡ stowed_by visit w.placement.slot
+  told_of_open container w visit at open_ =
+      let place = all.every container w at in
       let stand = all.each place.0 place.1 in
       let found = found_is (is_open_visit container) visits visit open_ in
       let its : is_open_visit container stand.visit ≡ true = ap (λ b. is_open_visit b stand.visit) (sym place.2) ∙ stand.names.is_open in
       let same : stand.visit ≡ visit = one_passes (is_open_visit container) visits stand.visit visit (one_open container) stand.names.listed (contained visits found.0 visit found.1) its found.2 in
-      let is : s ≡ placement (length_of stand.visit.size_type) place.0.slot = same_Some s _ (sym at ∙ ap (finite_map.get boxes) (sym place.2) ∙ stand.stands) in
-      ap (λ (p : Placement). p.length) is ∙ ap (λ (v : VisitContent). length_of v.size_type) same
+      let is : w ≡ stowed_by stand.visit place.0.slot = same_Some w _ (sym at ∙ ap (finite_map.get boxes) (sym place.2) ∙ stand.stands) in
+      is ∙ ap (λ (v : VisitContent). stowed_by v place.0.slot) same ∙ ap (stowed_by visit) (sym (ap (λ (v : Stowed). v.placement.slot) is))
 
-pub whole_of : (plan : List Block) (limit : ℕ) (visits : List VisitContent) (places moved : List Place) (yard : YardMap) → IsPlan plan → yard.plan ≡ plan → IsSound yard.plan (finite_map.get yard.boxes) → AreNumbered 1 visits → length visits ≤ limit
+pub whole_of : (plan : List Block) (limit : ℕ) (visits : List VisitContent) (places moved : List Place) (yard : YardMap) → IsPlan plan → yard.plan ≡ plan → IsSound yard.plan (placement_of yard.boxes) → AreNumbered 1 visits → length visits ≤ limit
     → IsPermutation places moved → ArePlacesOf visits yard.boxes moved → AreNamed visits moved → IsYardOf plan limit visits places yard
 whole_of plan limit visits places moved yard valid same sound are few perm all named = record {
   whole = record {
@@ -99,7 +98,7 @@ whole_of plan limit visits places moved yard valid same sound are few perm all n
         let f : count_by (is_open_visit container) visits ≤ 1 = one_open visits are yard.boxes moved all named container in
         omega arith);
     here = here_and_open visits are yard.boxes moved all named;
-    as_long = length_of_open visits are yard.boxes moved all named;
+    as_told = told_of_open visits are yard.boxes moved all named;
   };
   plan_is = same;
   places_are = places_moved visits yard.boxes moved places (IsPermutation-sym places moved perm) all;
@@ -125,7 +124,7 @@ named_of_whole limit visits places yard whole all visit inside open_ =
 pub unsound_yard : (plan : List Block) (limit : ℕ) (visits : List VisitContent) (places moved : List Place) (f : RestoreFault) → IsPermutation places moved → RefusesPlaces plan visits moved f → RefusesYard plan limit visits places f
 unsound_yard plan limit visits places moved Memory perm refuses = tt
 unsound_yard plan limit visits places moved Unsound perm refuses = λ yard is.
-    let P : List Block → Type 0 = λ p. IsSound p (finite_map.get yard.boxes) in
+    let P : List Block → Type 0 = λ p. IsSound p (placement_of yard.boxes) in
     refuses yard.boxes (subst P is.plan_is is.whole.sound) (places_moved visits yard.boxes places moved perm is.places_are)
 
 pub not_all_named : (plan : List Block) (limit : ℕ) (visits : List VisitContent) (places moved : List Place) → IsPermutation places moved → ¬ AreNamed visits moved → RefusesYard plan limit visits places Unsound
@@ -134,12 +133,12 @@ not_all_named plan limit visits places moved perm unnamed = λ yard is. unnamed 
 -- ---- rows have one state
 
 module _ (visits : List VisitContent) (are : AreNumbered 1 visits) (places : List Place) where
-  stands_alike : (one two : Boxes) → ArePlacesOf visits one places → ArePlacesOf visits two places → (container : BoxNumber) (s : Placement) → finite_map.get one container ≡ Some s → finite_map.get two container ≡ Some s
+  stands_alike : (one two : Boxes) → ArePlacesOf visits one places → ArePlacesOf visits two places → (container : BoxNumber) (s : Stowed) → finite_map.get one container ≡ Some s → finite_map.get two container ≡ Some s
   stands_alike one two is also container s e =
       let place = is.every container s e in
       ap (finite_map.get two) (sym place.2) ∙ same_stand visits are two one place.0 (also.each place.0 place.1) (is.each place.0 place.1) ∙ ap (finite_map.get one) place.2 ∙ e
 
-  alike : (a b : Option Placement) → ((s : Placement) → a ≡ Some s → b ≡ Some s) → ((s : Placement) → b ≡ Some s → a ≡ Some s) → a ≡ b
+  alike : (a b : Option Stowed) → ((s : Stowed) → a ≡ Some s → b ≡ Some s) → ((s : Stowed) → b ≡ Some s → a ≡ Some s) → a ≡ b
   alike (Some s) b h g = sym (h s refl)
   alike None None h g = refl
   alike None (Some s) h g = g s refl

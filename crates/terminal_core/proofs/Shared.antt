@@ -1,5 +1,5 @@
 -- No two containers share a slot or a visit.
-use Rattle.std.proofs.Common.{◌≡◌, ◌≢◌, ◌+◌, ◌-◌, ◌%◌, ◌≤◌, ◌<◌, List, length, Bool, true, false, cond, Option, None, Some, is_some, refl, sym, ap, ◌∙◌, arith, subst, inl}
+use Rattle.std.proofs.Common.{◌≡◌, ◌≢◌, ◌+◌, ◌-◌, ◌%◌, ◌≤◌, ◌<◌, List, length, Bool, true, false, cond, Option, None, Some, is_some, refl, sym, ap, ◌∙◌, arith, inl}
 use Rattle.std.specs.FinMap as finite_map
 use Rattle.std.specs.Str.{bytes_eq}
 use Rattle.std.proofs.lemmas.Option.{slice_get_within}
@@ -9,15 +9,16 @@ use Rattle.box6346.specs.declared.length.Length.TheVariants.{Twenty, Forty}
 use Rattle.box6346.specs.declared.slot.Slot.{Slot}
 use Rattle.yard_core.specs.declared.block.Block.{Block}
 use Rattle.yard_core.specs.declared.placement.Placement.{Placement}
-use Rattle.yard_core.specs.YardMap.{Boxes, placement, in_bay, CoversAt, IsKind}
+use Rattle.yard_core.specs.declared.stowed.Stowed.{Stowed}
+use Rattle.yard_core.specs.Plan.{IsPlan}
+use Rattle.yard_core.specs.YardMap.{Boxes, placement, placement_of, placed, in_bay, CoversAt, IsKind}
 use Rattle.yard_core.specs.FitsAndFree.{IsOpen}
-use Rattle.yard_core.specs.Decisions.{Refusal, misfit_of}
-use Rattle.yard_core.proofs.Fitting.{Judges, misfit_judges}
+use Rattle.yard_core.specs.Decisions.{misfit_of}
 use Rattle.terminal_core.specs.Rows.{VisitContent}
 use Rattle.terminal_core.specs.State.{TerminalState, is_open_visit, open_visit, IsWhole}
 use Rattle.terminal_core.specs.Step.{number_of_visit}
 use Rattle.terminal_core.specs.Changes.{Standing, standing_in, standing_of, IsNewPlace, IsNewSlot}
-use Rattle.terminal_core.proofs.Boxes.{same_bytes, in_removed_map}
+use Rattle.terminal_core.proofs.Boxes.{same_bytes, in_removed_map, there_placed, open_of}
 use Rattle.terminal_core.proofs.Numbered.{number_at}
 use Rattle.terminal_core.proofs.Counted.{found_is, some_of}
 use Rattle.terminal_core.proofs.Changing.{placed_by}
@@ -31,10 +32,9 @@ common_cell Twenty Forty s t e k j = let odd : s.bay % 2 ≡ 1 = k in let even :
 common_cell Forty Twenty s t e k j = let even : s.bay % 2 ≡ 0 = k in let odd : s.bay % 2 ≡ 1 = ap (λ (x : Slot). x.bay % 2) e ∙ j in absurd (omega arith)
 
 -- none stands where a container fits
-not_there : (plan : List Block) (boxes : Boxes) (s t : Placement) (other : BoxNumber) → misfit_of plan boxes s ≡ None → finite_map.get boxes other ≡ Some t → IsKind t.length t.slot → t.slot ≢ s.slot
-not_there plan boxes s t other fits at kind same =
-    let P : Option Refusal → Type 0 = Judges plan boxes s in
-    let open_ : IsOpen plan (finite_map.get boxes) s = subst P fits (misfit_judges plan boxes s) in
+not_there : (is_wary : Bool) (plan : List Block) (boxes : Boxes) (s t : Placement) (other : BoxNumber) → IsPlan plan → misfit_of is_wary plan boxes s ≡ None → placement_of boxes other ≡ Some t → IsKind t.length t.slot → t.slot ≢ s.slot
+not_there is_wary plan boxes s t other valid fits at kind same =
+    let open_ : IsOpen plan (placement_of boxes) s = open_of is_wary plan boxes s valid fits in
     let cell = common_cell t.length s.length t.slot s.slot same kind open_.of_kind in
     open_.not_taken (other, t, cell.0, at, cell.1, cell.2)
 
@@ -54,28 +54,28 @@ number_below state other whole there =
     let its : number_of_visit (open_visit state other) ≡ visit.0.number = ap number_of_visit visit.1 in
     omega arith
 
-pub new_place : (state : TerminalState) (container : BoxNumber) (s : Placement) → IsWhole state → is_some (finite_map.get state.yard.boxes container) ≡ false → misfit_of state.yard.plan state.yard.boxes s ≡ None
+pub new_place : (is_wary : Bool) (state : TerminalState) (container : BoxNumber) (s : Placement) → IsWhole state → is_some (finite_map.get state.yard.boxes container) ≡ false → misfit_of is_wary state.yard.plan state.yard.boxes s ≡ None
     → IsNewPlace container (length state.visits + 1) s.slot (standing_of state)
-new_place state container s whole absent fits = record {
-  absent = ap (placed_by (open_visit state container)) (none_there (finite_map.get state.yard.boxes container) absent);
-  slot_free = λ other standing e same. (let t = stands_of (finite_map.get state.yard.boxes other) (open_visit state other) standing e in
-      not_there state.yard.plan state.yard.boxes s t.0 other fits t.1 (whole.sound.of_kind other t.0 t.1) (sym t.2 ∙ same));
-  visit_free = λ other standing e same. (let t = stands_of (finite_map.get state.yard.boxes other) (open_visit state other) standing e in
-      let few : number_of_visit (open_visit state other) ≤ length state.visits = number_below state other whole (ap is_some t.1) in
+new_place is_wary state container s whole absent fits = record {
+  absent = ap (λ o. placed_by (open_visit state container) (placed o)) (none_there (finite_map.get state.yard.boxes container) absent);
+  slot_free = λ other standing e same. (let t = stands_of (placement_of state.yard.boxes other) (open_visit state other) standing e in
+      not_there is_wary state.yard.plan state.yard.boxes s t.0 other whole.plan fits t.1 (whole.sound.of_kind other t.0 t.1) (sym t.2 ∙ same));
+  visit_free = λ other standing e same. (let t = stands_of (placement_of state.yard.boxes other) (open_visit state other) standing e in
+      let few : number_of_visit (open_visit state other) ≤ length state.visits = number_below state other whole (there_placed state.yard.boxes other t.0 t.1) in
       let its : standing.visit ≡ number_of_visit (open_visit state other) = t.3 in
       absurd (omega arith));
 }
 
-kept_elsewhere : (boxes : Boxes) (b other : BoxNumber) (t : Placement) (is : Bool) → other ≢ b → bytes_eq b other ≡ is → finite_map.get boxes other ≡ Some t → cond is None (finite_map.get boxes other) ≡ Some t
+kept_elsewhere : (boxes : Boxes) (b other : BoxNumber) (t : Placement) (is : Bool) → other ≢ b → bytes_eq b other ≡ is → placement_of boxes other ≡ Some t → placed (cond is None (finite_map.get boxes other)) ≡ Some t
 kept_elsewhere boxes b other t true apart e at = absurd (apart (same_bytes b other e))
 kept_elsewhere boxes b other t false apart e at = at
 
-pub new_slot : (state : TerminalState) (container : BoxNumber) (s : Placement) (slot : Slot) → IsWhole state → finite_map.get state.yard.boxes container ≡ Some s
-    → misfit_of state.yard.plan (finite_map.remove state.yard.boxes container) (placement s.length slot) ≡ None → IsNewSlot container slot (standing_of state)
-new_slot state container s slot whole stood fits = record {
-  there = ap (λ o. is_some (placed_by (open_visit state container) o)) stood;
-  slot_free = λ other standing apart e same. (let t = stands_of (finite_map.get state.yard.boxes other) (open_visit state other) standing e in
-      not_there state.yard.plan (finite_map.remove state.yard.boxes container) (placement s.length slot) t.0 other fits
-      (in_removed_map state.yard.boxes (finite_map.remove state.yard.boxes container) container other refl ∙ kept_elsewhere state.yard.boxes container other t.0 (bytes_eq container other) apart refl t.1)
+pub new_slot : (is_wary : Bool) (state : TerminalState) (container : BoxNumber) (w : Stowed) (slot : Slot) → IsWhole state → finite_map.get state.yard.boxes container ≡ Some w
+    → misfit_of is_wary state.yard.plan (finite_map.remove state.yard.boxes container) (placement w.placement.length slot) ≡ None → IsNewSlot container slot (standing_of state)
+new_slot is_wary state container w slot whole stood fits = record {
+  there = ap (λ o. is_some (placed_by (open_visit state container) (placed o))) stood;
+  slot_free = λ other standing apart e same. (let t = stands_of (placement_of state.yard.boxes other) (open_visit state other) standing e in
+      not_there is_wary state.yard.plan (finite_map.remove state.yard.boxes container) (placement w.placement.length slot) t.0 other whole.plan fits
+      (ap placed (in_removed_map state.yard.boxes (finite_map.remove state.yard.boxes container) container other refl) ∙ kept_elsewhere state.yard.boxes container other t.0 (bytes_eq container other) apart refl t.1)
       (whole.sound.of_kind other t.0 t.1) (sym t.2 ∙ same));
 }

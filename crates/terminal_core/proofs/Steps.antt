@@ -13,6 +13,7 @@ use Rattle.yard_core.specs.Decisions.{Refusal}
 use Rattle.yard_core.specs.Calls.{Removes, Shifts, RefusesRemove, RefusesShift}
 use Rattle.yard_core.specs.Exact.{IsYard}
 use Rattle.yard_core.specs.declared.placement.Placement.{Placement}
+use Rattle.yard_core.specs.declared.stowed.Stowed.{Stowed}
 use Rattle.yard_core.specs.declared.yard_fault.YardFault.{YardFault}
 use Rattle.yard_core.proofs.Exact.{remove_is_decided_lem, shift_is_decided_lem}
 use Rattle.terminal_core.specs.declared.outcome.Outcome.{Outcome}
@@ -28,6 +29,7 @@ use Rattle.terminal_core.specs.declared.way.Way.{Way}
 use Rattle.terminal_core.specs.declared.way.Way.TheVariants.{Ship}
 use Rattle.terminal_core.specs.Rows.{VisitContent, ChangeContent, visit_opened, visit_closed, placed_at, moved_to, removed_from, line_done}
 use Rattle.terminal_core.specs.State.{TerminalState, LineContent, Lines, is_in, line_key, line_of, IsWhole, open_visit}
+use Rattle.terminal_core.specs.Versions.{newest}
 use Rattle.terminal_core.specs.Step.{Stepped, step_with, with_refusal, is_full, after_entry, entered_at, visit_of, yard_with_entry, after_departure, departed_at, departure_by, close_visit, number_of_visit, after_move, moved_at, with_line, step_discharge, step_load, then_line_done, then_line_done_at, by_line, by_state}
 use Rattle.terminal_core.specs.Calls.{Follows, IsReasonFor, Settles, Unsettled, is_refused}
 
@@ -50,27 +52,27 @@ full : (state : TerminalState) → state.limit ≤ length state.visits → is_fu
 full state none = le-leb state.limit (length state.visits) none
 
 pub refused_full : (state : TerminalState) (way : Way) (source : Source) (entry : EntryContent) (changes : List ChangeContent) → state.limit ≤ length state.visits
-    → Follows (after_entry state way source entry) state (Refused VisitLimit) changes changes
+    → Follows (after_entry newest state way source entry) state (Refused VisitLimit) changes changes
 refused_full state way source entry changes none =
-    follows (after_entry state way source entry) (with_refusal state VisitLimit) state _ changes changes (ap (λ v. cond v (with_refusal state VisitLimit) (entered_at state way source entry (yard_with_entry state.yard entry))) (full state none)) (nothing_done state VisitLimit changes)
+    follows (after_entry newest state way source entry) (with_refusal state VisitLimit) state _ changes changes (ap (λ v. cond v (with_refusal state VisitLimit) (entered_at state way source entry (yard_with_entry newest state.yard entry))) (full state none)) (nothing_done state VisitLimit changes)
 
-entered_is : (state : TerminalState) (way : Way) (source : Source) (entry : EntryContent) (r : Result (YardMap × Slot) Refusal) → length state.visits < state.limit → yard_with_entry state.yard entry ≡ r
-    → after_entry state way source entry ≡ entered_at state way source entry r
+entered_is : (state : TerminalState) (way : Way) (source : Source) (entry : EntryContent) (r : Result (YardMap × Slot) Refusal) → length state.visits < state.limit → yard_with_entry newest state.yard entry ≡ r
+    → after_entry newest state way source entry ≡ entered_at state way source entry r
 entered_is state way source entry r room e =
-    ap (λ v. cond v (with_refusal state VisitLimit) (entered_at state way source entry (yard_with_entry state.yard entry))) (not_full state room) ∙ ap (entered_at state way source entry) e
+    ap (λ v. cond v (with_refusal state VisitLimit) (entered_at state way source entry (yard_with_entry newest state.yard entry))) (not_full state room) ∙ ap (entered_at state way source entry) e
 
 pub has_entered : (state : TerminalState) (way : Way) (source : Source) (entry : EntryContent) (y : YardMap) (slot : Slot) (visits : List VisitContent) (old new : List ChangeContent)
     → length state.visits < state.limit → Settles state.yard y entry slot → visits ≡ state.visits ++ visit_of state way source entry slot ∷ []
     → new ≡ old ++ visit_opened (visit_of state way source entry slot) ∷ placed_at entry.number (length state.visits + 1) slot ∷ []
-    → Follows (after_entry state way source entry) (record state { yard = y; visits = visits }) (Done slot) old new
+    → Follows (after_entry newest state way source entry) (record state { yard = y; visits = visits }) (Done slot) old new
 has_entered state way source entry y slot visits old new room settles opened made =
-    follows (after_entry state way source entry) (entered_at state way source entry (Ok (y, slot))) _ _ old new (entered_is state way source entry (Ok (y, slot)) room settles.settled)
+    follows (after_entry newest state way source entry) (entered_at state way source entry (Ok (y, slot))) _ _ old new (entered_is state way source entry (Ok (y, slot)) room settles.settled)
     (record { state = ap (λ (v : List VisitContent). record state { yard = y; visits = v }) opened; outcome = refl; changes = made })
 
 pub has_not_entered : (state : TerminalState) (way : Way) (source : Source) (entry : EntryContent) (reason : Reason) (changes : List ChangeContent)
-    → length state.visits < state.limit → Unsettled state.yard entry reason → Follows (after_entry state way source entry) state (Refused reason) changes changes
+    → length state.visits < state.limit → Unsettled state.yard entry reason → Follows (after_entry newest state way source entry) state (Refused reason) changes changes
 has_not_entered state way source entry reason changes room unsettled =
-    follows (after_entry state way source entry) (with_refusal state reason) _ _ changes changes
+    follows (after_entry newest state way source entry) (with_refusal state reason) _ _ changes changes
     (entered_is state way source entry (Err unsettled.refusal) room unsettled.settled ∙ ap (with_refusal state) (sym unsettled.reason)) (nothing_done state reason changes)
 
 -- ---- going
@@ -99,16 +101,16 @@ has_not_departed state way source b moment f reason y changes whole refuses is s
 
 -- ---- moving
 
-pub has_moved : (state : TerminalState) (b : BoxNumber) (slot : Slot) (y : YardMap) (s : Placement) (old new : List ChangeContent)
-    → IsWhole state → Shifts state.yard y b s slot → new ≡ old ++ moved_to b slot ∷ [] → Follows (after_move state b slot) (record state { yard = y }) (Done slot) old new
-has_moved state b slot y s old new whole shifts made =
-    follows (after_move state b slot) (moved_at state b slot (Ok y)) _ _ old new (ap (moved_at state b slot) ((shift_is_decided_lem state.yard b slot (yard_of state whole)).0 y s shifts))
+pub has_moved : (state : TerminalState) (b : BoxNumber) (slot : Slot) (y : YardMap) (w : Stowed) (old new : List ChangeContent)
+    → IsWhole state → Shifts state.yard y b w slot → new ≡ old ++ moved_to b slot ∷ [] → Follows (after_move newest state b slot) (record state { yard = y }) (Done slot) old new
+has_moved state b slot y w old new whole shifts made =
+    follows (after_move newest state b slot) (moved_at state b slot (Ok y)) _ _ old new (ap (moved_at state b slot) ((shift_is_decided_lem state.yard b slot (yard_of state whole)).0 y w shifts))
     (record { state = refl; outcome = refl; changes = made })
 
 pub has_not_moved : (state : TerminalState) (b : BoxNumber) (slot : Slot) (f : YardFault) (reason : Reason) (y : YardMap) (changes : List ChangeContent)
-    → IsWhole state → RefusesShift state.yard b slot f → IsReasonFor f reason → y ≡ state.yard → Follows (after_move state b slot) (record state { yard = y }) (Refused reason) changes changes
+    → IsWhole state → RefusesShift state.yard b slot f → IsReasonFor f reason → y ≡ state.yard → Follows (after_move newest state b slot) (record state { yard = y }) (Refused reason) changes changes
 has_not_moved state b slot f reason y changes whole refuses is stays =
-    follows (after_move state b slot) (with_refusal state reason) _ _ changes changes
+    follows (after_move newest state b slot) (with_refusal state reason) _ _ changes changes
     (ap (moved_at state b slot) ((shift_is_decided_lem state.yard b slot (yard_of state whole)).1 is.refusal (let P : YardFault → Type 0 = RefusesShift state.yard b slot in subst P is.fault_is refuses)) ∙ ap (with_refusal state) (sym is.reason_is)) (yard_stays state y reason changes stays)
 
 -- ---- lines
@@ -162,11 +164,11 @@ line_closed state call side b line after mid now answer old between new there op
     })
 
 pub came_off : (state : TerminalState) (source : Source) (call : CallContent) (entry : EntryContent) (now : TerminalState) (answer : Outcome) (old new : List ChangeContent)
-    → is_in state entry.number ≡ false → Follows (by_line state call Discharge entry.number (line_of state call Discharge entry.number) (after_entry state Ship source entry)) now answer old new
-    → Follows (step_discharge state source call entry) now answer old new
+    → is_in state entry.number ≡ false → Follows (by_line state call Discharge entry.number (line_of state call Discharge entry.number) (after_entry newest state Ship source entry)) now answer old new
+    → Follows (step_discharge newest state source call entry) now answer old new
 came_off state source call entry now answer old new out follows_ =
-    follows (step_discharge state source call entry) (by_line state call Discharge entry.number (line_of state call Discharge entry.number) (after_entry state Ship source entry)) now answer old new
-    (ap (λ v. cond v (with_refusal state AlreadyIn) (by_line state call Discharge entry.number (line_of state call Discharge entry.number) (after_entry state Ship source entry))) out) follows_
+    follows (step_discharge newest state source call entry) (by_line state call Discharge entry.number (line_of state call Discharge entry.number) (after_entry newest state Ship source entry)) now answer old new
+    (ap (λ v. cond v (with_refusal state AlreadyIn) (by_line state call Discharge entry.number (line_of state call Discharge entry.number) (after_entry newest state Ship source entry))) out) follows_
 
 pub went_on : (state : TerminalState) (source : Source) (call : CallContent) (b : BoxNumber) (moment : CivilMoment) (now : TerminalState) (answer : Outcome) (old new : List ChangeContent)
     → is_in state b ≡ true → Follows (by_line state call Load b (line_of state call Load b) (after_departure state Ship source b moment)) now answer old new

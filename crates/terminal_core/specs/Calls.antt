@@ -6,7 +6,7 @@ use Rattle.box6346.specs.declared.slot.Slot.{Slot}
 use Rattle.edi_messages.specs.Orders.{EntryContent}
 use Rattle.yard_core.specs.declared.block.Block.{Block}
 use Rattle.yard_core.specs.Plan.{InPlan}
-use Rattle.yard_core.specs.YardMap.{YardMap, placement}
+use Rattle.yard_core.specs.YardMap.{YardMap, placement, stowed}
 use Rattle.yard_core.specs.Calls.{Places}
 use Rattle.yard_core.specs.declared.yard_fault.YardFault.{YardFault}
 use Rattle.yard_core.specs.Decisions.{Refusal, fault_of}
@@ -15,6 +15,7 @@ use Rattle.terminal_core.specs.declared.outcome.Outcome.TheVariants.{Done, Gone,
 use Rattle.terminal_core.specs.declared.reason.Reason.{Reason}
 use Rattle.terminal_core.specs.Rows.{VisitContent, ChangeContent}
 use Rattle.terminal_core.specs.State.{TerminalState, is_open_visit}
+use Rattle.terminal_core.specs.Versions.{newest}
 use Rattle.terminal_core.specs.Step.{Stepped, yard_with_entry, reason_of}
 
 -- the state, the answer and the changes that were added are those of a step
@@ -32,13 +33,13 @@ pub record IsReasonFor (fault : YardFault) (reason : Reason) : Type 0 where
 
 -- the container of an entry was placed
 pub record Settles (old new : YardMap) (entry : EntryContent) (slot : Slot) : Type 0 where
-  pub settled : yard_with_entry old entry ≡ Ok (new, slot)
-  pub places : Places old new entry.number (placement (length_of entry.size_type) slot)
+  pub settled : yard_with_entry newest old entry ≡ Ok (new, slot)
+  pub places : Places old new entry.number (stowed (placement (length_of entry.size_type) slot) entry.is_laden)
 
 -- the container of an entry was not placed
 pub record Unsettled (old : YardMap) (entry : EntryContent) (given : Reason) : Type 0 where
   pub refusal : Refusal
-  pub settled : yard_with_entry old entry ≡ Err refusal
+  pub settled : yard_with_entry newest old entry ≡ Err refusal
   pub reason : given ≡ reason_of refusal
 
 -- the container has one open visit

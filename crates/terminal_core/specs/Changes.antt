@@ -7,12 +7,14 @@ use Rattle.std.specs.FinMap as finite_map
 use Rattle.box6346.specs.declared.box_number.BoxNumber.{BoxNumber}
 use Rattle.box6346.specs.declared.slot.Slot.{Slot}
 use Rattle.edi_messages.specs.Orders.{OrderContent}
+use Rattle.yard_core.specs.YardMap.{placement_of}
 use Rattle.terminal_core.specs.declared.departure.Departure.{Departure}
 use Rattle.terminal_core.specs.declared.line_state.LineState.TheVariants.{Pending, Done as LineIsDone}
 use Rattle.terminal_core.specs.declared.source.Source.{Source}
+use Rattle.terminal_core.specs.declared.version.Version.{Version}
 use Rattle.terminal_core.specs.Rows.{VisitContent, ChangeContent, visit_opened, visit_closed, placed_at, moved_to, removed_from, listed_on, line_done, unlisted}
 use Rattle.terminal_core.specs.State.{TerminalState, LineContent, LineKey, Lines, line_key, open_visit, IsWhole}
-use Rattle.terminal_core.specs.Step.{number_of_visit, step}
+use Rattle.terminal_core.specs.Step.{number_of_visit, step_by}
 
 -- ---- rows
 
@@ -33,7 +35,7 @@ pub record TerminalRows : Type 0 where
 abbrev pub standing_of : TerminalState → BoxNumber → Option Standing
 standing_of state container =
     option_map (λ s. standing_in (number_of_visit (open_visit state container)) s.slot)
-    (finite_map.get state.yard.boxes container)
+    (placement_of state.yard.boxes container)
 
 abbrev pub rows_of : TerminalState → TerminalRows
 rows_of state = record { visits = state.visits; places = standing_of state; lines = state.lines }
@@ -152,11 +154,12 @@ AreApplicableAppended =
 -- the changes of a step turn the rows of the old state into those of the new
 abbrev pub ChangesTurnRows : Type 0
 ChangesTurnRows =
-    (state : TerminalState) (source : Source) (order : OrderContent) → IsWhole state
-    → all_changed (rows_of state) (step state source order).changes ≡ rows_of (step state source order).state
+    (version : Version) (state : TerminalState) (source : Source) (order : OrderContent) → IsWhole state
+    → all_changed (rows_of state) (step_by version state source order).changes
+    ≡ rows_of (step_by version state source order).state
 
 -- each change of a step adds, alters or removes one row
 abbrev pub ChangesAreApplicable : Type 0
 ChangesAreApplicable =
-    (state : TerminalState) (source : Source) (order : OrderContent) → IsWhole state →
-    AreApplicable (rows_of state) (step state source order).changes
+    (version : Version) (state : TerminalState) (source : Source) (order : OrderContent) → IsWhole state →
+    AreApplicable (rows_of state) (step_by version state source order).changes

@@ -15,19 +15,19 @@ use Rattle.terminal_core.specs.Rows.{VisitContent}
 use Rattle.terminal_core.specs.State.{LineContent, Lines, TerminalState}
 
 abbrev pub VisitParts : Type 0
-VisitParts = ℕ × (BoxNumber × (SizeType × (Bool × (List ℕ × (Arrival × Option Departure)))))
+VisitParts = ℕ × (BoxNumber × (SizeType × (Bool × (List ℕ × (Arrival × (Option Departure × ℕ))))))
 
 abbrev pub visit_parts_code : Coded VisitParts
 visit_parts_code =
     coded× coded_ℕ (coded× (coded_list coded_ℕ)
     (coded× (coded_list coded_ℕ)
     (coded× coded_bool (coded× (coded_list coded_ℕ)
-    (coded× arrivals.the_row.coded (coded_option departures.the_row.coded))))))
+    (coded× arrivals.the_row.coded (coded× (coded_option departures.the_row.coded) coded_ℕ))))))
 
 abbrev pub visit_code : Coded VisitContent
 visit_code =
     code_by VisitParts visit_parts_code
-    (λ v. (v.number, (v.container, (v.size_type, (v.is_laden, (v.booking, (v.arrival, v.departure)))))))
+    (λ v. (v.number, (v.container, (v.size_type, (v.is_laden, (v.booking, (v.arrival, (v.departure, v.kilos))))))))
     (λ p. record {
       number = p.0;
       container = p.1.0;
@@ -35,7 +35,8 @@ visit_code =
       is_laden = p.1.1.1.0;
       booking = p.1.1.1.1.0;
       arrival = p.1.1.1.1.1.0;
-      departure = p.1.1.1.1.1.1;
+      departure = p.1.1.1.1.1.1.0;
+      kilos = p.1.1.1.1.1.1.1;
     })
     (λ _. refl)
 

@@ -9,15 +9,16 @@ use Rattle.edi_moments.specs.Moments.{is_moment}
 use Rattle.edi_messages.specs.Purposes.{CallContent}
 use Rattle.edi_messages.specs.Forms.{is_name_if_any, IsFormedCall, IsFormedOrder}
 use Rattle.edi_messages.specs.Orders.{OrderContent}
-use Rattle.yard_core.specs.YardMap.{YardMap}
+use Rattle.yard_core.specs.YardMap.{YardMap, placement_of}
 use Rattle.yard_core.specs.declared.placement.Placement.{Placement}
 use Rattle.terminal_core.specs.declared.departure.Departure.{Departure}
 use Rattle.terminal_core.specs.declared.side.Side.{Side}
 use Rattle.terminal_core.specs.declared.side.Side.TheVariants.{Load, Discharge}
 use Rattle.terminal_core.specs.declared.source.Source.{Source}
+use Rattle.terminal_core.specs.declared.version.Version.{Version}
 use Rattle.terminal_core.specs.Rows.{VisitContent}
 use Rattle.terminal_core.specs.State.{TerminalState, LineContent, line_of, empty_state, IsWhole}
-use Rattle.terminal_core.specs.Step.{step}
+use Rattle.terminal_core.specs.Step.{step_by}
 
 -- ---- numbers
 
@@ -47,6 +48,7 @@ pub record IsFormedVisit (visit : VisitContent) : Type 0 where
   pub moment : IsTrue (is_moment visit.arrival.moment)
   pub slot : IsNamed visit.arrival.slot
   pub exit : IsFormedExit visit.departure
+  pub kilos : visit.kilos ≤ 999999
 
 -- a discharge list has no port
 abbrev pub IsFormedPort : Side → List ℕ → Type 0
@@ -65,7 +67,7 @@ pub record IsWellFormed (state : TerminalState) : Type 0 where
   pub visits : (visit : VisitContent) → Contains state.visits visit → IsFormedVisit visit
   pub lines : (call : CallContent) (side : Side) (container : BoxNumber) (line : LineContent) →
       line_of state call side container ≡ Some line → IsFormedLine call side container line
-  pub slots : (container : BoxNumber) (s : Placement) → finite_map.get state.yard.boxes container ≡ Some s →
+  pub slots : (container : BoxNumber) (s : Placement) → placement_of state.yard.boxes container ≡ Some s →
       IsNamed s.slot
 
 -- ---- the laws
@@ -77,5 +79,6 @@ EmptyIsWellFormed = (yard : YardMap) (limit : ℕ) → yard.boxes ≡ finite_map
 -- a well-formed order leaves a well-formed state
 abbrev pub StepsKeepForms : Type 0
 StepsKeepForms =
-    (state : TerminalState) (source : Source) (order : OrderContent) → IsWhole state → IsWellFormed state →
-    IsSource source → IsFormedOrder order → IsWellFormed (step state source order).state
+    (version : Version) (state : TerminalState) (source : Source) (order : OrderContent) → IsWhole state →
+    IsWellFormed state → IsSource source → IsFormedOrder order →
+    IsWellFormed (step_by version state source order).state

@@ -2,6 +2,7 @@ pub mod Rows
 pub mod State
 pub mod Listings
 pub mod LineIndexes
+pub mod Versions
 pub mod Step
 pub mod Wholeness
 pub mod Codes

@@ -2,16 +2,15 @@
 use Rattle.std.specs.Prelude.{◌≡◌, ◌≢◌, ℕ, ◌≤◌, List, true, map, Some, Contains, count_by, is_none}
 use Rattle.std.specs.FinMap as finite_map
 use Rattle.std.specs.Str.{bytes_eq}
-use Rattle.box6346.specs.SizeCode.{length_of}
 use Rattle.box6346.specs.declared.box_number.BoxNumber.{BoxNumber}
 use Rattle.edi_messages.specs.Purposes.{CallContent}
 use Rattle.yard_core.specs.declared.block.Block.{Block}
-use Rattle.yard_core.specs.declared.placement.Placement.{Placement}
+use Rattle.yard_core.specs.declared.stowed.Stowed.{Stowed}
 use Rattle.yard_core.specs.declared.yard_fault.YardFault.{YardFault}
 use Rattle.yard_core.specs.declared.yard_fault.YardFault.TheVariants as yard
-use Rattle.yard_core.specs.Calls.{Places, RefusesPlace}
+use Rattle.yard_core.specs.Calls.{PutsBack, RefusesPutBack}
 use Rattle.yard_core.specs.SoundYard.{IsSound}
-use Rattle.yard_core.specs.YardMap.{Boxes, YardMap, placement}
+use Rattle.yard_core.specs.YardMap.{Boxes, YardMap, placement_of}
 use Rattle.terminal_core.specs.declared.listing.Listing.{Listing}
 use Rattle.terminal_core.specs.declared.restore_fault.RestoreFault.{RestoreFault}
 use Rattle.terminal_core.specs.declared.restore_fault.RestoreFault.TheVariants.{Unsound, Memory}
@@ -19,7 +18,7 @@ use Rattle.terminal_core.specs.declared.side.Side.{Side}
 use Rattle.terminal_core.specs.declared.place.Place.{Place}
 use Rattle.terminal_core.specs.declared.visit.Visit.{Visit}
 use Rattle.terminal_core.specs.Rows.{VisitContent, visit_content}
-use Rattle.terminal_core.specs.State.{TerminalState, is_open_visit, IsWhole}
+use Rattle.terminal_core.specs.State.{TerminalState, is_open_visit, stowed_by, IsWhole}
 use Rattle.terminal_core.specs.Listings.{is_line, lines_of}
 
 -- the visit has the number that the place names, and is its container's open one
@@ -28,16 +27,16 @@ pub record Names (visits : List VisitContent) (place : Place) (visit : VisitCont
   pub number : visit.number ≡ place.visit
   pub is_open : is_open_visit place.container visit ≡ true
 
--- the container stands in the place's slot, with the length of the visit that the place names
+-- the container stands in the place's slot, as the visit that the place names tells
 pub record Stands (visits : List VisitContent) (boxes : Boxes) (place : Place) : Type 0 where
   pub visit : VisitContent
   pub names : Names visits place visit
-  pub stands : finite_map.get boxes place.container ≡ Some (placement (length_of visit.size_type) place.slot)
+  pub stands : finite_map.get boxes place.container ≡ Some (stowed_by visit place.slot)
 
 -- the places are those where the yard's containers stand, each once
 pub record ArePlacesOf (visits : List VisitContent) (boxes : Boxes) (places : List Place) : Type 0 where
   pub each : (place : Place) → Contains places place → Stands visits boxes place
-  pub every : (container : BoxNumber) (s : Placement) → finite_map.get boxes container ≡ Some s →
+  pub every : (container : BoxNumber) (w : Stowed) → finite_map.get boxes container ≡ Some w →
       (place : Place) × Contains places place × (place.container ≡ container)
   pub once : (container : BoxNumber) → count_by (λ place. bytes_eq place.container container) places ≤ 1
 
@@ -88,14 +87,14 @@ RefusesYard plan limit visits places Memory = Unit {0}
 -- no sound yard has these places
 abbrev pub RefusesPlaces : List Block → List VisitContent → List Place → RestoreFault → Type 0
 RefusesPlaces plan visits places Unsound =
-    (boxes : Boxes) → IsSound plan (finite_map.get boxes) → ¬ ArePlacesOf visits boxes places
+    (boxes : Boxes) → IsSound plan (placement_of boxes) → ¬ ArePlacesOf visits boxes places
 RefusesPlaces plan visits places Memory = Unit {0}
 
--- the container of a place was placed in its slot, with the length of the visit that the place names
+-- the container of a place was put back in its slot, as the visit that the place names tells
 pub record IsPut (visits : List VisitContent) (old new : YardMap) (place : Place) : Type 0 where
   pub visit : VisitContent
   pub names : Names visits place visit
-  pub places : Places old new place.container (placement (length_of visit.size_type) place.slot)
+  pub puts : PutsBack old new place.container (stowed_by visit place.slot)
 
 -- a refusal other than of memory
 abbrev pub cause_of : YardFault → RestoreFault
@@ -107,6 +106,7 @@ cause_of yard.NoSlot = Unsound
 cause_of yard.SlotKind = Unsound
 cause_of yard.Taken = Unsound
 cause_of yard.OnAir = Unsound
+cause_of yard.OnEmpty = Unsound
 cause_of yard.NoRoom = Unsound
 
 -- why it was not
@@ -114,7 +114,7 @@ abbrev pub RefusesPut : List VisitContent → YardMap → Place → RestoreFault
 RefusesPut visits old place Unsound =
     (visit : VisitContent) → Names visits place visit
     → (fault : YardFault) × (fault ≢ yard.Memory)
-    × RefusesPlace old place.container (placement (length_of visit.size_type) place.slot) fault
+    × RefusesPutBack old place.container (stowed_by visit place.slot) fault
 RefusesPut visits old place Memory = Unit {0}
 
 -- a place names each open visit

@@ -21,6 +21,7 @@ pub record VisitContent : Type 0 where
   pub booking : List ℕ
   pub arrival : Arrival
   pub departure : Option Departure
+  pub kilos : ℕ
 
 abbrev pub visit_content : Visit → VisitContent
 visit_content visit = record {
@@ -31,6 +32,7 @@ visit_content visit = record {
   booking = string_bytes visit.booking;
   arrival = visit.arrival;
   departure = visit.departure;
+  kilos = visit.kilos;
 }
 
 -- one row added, altered or removed

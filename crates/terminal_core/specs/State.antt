@@ -6,9 +6,10 @@ use Rattle.std.specs.Cmp.Lexicographic.{slice_cmp}
 use Rattle.std.specs.FinMap as finite_map
 use Rattle.box6346.specs.SizeCode.{length_of}
 use Rattle.box6346.specs.declared.box_number.BoxNumber.{BoxNumber}
+use Rattle.box6346.specs.declared.slot.Slot.{Slot}
 use Rattle.edi_messages.specs.Purposes.{CallContent}
-use Rattle.yard_core.specs.YardMap.{YardMap}
-use Rattle.yard_core.specs.declared.placement.Placement.{Placement}
+use Rattle.yard_core.specs.YardMap.{YardMap, placement, placement_of, stowed}
+use Rattle.yard_core.specs.declared.stowed.Stowed.{Stowed}
 use Rattle.yard_core.specs.SoundYard.{IsSound}
 use Rattle.yard_core.specs.Plan.{IsPlan}
 use Rattle.terminal_core.specs.declared.line_state.LineState.{LineState}
@@ -70,19 +71,23 @@ abbrev pub AreNumbered : ℕ → List VisitContent → Type 0
 AreNumbered next [] = Unit {0}
 AreNumbered next (visit ∷ visits) = (visit.number ≡ next) × AreNumbered (next + 1) visits
 
--- the container in the yard is as long as its open visit's size-type tells
-abbrev pub IsAsLong : TerminalState → BoxNumber → Type 0
-IsAsLong state container =
-    (s : Placement) (visit : VisitContent) → finite_map.get state.yard.boxes container ≡ Some s →
-    open_visit state container ≡ Some visit → s.length ≡ length_of visit.size_type
+-- how a container stands in a slot by its visit: as long as its size-type, and full or empty
+abbrev pub stowed_by : VisitContent → Slot → Stowed
+stowed_by visit slot = stowed (placement (length_of visit.size_type) slot) visit.is_laden
+
+-- the container in the yard stands as its open visit tells
+abbrev pub IsAsTold : TerminalState → BoxNumber → Type 0
+IsAsTold state container =
+    (w : Stowed) (visit : VisitContent) → finite_map.get state.yard.boxes container ≡ Some w →
+    open_visit state container ≡ Some visit → w ≡ stowed_by visit w.placement.slot
 
 -- The yard is sound, the visits are numbered within the limit, and the containers of the yard are exactly those with an
--- open visit, each having one and standing in its length.
+-- open visit, each having one and standing in its length, full or empty as it says.
 pub record IsWhole (state : TerminalState) : Type 0 where
   pub plan : IsPlan state.yard.plan
-  pub sound : IsSound state.yard.plan (finite_map.get state.yard.boxes)
+  pub sound : IsSound state.yard.plan (placement_of state.yard.boxes)
   pub numbered : AreNumbered 1 state.visits
   pub within : length state.visits ≤ state.limit
   pub one_visit : (container : BoxNumber) → length (filter (is_open_visit container) state.visits) ≤ 1
   pub here : (container : BoxNumber) → is_in state container ≡ is_some (open_visit state container)
-  pub as_long : (container : BoxNumber) → IsAsLong state container
+  pub as_told : (container : BoxNumber) → IsAsTold state container

@@ -9,7 +9,7 @@ use Rattle.edi_moments.specs.Moments.{CivilMoment}
 use Rattle.edi_messages.specs.Purposes.{CallContent}
 use Rattle.edi_messages.specs.Orders.{EntryContent, OrderContent, gate_in, gate_out, move, list_discharge, list_load, discharge, load}
 use Rattle.yard_core.specs.YardMap.{YardMap}
-use Rattle.yard_core.specs.Decisions.{Refusal, present, absent, buried, no_slot, slot_kind, taken, on_air, no_room, yard_with, placed_first, yard_without, yard_with_move}
+use Rattle.yard_core.specs.Decisions.{Refusal, present, absent, buried, no_slot, slot_kind, taken, on_air, on_empty, no_room, yard_with, placed_first, yard_without, yard_with_move}
 use Rattle.yard_core.specs.declared.placement.Placement.{Placement}
 use Rattle.terminal_core.specs.declared.departure.Departure.{Departure}
 use Rattle.terminal_core.specs.declared.line_state.LineState.{LineState}
@@ -17,13 +17,15 @@ use Rattle.terminal_core.specs.declared.line_state.LineState.TheVariants.{Pendin
 use Rattle.terminal_core.specs.declared.outcome.Outcome.{Outcome}
 use Rattle.terminal_core.specs.declared.outcome.Outcome.TheVariants.{Done, Gone, Listed, Refused}
 use Rattle.terminal_core.specs.declared.reason.Reason.{Reason}
-use Rattle.terminal_core.specs.declared.reason.Reason.TheVariants.{AlreadyIn, NotIn, AlreadyListed, NotListed, ListLineDone, Buried, NoSlot, SlotKind, Taken, OnAir, NoRoom, VisitLimit}
+use Rattle.terminal_core.specs.declared.reason.Reason.TheVariants.{AlreadyIn, NotIn, AlreadyListed, NotListed, ListLineDone, Buried, NoSlot, SlotKind, Taken, OnAir, OnEmpty, NoRoom, VisitLimit}
 use Rattle.terminal_core.specs.declared.side.Side.{Side}
 use Rattle.terminal_core.specs.declared.side.Side.TheVariants.{Load, Discharge}
 use Rattle.terminal_core.specs.declared.source.Source.{Source}
+use Rattle.terminal_core.specs.declared.version.Version.{Version}
 use Rattle.terminal_core.specs.declared.way.Way.{Way}
 use Rattle.terminal_core.specs.declared.way.Way.TheVariants.{Gate, Ship}
 use Rattle.terminal_core.specs.Rows.{VisitContent, ChangeContent, visit_opened, visit_closed, placed_at, moved_to, removed_from, listed_on, line_done}
+use Rattle.terminal_core.specs.Versions.{newest, spares}
 use Rattle.terminal_core.specs.State.{TerminalState, LineContent, line_key, line_of, is_in, is_open_visit, open_visit}
 
 -- what a step leaves, answers and changes
@@ -48,6 +50,7 @@ reason_of no_slot = NoSlot
 reason_of slot_kind = SlotKind
 reason_of taken = Taken
 reason_of on_air = OnAir
+reason_of on_empty = OnEmpty
 reason_of no_room = NoRoom
 
 -- ---- coming
@@ -56,13 +59,15 @@ abbrev pub with_slot : Slot → Result YardMap Refusal → Result (YardMap × Sl
 with_slot slot (Ok y) = Ok (y, slot)
 with_slot slot (Err refusal) = Err refusal
 
-abbrev pub settled_in : YardMap → EntryContent → Option Slot → Result (YardMap × Slot) Refusal
-settled_in y entry (Some slot) = with_slot slot (yard_with y entry.number (length_of entry.size_type) slot)
-settled_in y entry None = placed_first y entry.number (length_of entry.size_type)
+abbrev pub settled_in : Version → YardMap → EntryContent → Option Slot → Result (YardMap × Slot) Refusal
+settled_in version y entry (Some slot) =
+    with_slot slot (yard_with (spares version) y entry.number (length_of entry.size_type) entry.is_laden slot)
+settled_in version y entry None =
+    placed_first (spares version) y entry.number (length_of entry.size_type) entry.is_laden
 
 -- the yard with the container in the slot that it names, or in the first that fits if it names none
-abbrev pub yard_with_entry : YardMap → EntryContent → Result (YardMap × Slot) Refusal
-yard_with_entry y entry = settled_in y entry entry.slot
+abbrev pub yard_with_entry : Version → YardMap → EntryContent → Result (YardMap × Slot) Refusal
+yard_with_entry version y entry = settled_in version y entry entry.slot
 
 -- as many visits stand as the set-up allows
 abbrev pub is_full : TerminalState → Bool
@@ -78,6 +83,7 @@ opened_by number way source entry slot = record {
   booking = entry.booking;
   arrival = record { way = way; source = source; moment = entry.moment; slot = slot };
   departure = None;
+  kilos = entry.kilos;
 }
 
 abbrev pub visit_of : TerminalState → Way → Source → EntryContent → Slot → VisitContent
@@ -91,10 +97,10 @@ entered_at state way source entry (Ok (y, slot)) =
     (Done slot)
     (visit_opened (visit_of state way source entry slot) ∷ placed_at entry.number (length state.visits + 1) slot ∷ [])
 
-abbrev pub after_entry : TerminalState → Way → Source → EntryContent → Stepped
-after_entry state way source entry =
+abbrev pub after_entry : Version → TerminalState → Way → Source → EntryContent → Stepped
+after_entry version state way source entry =
     if is_full state then with_refusal state VisitLimit
-    else entered_at state way source entry (yard_with_entry state.yard entry)
+    else entered_at state way source entry (yard_with_entry version state.yard entry)
 
 -- ---- going
 
@@ -129,8 +135,9 @@ abbrev pub moved_at : TerminalState → BoxNumber → Slot → Result YardMap Re
 moved_at state container slot (Err refusal) = with_refusal state (reason_of refusal)
 moved_at state container slot (Ok y) = step_with (record state { yard = y }) (Done slot) (moved_to container slot ∷ [])
 
-abbrev pub after_move : TerminalState → BoxNumber → Slot → Stepped
-after_move state container slot = moved_at state container slot (yard_with_move state.yard container slot)
+abbrev pub after_move : Version → TerminalState → BoxNumber → Slot → Stepped
+after_move version state container slot =
+    moved_at state container slot (yard_with_move (spares version) state.yard container slot)
 
 -- ---- lists
 
@@ -170,21 +177,21 @@ by_line state call side container (Some line) after = by_state state call side c
 -- ---- the table of orders
 
 -- GateIn: AlreadyIn; VisitLimit; the slot
-abbrev pub step_gate_in : TerminalState → Source → EntryContent → Stepped
-step_gate_in state source entry =
-    if is_in state entry.number then with_refusal state AlreadyIn else after_entry state Gate source entry
+abbrev pub step_gate_in : Version → TerminalState → Source → EntryContent → Stepped
+step_gate_in version state source entry =
+    if is_in state entry.number then with_refusal state AlreadyIn else after_entry version state Gate source entry
 
 -- GateOut: NotIn; Buried
 abbrev pub step_gate_out : TerminalState → Source → BoxNumber → CivilMoment → Stepped
 step_gate_out state source container moment = after_departure state Gate source container moment
 
 -- Discharge: AlreadyIn; NotListed; ListLineDone; VisitLimit; the slot
-abbrev pub step_discharge : TerminalState → Source → CallContent → EntryContent → Stepped
-step_discharge state source call entry =
+abbrev pub step_discharge : Version → TerminalState → Source → CallContent → EntryContent → Stepped
+step_discharge version state source call entry =
     if is_in state entry.number
     then with_refusal state AlreadyIn
     else by_line state call Discharge entry.number (line_of state call Discharge entry.number)
-    (after_entry state Ship source entry)
+    (after_entry version state Ship source entry)
 
 -- Load: NotIn; NotListed; ListLineDone; Buried
 abbrev pub step_load : TerminalState → Source → CallContent → BoxNumber → CivilMoment → Stepped
@@ -194,12 +201,16 @@ step_load state source call container moment =
     (after_departure state Ship source container moment)
     else with_refusal state NotIn
 
+-- what an order does by the rules of a version
+abbrev pub step_by : Version → TerminalState → Source → OrderContent → Stepped
+step_by version state source (gate_in entry) = step_gate_in version state source entry
+step_by version state source (gate_out container moment) = step_gate_out state source container moment
+step_by version state source (move container slot) = after_move version state container slot
+step_by version state source (list_discharge call container) = after_listing state call Discharge container []
+step_by version state source (list_load call container port) = after_listing state call Load container port
+step_by version state source (discharge call entry) = step_discharge version state source call entry
+step_by version state source (load call container moment) = step_load state source call container moment
+
 -- what an order does
 abbrev pub step : TerminalState → Source → OrderContent → Stepped
-step state source (gate_in entry) = step_gate_in state source entry
-step state source (gate_out container moment) = step_gate_out state source container moment
-step state source (move container slot) = after_move state container slot
-step state source (list_discharge call container) = after_listing state call Discharge container []
-step state source (list_load call container port) = after_listing state call Load container port
-step state source (discharge call entry) = step_discharge state source call entry
-step state source (load call container moment) = step_load state source call container moment
+step = step_by newest

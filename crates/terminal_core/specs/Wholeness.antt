@@ -5,15 +5,16 @@ use Rattle.edi_messages.specs.Orders.{OrderContent}
 use Rattle.yard_core.specs.Plan.{IsPlan}
 use Rattle.yard_core.specs.YardMap.{YardMap}
 use Rattle.terminal_core.specs.declared.source.Source.{Source}
+use Rattle.terminal_core.specs.declared.version.Version.{Version}
 use Rattle.terminal_core.specs.State.{TerminalState, empty_state, IsWhole}
-use Rattle.terminal_core.specs.Step.{step}
+use Rattle.terminal_core.specs.Step.{step_by}
 
 -- a terminal with nothing in it is whole
 abbrev pub EmptyIsWhole : Type 0
 EmptyIsWhole = (yard : YardMap) (limit : ℕ) → IsPlan yard.plan → yard.boxes ≡ finite_map.empty →
     IsWhole (empty_state yard limit)
 
--- what an order leaves of a whole state is whole
+-- what an order leaves of a whole state is whole, by the rules of any version
 abbrev pub StepsKeepWhole : Type 0
-StepsKeepWhole = (state : TerminalState) (source : Source) (order : OrderContent) → IsWhole state →
-    IsWhole (step state source order).state
+StepsKeepWhole = (version : Version) (state : TerminalState) (source : Source) (order : OrderContent) → IsWhole state →
+    IsWhole (step_by version state source order).state

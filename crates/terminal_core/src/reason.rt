@@ -33,6 +33,8 @@ pub enum Reason {
     Taken,
     /// Nothing carries the container in the slot.
     OnAir,
+    /// The container is full, and an empty one would carry it in the slot.
+    OnEmpty,
     /// No slot fits.
     NoRoom,
     /// As many visits stand as the set-up allows.

@@ -1,11 +1,9 @@
 ghost use Rattle.std.specs.Prelude.{◌≡◌, ◌≢◌, ◌≤◌, ◌<◌, ◌+◌, ◌==◌, ℕ, [], ◌↔◌, IsTrue, IfOk, IfErr, OnOk, MatchOption, MatchResult, Contains, map, length, is_none, slice_get, slice_index_or, true, false, Some};
 ghost use Rattle.std.specs.List.{list_any};
 ghost use Rattle.std.specs.List.Sorted.{IsPermutation, IsNonDecreasingBy};
-ghost use Rattle.std.specs.FinMap as finite_map;
-ghost use Rattle.box6346.specs.SizeCode.{length_of};
 ghost use Rattle.yard_core.specs.Plan.{IsPlan};
 ghost use Rattle.yard_core.specs.SoundYard.{IsSound};
-ghost use Rattle.yard_core.specs.YardMap.{Boxes};
+ghost use Rattle.yard_core.specs.YardMap.{placement_of};
 ghost use Rattle.terminal_core.specs.Rows.{VisitContent, visit_content};
 ghost use Rattle.terminal_core.specs.State.{AreNumbered};
 ghost use Rattle.terminal_core.specs.Restoring.{cause_of, Names, AreNamed, IsPut, RefusesPut, IsYardOf, RefusesYard, RefusesPlaces, ArePlacesOf};
@@ -14,7 +12,6 @@ use crate::place::Place;
 use crate::restore_fault::RestoreFault;
 use crate::visit::Visit;
 use crate::visits::is_open;
-use box6346::Length;
 use std::alloc::{AllocError, Global};
 use yard_core::{Plan, Yard, YardFault};
 
@@ -71,7 +68,7 @@ fn settled_yard(
     requires numbered { AreNumbered 1 (map visit_content visits.now) }
     requires sorted { IsNonDecreasingBy (λ place. place.slot.tier) places.now }
     ensures plan { IfOk result (λ y. IsPlan plan × (y.plan ≡ plan)) }
-    ensures sound { IfOk result (λ y. IsSound y.plan (finite_map.get y.boxes)) }
+    ensures sound { IfOk result (λ y. IsSound y.plan (placement_of y.boxes)) }
     ensures placed { IfOk result (λ y. ArePlacesOf (map visit_content visits.now) y.boxes places.now) }
     ensures unsound { IfErr result (RefusesPlaces plan (map visit_content visits.now) places.now) }
 {
@@ -82,19 +79,20 @@ fn settled_yard(
     Ok(yard)
 }
 
-/// One container more, with the length of the visit that its place names.
+/// One container more, put back as the visit that its place names tells.
 fn put(yard: &mut Yard, visits: &[Visit], place: &Place) -> Result<(), RestoreFault>
     requires numbered { AreNumbered 1 (map visit_content visits.now) }
-    requires sound { IsSound yard.old.plan (finite_map.get yard.old.boxes) }
+    requires sound { IsSound yard.old.plan (placement_of yard.old.boxes) }
     ensures answer { MatchResult result
         (λ _. IsPut (map visit_content visits.now) yard.old yard.new place.now)
         (RefusesPut (map visit_content visits.now) yard.old place.now) }
-    ensures sound { IsSound yard.new.plan (finite_map.get yard.new.boxes) }
+    ensures sound { IsSound yard.new.plan (placement_of yard.new.boxes) }
 {
-    let Some(length) = named_length(visits, place) else {
+    let Some(visit) = named_visit(visits, place) else {
         return Err(RestoreFault::Unsound);
     };
-    match yard.place(place.container, length, place.slot) {
+    let length = visit.size_type.length();
+    match yard.put_back(place.container, length, visit.is_laden, place.slot) {
         Ok(()) => Ok(()),
         Err(fault) => Err(cause(fault)),
     }
@@ -110,13 +108,12 @@ fn cause(fault: YardFault) -> RestoreFault
     }
 }
 
-/// The length of the container, by the open visit that its place names.
-fn named_length(visits: &[Visit], place: &Place) -> Option<Length>
+/// The container's open visit that its place names.
+fn named_visit<'a>(visits: &'a [Visit], place: &Place) -> Option<&'a Visit>
     requires { AreNumbered 1 (map visit_content visits.now) }
     ensures { MatchOption result
         ((visit : VisitContent) → ¬ Names (map visit_content visits.now) place.now visit)
-        (λ length. (visit : VisitContent) × Names (map visit_content visits.now) place.now visit ×
-        (length ≡ length_of visit.size_type)) }
+        (λ visit. Names (map visit_content visits.now) place.now (visit_content visit.now)) }
 {
     if place.visit == 0 {
         return None;
@@ -125,7 +122,7 @@ fn named_length(visits: &[Visit], place: &Place) -> Option<Length>
         return None;
     };
     if is_open(visit, place.container) {
-        Some(visit.size_type.length())
+        Some(visit)
     } else {
         None
     }

@@ -1,7 +1,7 @@
 ghost use Rattle.std.specs.Prelude.{◌≡◌, ◌≢◌, IfOk, OnErr, MatchResult};
-ghost use Rattle.std.specs.FinMap as finite_map;
 ghost use Rattle.yard_core.specs.Plan.{IsPlan};
 ghost use Rattle.yard_core.specs.SoundYard.{IsSound};
+ghost use Rattle.yard_core.specs.YardMap.{placement_of};
 ghost use Rattle.edi_messages.specs.Owned.{entry_content};
 ghost use Rattle.terminal_core.specs.Calls.{IsReasonFor, Settles, Unsettled};
 
@@ -14,21 +14,21 @@ use yard_core::{Yard, YardFault};
 /// The container of an entry into the slot that it names, or into the first that fits.
 pub(crate) fn settle(yard: &mut Yard, entry: &Entry) -> Result<Result<Slot, Reason>, AllocError>
     requires plan { IsPlan yard.old.plan }
-    requires sound { IsSound yard.old.plan (finite_map.get yard.old.boxes) }
+    requires sound { IsSound yard.old.plan (placement_of yard.old.boxes) }
     ensures ok { IfOk result
         (λ answer. MatchResult answer (Settles yard.old yard.new (entry_content entry.now))
         (Unsettled yard.old (entry_content entry.now))) }
     ensures refused { IfOk result (λ answer. OnErr answer (yard.new ≡ yard.old)) }
     ensures err { OnErr result (yard.new ≡ yard.old) }
-    ensures sound { IsSound yard.new.plan (finite_map.get yard.new.boxes) }
+    ensures sound { IsSound yard.new.plan (placement_of yard.new.boxes) }
 {
     let length = entry.size_type.length();
     match entry.slot {
-        Some(slot) => match yard.place(entry.number, length, slot) {
+        Some(slot) => match yard.place(entry.number, length, entry.is_laden, slot) {
             Ok(()) => Ok(Ok(slot)),
             Err(fault) => Ok(Err(refusal(fault)?)),
         },
-        None => match yard.place_first(entry.number, length) {
+        None => match yard.place_first(entry.number, length, entry.is_laden) {
             Ok(slot) => Ok(Ok(slot)),
             Err(fault) => Ok(Err(refusal(fault)?)),
         },
@@ -59,6 +59,7 @@ pub(crate) fn reason_of(fault: YardFault) -> Reason
         YardFault::SlotKind => Reason::SlotKind,
         YardFault::Taken => Reason::Taken,
         YardFault::OnAir => Reason::OnAir,
+        YardFault::OnEmpty => Reason::OnEmpty,
         YardFault::NoRoom => Reason::NoRoom,
         YardFault::Memory => unreachable!(),
     }

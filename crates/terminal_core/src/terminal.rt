@@ -1,9 +1,11 @@
 ghost use Rattle.std.specs.Prelude.{◌≡◌, ◌+◌, ◌≤◌, [], ◌∷◌, ◌++◌, map, Some, IfOk, IfErr, OnErr, vec_len, vec_capacity};
 ghost use Rattle.std.specs.FinMap as finite_map;
 ghost use Rattle.std.specs.Option.{option_map};
+ghost use Rattle.yard_core.specs.YardMap.{placement_of};
 ghost use Rattle.edi_messages.specs.Owned.{call_content, entry_content, order_content};
 ghost use Rattle.terminal_core.specs.Rows.{visit_content, change_content, line_done};
 ghost use Rattle.terminal_core.specs.State.{LineContent, TerminalState, empty_state, is_in, line_of, IsWhole};
+ghost use Rattle.terminal_core.specs.Versions.{newest};
 ghost use Rattle.terminal_core.specs.Step.{after_entry, after_departure, after_move, after_listing, step, step_gate_in, step_discharge, step_load, with_line};
 ghost use Rattle.terminal_core.specs.Drop.{drop, Drops};
 ghost use Rattle.terminal_core.specs.Calls.{Follows, IsPlanned, is_refused};
@@ -105,7 +107,7 @@ impl Terminal {
 
     /// Where a container stands, if it is in the yard.
     pub fn slot_of(&self, container: BoxNumber) -> Option<Slot>
-        ensures told { result ≡ option_map (λ s. s.slot) (finite_map.get self.now.yard.boxes container) }
+        ensures told { result ≡ option_map (λ s. s.slot) (placement_of self.now.yard.boxes container) }
         ensures whole { IsWhole self.now }
     {
         self.yard.slot_of(container)
@@ -237,7 +239,7 @@ impl Terminal {
     ) -> Result<Outcome, AllocError>
         requires { vec_len changes.old + 2 ≤ vec_capacity changes.old }
         ensures ok { IfOk result
-            (λ outcome. Follows (step_gate_in self.old source (entry_content entry.now)) self.new outcome
+            (λ outcome. Follows (step_gate_in newest self.old source (entry_content entry.now)) self.new outcome
             (map change_content changes.old.items) (map change_content changes.new.items)) }
         ensures err { OnErr result (self.new ≡ self.old) }
         ensures kept { OnErr result (changes.new.items ≡ changes.old.items) }
@@ -260,7 +262,7 @@ impl Terminal {
     ) -> Result<Outcome, AllocError>
         requires { vec_len changes.old + 3 ≤ vec_capacity changes.old }
         ensures ok { IfOk result
-            (λ outcome. Follows (step_discharge self.old source (call_content call.now)
+            (λ outcome. Follows (step_discharge newest self.old source (call_content call.now)
             (entry_content entry.now)) self.new outcome (map change_content changes.old.items)
             (map change_content changes.new.items)) }
         ensures err { OnErr result (self.new ≡ self.old) }
@@ -405,7 +407,7 @@ impl Terminal {
     ) -> Result<Outcome, AllocError>
         requires { vec_len changes.old + 2 ≤ vec_capacity changes.old }
         ensures ok { IfOk result
-            (λ outcome. Follows (after_entry self.old way source (entry_content entry.now)) self.new outcome
+            (λ outcome. Follows (after_entry newest self.old way source (entry_content entry.now)) self.new outcome
             (map change_content changes.old.items) (map change_content changes.new.items)) }
         ensures err { OnErr result (self.new ≡ self.old) }
         ensures kept { OnErr result (changes.new.items ≡ changes.old.items) }
@@ -481,7 +483,7 @@ impl Terminal {
     /// The container goes to another slot: NotIn, Buried, or why it does not fit there.
     fn shift(&mut self, container: BoxNumber, slot: Slot, changes: &mut Vec<Change>) -> Outcome
         requires { vec_len changes.old + 1 ≤ vec_capacity changes.old }
-        ensures step { Follows (after_move self.old container slot) self.new result
+        ensures step { Follows (after_move newest self.old container slot) self.new result
             (map change_content changes.old.items) (map change_content changes.new.items) }
         ensures planned { IsPlanned self.new.yard.plan result }
     {

@@ -19,4 +19,6 @@ pub struct Visit {
     pub arrival: Arrival,
     /// None while the container is here.
     pub departure: Option<Departure>,
+    /// Its gross weight in kilograms, at most 999,999, and 0 if none was given.
+    pub kilos: u32,
 }

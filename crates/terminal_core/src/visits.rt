@@ -177,6 +177,7 @@ pub(crate) fn opened_visit(
             slot,
         },
         departure: None,
+        kilos: entry.kilos,
     }
 }
 
@@ -222,5 +223,6 @@ fn copied_visit(alloc: Global, visit: &Visit) -> Result<Visit, AllocError>
         booking,
         arrival: visit.arrival,
         departure: visit.departure,
+        kilos: visit.kilos,
     })
 }

@@ -4,7 +4,9 @@
 mod answer;
 mod ask;
 mod dropping;
+mod many;
 mod memory;
+mod resting;
 mod restoring;
 
 use answer::Answer;
@@ -24,6 +26,11 @@ const QUAY: u16 = 4;
 const FIRST: &str = "ABCU0000017";
 
 const SECOND: &str = "ABCU0000022";
+
+const THIRD: &str = "ABCU0000038";
+
+/// The gross weight of a full container in kilograms. An empty one has none.
+const KILOS: u32 = 24_000;
 
 const A: Block = Block {
     letter: b'A',
@@ -62,19 +69,25 @@ fn call(alloc: Global) -> Result<Call, AllocError> {
     Ok(Call { vessel, voyage })
 }
 
+fn kilos(is_laden: bool) -> u32 {
+    if is_laden { KILOS } else { 0 }
+}
+
 fn entry(
     rt: &impl Abort,
     alloc: Global,
     text: &str,
+    is_laden: bool,
     slot: Option<Slot>,
 ) -> Result<Entry, AllocError> {
     let booking = String::from_str(alloc, "A+B")?;
     Ok(Entry {
         number: number(rt, text),
         size_type: size_type(rt),
-        is_laden: true,
+        is_laden,
         booking,
         moment: moment(rt),
         slot,
+        kilos: kilos(is_laden),
     })
 }

@@ -3,6 +3,7 @@
 
 use box6346::Length::{Forty, Twenty};
 use box6346::{BoxNumber, Slot, check_digit};
+use std::alloc::{AllocError, Global};
 use std::process::Abort;
 use std::test::Fail;
 use yard_core::{Block, Plan, PlanFault, Yard, YardFault};
@@ -36,7 +37,7 @@ const A: Block = Block {
 };
 
 /// As large as a block may be.
-const LARGEST: Block = Block {
+pub(crate) const LARGEST: Block = Block {
     letter: b'K',
     bays: 40,
     rows: 12,
@@ -60,12 +61,80 @@ fn a_block_is_filled_to_the_last_slot(rt: HostRuntime) -> Result<(), Fail> {
     let plan = Plan::new(&[LARGEST]).expect(&rt, "a plan");
     let mut yard = Yard::new(rt.alloc(), plan)?;
     for serial in 0..2880u32 {
-        let got = yard.place_first(number(&rt, serial), Twenty);
+        let got = yard.place_first(number(&rt, serial), Twenty, true);
         assert!(rt; is_next(got, serial), "{serial}");
     }
     let more = number(&rt, 2880);
-    assert!(rt; yard.place_first(more, Twenty) == Err(YardFault::NoRoom));
-    assert!(rt; yard.place_first(more, Forty) == Err(YardFault::NoRoom));
+    assert!(rt; yard.place_first(more, Twenty, true) == Err(YardFault::NoRoom));
+    assert!(rt; yard.place_first(more, Forty, false) == Err(YardFault::NoRoom));
+    Ok(())
+}
+
+/// The slot of the largest block that comes behind so many others of its tier.
+pub(crate) fn slot_in(tier: u8, serial: u32) -> Slot {
+    Slot {
+        block: b'K',
+        bay: (serial % 480 / 12) as u8 * 2 + 1,
+        row: (serial % 12) as u8 + 1,
+        tier,
+    }
+}
+
+/// Puts full containers onto as many empty ones as a tier has, as they stood before.
+fn put_back_all(rt: &impl Abort, yard: &mut Yard) {
+    for serial in 0..960u32 {
+        let tier = if serial < 480 { 1 } else { 2 };
+        let is_laden = tier == 2;
+        let got = yard.put_back(number(rt, serial), Twenty, is_laden, slot_in(tier, serial));
+        assert!(rt; got == Ok(()), "{serial}");
+    }
+}
+
+/// Each of those above stands, and none is put there anew.
+fn assert_put_back(rt: &impl Abort, yard: &mut Yard) {
+    let more = number(rt, 960);
+    for serial in 480..960u32 {
+        assert!(rt; yard.slot_of(number(rt, serial)) == Some(slot_in(2, serial)));
+        let got = yard.put_back(number(rt, serial), Twenty, true, slot_in(3, serial));
+        assert!(rt; got == Err(YardFault::Present));
+        assert!(rt; yard.put_back(more, Twenty, true, slot_in(2, serial)) == Err(YardFault::Taken));
+        assert!(rt; yard.put_back(more, Twenty, true, slot_in(4, serial)) == Err(YardFault::OnAir));
+    }
+}
+
+#[test]
+fn a_tier_of_full_ones_is_put_back_onto_empty_ones(rt: HostRuntime) -> Result<(), Fail> {
+    let plan = Plan::new(&[LARGEST]).expect(&rt, "a plan");
+    let mut yard = Yard::new(rt.alloc(), plan)?;
+    put_back_all(&rt, &mut yard);
+    assert_put_back(&rt, &mut yard);
+    let mut copy = yard.copy(rt.alloc())?;
+    assert_put_back(&rt, &mut copy);
+    Ok(())
+}
+
+/// A yard where the first container stands empty, and the second full beside it.
+fn empty_and_full(rt: &impl Abort, alloc: Global) -> Result<Yard, AllocError> {
+    let plan = Plan::new(&[LARGEST]).expect(rt, "a plan");
+    let mut yard = Yard::new(alloc, plan)?;
+    for (serial, is_laden) in [(0, false), (1, true)] {
+        let got = yard.place(number(rt, serial), Twenty, is_laden, slot_in(1, serial));
+        assert!(rt; got == Ok(()));
+    }
+    Ok(yard)
+}
+
+#[test]
+fn no_full_one_is_put_onto_an_empty_one(rt: HostRuntime) -> Result<(), Fail> {
+    let mut yard = empty_and_full(&rt, rt.alloc())?;
+    let above = slot_in(2, 0);
+    let more = number(&rt, 2);
+    assert!(rt; yard.place(more, Twenty, true, above) == Err(YardFault::OnEmpty));
+    assert!(rt; yard.shift(number(&rt, 1), above) == Err(YardFault::OnEmpty));
+    assert!(rt; yard.place(more, Twenty, false, above) == Ok(()));
+    assert!(rt; yard.shift(more, slot_in(2, 1)) == Ok(()));
+    assert!(rt; yard.put_back(number(&rt, 3), Twenty, true, above) == Ok(()));
+    assert!(rt; yard.shift(number(&rt, 3), above) == Ok(()));
     Ok(())
 }
 

@@ -14,3 +14,4 @@ pub mod Deciding
 pub mod Fitting
 pub mod FirstSlots
 pub mod Exact
+pub mod Puts

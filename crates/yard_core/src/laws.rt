@@ -1,15 +1,21 @@
 //! What follows from the definitions alone, and says that the answers of a yard's calls are exact.
 
-ghost use Rattle.yard_core.specs.Laws.{MisfitsDoNotFit, FreeBoxFitsAtHome, OneBlocker, OneFirstFit, PlaceHasOneAnswer, PlaceFirstHasOneAnswer, RemoveHasOneAnswer, ShiftHasOneAnswer};
+ghost use Rattle.yard_core.specs.Laws.{MisfitsDoNotFit, FreeBoxFitsAtHome, BelowCarries, OneBlocker, OneFirstFit, PlaceHasOneAnswer, PutBackHasOneAnswer, PlaceFirstHasOneAnswer, RemoveHasOneAnswer, ShiftHasOneAnswer};
 
-/// If NoSlot, SlotKind, Taken or OnAir applies, the container does not fit.
+/// If NoSlot, SlotKind, Taken or OnAir applies, the yard is not sound with the container there.
 pub fn misfits_do_not_fit()
     ensures { MisfitsDoNotFit }
 {}
 
-/// A container fits where it stands, in the yard without it.
+/// The yard without a container is sound with it where it stood.
 pub fn free_box_fits_at_home()
     ensures { FreeBoxFitsAtHome }
+{}
+
+/// What is right below a container is what carries it: one of its length in the slot below, or one of two
+/// twenties.
+pub fn below_carries()
+    ensures { BelowCarries }
 {}
 
 /// Never more than one container stands on another, so there is one blocker.
@@ -25,6 +31,11 @@ pub fn one_first_fit()
 /// No two answers of `place` hold of one yard, but for Memory if the container fits.
 pub fn place_has_one_answer()
     ensures { PlaceHasOneAnswer }
+{}
+
+/// No two answers of `put_back` hold of one yard, but for Memory if the container may stand there.
+pub fn put_back_has_one_answer()
+    ensures { PutBackHasOneAnswer }
 {}
 
 /// No two answers of `place_first` hold of one yard, but for Memory if the container fits.

@@ -1,5 +1,5 @@
 //! The yard of a container terminal: which container stands in which slot. No container stands on air,
-//! two never share a cell, and none moves or leaves from under another.
+//! two never share a cell, none moves or leaves from under another, and no full one is put onto an empty one.
 #![tactic(auto)]
 
 pub mod block;
@@ -14,6 +14,7 @@ mod placements;
 pub mod plan;
 pub mod plan_fault;
 mod site;
+pub mod stowed;
 mod support;
 pub mod yard;
 pub mod yard_fault;
@@ -22,5 +23,6 @@ pub use block::Block;
 pub use placement::Placement;
 pub use plan::Plan;
 pub use plan_fault::PlanFault;
+pub use stowed::Stowed;
 pub use yard::Yard;
 pub use yard_fault::YardFault;

@@ -3,7 +3,7 @@ ghost use Rattle.std.specs.FinMap as finite_map;
 ghost use Rattle.std.specs.HashMap.{get, Updates};
 ghost use Rattle.std.specs.Str.{bytes_eq};
 
-use crate::placement::Placement;
+use crate::stowed::Stowed;
 use box6346::BoxNumber;
 use std::alloc::{AllocError, Global};
 use std::collections::HashMap;
@@ -12,7 +12,7 @@ use std::marker::Model;
 /// How each container of a yard stands, seen as the map.
 #[derive(Drop)]
 pub(crate) struct Placements {
-    by_text: HashMap<[u8; 11], Placement>,
+    by_text: HashMap<[u8; 11], Stowed>,
 }
 
 impl Model for Placements {
@@ -35,22 +35,18 @@ impl Placements {
         }
     }
 
-    pub(crate) fn get(&self, number: BoxNumber) -> Option<Placement>
+    pub(crate) fn get(&self, number: BoxNumber) -> Option<Stowed>
         ensures { result ≡ finite_map.get self.now number }
     {
         self.by_text.get(&number.text()).copied()
     }
 
     /// Adds a container that isn't there.
-    pub(crate) fn insert(
-        &mut self,
-        number: BoxNumber,
-        placement: Placement,
-    ) -> Result<(), AllocError>
-        ensures ok { OnOk result (self.new ≡ finite_map.insert self.old number placement) }
+    pub(crate) fn insert(&mut self, number: BoxNumber, stowed: Stowed) -> Result<(), AllocError>
+        ensures ok { OnOk result (self.new ≡ finite_map.insert self.old number stowed) }
         ensures err { OnErr result (self.new ≡ self.old) }
     {
-        self.by_text.insert(number.text(), placement)?;
+        self.by_text.insert(number.text(), stowed)?;
         Ok(())
     }
 
@@ -61,11 +57,11 @@ impl Placements {
     }
 
     /// Has a container that is there stand elsewhere.
-    pub(crate) fn replace(&mut self, number: BoxNumber, placement: Placement)
+    pub(crate) fn replace(&mut self, number: BoxNumber, stowed: Stowed)
         requires { IsSome (finite_map.get self.old number) }
-        ensures { self.new ≡ finite_map.insert self.old number placement }
+        ensures { self.new ≡ finite_map.insert self.old number stowed }
     {
-        write(&mut self.by_text, number.text(), placement);
+        write(&mut self.by_text, number.text(), stowed);
     }
 
     pub(crate) fn copy(&self) -> Result<Placements, AllocError>
@@ -77,12 +73,12 @@ impl Placements {
     }
 }
 
-/// Writes a placement at a text that is there.
-fn write(by_text: &mut HashMap<[u8; 11], Placement>, text: [u8; 11], placement: Placement)
+/// Writes at a text that is there.
+fn write(by_text: &mut HashMap<[u8; 11], Stowed>, text: [u8; 11], stowed: Stowed)
     requires { IsSome (get bytes_eq by_text.old text) }
-    ensures { Updates bytes_eq by_text.old by_text.new text (Some placement) }
+    ensures { Updates bytes_eq by_text.old by_text.new text (Some stowed) }
 {
     if let Some(kept) = by_text.get_mut(&text) {
-        *kept = placement;
+        *kept = stowed;
     }
 }

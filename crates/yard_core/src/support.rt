@@ -1,19 +1,19 @@
-ghost use Rattle.std.specs.Prelude.{◌≡◌, ◌+◌, ◌*◌, ◌<◌, ◌≤◌, ◌⊎◌, Option, Some, None, length, All, IfErr, IfOk, MatchOption, OnErr};
+ghost use Rattle.std.specs.Prelude.{◌||◌, ◌↔◌, IsTrue, ◌≢◌, false, ◌≡◌, ◌+◌, ◌*◌, ◌<◌, ◌≤◌, ◌⊎◌, true, Option, Some, None, length, All, IfErr, IfOk, MatchOption, OnErr};
 ghost use Rattle.std.specs.FinMap as finite_map;
-ghost use Rattle.yard_core.specs.declared.placement.Placement.{Placement};
 ghost use Rattle.yard_core.specs.Plan.{IsSized};
-ghost use Rattle.yard_core.specs.YardMap.{Box, yard_map};
-ghost use Rattle.yard_core.specs.FitsAndFree.{Misfits};
+ghost use Rattle.yard_core.specs.YardMap.{Boxes, placement_of, placed, yard_map};
+ghost use Rattle.yard_core.specs.FitsAndFree.{MisfitsBy, RestsOnEmpty};
 ghost use Rattle.yard_core.specs.Calls.{RefusesRemove};
-ghost use Rattle.yard_core.specs.Columns.{AgreeOn, IsKept, IsLifted, IsReady, level, placement_at, bears, is_twenty, is_forty_in};
+ghost use Rattle.yard_core.specs.Columns.{AgreeOn, IsKept, IsLifted, IsReady, level, stowed_at, bears, is_twenty, is_forty_in, is_empty};
 
 use crate::columns::Columns;
 use crate::placement::Placement;
 use crate::placements::Placements;
 use crate::plan::Plan;
 use crate::site::{Site, is_kind, site_of};
+use crate::stowed::Stowed;
 use crate::yard_fault::YardFault;
-use box6346::{BoxNumber, Length};
+use box6346::{BoxNumber, Length, Slot};
 
 /// Why a container does not fit there, if it does not, by the heights of its columns and what is on top of
 /// them. The map may have boxes that the columns don't.
@@ -22,13 +22,15 @@ pub(crate) fn misfit(
     columns: &Columns,
     placements: &Placements,
     placement: Placement,
+    is_wary: bool,
 ) -> Option<YardFault>
     requires sized { All IsSized plan.now }
     requires long { length columns.now ≡ 480 * length plan.now }
-    ensures { (at : Box → Option Placement) → IsKept plan.now columns.now at →
-        AgreeOn columns.now (finite_map.get placements.now) at →
-        MatchOption result (IsReady plan.now columns.now at placement)
-        (λ f. Misfits plan.now at placement f) }
+    ensures { (boxes : Boxes) → IsKept plan.now columns.now (placement_of boxes) →
+        AgreeOn columns.now (finite_map.get placements.now) (finite_map.get boxes) →
+        MatchOption result
+        (IsReady plan.now columns.now (placement_of boxes) placement × (is_wary ≡ true → ¬ RestsOnEmpty boxes placement))
+        (λ f. MisfitsBy is_wary plan.now boxes placement f) }
 {
     if !plan.has(placement.slot) {
         return Some(YardFault::NoSlot);
@@ -48,24 +50,23 @@ pub(crate) fn misfit(
     if site.height == 0 {
         return None;
     }
-    let near_top = placement_in(columns, placements, site.near, site.height - 1);
-    let far_top = placement_in(columns, placements, site.far, site.height - 1);
-    if bears(placement, near_top, far_top) {
-        None
-    } else {
-        Some(YardFault::OnAir)
+    let near_top = stowed_in(columns, placements, site.near, site.height - 1);
+    let far_top = stowed_in(columns, placements, site.far, site.height - 1);
+    if !bears(placement, near_top, far_top) {
+        return Some(YardFault::OnAir);
     }
+    weighed(is_wary, near_top, far_top)
 }
 
-/// How the box at a level of a column is placed.
-fn placement_in(
+/// The box at a level of a column: how it is placed, and whether it is full.
+fn stowed_in(
     columns: &Columns,
     placements: &Placements,
     column: usize,
     height: usize,
-) -> Option<Placement>
+) -> Option<Stowed>
     requires { column < length columns.now }
-    ensures { result ≡ placement_at columns.now (finite_map.get placements.now) column height }
+    ensures { result ≡ stowed_at columns.now (finite_map.get placements.now) column height }
 {
     match columns.at(column, height) {
         Some(number) => placements.get(number),
@@ -74,8 +75,8 @@ fn placement_in(
 }
 
 /// Whether the containers below the two ends carry this one.
-fn bears(placement: Placement, near: Option<Placement>, far: Option<Placement>) -> bool
-    ensures { result ≡ bears placement.length placement.slot near far }
+fn bears(placement: Placement, near: Option<Stowed>, far: Option<Stowed>) -> bool
+    ensures { result ≡ bears placement.length placement.slot (placed near) (placed far) }
 {
     match placement.length {
         Length::Twenty => is_twenty(near),
@@ -85,11 +86,32 @@ fn bears(placement: Placement, near: Option<Placement>, far: Option<Placement>) 
     }
 }
 
-fn is_twenty(placement: Option<Placement>) -> bool
-    ensures { result ≡ is_twenty placement }
+/// Why a container that is carried does not stand on these two, if it does not.
+fn weighed(is_wary: bool, near: Option<Stowed>, far: Option<Stowed>) -> Option<YardFault>
+    ensures { MatchOption result (is_wary ≡ true → (is_empty near || is_empty far) ≡ false)
+        (λ f. (f ≡ YardFault.OnEmpty) × (is_wary ≡ true) × ((is_empty near || is_empty far) ≡ true)) }
 {
-    match placement {
-        Some(placement) => match placement.length {
+    if is_wary && (is_empty(near) || is_empty(far)) {
+        return Some(YardFault::OnEmpty);
+    }
+    None
+}
+
+/// Whether it is empty.
+fn is_empty(stowed: Option<Stowed>) -> bool
+    ensures { result ≡ is_empty stowed }
+{
+    match stowed {
+        Some(stowed) => !stowed.is_laden,
+        None => false,
+    }
+}
+
+fn is_twenty(stowed: Option<Stowed>) -> bool
+    ensures { result ≡ is_twenty (placed stowed) }
+{
+    match stowed {
+        Some(stowed) => match stowed.placement.length {
             Length::Twenty => true,
             Length::Forty => false,
         },
@@ -97,16 +119,23 @@ fn is_twenty(placement: Option<Placement>) -> bool
     }
 }
 
-fn is_forty_in(bay: u16, placement: Option<Placement>) -> bool
-    ensures { result ≡ is_forty_in bay placement }
+fn is_forty_in(bay: u16, stowed: Option<Stowed>) -> bool
+    ensures { result ≡ is_forty_in bay (placed stowed) }
 {
-    match placement {
-        Some(placement) => match placement.length {
+    match stowed {
+        Some(stowed) => match stowed.placement.length {
             Length::Twenty => false,
-            Length::Forty => placement.slot.bay == bay,
+            Length::Forty => stowed.placement.slot.bay == bay,
         },
         None => false,
     }
+}
+
+/// Whether a container may not be moved onto an empty one: it is full, and the slot isn't its own.
+pub(crate) fn is_wary(stowed: Stowed, slot: Slot) -> bool
+    ensures { IsTrue result ↔ ((stowed.is_laden ≡ true) × (slot ≢ stowed.placement.slot)) }
+{
+    stowed.is_laden && slot != stowed.placement.slot
 }
 
 /// Takes a free container off its columns, and leaves it in the map.
@@ -115,21 +144,23 @@ pub(crate) fn lift(
     columns: &mut Columns,
     placements: &Placements,
     number: BoxNumber,
-) -> Result<(Placement, Site), YardFault>
-    requires { IsKept plan.now columns.old (finite_map.get placements.now) }
-    ensures lifted { IfOk result (λ r. IsLifted plan.now columns.new placements.now number r.0 r.1.near r.1.far) }
+) -> Result<(Stowed, Site), YardFault>
+    requires { IsKept plan.now columns.old (placement_of placements.now) }
+    ensures told { IfOk result (λ r. finite_map.get placements.now number ≡ Some r.0) }
+    ensures lifted { IfOk result
+        (λ r. IsLifted plan.now columns.new placements.now number r.0.placement r.1.near r.1.far) }
     ensures refused { IfErr result (RefusesRemove (yard_map plan.now placements.now) number) }
     ensures err { OnErr result (columns.new ≡ columns.old) }
 {
-    let Some(placement) = placements.get(number) else {
+    let Some(stowed) = placements.get(number) else {
         return Err(YardFault::Absent);
     };
-    let site = site_of(plan, placement);
+    let site = site_of(plan, stowed.placement);
     if let Some(blocker) = blocker(columns, site) {
         return Err(YardFault::Buried(blocker));
     }
     columns.lower(site.near, site.far);
-    Ok((placement, site))
+    Ok((stowed, site))
 }
 
 /// The box that stands on one of the ends.

@@ -1,5 +1,6 @@
 ghost use Rattle.std.specs.Prelude.{◌≡◌, None, Some};
 ghost use Rattle.yard_core.specs.declared.placement.Placement.{Placement};
+ghost use Rattle.yard_core.specs.declared.stowed.Stowed.{Stowed};
 
 use crate::block::Block;
 use crate::columns::Columns;
@@ -8,14 +9,15 @@ use crate::placement::Placement;
 use crate::placements::Placements;
 use crate::plan::Plan;
 use crate::site::site_of;
-use crate::support::{lift, misfit};
+use crate::stowed::Stowed;
+use crate::support::{is_wary, lift, misfit};
 use crate::yard_fault::YardFault;
 use box6346::{BoxNumber, Length, Slot};
 use std::alloc::{AllocError, Global};
 use std::marker::Model;
 
-/// The containers of a yard, seen as its plan and the map from each container to its length and slot.
-/// The map is always sound. A call that answers a fault changes nothing.
+/// The containers of a yard, seen as its plan and the map from each container to its length and slot, and
+/// whether it is full. The map is always sound. A call that answers a fault changes nothing.
 #[derive(Drop)]
 pub struct Yard {
     plan: Plan,
@@ -25,7 +27,7 @@ pub struct Yard {
 
 impl Model for Yard {
     ghost use Rattle.std.specs.FinMap as finite_map;
-    ghost use Rattle.yard_core.specs.YardMap.{YardMap, yard_code};
+    ghost use Rattle.yard_core.specs.YardMap.{YardMap, yard_code, placement_of};
 
     ghost Value = { YardMap };
 
@@ -35,25 +37,25 @@ impl Model for Yard {
 
     ghost view = { λ y. record { plan = y.plan; boxes = y.placements } };
 
-    ghost invariant = { λ y. IsKept y.plan y.columns (finite_map.get y.placements) };
+    ghost invariant = { λ y. IsKept y.plan y.columns (placement_of y.placements) };
 }
 
 impl Yard {
-    ghost use Rattle.std.specs.Prelude.{◌↔◌, IsTrue, IsOk, IfOk, IfErr, IfSome, OnErr, OnOk, MatchOption, MatchResult};
+    ghost use Rattle.std.specs.Prelude.{◌↔◌, Bool, true, IsTrue, IsOk, IfOk, IfErr, IfSome, OnErr, OnOk, MatchOption, MatchResult};
     ghost use Rattle.std.specs.Option.{option_map};
     ghost use Rattle.std.specs.FinMap as finite_map;
     ghost use Rattle.yard_core.specs.Plan.{block_of, IsPlan, IsSized};
     ghost use Rattle.box6346.specs.declared.length.Length.{Length};
-    ghost use Rattle.yard_core.specs.YardMap.{placement};
+    ghost use Rattle.yard_core.specs.YardMap.{Boxes, placement, stowed, placement_of};
     ghost use Rattle.yard_core.specs.SoundYard.{IsSound};
-    ghost use Rattle.yard_core.specs.Search.{IsInBlock, NoneOpen};
-    ghost use Rattle.yard_core.specs.FitsAndFree.{IsFree, IsOpen, Misfits};
-    ghost use Rattle.yard_core.specs.Calls.{Places, PlacesFirst, Removes, Shifts, RefusesPlace, RefusesFirst, RefusesRemove, RefusesShift};
+    ghost use Rattle.yard_core.specs.Search.{IsInBlock, IsOpenTo, NoneOpen};
+    ghost use Rattle.yard_core.specs.FitsAndFree.{IsFree, IsOpen, MisfitsBy, RestsOnEmpty};
+    ghost use Rattle.yard_core.specs.Calls.{Places, PutsBack, PlacesFirst, Removes, Shifts, RefusesPlace, RefusesPutBack, RefusesFirst, RefusesRemove, RefusesShift};
 
     /// A yard with no containers.
     pub fn new(alloc: Global, plan: Plan) -> Result<Yard, AllocError>
         ensures empty { IfOk result (λ y. (y.plan ≡ plan) × (y.boxes ≡ finite_map.empty)) }
-        ensures sound { IfOk result (λ y. IsSound y.plan (finite_map.get y.boxes)) }
+        ensures sound { IfOk result (λ y. IsSound y.plan (placement_of y.boxes)) }
         ensures plan { IfOk result (λ y. IsPlan y.plan) }
     {
         let columns = Columns::new(alloc, plan.blocks())?;
@@ -66,48 +68,98 @@ impl Yard {
 
     /// Where a container stands, if it is in the yard.
     pub fn slot_of(&self, number: BoxNumber) -> Option<Slot>
-        ensures told { result ≡ option_map (λ s. s.slot) (finite_map.get self.now.boxes number) }
-        ensures sound { IsSound self.now.plan (finite_map.get self.now.boxes) }
+        ensures told { result ≡ option_map (λ s. s.slot) (placement_of self.now.boxes number) }
+        ensures sound { IsSound self.now.plan (placement_of self.now.boxes) }
     {
         match self.placements.get(number) {
-            Some(placement) => Some(placement.slot),
+            Some(stowed) => Some(stowed.placement.slot),
             None => None,
         }
     }
 
     /// Puts a container that is not in the yard into a slot if it fits: Present, NoSlot, SlotKind, Taken,
-    /// OnAir or Memory.
-    pub fn place(&mut self, number: BoxNumber, length: Length, slot: Slot) -> Result<(), YardFault>
-        ensures answer { MatchResult result (λ _. Places self.old self.new number (placement length slot))
-            (λ f. RefusesPlace self.old number (placement length slot) f) }
+    /// OnAir, OnEmpty or Memory.
+    pub fn place(
+        &mut self,
+        number: BoxNumber,
+        length: Length,
+        is_laden: bool,
+        slot: Slot,
+    ) -> Result<(), YardFault>
+        ensures answer { MatchResult result
+            (λ _. Places self.old self.new number (stowed (placement length slot) is_laden))
+            (λ f. RefusesPlace self.old number (stowed (placement length slot) is_laden) f) }
         ensures err { OnErr result (self.new ≡ self.old) }
-        ensures sound { IsSound self.new.plan (finite_map.get self.new.boxes) }
+        ensures sound { IsSound self.new.plan (placement_of self.new.boxes) }
     {
         if self.placements.get(number).is_some() {
             return Err(YardFault::Present);
         }
         let placement = Placement { length, slot };
-        if let Some(fault) = self.misfit(placement) {
+        if let Some(fault) = self.misfit(placement, is_laden) {
             return Err(fault);
         }
-        self.put(number, placement)
+        let stowed = Stowed {
+            placement,
+            is_laden,
+        };
+        self.put(number, stowed)
     }
 
-    /// Puts a container that is not in the yard into the first slot that it fits, in the order of tier, block
-    /// letter, bay and row: Present, NoRoom or Memory.
-    pub fn place_first(&mut self, number: BoxNumber, length: Length) -> Result<Slot, YardFault>
-        ensures answer { MatchResult result (λ slot. PlacesFirst self.old self.new number length slot)
-            (λ f. RefusesFirst self.old number length f) }
+    /// Puts a container that is not in the yard into a slot if the yard is sound with it, even a full one onto
+    /// an empty one: Present, NoSlot, SlotKind, Taken, OnAir or Memory.
+    pub fn put_back(
+        &mut self,
+        number: BoxNumber,
+        length: Length,
+        is_laden: bool,
+        slot: Slot,
+    ) -> Result<(), YardFault>
+        ensures answer { MatchResult result
+            (λ _. PutsBack self.old self.new number (stowed (placement length slot) is_laden))
+            (λ f. RefusesPutBack self.old number (stowed (placement length slot) is_laden) f) }
         ensures err { OnErr result (self.new ≡ self.old) }
-        ensures sound { IsSound self.new.plan (finite_map.get self.new.boxes) }
+        ensures sound { IsSound self.new.plan (placement_of self.new.boxes) }
     {
         if self.placements.get(number).is_some() {
             return Err(YardFault::Present);
         }
-        let Some(slot) = first_fit(self, length) else {
+        let placement = Placement { length, slot };
+        if let Some(fault) = self.misfit(placement, false) {
+            return Err(fault);
+        }
+        let stowed = Stowed {
+            placement,
+            is_laden,
+        };
+        self.put(number, stowed)
+    }
+
+    /// Puts a container that is not in the yard into the first slot that it fits, in the order of tier, block
+    /// letter, bay and row: Present, NoRoom or Memory.
+    pub fn place_first(
+        &mut self,
+        number: BoxNumber,
+        length: Length,
+        is_laden: bool,
+    ) -> Result<Slot, YardFault>
+        ensures answer { MatchResult result (λ slot. PlacesFirst self.old self.new number length is_laden slot)
+            (λ f. RefusesFirst self.old number length is_laden f) }
+        ensures err { OnErr result (self.new ≡ self.old) }
+        ensures sound { IsSound self.new.plan (placement_of self.new.boxes) }
+    {
+        if self.placements.get(number).is_some() {
+            return Err(YardFault::Present);
+        }
+        let Some(slot) = first_fit(self, length, is_laden) else {
             return Err(YardFault::NoRoom);
         };
-        self.put(number, Placement { length, slot })?;
+        let placement = Placement { length, slot };
+        let stowed = Stowed {
+            placement,
+            is_laden,
+        };
+        self.put(number, stowed)?;
         Ok(slot)
     }
 
@@ -116,36 +168,44 @@ impl Yard {
         ensures answer { MatchResult result (λ r. Removes self.old self.new number (placement r.0 r.1))
             (λ f. RefusesRemove self.old number f) }
         ensures err { OnErr result (self.new ≡ self.old) }
-        ensures sound { IsSound self.new.plan (finite_map.get self.new.boxes) }
+        ensures sound { IsSound self.new.plan (placement_of self.new.boxes) }
     {
-        let (placement, _) = lift(&self.plan, &mut self.columns, &self.placements, number)?;
+        let (stowed, _) = lift(&self.plan, &mut self.columns, &self.placements, number)?;
         self.placements.remove(number);
-        Ok((placement.length, placement.slot))
+        Ok((stowed.placement.length, stowed.placement.slot))
     }
 
-    /// Moves a free container to a slot that fits the yard without it, which may be its own: Absent, Buried,
-    /// NoSlot, SlotKind, Taken or OnAir. It needs no memory.
+    /// Moves a free container to a slot that fits the yard without it, or to its own: Absent, Buried, NoSlot,
+    /// SlotKind, Taken, OnAir or OnEmpty. It needs no memory.
     pub fn shift(&mut self, number: BoxNumber, slot: Slot) -> Result<(), YardFault>
-        ensures answer { MatchResult result (λ _. (s : Placement) × Shifts self.old self.new number s slot)
+        ensures answer { MatchResult result (λ _. (w : Stowed) × Shifts self.old self.new number w slot)
             (λ f. RefusesShift self.old number slot f) }
 
         // A free container's shift to its own slot succeeds.
-        ensures home { (s : Placement) → finite_map.get self.old.boxes number ≡ Some s →
-            IsFree (finite_map.get self.old.boxes) s → slot ≡ s.slot → IsOk result }
+        ensures home { (s : Placement) → placement_of self.old.boxes number ≡ Some s →
+            IsFree (placement_of self.old.boxes) s → slot ≡ s.slot → IsOk result }
         ensures err { OnErr result (self.new ≡ self.old) }
-        ensures sound { IsSound self.new.plan (finite_map.get self.new.boxes) }
+        ensures sound { IsSound self.new.plan (placement_of self.new.boxes) }
     {
-        let (placement, site) = lift(&self.plan, &mut self.columns, &self.placements, number)?;
+        let (stowed, site) = lift(&self.plan, &mut self.columns, &self.placements, number)?;
         let moved = Placement {
-            length: placement.length,
+            length: stowed.placement.length,
             slot,
         };
-        if let Some(fault) = misfit(&self.plan, &self.columns, &self.placements, moved) {
+        let is_wary = is_wary(stowed, slot);
+        if let Some(fault) = misfit(&self.plan, &self.columns, &self.placements, moved, is_wary) {
             self.columns.raise(site.near, site.far, number);
             return Err(fault);
         }
         let target = site_of(&self.plan, moved);
-        self.placements.replace(number, moved);
+        let is_laden = stowed.is_laden;
+        self.placements.replace(
+            number,
+            Stowed {
+                placement: moved,
+                is_laden,
+            },
+        );
         self.columns.raise(target.near, target.far, number);
         Ok(())
     }
@@ -153,7 +213,7 @@ impl Yard {
     /// A copy of the yard.
     pub fn copy(&self, alloc: Global) -> Result<Yard, AllocError>
         ensures same { IfOk result (λ y. y ≡ self.now) }
-        ensures sound { IfOk result (λ y. IsSound y.plan (finite_map.get y.boxes)) }
+        ensures sound { IfOk result (λ y. IsSound y.plan (placement_of y.boxes)) }
     {
         let columns = self.columns.copy(alloc)?;
         let placements = self.placements.copy()?;
@@ -175,7 +235,8 @@ impl Yard {
     /// Whether it is known that each column of the corner's block is too high for a slot of its tier.
     pub(crate) fn is_too_high(&self, block: Block, corner: Slot) -> bool
         requires { block_of self.now.plan corner.block ≡ Some block }
-        ensures { IsTrue result → (length : Length) → NoneOpen self.now length (IsInBlock corner) }
+        ensures { IsTrue result → (length : Length) → (is_laden : Bool) →
+            NoneOpen self.now length is_laden (IsInBlock corner) }
     {
         let position = self.plan.position(corner.block);
         self.columns
@@ -183,32 +244,39 @@ impl Yard {
     }
 
     /// Whether a container fits there.
-    pub(crate) fn fits(&self, length: Length, slot: Slot) -> bool
-        ensures { IsTrue result ↔ IsOpen self.now.plan (finite_map.get self.now.boxes) (placement length slot) }
+    pub(crate) fn fits(&self, length: Length, is_laden: bool, slot: Slot) -> bool
+        ensures { IsTrue result ↔ IsOpenTo self.now length is_laden slot }
     {
-        self.misfit(Placement { length, slot }).is_none()
+        self.misfit(Placement { length, slot }, is_laden).is_none()
     }
 
     /// Why a container does not fit there, if it does not.
-    fn misfit(&self, placement: Placement) -> Option<YardFault>
-        ensures { MatchOption result (IsOpen self.now.plan (finite_map.get self.now.boxes) placement)
-            (λ f. Misfits self.now.plan (finite_map.get self.now.boxes) placement f) }
+    fn misfit(&self, placement: Placement, is_wary: bool) -> Option<YardFault>
+        ensures { MatchOption result (IsOpen self.now.plan (placement_of self.now.boxes) placement
+            × (is_wary ≡ true → ¬ RestsOnEmpty self.now.boxes placement))
+            (λ f. MisfitsBy is_wary self.now.plan self.now.boxes placement f) }
     {
-        misfit(&self.plan, &self.columns, &self.placements, placement)
+        misfit(
+            &self.plan,
+            &self.columns,
+            &self.placements,
+            placement,
+            is_wary,
+        )
     }
 
     /// Adds a container if it fits.
-    fn put(&mut self, number: BoxNumber, placement: Placement) -> Result<(), YardFault>
+    fn put(&mut self, number: BoxNumber, stowed: Stowed) -> Result<(), YardFault>
         requires absent { finite_map.get self.old.boxes number ≡ None }
-        requires fits { IsOpen self.old.plan (finite_map.get self.old.boxes) placement }
+        requires fits { IsOpen self.old.plan (placement_of self.old.boxes) stowed.placement }
         ensures ok { OnOk result
-            (self.new ≡ record self.old { boxes = finite_map.insert self.old.boxes number placement }) }
+            (self.new ≡ record self.old { boxes = finite_map.insert self.old.boxes number stowed }) }
         ensures memory { IfErr result (λ f. f ≡ YardFault.Memory) }
         ensures err { OnErr result (self.new ≡ self.old) }
-        ensures sound { IsSound self.new.plan (finite_map.get self.new.boxes) }
+        ensures sound { IsSound self.new.plan (placement_of self.new.boxes) }
     {
-        let site = site_of(&self.plan, placement);
-        match self.placements.insert(number, placement) {
+        let site = site_of(&self.plan, stowed.placement);
+        match self.placements.insert(number, stowed) {
             Ok(()) => {}
             Err(AllocError) => return Err(YardFault::Memory),
         }

@@ -1,4 +1,5 @@
 use super::{call, entry, moment, number, slot};
+use box6346::Slot;
 use edi_messages::Order;
 use std::alloc::{AllocError, Global};
 use std::process::Abort;
@@ -8,6 +9,9 @@ pub(super) enum Ask {
     Comes,
     /// It comes into the slot of this name.
     ComesTo(&'static str),
+    ComesEmpty,
+    /// It comes empty into the slot of this name.
+    ComesEmptyTo(&'static str),
     Goes,
     /// It moves to the slot of this name.
     Moves(&'static str),
@@ -15,6 +19,8 @@ pub(super) enum Ask {
     ListsToDischarge,
     Loads,
     Discharges,
+    /// It is discharged into the slot of this name.
+    DischargesTo(&'static str),
 }
 
 impl Ask {
@@ -26,25 +32,34 @@ impl Ask {
         text: &str,
     ) -> Result<Order, AllocError> {
         match self {
-            Ask::Comes => comes(rt, alloc, text),
-            Ask::ComesTo(name) => comes_to(rt, alloc, text, name),
+            Ask::Comes => comes(rt, alloc, text, true),
+            Ask::ComesTo(name) => comes_to(rt, alloc, text, true, name),
+            Ask::ComesEmpty => comes(rt, alloc, text, false),
+            Ask::ComesEmptyTo(name) => comes_to(rt, alloc, text, false, name),
             Ask::Goes => Ok(goes(rt, text)),
             Ask::Moves(name) => Ok(moves(rt, text, name)),
             Ask::ListsToLoad => lists_to_load(rt, alloc, text),
             Ask::ListsToDischarge => lists_to_discharge(rt, alloc, text),
             Ask::Loads => loads(rt, alloc, text),
-            Ask::Discharges => discharges(rt, alloc, text),
+            Ask::Discharges => discharges(rt, alloc, text, None),
+            Ask::DischargesTo(name) => discharges(rt, alloc, text, Some(slot(rt, name))),
         }
     }
 }
 
-fn comes(rt: &impl Abort, alloc: Global, text: &str) -> Result<Order, AllocError> {
-    let entry = entry(rt, alloc, text, None)?;
+fn comes(rt: &impl Abort, alloc: Global, text: &str, is_laden: bool) -> Result<Order, AllocError> {
+    let entry = entry(rt, alloc, text, is_laden, None)?;
     Ok(Order::GateIn(entry))
 }
 
-fn comes_to(rt: &impl Abort, alloc: Global, text: &str, name: &str) -> Result<Order, AllocError> {
-    let entry = entry(rt, alloc, text, Some(slot(rt, name)))?;
+fn comes_to(
+    rt: &impl Abort,
+    alloc: Global,
+    text: &str,
+    is_laden: bool,
+    name: &str,
+) -> Result<Order, AllocError> {
+    let entry = entry(rt, alloc, text, is_laden, Some(slot(rt, name)))?;
     Ok(Order::GateIn(entry))
 }
 
@@ -89,8 +104,13 @@ fn loads(rt: &impl Abort, alloc: Global, text: &str) -> Result<Order, AllocError
     })
 }
 
-fn discharges(rt: &impl Abort, alloc: Global, text: &str) -> Result<Order, AllocError> {
+fn discharges(
+    rt: &impl Abort,
+    alloc: Global,
+    text: &str,
+    slot: Option<Slot>,
+) -> Result<Order, AllocError> {
     let call = call(alloc)?;
-    let entry = entry(rt, alloc, text, None)?;
+    let entry = entry(rt, alloc, text, true, slot)?;
     Ok(Order::Discharge { call, entry })
 }

@@ -1,6 +1,6 @@
 //! Lists whose open lines are dropped.
 
-use super::{A, FIRST, QUAY, SECOND, call, entry, number};
+use super::{A, FIRST, QUAY, SECOND, THIRD, call, entry, number};
 use crate::yard::number as container;
 use box6346::BoxNumber;
 use edi_messages::{Call, Order};
@@ -61,7 +61,7 @@ impl Trial {
         text: &str,
     ) -> Result<Outcome, AllocError> {
         let call = call(alloc)?;
-        let entry = entry(rt, alloc, text, None)?;
+        let entry = entry(rt, alloc, text, true, None)?;
         let order = Order::Discharge { call, entry };
         let mut changes = Vec::new(alloc);
         self.terminal.step(alloc, SOURCE, &order, &mut changes)
@@ -114,12 +114,12 @@ fn lines_are_dropped_by_their_numbers(rt: HostRuntime) -> Result<(), Fail> {
     let alloc = rt.alloc();
     let lines = [
         (Side::Load, SECOND),
-        (Side::Load, "ABCU0000038"),
+        (Side::Load, THIRD),
         (Side::Load, FIRST),
     ];
     let mut trial = listed(&rt, alloc, lines)?;
     assert_eq!(rt; trial.drop_open(alloc, Side::Load)?, 3);
-    for (place, text) in [FIRST, SECOND, "ABCU0000038"].iter().enumerate() {
+    for (place, text) in [FIRST, SECOND, THIRD].iter().enumerate() {
         assert!(rt; trial.dropped(place) == Some(number(&rt, text)));
     }
     Ok(())

@@ -1,6 +1,6 @@
 //! Rows that are a state's, and rows that are none.
 
-use super::{A, FIRST, HAULIER, SECOND, call, moment, number, size_type, slot};
+use super::{A, FIRST, HAULIER, KILOS, SECOND, call, moment, number, size_type, slot};
 use edi_messages::Call;
 use std::alloc::{AllocError, Global};
 use std::process::Abort;
@@ -15,7 +15,12 @@ const BY_GATE: Source = Source {
     number: 1,
 };
 
-fn open(rt: &impl Abort, alloc: Global, visit: u32, text: &str) -> Result<Visit, AllocError> {
+pub(super) fn open(
+    rt: &impl Abort,
+    alloc: Global,
+    visit: u32,
+    text: &str,
+) -> Result<Visit, AllocError> {
     let booking = String::from_str(alloc, "A+B")?;
     Ok(Visit {
         number: visit,
@@ -30,6 +35,7 @@ fn open(rt: &impl Abort, alloc: Global, visit: u32, text: &str) -> Result<Visit,
             slot: slot(rt, "A003011"),
         },
         departure: None,
+        kilos: KILOS,
     })
 }
 
@@ -43,7 +49,7 @@ fn closed(rt: &impl Abort, alloc: Global, visit: u32, text: &str) -> Result<Visi
     Ok(visit)
 }
 
-fn place(rt: &impl Abort, text: &str, visit: u32, name: &str) -> Place {
+pub(super) fn place(rt: &impl Abort, text: &str, visit: u32, name: &str) -> Place {
     Place {
         container: number(rt, text),
         visit,
@@ -69,7 +75,7 @@ fn line(
     })
 }
 
-fn restored(
+pub(super) fn restored(
     rt: &impl Abort,
     alloc: Global,
     limit: u32,

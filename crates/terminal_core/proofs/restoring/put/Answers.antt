@@ -1,8 +1,8 @@
 use Rattle.std.proofs.Common.{sym, subst}
 use Rattle.std.specs.Prelude.{map}
 use Rattle.box6346.specs.declared.length.Length.{Length}
-use Rattle.yard_core.specs.Calls.{RefusesPlace}
-use Rattle.yard_core.specs.YardMap.{placement}
+use Rattle.yard_core.specs.Calls.{PutsBack, RefusesPutBack}
+use Rattle.yard_core.specs.YardMap.{placement, stowed}
 use Rattle.terminal_core.specs.declared.restore_fault.RestoreFault.{RestoreFault}
 use Rattle.terminal_core.specs.Rows.{visit_content}
 use Rattle.terminal_core.specs.Restoring.{RefusesPut}
@@ -11,10 +11,10 @@ use Rattle.terminal_core.proofs.restoring.put.Goals as goal
 
 pub returns-in-Err : goal.returns-in-Err
 returns-in-Err c =
-    let named = c.in-Some.ensures in
-    let P : Length → Type 0 = λ length. RefusesPlace c.args.yard.now c.args.place.now.container (placement length c.args.place.now.slot) c.in-Err.fault in
+    let visit = c.in-Some.visit.now in
+    let P : Length → Type 0 = λ length. RefusesPutBack c.args.yard.now c.args.place.now.container (stowed (placement length c.args.place.now.slot) visit.is_laden) c.in-Err.fault in
     let Q : RestoreFault → Type 0 = RefusesPut (map visit_content c.args.visits.now) c.args.yard.now c.args.place.now in
     record {
-      answer = subst Q (sym c.cause.ensures) (refused_put (map visit_content c.args.visits.now) c.requires.numbered c.args.yard.now c.args.place.now named.0 named.1 c.in-Err.fault (subst P named.2 c.in-Err.ensures.answer));
+      answer = subst Q (sym c.cause.ensures) (refused_put (map visit_content c.args.visits.now) c.requires.numbered c.args.yard.now c.args.place.now (visit_content visit) c.in-Some.ensures c.in-Err.fault (subst P c.length.ensures c.in-Err.ensures.answer));
       sound = c.in-Err.ensures.sound;
     }

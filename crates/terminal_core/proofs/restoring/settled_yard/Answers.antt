@@ -23,7 +23,7 @@ returns-in_err-put-clause-unsound c =
 
 pub loop-place-preserved : goal.loop-place-preserved
 loop-place-preserved c = record {
-  plan_is = c.in_ok-put.ensures.answer.places.plan ∙ c.loop-place.invariant.plan_is;
+  plan_is = c.in_ok-put.ensures.answer.puts.adds.plan ∙ c.loop-place.invariant.plan_is;
   valid = c.loop-place.invariant.valid;
   sound = c.in_ok-put.ensures.sound;
   places = one_more_taken (map visit_content c.args.visits.now) c.loop-place.yard c.put.new.yard c.args.places.now c.loop-place.place-index c.place-item.result (omega arith) c.place-item.is c.loop-place.invariant.places c.in_ok-put.ensures.answer;

@@ -1,5 +1,5 @@
 use Rattle.std.proofs.Common.{refl}
-use Rattle.yard_core.specs.Decisions.{present, absent, buried, no_slot, slot_kind, taken, on_air, no_room}
+use Rattle.yard_core.specs.Decisions.{present, absent, buried, no_slot, slot_kind, taken, on_air, on_empty, no_room}
 use Rattle.terminal_core.proofs.settling.reason_of.Goals as goal
 
 pub returns-in-Present : goal.returns-in-Present
@@ -22,6 +22,9 @@ returns-in-Taken c = record { refusal = taken; fault_is = c.in-Taken.is; reason_
 
 pub returns-in-OnAir : goal.returns-in-OnAir
 returns-in-OnAir c = record { refusal = on_air; fault_is = c.in-OnAir.is; reason_is = refl }
+
+pub returns-in-OnEmpty : goal.returns-in-OnEmpty
+returns-in-OnEmpty c = record { refusal = on_empty; fault_is = c.in-OnEmpty.is; reason_is = refl }
 
 pub returns-in-NoRoom : goal.returns-in-NoRoom
 returns-in-NoRoom c = record { refusal = no_room; fault_is = c.in-NoRoom.is; reason_is = refl }

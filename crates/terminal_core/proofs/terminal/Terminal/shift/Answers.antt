@@ -8,7 +8,7 @@ use Rattle.terminal_core.proofs.terminal.Terminal.shift.Goals as goal
 
 pub invariant_of-self : goal.invariant_of-self
 invariant_of-self c = elim c.match-shift.branch [
-  | in-Ok w ↦ whole_moved _ c.shift.new.self c.args.container c.args.slot w.in-Ok.ensures.answer.0 c.self.invariant w.in-Ok.ensures.answer.1 w.in-Ok.ensures.sound
+  | in-Ok w ↦ whole_moved _ c.shift.new.self c.args.container c.args.slot w.in-Ok.ensures.answer.0 c.self.invariant w.in-Ok.ensures.answer.1.stood w.in-Ok.ensures.answer.1.plan w.in-Ok.ensures.answer.1.boxes w.in-Ok.ensures.sound
   | in-Err w ↦ whole_stays _ c.shift.new.self c.self.invariant w.in-Err.ensures.err
 ]
 

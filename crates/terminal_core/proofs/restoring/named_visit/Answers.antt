@@ -5,7 +5,7 @@ use Rattle.std.proofs.lemmas.Option.{slice_get_read, same_Some}
 use Rattle.terminal_core.specs.Rows.{visit_content, VisitContent}
 use Rattle.terminal_core.specs.State.{is_open_visit}
 use Rattle.terminal_core.proofs.Numbered.{named_within, named_at, names_at, content_at}
-use Rattle.terminal_core.proofs.restoring.named_length.Goals as goal
+use Rattle.terminal_core.proofs.restoring.named_visit.Goals as goal
 
 pub returns-then-place-eq0 : goal.returns-then-place-eq0
 returns-then-place-eq0 c visit names =
@@ -21,11 +21,8 @@ returns-in_default c visit names =
 pub returns-then-is_open : goal.returns-then-is_open
 returns-then-is_open c =
     let look = c.in-Some.ensures.lookup in
-    let at : slice_get c.args.visits.now (c.args.place.now.visit - 1) ≡ Some c.in-Some.visit.now = slice_get_read c.args.visits.now (length c.args.visits.now) _ c.in-Some.visit.now refl look.3.0 look.1 in (
-      visit_content c.in-Some.visit.now,
-      names_at (map visit_content c.args.visits.now) c.requires c.args.place.now (visit_content c.in-Some.visit.now) (omega arith) (content_at c.args.visits.now _ c.in-Some.visit.now at) (sym c.is_open.ensures ∙ c.if-is_open.true),
-      c.length.ensures,
-    )
+    let at : slice_get c.args.visits.now (c.args.place.now.visit - 1) ≡ Some c.in-Some.visit.now = slice_get_read c.args.visits.now (length c.args.visits.now) _ c.in-Some.visit.now refl look.3.0 look.1 in
+    names_at (map visit_content c.args.visits.now) c.requires c.args.place.now (visit_content c.in-Some.visit.now) (omega arith) (content_at c.args.visits.now _ c.in-Some.visit.now at) (sym c.is_open.ensures ∙ c.if-is_open.true)
 
 pub returns-else-is_open : goal.returns-else-is_open
 returns-else-is_open c visit names =

@@ -1,0 +1,13 @@
+-- The rules of each version of the office. Those of the newest are in force.
+use Rattle.std.specs.Prelude.{Bool, true, false}
+use Rattle.terminal_core.specs.declared.version.Version.{Version}
+use Rattle.terminal_core.specs.declared.version.Version.TheVariants.{First, Second, Third}
+
+abbrev pub newest : Version
+newest = Third
+
+-- empty containers are spared: no full one is put on them
+abbrev pub spares : Version → Bool
+spares First = false
+spares Second = false
+spares Third = true
