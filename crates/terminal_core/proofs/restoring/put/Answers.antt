@@ -15,6 +15,6 @@ returns-in-Err c =
     let P : Length → Type 0 = λ length. RefusesPutBack c.args.yard.now c.args.place.now.container (stowed (placement length c.args.place.now.slot) visit.is_laden) c.in-Err.fault in
     let Q : RestoreFault → Type 0 = RefusesPut (map visit_content c.args.visits.now) c.args.yard.now c.args.place.now in
     record {
-      answer = subst Q (sym c.cause.ensures) (refused_put (map visit_content c.args.visits.now) c.requires.numbered c.args.yard.now c.args.place.now (visit_content visit) c.in-Some.ensures c.in-Err.fault (subst P c.length.ensures c.in-Err.ensures.answer));
+      answer = subst Q (sym c.cause.ensures) (refused_put (map visit_content c.args.visits.now) c.requires.numbered c.args.yard.now c.args.place.now (visit_content visit) c.in-Some.ensures c.in-Err.fault (subst P c.length-length.ensures c.in-Err.ensures.answer));
       sound = c.in-Err.ensures.sound;
     }
