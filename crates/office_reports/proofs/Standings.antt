@@ -2,7 +2,6 @@
 use Rattle.std.proofs.Common.{◌≡◌, ℕ, ◌+◌, ◌-◌, ◌%◌, ◌≤◌, ◌<◌, List, [], ◌∷◌, ◌++◌, length, map, Bool, true, false, cond, Option, None, Some, is_none, IsTrue, nat_le, refl, sym, ap, ◌∙◌, arith, subst, inl, inr, Contains, option_map, find, count_by, ◌⊎◌, get_or, take, drop}
 use Rattle.std.specs.Prelude.{◌&&◌}
 use Rattle.std.specs.Char.{is_ascii_uppercase}
-use Rattle.std.specs.FinMap as finite_map
 use Rattle.std.specs.BTreeMap.{BTreeMap, get, is_at}
 use Rattle.std.specs.Map.{lookup, keys_of}
 use Rattle.std.specs.Ordering.{nat_cmp, is_eq}
@@ -29,7 +28,7 @@ use Rattle.box6346.specs.declared.slot.Slot.{Slot}
 use Rattle.yard_core.specs.declared.block.Block.{Block}
 use Rattle.yard_core.specs.declared.placement.Placement.{Placement}
 use Rattle.yard_core.specs.Plan.{IsPlan, InPlan}
-use Rattle.yard_core.specs.YardMap.{in_bay, CoversAt, IsKind}
+use Rattle.yard_core.specs.YardMap.{in_bay, CoversAt, IsKind, placement_of}
 use Rattle.yard_core.proofs.Exact.{numbered}
 use Rattle.terminal_core.specs.declared.departure.Departure.{Departure}
 use Rattle.terminal_core.specs.declared.visit.Visit.{Visit}
@@ -77,9 +76,9 @@ module _ (state : TerminalState) (whole : IsWhole state) where
   -- containers whose slots have one text are one container
   same_container : (a b : BoxNumber) (s t : Slot) → slot_in state a ≡ Some s → slot_in state b ≡ Some t → slot_text s ≡ slot_text t → a ≡ b
   same_container a b s t at bt text =
-      let p = placed (finite_map.get state.yard.boxes a) s at in
-      let q = placed (finite_map.get state.yard.boxes b) t bt in
-      let name : (c : BoxNumber) (r : Placement) → finite_map.get state.yard.boxes c ≡ Some r → IsNamed r.slot = λ c r e. named state.yard.plan r.slot whole.plan (whole.sound.in_plan c r e) in
+      let p = placed (placement_of state.yard.boxes a) s at in
+      let q = placed (placement_of state.yard.boxes b) t bt in
+      let name : (c : BoxNumber) (r : Placement) → placement_of state.yard.boxes c ≡ Some r → IsNamed r.slot = λ c r e. named state.yard.plan r.slot whole.plan (whole.sound.in_plan c r e) in
       let slots : p.0.slot ≡ q.0.slot = same_slot p.0.slot q.0.slot (name a p.0 p.1) (name b q.0 q.1) (ap slot_text p.2 ∙ text ∙ ap slot_text (sym q.2)) in
       let cell = common_cell p.0.length q.0.length p.0.slot q.0.slot slots (whole.sound.of_kind a p.0 p.1) (whole.sound.of_kind b q.0 q.1) in
       whole.sound.apart a b p.0 q.0 cell.0 p.1 q.1 cell.1 cell.2

@@ -1,5 +1,5 @@
 -- The report on a container's visits (our own).
-use Rattle.std.specs.Prelude.{ℕ, zero, suc, Bool, List, [], ◌∷◌, ◌++◌, map, filter, slice_index_or, if◌then◌else◌, codes, decimal, ◌-ℤ◌, Option, None, Some}
+use Rattle.std.specs.Prelude.{ℕ, zero, suc, ◌==◌, Bool, List, [], ◌∷◌, ◌++◌, map, filter, slice_index_or, if◌then◌else◌, codes, decimal, ◌-ℤ◌, Option, None, Some}
 use Rattle.std.specs.Fmt.{signed_decimal}
 use Rattle.std.specs.List.{flat_map, list_any}
 use Rattle.std.specs.Str.{bytes_eq}
@@ -40,6 +40,14 @@ abbrev pub booking_words : List ℕ → List (List ℕ)
 booking_words [] = []
 booking_words (b ∷ bs) = codes "BOOKING" ∷ (b ∷ bs) ∷ []
 
+-- N SIZE FULL IN GATE PARTNER NUMBER MOMENT SLOT, and BOOKING B if there is one
+abbrev pub entry_words : SetupContent → VisitContent → List (List ℕ)
+entry_words setup visit = phrase (arrival_words setup visit) ∷ booking_words visit.booking
+
+-- GROSS W, the gross weight in kilograms, if it isn't 0
+abbrev pub weight_words : ℕ → List (List ℕ)
+weight_words kilos = if kilos == 0 then [] else codes "GROSS" ∷ decimal kilos ∷ []
+
 -- GATE PARTNER NUMBER MOMENT DAYS d, with the days from the date of entry to that of exit; a dash while it is here
 abbrev pub departure_words : SetupContent → CivilMoment → Option Departure → List (List ℕ)
 departure_words setup entry None = codes "-" ∷ []
@@ -49,7 +57,7 @@ departure_words setup entry (Some departure) =
 
 abbrev pub visit_line : SetupContent → VisitContent → List ℕ
 visit_line setup visit =
-    line (phrase (arrival_words setup visit) ∷ booking_words visit.booking
+    line (phrase (entry_words setup visit) ∷ weight_words visit.kilos
     ++ codes "OUT" ∷ phrase (departure_words setup visit.arrival.moment visit.departure) ∷ [])
 
 abbrev pub is_visit_of : BoxNumber → VisitContent → Bool

@@ -2,11 +2,11 @@
 use Rattle.std.specs.Prelude.{◌≡◌, ℕ, List, [], ◌∷◌, ◌++◌, length, codes, decimal, Option, None, Some}
 use Rattle.std.specs.Option.{option_map}
 use Rattle.std.specs.List.{flat_map}
-use Rattle.std.specs.FinMap as finite_map
 use Rattle.std.specs.Map.{values_of}
 use Rattle.box6346.specs.SlotName.{slot_text}
 use Rattle.box6346.specs.declared.box_number.BoxNumber.{BoxNumber}
 use Rattle.box6346.specs.declared.slot.Slot.{Slot}
+use Rattle.yard_core.specs.YardMap.{placement_of}
 use Rattle.terminal_core.specs.declared.departure.Departure.{Departure}
 use Rattle.terminal_core.specs.Rows.{VisitContent}
 use Rattle.terminal_core.specs.State.{TerminalState, open_visit}
@@ -25,7 +25,7 @@ shown visit slot = record {
 
 -- where a container stands, if it is in the yard
 abbrev pub slot_in : TerminalState → BoxNumber → Option Slot
-slot_in state container = option_map (λ s. s.slot) (finite_map.get state.yard.boxes container)
+slot_in state container = option_map (λ s. s.slot) (placement_of state.yard.boxes container)
 
 -- the container stands in the slot of that text, and this is what its open visit shows
 pub record StandsAt (state : TerminalState) (text : List ℕ) (standing : Standing) : Type 0 where

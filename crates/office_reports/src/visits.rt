@@ -4,7 +4,7 @@ ghost use Rattle.std.specs.Option.{option_map};
 ghost use Rattle.terminal_core.specs.Rows.{visit_content};
 ghost use Rattle.office_setup.specs.Setups.{setup_content};
 ghost use Rattle.office_reports.specs.Names.{phrase};
-ghost use Rattle.office_reports.specs.Visits.{way_name, code_of, passage_words, arrival_words, departure_words};
+ghost use Rattle.office_reports.specs.Visits.{way_name, code_of, passage_words, arrival_words, entry_words, departure_words};
 ghost use Rattle.office_reports.specs.Visits.{visit_line, visit_lines, is_visit_of, visit_report};
 
 use crate::texts::{load_name, moment_text, number_text, phrase, push_line, size_text, slot_text};
@@ -16,8 +16,9 @@ use terminal_core::{Departure, Source, Terminal, Visit, Way};
 
 /// The visits of a container, by their numbers: `VISITS BOX`, and for each a line
 /// `N SIZE FULL IN GATE PARTNER NUMBER MOMENT SLOT` with the slot of entry, then ` BOOKING B` if it has one, then
-/// ` OUT -` or ` OUT GATE PARTNER NUMBER MOMENT DAYS d`, d being the days from the date of entry to that of exit. Each
-/// line ends with LF. `None` if it has no visit.
+/// ` GROSS W` with the gross weight in kilograms if that isn't 0, then ` OUT -` or
+/// ` OUT GATE PARTNER NUMBER MOMENT DAYS d`, d being the days from the date of entry to that of exit. Each line ends
+/// with LF. `None` if it has no visit.
 pub fn visit_report(
     alloc: Global,
     setup: &Setup,
@@ -71,23 +72,32 @@ fn push_visit(
     ensures { OnOk result (string_bytes text.new
         ≡ string_bytes text.old ++ visit_line (setup_content setup.now) (visit_content visit.now)) }
 {
-    let arrival = arrival_text(alloc, setup, visit)?;
-    let departure = departure_text(alloc, setup, visit.arrival.moment, &visit.departure)?;
-    let booking = visit.booking.as_str();
-    if booking.is_empty() {
-        push_line(alloc, text, &[arrival.as_str(), "OUT", departure.as_str()])
+    let entry = entry_text(alloc, setup, visit)?;
+    let exit = departure_text(alloc, setup, visit.arrival.moment, &visit.departure)?;
+    if visit.kilos == 0 {
+        push_line(alloc, text, &[entry.as_str(), "OUT", exit.as_str()])
     } else {
+        let kilos = visit.kilos.to_string(alloc)?;
+        let gross = kilos.as_str();
         push_line(
             alloc,
             text,
-            &[
-                arrival.as_str(),
-                "BOOKING",
-                booking,
-                "OUT",
-                departure.as_str(),
-            ],
+            &[entry.as_str(), "GROSS", gross, "OUT", exit.as_str()],
         )
+    }
+}
+
+/// How it came in, and its booking if it has one.
+fn entry_text(alloc: Global, setup: &Setup, visit: &Visit) -> Result<String, AllocError>
+    ensures { IfOk result (λ text. string_bytes text
+        ≡ phrase (entry_words (setup_content setup.now) (visit_content visit.now))) }
+{
+    let arrival = arrival_text(alloc, setup, visit)?;
+    let booking = visit.booking.as_str();
+    if booking.is_empty() {
+        phrase(alloc, &[arrival.as_str()])
+    } else {
+        phrase(alloc, &[arrival.as_str(), "BOOKING", booking])
     }
 }
 
