@@ -25,6 +25,7 @@ file has one subject, in the order in which they stand on one another:
 and what holds the program to them:
 
     days.py        random streams, and how often what comes in them
+    counts.py      how often that comes in them which no answer tells: weights, room, moves home
     setups.py      random files of set-ups, right and wrong ones
     requests.py    random keys, and random requests of HTTP
     page.py        the page of worked rows, read

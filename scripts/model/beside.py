@@ -19,8 +19,8 @@ PROGRAM = os.path.join(TOP, 'crates/office/out/office')
 MIXES = [(60, 300, 0.0), (600, 20, 0.1)]
 LONGEST_ANEW = 25           # in longer streams the model keeps the fold of the order so far
 
-# every kind that may come in a stream for `office demo`, as `kinds_of` and `counts` count them. TooLong, Service and Segment cut a
-# stream, and VisitLimit needs another set-up: as answers to a delivery they are in the worked rows alone.
+# every kind that may come in a stream for `office demo`, as `kinds_of` and `counts` count them. TooLong, Service and Segment
+# cut a stream, and VisitLimit needs another set-up: as answers to a delivery they are in the worked rows alone.
 REFUSED = [name for name, _applies in FAULTS if name not in ('TooLong', 'Service', 'Segment')]
 REASONS = (
     'Form CheckDigit Size Moment SlotText AlreadyIn NotIn AlreadyListed NotListed ListLineDone Buried NoSlot SlotKind '
@@ -39,8 +39,8 @@ scripts/model/cases.txt, as `office demo` and over stores in files; then the cha
 a crowded yard and full lists replaced; then random set-ups, deliveries and reports over stores, and requests by HTTP;
 then random streams. With arguments the rows, and STREAMS streams of DELIVERIES interchanges each, SHARE of them (0 to 1) with
 altered bytes, with the seeds from SEED on (1 where none is given). Without arguments: %s.
-With `demo` no store is made. With `model` the program isn't needed: rows and cases are held to the model alone, and what
-comes in the streams is counted.
+With `demo` no store is made. With `model` the program isn't needed: rows, cases and changed stores are held to the model
+alone, and what comes in the streams is counted.
 """ % ', then '.join('%d %d %s' % mix for mix in MIXES)
 
 

@@ -200,6 +200,7 @@ def size_types(rows):
 
 LENGTHS = {'twenty': 20, 'forty': 40}
 LOADS = {'full': True, 'empty': False}
+CALL = r'(?:an? |(putting) an? )(full|empty) (twenty|forty) (?:back )?in (A\d{6})|moving it to (A\d{6})'
 
 
 def twenties_and_forties(rows):
@@ -224,8 +225,8 @@ def full_and_empty(rows):
     yard = {'A001011': Place(20, slot_of('A001011'), False), 'A003011': Place(20, slot_of('A003011'), True)}
     last = None
     for call, wanted in rows.page.table(row):
-        words = re.fullmatch(r'(?:an? |(putting) an? )(full|empty) (twenty|forty) (?:back )?in (A\d{6})|moving it to (A\d{6})', call)
-        is_put, load, length, name, to = words.groups() if words else [None] * 5
+        words = re.fullmatch(CALL, call)
+        is_put, load, length, name, to = words.groups()
         slot = slot_of(name or to)
         place = yard[last]._replace(slot=slot) if to else Place(LENGTHS[length], slot, LOADS[load])
         if to:

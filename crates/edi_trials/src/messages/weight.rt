@@ -32,9 +32,9 @@ fn first_order(alloc: Global, kind: PartnerKind, text: &[u8]) -> Option<Order> {
 }
 
 /// The gross weight of what comes in.
-fn weight_of(order: Option<Order>) -> Option<u32> {
-    match order? {
-        Order::GateIn(entry) | Order::Discharge { entry, .. } => Some(entry.kilos),
+fn weight_of(order: &Option<Order>) -> Option<u32> {
+    match order {
+        Some(Order::GateIn(entry) | Order::Discharge { entry, .. }) => Some(entry.kilos),
         _ => None,
     }
 }
@@ -60,7 +60,7 @@ fn the_first_gross_weight_in_kilograms_is_read(rt: HostRuntime) -> Result<(), Fa
     for (place, (first, second, expected)) in rows.iter().enumerate() {
         let text = gate_in_with(rt.alloc(), first, second)?;
         let order = first_order(rt.alloc(), PartnerKind::Gate, &text);
-        assert!(rt; weight_of(order) == Some(*expected), "row {place}");
+        assert!(rt; weight_of(&order) == Some(*expected), "row {place}");
     }
     Ok(())
 }
@@ -77,9 +77,9 @@ const GATE_OUT: &[u8] = b"UNB+UNOA:3+A+B+240305:0910+1'UNH+1+CODECO:D:95B:UN'BGM
 #[test]
 fn weights_are_those_of_groups_that_come_in(rt: HostRuntime) {
     let beside = first_order(rt.alloc(), PartnerKind::Gate, BESIDE_THE_GROUP);
-    assert!(rt; weight_of(beside) == Some(0));
+    assert!(rt; weight_of(&beside) == Some(0));
     let discharge = first_order(rt.alloc(), PartnerKind::Quay, DISCHARGE);
-    assert!(rt; weight_of(discharge) == Some(24_000));
+    assert!(rt; weight_of(&discharge) == Some(24_000));
     let gate_out = first_order(rt.alloc(), PartnerKind::Gate, GATE_OUT);
     assert!(rt; matches!(gate_out, Some(Order::GateOut { .. })));
 }
