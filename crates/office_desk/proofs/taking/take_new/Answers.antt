@@ -11,6 +11,7 @@ use Rattle.office_desk.proofs.KeptLemmas.{early_or_stays, failed_stays, next_ans
 use Rattle.office_desk.proofs.OfficeLemmas.{office_with}
 use Rattle.office_desk.proofs.HoldLemmas.{early_answers, machine_same, next_answers, numbered, if_on}
 use Rattle.office_desk.proofs.CrashLemmas.{early_after, either_of, on_err, on_err_then, on_ok, run_after}
+use Rattle.partner_core.specs.Answers.{Waiting}
 use Rattle.office_desk.proofs.DeliverLemmas.{is_now}
 use Rattle.office_desk.proofs.taking.take_new.Goals as goal
 
@@ -25,7 +26,7 @@ returns-then-next-number-clause-ok g c clean is_open =
     c.take_early.ensures.told (c.take_early.ensures.ok clean)
 
 pub returns-then-next-number-clause-now : goal.returns-then-next-number-clause-now
-returns-then-next-number-clause-now g c = if_ok c.take_early.result (λ response told. is_now response c.args.code.now c.args.number _ told) c.take_early.ensures.told
+returns-then-next-number-clause-now g c = if_ok c.take_early.result (λ response told. is_now response c.args.code.now c.args.number (Waiting c.args.next) told) c.take_early.ensures.told
 
 pub returns-then-next-number-clause-err : goal.returns-then-next-number-clause-err
 returns-then-next-number-clause-err g c clean is_open =
