@@ -302,7 +302,8 @@ def check(top, program, over_store):
     said = read_setup(*(read(os.path.join(top, 'examples/setup', name)) for name in ('partners.csv', 'blocks.csv')))
     rows.expect('The day of examples/day', 'examples/setup is the set-up of the demonstration', said == (DEMO, None))
     example = read(os.path.join(top, 'examples/gate-in.edi'))
-    rows.expect('The first gate-in', 'examples/gate-in.edi', example.strip() == page.first)
+    rows.expect('The first gate-in', 'examples/gate-in.edi', Office().answer(example) == Office().answer(page.first))
+    rows.expect('The first gate-in', 'crates/office/stdin', read(os.path.join(top, 'crates/office/stdin')) == example)
     day(rows, top)
     left = [row for row, part in page.rows.items() if part.startswith('**') and row not in rows.checked]
     left += [row for row in page.rows if told_in(page, row) and row not in rows.told]
