@@ -3,7 +3,8 @@ that stand there.
 
 A stream goes through `office demo`, where it has that set-up, and through `office deliver` over a store. Texts that are
 delivered by themselves are bodies of requests to `office serve`; where a stream of them is cut into just these, it is
-answered by the same lines. Requests go to `office serve` in two pieces and, to a store of its own, byte by byte.
+answered by the same lines; reports are asked for behind the last of them. Requests go to `office serve` in two pieces and,
+to a store of its own, byte by byte. Cases with a `page` are also what samples.py makes docs/SAMPLES.md of.
 """
 import fcntl
 import os
@@ -33,11 +34,12 @@ SETUPS = {
     'two blocks, the second first': DEMO._replace(
         plan=[Block('B', bays=4, rows=2, tiers=3), Block('A', bays=4, rows=2, tiers=3)]),
 }
-WORDS = ['set-up', 'stream', 'deliver', 'answer', 'status', 'cut', 'request', 'response']
+WORDS = 'set-up stream deliver answer status cut request response look told page say'.split()
 
 # texts are those that are delivered by themselves; requests are pairs of a request and its response; where there are
-# none of both, the stream is a text. The status is the stream's, which may be cut anywhere
-Case = namedtuple('Case', 'name setup stream texts lines status is_cut requests')
+# none of both, the stream is a text. The status is the stream's, which may be cut anywhere. Looks are pairs of a path and the
+# body that answers it behind the texts; `said` are the pairs of word and value that stand there
+Case = namedtuple('Case', 'name setup stream texts lines status is_cut requests looks said')
 
 
 def case_of(part):
@@ -45,16 +47,20 @@ def case_of(part):
     name, *rest = part.splitlines()
     said = [line.partition(' ')[::2] for line in rest if line and not line.startswith('#')]
     values = {word: [value for other, value in said if other == word] for word in WORDS}
-    setups, streams, texts, lines_said, statuses, cuts, requests, responses = (values[word] for word in WORDS)
+    setups, streams, texts, lines_said, statuses, cuts, requests, responses, looks, told = (
+        values[word] for word in WORDS[:10])
     kinds = [
         len(streams) > 0 and len(statuses) == 1, 0 < len(texts) == len(lines_said), 0 < len(requests) == len(responses)]
-    others = len(statuses) - kinds[0], len(texts) * (not kinds[1]), len(responses) * (not kinds[2])
+    others = (
+        len(statuses) - kinds[0], len(texts) * (not kinds[1]), len(responses) * (not kinds[2]),
+        len(looks) - len(told), len(looks) * (not kinds[1]))
     if kinds.count(True) != 1 or any(others) or len(setups) > 1 or not {word for word, _value in said} <= set(WORDS):
         raise ValueError('cases.txt: ' + name)
     return Case(
         name, SETUPS[setups[0]] if setups else DEMO, read(''.join(streams)), [read(text) for text in texts], lines_said,
         int(statuses[0]) if statuses else None, cuts == ['anywhere'],
-        [(read(request), read(wanted)) for request, wanted in zip(requests, responses)])
+        [(read(request), read(wanted)) for request, wanted in zip(requests, responses)],
+        list(zip(looks, map(read, told))), said)
 
 
 def read(text):
@@ -62,6 +68,11 @@ def read(text):
     text = re.sub(r'\{(\d+) (?:(.)|\(([^)]*)\))\}', lambda found: (found[2] or found[3]) * int(found[1]), text)
     text = re.sub(r'\\x([0-9a-f]{2})', lambda found: chr(int(found[1], 16)), text)
     return text.replace(r'\r', '\r').replace(r'\n', '\n')
+
+
+def asking(path):
+    """The request for a report."""
+    return 'GET %s HTTP/1.1\r\n\r\n' % path
 
 
 def unread(pipe):
@@ -117,13 +128,16 @@ class Cases:
 
     def deliveries(self, case):
         """Texts by themselves, one after the other; and as a stream, where it is cut into them."""
-        given = [json_text(answer) for answer in map(Office(case.setup).answer, case.texts)]
+        office = Office(case.setup)
+        given = [json_text(answer) for answer in map(office.answer, case.texts)]
         self.expect(case.name, 'the model', case.lines, given)
+        for path, wanted in case.looks:
+            self.expect(case.name, 'the model, ' + path, wanted, response(office, asking(path)).partition('\r\n\r\n')[2])
         if self.with_stores:
             self.serve(case)
         text = '\r\n'.join(case.texts)
         if cut(text) == (case.texts, None):
-            refused = any('"answer":"refused"' in line for line in case.lines)
+            refused = any(re.match(r'{"answer":"(refused|clash)"', line) for line in case.lines)
             self.stream(case, text, (text_of(case.lines), '', 1 if refused else 0))
 
     def serve(self, case):
@@ -134,6 +148,7 @@ class Cases:
             wanted = response(office, request)
             self.expect(case.name, 'the model over HTTP', line, wanted.partition('\r\n\r\n')[2])
             requests.append((request, wanted))
+        requests += [(asking(path), response(office, asking(path))) for path, _wanted in case.looks]
         self.served(case, requests, in_two)
 
     def served(self, case, requests, pieces_of):
@@ -155,11 +170,15 @@ class Cases:
                 self.served(case, case.requests, pieces_of)
 
 
+def all_cases():
+    """The cases of the file, in its order."""
+    with open(FILE, encoding='latin-1') as file:
+        return [case_of(part) for part in re.split(r'^== ', file.read(), flags=re.M)[1:]]
+
+
 def check(path, with_stores):
     """All cases; prints how many were compared, and each that is wrong. Gives how many are."""
-    with open(FILE, encoding='latin-1') as file:
-        cases = [case_of(part) for part in re.split(r'^== ', file.read(), flags=re.M)[1:]]
-    checked = Cases(path, with_stores)
+    cases, checked = all_cases(), Cases(path, with_stores)
     checked.expect('cases.txt', 'any case', True, bool(cases))
     for case in cases:
         if case.requests:
