@@ -33,7 +33,9 @@ and what holds the program to them:
     worked_stores.py  the worked rows that want a store
     worked.py      the worked rows of docs/WORKED_ROWS.md, and the day of examples/day
     cases.py       streams and deliveries whose answers are written out, in cases.txt
-    samples.py     docs/SAMPLES.md, made of some of them, and the interchanges that other pages show
+    samples.py     docs/SAMPLES.md, made of some of them
+    shown.py       the interchanges, answers and reports that other pages show
+    directory.py   examples and samples, held to the order of segments of D.95B
     beside.py      the program beside all this: scripts/beside
 
 A text is a str with one character for each byte (Latin-1), so that bytes from 0x80 stand for themselves.

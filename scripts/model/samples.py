@@ -1,4 +1,4 @@
-"""docs/SAMPLES.md, made of the cases of cases.txt that have a `page`; and the interchanges that other pages show, answered.
+"""docs/SAMPLES.md, made of the cases of cases.txt that have a `page`.
 
 A sample is shown by what a case says, in its order. The page has an order, answer, fault and reason for everything that a
 partner may meet: what no sample shows is told, and so is a page that is not what the cases make of it.
@@ -7,16 +7,12 @@ import json
 import os
 import re
 
-from .cases import SETUPS, all_cases, read
-from .cuts import cut
+from .cases import all_cases
 from .messages import MESSAGE_FAULTS
-from .office import Office, json_text
-from .setup import CODE_NAMES, DEMO
-from .stream import answers, lines
+from .setup import CODE_NAMES
 from .syntax import FAULTS
 
 PAGE = 'docs/SAMPLES.md'
-SHOWING = ('docs/PROFILE.md', 'docs/SURPRISES.md')
 
 LINE_FAULTS = 'Form CheckDigit Size Moment SlotText'.split()
 REASONS = (
@@ -127,56 +123,26 @@ def page(written):
     return ''.join(parts).rstrip('\n') + '\n', missing
 
 
-# ---- what other pages show
-
-def shows(text):
-    """The interchanges and answers on lines of their own under each heading of a page, by heading."""
-    for part in re.split(r'^#+ ', text, flags=re.M)[1:]:
-        blocks = [re.sub(r'^    ', '', found, flags=re.M)[:-1] for found in re.findall(r'(?:^    .*\n)+', part, re.M)]
-        sent = [read(found) for found in blocks if found.startswith(('UNA', 'UNB+')) and ' S003 ' not in found]
-        if sent:
-            said = [line for found in blocks for line in found.split('\n') if line.startswith('{"')]
-            yield part.split('\n')[0], sent, said
-
-
-def differing(answered_by, path, text):
-    """What is said of each heading whose interchanges are not answered by the lines that stand there."""
-    for heading, sent, said in shows(text):
-        office = Office(DEMO)
-        given = [json_text(office.answer(one)) for one in sent]
-        if given != said:
-            yield '%s, %s\n  page  %s\n  model %s' % (path, heading, said, given)
-        stream = '\n'.join(sent)
-        if answered_by and cut(stream) == (sent, None) and answered_by(stream)[0] != said:
-            yield '%s, %s: the program answers %s' % (path, heading, answered_by(stream)[0])
-
-
-def check(top, answered_by):
-    """Compares the pages with what is made and answered, also by a function of a stream (None for the model alone). Prints
-    what is wrong, and gives how much is."""
-    made, missing = page(contents(top, PAGE))
+def check(top):
+    """Compares the page with what is made, and prints what is wrong. Gives how much is."""
+    made, missing = page(contents(top))
     wrong = ['no sample shows ' + name for name in missing]
-    if contents(top, PAGE) != made:
+    if contents(top) != made:
         wrong.append('%s is not what scripts/model/cases.txt makes: scripts/samples' % PAGE)
-    for path in SHOWING:
-        wrong += differing(answered_by, path, contents(top, path))
-    print(''.join('wrong: %s\n' % text[:2000] for text in wrong), end='')
-    print('samples and the interchanges of %s: %d wrong' % (' and '.join(SHOWING), len(wrong)))
+    print(''.join('wrong: %s\n' % text for text in wrong), end='')
+    print('%s: %d wrong' % (PAGE, len(wrong)))
     return len(wrong)
 
 
-def contents(top, path):
-    """The text of a page, empty where there is none."""
-    try:
-        with open(os.path.join(top, path), encoding='utf-8') as file:
-            return file.read()
-    except FileNotFoundError:
-        return ''
+def contents(top):
+    """The text of the page."""
+    with open(os.path.join(top, PAGE), encoding='utf-8') as file:
+        return file.read()
 
 
 def write(top):
     """Writes the page anew. Gives the status: 1 where a name is shown by no case."""
-    made, missing = page(contents(top, PAGE))
+    made, missing = page(contents(top))
     with open(os.path.join(top, PAGE), 'w', encoding='utf-8') as file:
         file.write(made)
     print(''.join('no sample shows %s\n' % name for name in missing), end='')
