@@ -70,6 +70,11 @@ def read(text):
     return text.replace(r'\r', '\r').replace(r'\n', '\n')
 
 
+def posting(text):
+    """The request that delivers a text."""
+    return 'POST /interchanges HTTP/1.1\r\nContent-Length: %d\r\n\r\n%s' % (len(text), text)
+
+
 def asking(path):
     """The request for a report."""
     return 'GET %s HTTP/1.1\r\n\r\n' % path
@@ -144,7 +149,7 @@ class Cases:
         """Each text as the body of a request, to a store of its own."""
         office, requests = Office(case.setup), []
         for text, line in zip(case.texts, case.lines):
-            request = 'POST /interchanges HTTP/1.1\r\nContent-Length: %d\r\n\r\n%s' % (len(text), text)
+            request = posting(text)
             wanted = response(office, request)
             self.expect(case.name, 'the model over HTTP', line, wanted.partition('\r\n\r\n')[2])
             requests.append((request, wanted))

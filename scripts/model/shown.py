@@ -6,8 +6,8 @@ import re
 import tempfile
 from collections import namedtuple
 
-from .cases import read
-from .cuts import cut
+from .cases import asking, posting, read
+from .http import response
 from .office import Office, json_text
 from .reports import printed
 from .setup import DEMO
@@ -24,6 +24,7 @@ Told = namedtuple('Told', 'kind key text')
 REPORTS = [
     (r'VISITS (\S+)\n', 'visits', '%s'), (r'LOAD LIST (\S+) (\S+)\n', 'list', '%s/%s/load'),
     (r'DISCHARGE LIST (\S+) (\S+)\n', 'list', '%s/%s/discharge')]
+ROUTES = {'visits': 'visits', 'list': 'lists'}
 
 
 def steps_of(part):
@@ -49,10 +50,9 @@ def shown_parts(path, text):
 
 def differing(name, steps, deliver, tell):
     """What is said where a delivery is answered by another line than stands behind it, or a report tells something else."""
-    sent, given, said = 0, [], []
+    given, said = [], []
     for step in steps:
         if isinstance(step, Sent):
-            sent += 1
             given.append(deliver(step.text))
         if isinstance(step, Said):
             said += step.lines
@@ -70,16 +70,20 @@ def by_model(name, steps):
 
 
 def by_program(path, name, steps):
-    """What differs from the program's. A text that cuts a stream is left out."""
-    said = [line for step in steps if isinstance(step, Said) for line in step.lines]
-    whole = [cut(step.text) == ([step.text], None) for step in steps if isinstance(step, Sent)]
-    if not all(whole):
-        return []
+    """What differs between the program's answers over HTTP and the model's."""
+    office, requests, wrong = Office(DEMO), [], []
+    for step in steps:
+        if isinstance(step, Sent):
+            requests.append(posting(step.text))
+        if isinstance(step, Told):
+            requests.append(asking('/%s/%s' % (ROUTES[step.kind], step.key)))
     with tempfile.TemporaryDirectory(prefix='beside-') as folder:
         program = Program(path, folder)
         program.init(*files_of(DEMO))
-        return list(differing(
-            name, steps, lambda text: program.deliver(text)[0][:-1], lambda kind, key: program.report(kind, key)[0]))
+        program.serve(
+            [(request, response(office, request)) for request in requests],
+            lambda what, wanted, came: wanted == came or wrong.append('%s, %s: %r' % (name, what, came)))
+    return wrong
 
 
 def check(top, path):
