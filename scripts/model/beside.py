@@ -35,10 +35,10 @@ EVERY_KIND = (
 USAGE = """usage: scripts/beside [demo | model | STREAMS DELIVERIES SHARE [SEED]]
 
 Compares crates/office/out/office with the model: first the worked rows, the day of examples/day and the cases of
-scripts/model/cases.txt, as `office demo` and over stores in files; then the changed stores of scripts/model/damaged.txt
-a crowded yard and full lists replaced; then random set-ups, deliveries and reports over stores, and requests by HTTP;
-then random streams. With arguments the rows, and STREAMS streams of DELIVERIES interchanges each, SHARE of them (0 to 1) with
-altered bytes, with the seeds from SEED on (1 where none is given). Without arguments: %s.
+scripts/model/cases.txt, as `office demo` and over stores in files, and the pages that show them or others; then the changed
+stores of scripts/model/damaged.txt, a crowded yard and full lists replaced; then random set-ups, deliveries and reports over
+stores, and requests by HTTP; then random streams. With arguments the rows, and STREAMS streams of DELIVERIES interchanges
+each, SHARE of them (0 to 1) with altered bytes, with the seeds from SEED on (1 where none is given). Without arguments: %s.
 With `demo` no store is made. With `model` the program isn't needed: rows, cases and changed stores are held to the model
 alone, and what comes in the streams is counted.
 """ % ', then '.join('%d %d %s' % mix for mix in MIXES)
