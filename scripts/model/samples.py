@@ -110,17 +110,23 @@ def heading_of(case):
     return dict(case.said).get('page')
 
 
+def missing_in(cases):
+    """The names of WANTED, and those that any case of the file shows, that none of these shows."""
+    wanted = {(what, name) for what, names in WANTED for name in names}
+    wanted |= {(what, name) for case in all_cases() for what, name in kinds_in(case) if name}
+    return sorted(name for what, name in wanted if not first_with(cases, what, name))
+
+
 def page(written):
-    """The page that has to stand where one is written, and the names that no case shows."""
+    """The page that has to stand where one is written, and the names that no sample shows."""
     cases = [case for case in all_cases() if heading_of(case)]
-    missing = [name for what, names in WANTED for name in names if not first_with(cases, what, name)]
     parts, before = [written.partition(MADE)[0], MADE, '\n', index(cases), '\n'], None
     for case in cases:
         if heading_of(case) != before:
             before = heading_of(case)
             parts.append('## %s\n\n' % before)
         parts.append(shown(case))
-    return ''.join(parts).rstrip('\n') + '\n', missing
+    return ''.join(parts).rstrip('\n') + '\n', missing_in(cases)
 
 
 def check(top):
