@@ -271,16 +271,23 @@ def no_interchange(rows):
         rows.stream(row, text, given)
 
 
-def day(rows, top):
-    """The day of examples/day: its files in their order, and what the program is said to print."""
-    paths = sorted(glob.glob(os.path.join(top, 'examples/day/*.edi')))
-    text = ''.join(read(path) for path in paths)
-    printed = read(os.path.join(top, 'examples/day/expected.jsonl')).splitlines()
+def printed(rows, row, paths, path):
+    """A row that stands in files: what is sent, file by file, and what the program is said to print."""
+    text = ''.join(read(sent) for sent in paths)
+    wanted = read(path).splitlines()
     given = answers(Office(), text)
-    for place, line in enumerate(printed):
-        rows.expect('The day of examples/day', 'line %d' % (place + 1), lines(given)[place:place + 1] == [line])
-    rows.expect('The day of examples/day', 'the number of lines', len(given) == len(printed) == len(paths))
-    rows.stream('The day of examples/day', text, given)
+    for place, line in enumerate(wanted):
+        rows.expect(row, 'line %d' % (place + 1), lines(given)[place:place + 1] == [line])
+    rows.expect(row, 'the number of lines', len(given) == len(wanted))
+    rows.stream(row, text, given)
+
+
+def examples(rows, top):
+    """What examples/ shows: a day, and interchanges out of order."""
+    day = sorted(glob.glob(os.path.join(top, 'examples/day/*.edi')))
+    printed(rows, 'The day of examples/day', day, os.path.join(top, 'examples/day/expected.jsonl'))
+    out_of_order = os.path.join(top, 'examples/out-of-order.edi')
+    printed(rows, 'Sent as 3, 2, 1, and 3 again', [out_of_order], os.path.join(top, 'examples/out-of-order.jsonl'))
 
 
 def read(path):
@@ -304,7 +311,7 @@ def check(top, program, over_store):
     example = read(os.path.join(top, 'examples/gate-in.edi'))
     rows.expect('The first gate-in', 'examples/gate-in.edi', Office().answer(example) == Office().answer(page.first))
     rows.expect('The first gate-in', 'crates/office/stdin', read(os.path.join(top, 'crates/office/stdin')) == example)
-    day(rows, top)
+    examples(rows, top)
     left = [row for row, part in page.rows.items() if part.startswith('**') and row not in rows.checked]
     left += [row for row in page.rows if told_in(page, row) and row not in rows.told]
     rows.expect('docs/WORKED_ROWS.md', 'rows that are not checked: %s' % left, not left)
