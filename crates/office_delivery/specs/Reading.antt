@@ -1,7 +1,9 @@
 -- What calls that only read leave of a database.
-use Rattle.std.specs.Prelude.{◌≡◌, false, IsTrue}
+use Rattle.std.specs.Prelude.{◌≡◌, ℕ, ◌<◌, false, IsTrue}
 use Rattle.sqlite.specs.State.{State, HasCleanDisk, KeepsCommit, Survives}
+use Rattle.office_rows.specs.Rows.{Rows}
 use Rattle.office_rows.specs.Tables.{office_schema}
+use Rattle.office_tables.specs.Answers.{HasUnfitReply}
 
 -- the rows are the same
 pub record IsSame (old new : State) : Type 0 where
@@ -16,3 +18,7 @@ pub record OnlyReads (old new : State) : Type 0 where
   pub mode : old.in_transaction ≡ false → new.in_transaction ≡ false
   pub keeps : HasCleanDisk new → old.now.schema ≡ office_schema → KeepsCommit old new
   pub survives : HasCleanDisk new → old.now.schema ≡ office_schema → Survives old new (λ _. ⊥)
+
+-- an interchange of the partner under a higher number has a reply that is no text
+abbrev pub HasUnfitBehind : ℕ → ℕ → Rows → Type 0
+HasUnfitBehind partner number rows = (n : ℕ) × (number < n) × HasUnfitReply partner n rows

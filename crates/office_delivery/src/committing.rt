@@ -1,7 +1,8 @@
-ghost use Rattle.std.specs.Prelude.{◌≡◌, ◌<◌, false, All, OnOk, OnErr, IsTrue};
+ghost use Rattle.std.specs.Prelude.{◌≡◌, ◌<◌, false, All, OnOk, OnErr, IfErr, IsTrue};
 ghost use Rattle.sqlite.specs.Held.{state};
 ghost use Rattle.sqlite.specs.State.{HasCleanDisk, IsRolledBack, Shows, Survives};
 ghost use Rattle.office_rows.specs.Effects.{with_kept};
+ghost use Rattle.office_tables.specs.Faults.{IsOfStore};
 ghost use Rattle.office_history.specs.Cascade.{with_run};
 ghost use Rattle.office_delivery.specs.Taken.{taken_contents};
 ghost use Rattle.office_delivery.specs.Writing.{Commits, IsUndone, IsWhole};
@@ -31,6 +32,7 @@ pub fn write_run<S: Alter>(
         OnErr result (IsUndone (state S.Store conn.old) (state S.Store conn.new)) }
     ensures crash { Survives (state S.Store conn.old) (state S.Store conn.new)
         (IsWhole (with_run partner number text.now (taken_contents taken.now)) (state S.Store conn.old)) }
+    ensures fault { IfErr result IsOfStore }
 {
     let is_idle = conn.is_autocommit();
     prove!(is_idle);
@@ -56,6 +58,7 @@ pub fn write_early<S: Alter>(
         OnErr result (IsUndone (state S.Store conn.old) (state S.Store conn.new)) }
     ensures crash { Survives (state S.Store conn.old) (state S.Store conn.new)
         (IsWhole (with_kept partner number text.now) (state S.Store conn.old)) }
+    ensures fault { IfErr result IsOfStore }
 {
     write_run(conn, partner, number, text, &[])
 }
@@ -73,6 +76,7 @@ fn commit<S: Alter>(tx: Transaction<'_, S>) -> Result<(), TableFault>
         OnErr result (IsUndone (state S.Store tx.entry.conn.now) (state S.Store tx.exit.0.now)) }
     ensures survives { Survives (state S.Store tx.entry.conn.now) (state S.Store tx.exit.0.now)
         (λ db. db ≡ (state S.Store tx.entry.conn.now).now.trees) }
+    ensures fault { IfErr result IsOfStore }
 {
     tx.commit()?;
     Ok(())

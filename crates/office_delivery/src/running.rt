@@ -1,4 +1,4 @@
-ghost use Rattle.std.specs.Prelude.{◌≡◌, ℕ, List, ◌+◌, ◌++◌, [], ◌∷◌, ◌<◌, ◌≤◌, All, IfOk, IfSome, OnOk, length};
+ghost use Rattle.std.specs.Prelude.{◌≡◌, ℕ, List, ◌+◌, ◌++◌, [], ◌∷◌, ◌<◌, ◌≤◌, All, IfOk, IfErr, IfSome, OnOk, length};
 ghost use Rattle.std.specs.Option.{option_map};
 ghost use Rattle.sqlite.specs.Held.{state};
 ghost use Rattle.sqlite.specs.State.{HasCleanDisk};
@@ -7,8 +7,10 @@ ghost use Rattle.office_rows.specs.Stored.{HasRows};
 ghost use Rattle.office_rows.specs.Tables.{office_schema};
 ghost use Rattle.office_admission.specs.Outcomes.{IsAdmitted};
 ghost use Rattle.office_taking.specs.Taking.{machine_of};
+ghost use Rattle.office_tables.specs.Answers.{HasUnfitReply};
+ghost use Rattle.office_tables.specs.Faults.{IsOfStoreOr};
 ghost use Rattle.office_history.specs.Cascade.{AreTakenFrom, text_in, texts_with};
-ghost use Rattle.office_delivery.specs.Reading.{IsSame, OnlyReads};
+ghost use Rattle.office_delivery.specs.Reading.{HasUnfitBehind, IsSame, OnlyReads};
 ghost use Rattle.office_delivery.specs.Taken.{taken_contents};
 ghost use Rattle.office_delivery.specs.Taking.{IsNumbered};
 
@@ -24,6 +26,8 @@ use terminal_core::Terminal;
 
 /// Takes a partner's next interchange, and then each text that becomes next by it, as far as the tables keep one.
 /// It writes nothing. If it fails, the terminal may hold part of the run, and is to be given up.
+///
+/// Damaged if a number behind has a reply that is no text; Store and Memory say nothing of the rows.
 pub fn take_run<S: Alter>(
     alloc: Global,
     conn: &mut Connection<S>,
@@ -42,6 +46,8 @@ pub fn take_run<S: Alter>(
         (taken_contents taken.items) (machine_of setup.now terminal.new)) }
     ensures first { IfOk result (λ taken. 1 ≤ length taken.items) }
     ensures numbers { IfOk result (λ taken. All (λ t. t.number < 1000000000) taken.items) }
+    ensures fault { HasCleanDisk (state S.Store conn.new) → IfErr result (λ fault. (rows : Rows) →
+        HasRows rows (state S.Store conn.old).now → IsOfStoreOr (HasUnfitBehind admitted.now.partner number rows) fault) }
     ensures same { HasCleanDisk (state S.Store conn.new) → (state S.Store conn.old).now.schema ≡ office_schema →
         OnOk result (IsSame (state S.Store conn.old) (state S.Store conn.new)) }
     ensures reads { OnlyReads (state S.Store conn.old) (state S.Store conn.new) }
@@ -70,6 +76,8 @@ fn text_behind<S: Alter>(
         HasRows rows (state S.Store conn.old).now → IsNumbered partner rows →
         text_in rows partner (number + 1) ≡ option_map (λ text. text.items) found) }
     ensures last { IfOk result (λ found. IfSome found (λ text. number < LAST_NUMBER)) }
+    ensures fault { HasCleanDisk (state S.Store conn.new) → IfErr result (λ fault. (rows : Rows) →
+        HasRows rows (state S.Store conn.old).now → IsOfStoreOr (HasUnfitReply partner (number + 1) rows) fault) }
     ensures same { HasCleanDisk (state S.Store conn.new) → (state S.Store conn.old).now.schema ≡ office_schema →
         OnOk result (IsSame (state S.Store conn.old) (state S.Store conn.new)) }
     ensures reads { OnlyReads (state S.Store conn.old) (state S.Store conn.new) }

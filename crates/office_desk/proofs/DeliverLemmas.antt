@@ -28,8 +28,8 @@ use Rattle.office_desk.specs.Answers.{told_answer, answer_at, answer_to, code_of
 use Rattle.office_desk.proofs.Admitted.{refused_for}
 use Rattle.office_desk.specs.Telling.{Answers, Comes, Holds}
 use Rattle.office_desk.specs.Desks.{StandsFor, answers_for}
-use Rattle.office_desk.specs.Kept.{AnswersAt, AnswersByKept, AnswersOver, Office}
-use Rattle.office_desk.specs.Noting.{IsNow, NotesFault}
+use Rattle.office_desk.specs.Kept.{AnswersAt, AnswersByKept, AnswersOver, NotedFor, Office}
+use Rattle.office_desk.specs.Noting.{IsNow, NotesFault, NotesMemory}
 use Rattle.office_desk.specs.Offices.{DeskHolds}
 use Rattle.office_desk.specs.declared.desk.Desk.{Desk}
 use Rattle.office_tables.specs.declared.table_fault.TableFault.{TableFault}
@@ -202,25 +202,26 @@ over g old sent response.NotNow desk code number kind e by = absurd (never_now c
 module _ {S : Type 0} (g : Ghosts S) where
   pub refusal_over : (old : Office) (sent text : List ℕ) (given : Response) (desk : Desk S g) (refusal : Refusal) → text ≡ interchange_of sent → DeskHolds g desk old.rows old.terminal →
       IsRefused desk.setup text refusal → GivesOrNotNow (refusal_of (parties_of desk.setup) (header_of (segments_in text)) (fault_in refusal)) given → RefusedSurely (parties_of desk.setup) text given →
-      AnswersOver g old sent given desk
-  refusal_over old sent text given desk refusal is holds refused gives surely =
+      (was : Option TableFault) → NotesMemory given was desk.last_fault → AnswersOver g old sent given desk
+  refusal_over old sent text given desk refusal is holds refused gives surely was noted =
       let P = parties_of desk.setup in
       let here : admission P (interchange_of sent) ≡ Err (fault_in refusal) = subst (λ other. admission P other ≡ Err (fault_in refusal)) is (refused_for desk.setup text refusal refused) in
-      at given (subst (λ other. GivesOrNotNow (refusal_of P (header_of (segments_in other)) (fault_in refusal)) given) is gives) (subst (λ other. RefusedSurely P other given) is surely) here
+      at given (subst (λ other. GivesOrNotNow (refusal_of P (header_of (segments_in other)) (fault_in refusal)) given) is gives) (subst (λ other. RefusedSurely P other given) is surely) here noted
     where
       told : (given : Response) → content_of given ≡ refusal_of (parties_of desk.setup) (header_of (segments_in (interchange_of sent))) (fault_in refusal) → admission (parties_of desk.setup) (interchange_of sent) ≡ Err (fault_in refusal) →
           AnswersAt g (admission (parties_of desk.setup) (interchange_of sent)) (interchange_of sent) old given desk
       told given e here = subst (λ place. AnswersAt g place (interchange_of sent) old given desk) (sym here) (e, holds)
 
       at : (given : Response) → GivesOrNotNow (refusal_of (parties_of desk.setup) (header_of (segments_in (interchange_of sent))) (fault_in refusal)) given → RefusedSurely (parties_of desk.setup) (interchange_of sent) given →
-          admission (parties_of desk.setup) (interchange_of sent) ≡ Err (fault_in refusal) → AnswersOver g old sent given desk
-      at (response.Taken body) e surely here = told (response.Taken body) e here
-      at (response.Repeat body) e surely here = told (response.Repeat body) e here
-      at (response.Waiting body) e surely here = told (response.Waiting body) e here
-      at (response.Clash body) e surely here = told (response.Clash body) e here
-      at (response.Refused fault) e surely here = told (response.Refused fault) e here
-      at (response.Rejected fault body) e surely here = told (response.Rejected fault body) e here
-      at response.NotNow e surely here = (not_now_surely (parties_of desk.setup) (interchange_of sent) surely, holds)
+          admission (parties_of desk.setup) (interchange_of sent) ≡ Err (fault_in refusal) → NotesMemory given was desk.last_fault → AnswersOver g old sent given desk
+      at (response.Taken body) e surely here noted = told (response.Taken body) e here
+      at (response.Repeat body) e surely here noted = told (response.Repeat body) e here
+      at (response.Waiting body) e surely here noted = told (response.Waiting body) e here
+      at (response.Clash body) e surely here noted = told (response.Clash body) e here
+      at (response.Refused fault) e surely here noted = told (response.Refused fault) e here
+      at (response.Rejected fault body) e surely here noted = told (response.Rejected fault body) e here
+      at response.NotNow e surely here noted =
+          (not_now_surely (parties_of desk.setup) (interchange_of sent) surely, subst (λ place. NotedFor place old.rows desk.last_fault) (sym here) noted, holds)
 
   pub answers_over : (old : Office) (sent text : List ℕ) (given : Response) (desk : Desk S g) (partner number : ℕ) (code : List ℕ) → text ≡ interchange_of sent →
       admission (parties_of desk.setup) text ≡ Ok (partner, number) → code ≡ code_of (parties_of desk.setup) partner →

@@ -1,5 +1,5 @@
 -- What a desk answers by what it keeps.
-use Rattle.std.proofs.Common.{◌≡◌, ℕ, ◌+◌, ◌<◌, ◌≤◌, List, ◌∷◌, length, Bool, true, false, cond, Option, None, Some, Result, Ok, Err, IfOk, OnOk, OnErr, refl, sym, ap, subst, ◌∙◌, arith, string_bytes}
+use Rattle.std.proofs.Common.{◌≡◌, ℕ, ◌+◌, ◌<◌, ◌≤◌, List, ◌∷◌, length, Bool, true, false, cond, Option, None, Some, Result, Ok, Err, IfOk, IfErr, OnOk, OnErr, refl, sym, ap, subst, ◌∙◌, arith, string_bytes}
 use Rattle.std.specs.Prelude.{find, nat_lt}
 use Rattle.std.specs.Option.{option_map}
 use Rattle.std.specs.Result.{IsErrAnd}
@@ -20,7 +20,9 @@ use Rattle.office_rows.specs.Shown.{AreNexts}
 use Rattle.office_rows.specs.Stored.{HasRows}
 use Rattle.office_setup.specs.Setups.{SetupContent, setup_content}
 use Rattle.office_setup.specs.declared.setup.Setup.{Setup}
-use Rattle.office_tables.specs.Answers.{IsKept, IsNextOf}
+use Rattle.office_tables.specs.Answers.{HasUnfitReply, IsKept, IsNextOf}
+use Rattle.office_tables.specs.Faults.{IsOfStore, IsOfStoreOr}
+use Rattle.office_tables.proofs.FaultLemmas.{of_store_or}
 use Rattle.office_tables.specs.declared.kept_interchange.Kept.{Kept}
 use Rattle.office_tables.specs.declared.table_fault.TableFault.{TableFault}
 use Rattle.office_taking.specs.Taking.{machine_of}
@@ -186,16 +188,16 @@ next_answers_so setup old d code response was there now end next holds is_next f
 
 -- ---- calls that failed
 
-pub failed_stays : (Q : TableFault → Type 0) (content : SetupContent) (old : Office) (d : Delivery) (code : List ℕ) (r : Result Response TableFault) (db : Database) (there : Option Beside) → IsErrAnd r Q → HoldsOffice content old.rows old.terminal db there →
-    AnswersOrStays content d code old r db there
-failed_stays Q content old d code (Ok response) db there is holds = absurd is
-failed_stays Q content old d code (Err fault) db there is holds = holds
+pub failed_stays : (Q : TableFault → Type 0) (content : SetupContent) (old : Office) (d : Delivery) (code : List ℕ) (r : Result Response TableFault) (db : Database) (there : Option Beside) → IsErrAnd r Q →
+    ((fault : TableFault) → Q fault → IsOfStoreOr (HasUnfitReply d.partner d.number old.rows) fault) → HoldsOffice content old.rows old.terminal db there → AnswersOrStays content d code old r db there
+failed_stays Q content old d code (Ok response) db there is why holds = absurd is
+failed_stays Q content old d code (Err fault) db there is why holds = (why fault is, holds)
 
 pub early_or_stays : (content : SetupContent) (old : Office) (d : Delivery) (code : List ℕ) (r : Result Response TableFault) (was end : State) (there : Beside) (next : ℕ) →
     HoldsOffice content old.rows old.terminal was.committed (Some there) → IsNextOf d.partner old.rows next → text_in old.rows d.partner d.number ≡ None → next < d.number → d.number ≤ 999999999 → 1 ≤ d.partner → d.partner ≤ length content.partners →
-    IfOk r (λ response. content_of response ≡ told_answer code d.number (Waiting next)) → OnOk r (Commits (with_kept d.partner d.number d.text) was end) → OnErr r (end.committed ≡ was.committed) →
+    IfOk r (λ response. content_of response ≡ told_answer code d.number (Waiting next)) → OnOk r (Commits (with_kept d.partner d.number d.text) was end) → OnErr r (end.committed ≡ was.committed) → IfErr r IsOfStore →
     AnswersOrStays content d code old r end.committed (Some there)
-early_or_stays content old d code (Ok response) was end there next holds is_next free later high one most told wrote same =
+early_or_stays content old d code (Ok response) was end there next holds is_next free later high one most told wrote same why =
     early_by_kept content old was.committed (Some there) holds d code response was end there next refl holds.beside is_next free later high one most told wrote
-early_or_stays content old d code (Err fault) was end there next holds is_next free later high one most told wrote same =
-    office_with content old.rows old.terminal was.committed end.committed (Some there) (Some there) same holds.beside holds
+early_or_stays content old d code (Err fault) was end there next holds is_next free later high one most told wrote same why =
+    (of_store_or _ fault why, office_with content old.rows old.terminal was.committed end.committed (Some there) (Some there) same holds.beside holds)

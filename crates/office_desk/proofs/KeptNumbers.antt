@@ -364,7 +364,7 @@ module _ (count : ℕ) (runs : ℕ → ℕ) (rows : Rows) (keeps : KeepsNumbers 
   own_text : (i : Interchange) → Contains rows.interchanges i → text_in rows i.partner i.number ≡ Some i.body
   own_text i inside = ap (option_map (λ (x : Interchange). x.body)) (found i inside)
 
-  own_reply : (i : Interchange) → Contains rows.interchanges i → reply_in rows i.partner i.number ≡ reply_if_any i.reply
+  pub own_reply : (i : Interchange) → Contains rows.interchanges i → reply_in rows i.partner i.number ≡ reply_if_any i.reply
   own_reply i inside = ap (option_and_then (λ (x : Interchange). reply_if_any x.reply)) (found i inside)
 
   past_next : (i : Interchange) → Contains rows.interchanges i → i.number ≡ runs i.partner + 1 → ⊥

@@ -21,8 +21,10 @@ use Rattle.office_setup.specs.Parties.{parties_of}
 use Rattle.office_setup.specs.Setups.{SetupContent, setup_content}
 use Rattle.office_admission.specs.Admission.{admission}
 use Rattle.office_admission.specs.Refusals.{refusal_of, MayBeNotNow}
-use Rattle.office_tables.specs.Answers.{IsNextOf}
+use Rattle.office_tables.specs.Answers.{HasUnfitReply, IsNextOf}
+use Rattle.office_tables.specs.Faults.{IsOfStoreOr}
 use Rattle.office_tables.specs.declared.table_fault.TableFault.{TableFault}
+use Rattle.office_tables.specs.declared.table_fault.TableFault.TheVariants.{Memory}
 use Rattle.office_history.specs.After.{machine_with, reply_in}
 use Rattle.office_history.specs.Cascade.{TakenContent, AreTakenFrom, text_in, texts_with, with_run}
 use Rattle.office_desk.specs.Answers.{code_of, told_answer}
@@ -80,11 +82,13 @@ pub record AnswersByKept (content : SetupContent) (d : Delivery) (code : List �
   pub answers : content_of response ≡ told_answer code d.number told
   pub holds : HoldsOffice content new.rows new.terminal db there
 
--- it is answered so, or the call failed and the office is held as it was
+-- it is answered so, or the call failed and the office is held as it was: the store failed, or memory was refused, or
+-- the reply that is kept under its number is no text
 abbrev pub AnswersOrStays : SetupContent → Delivery → List ℕ → Office → Result Response TableFault → Database →
     Option Beside → Type 0
 AnswersOrStays content d code old (Ok response) db there = AnswersByKept content d code old response db there
-AnswersOrStays content d code old (Err fault) db there = HoldsOffice content old.rows old.terminal db there
+AnswersOrStays content d code old (Err fault) db there =
+    IsOfStoreOr (HasUnfitReply d.partner d.number old.rows) fault × HoldsOffice content old.rows old.terminal db there
 
 -- ---- what a desk answers
 
@@ -98,9 +102,18 @@ AnswersAt g (Ok place) text old given desk =
     AnswersByKept (setup_content desk.setup) (delivery place.0 place.1 text) (code_of (parties_of desk.setup) place.0)
     old given (state g desk.conn).committed desk.beside
 
+-- why that is answered NotNow, as the desk notes it: a refusal for want of memory; what is admitted by its store too,
+-- or by a reply kept under its number that is no text
+abbrev pub NotedFor : Result (ℕ × ℕ) Fault → Rows → Option TableFault → Type 0
+NotedFor (Err refused) rows noted = noted ≡ Some Memory
+NotedFor (Ok place) rows noted =
+    (fault : TableFault) × (noted ≡ Some fault) × IsOfStoreOr (HasUnfitReply place.0 place.1 rows) fault
+
 -- what is delivered to a desk over that office is answered so, or NotNow if that may be, and the office stays
 abbrev pub AnswersOver : {S : Type 0} (g : Ghosts S) → Office → List ℕ → Response → Desk S g → Type 0
 AnswersOver g old sent response.NotNow desk =
-    MayBeNotNow (parties_of desk.setup) (interchange_of sent) × DeskHolds g desk old.rows old.terminal
+    MayBeNotNow (parties_of desk.setup) (interchange_of sent)
+    × NotedFor (admission (parties_of desk.setup) (interchange_of sent)) old.rows desk.last_fault
+    × DeskHolds g desk old.rows old.terminal
 AnswersOver g old sent given desk =
     AnswersAt g (admission (parties_of desk.setup) (interchange_of sent)) (interchange_of sent) old given desk

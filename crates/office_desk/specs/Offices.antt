@@ -9,6 +9,7 @@ use Rattle.office_rows.specs.Rows.{Rows}
 use Rattle.office_rows.specs.Stored.{HasRows}
 use Rattle.office_setup.specs.Setups.{SetupContent, setup_content}
 use Rattle.office_loading.specs.Tables.{FailsToLoad, Loads}
+use Rattle.office_tables.specs.Faults.{IsOfStore}
 use Rattle.office_tables.specs.declared.table_fault.TableFault.{TableFault}
 use Rattle.office_desk.specs.Beside.{IsOrNone}
 use Rattle.office_desk.specs.declared.beside.Beside.{Beside}
@@ -36,8 +37,9 @@ pub record OpensOffice {S : Type 0} (g : Ghosts S) (found : State) (desk : Desk 
   pub holds : (rows : Rows) → HasRows rows found.committed → DeskHolds g desk rows there.terminal
   pub unchanged : IsUnchanged found (state g desk.conn)
 
--- why no desk is opened: the fault is the one that the tables deserve, if they show no office. Of tables that show one
--- it isn't said here why their partners' numbers could not be read
+-- why no desk is opened: the fault is the one that the tables deserve, if they show no office; if they show one, the
+-- store failed, or memory was refused
 abbrev pub FailsToOpen : Database → TableFault → Type 0
 FailsToOpen db fault =
-    FailsToLoad db fault ⊎ ((content : SetupContent) × (terminal : TerminalState) × Loads db content terminal)
+    FailsToLoad db fault
+    ⊎ ((content : SetupContent) × (terminal : TerminalState) × Loads db content terminal × IsOfStore fault)

@@ -1,9 +1,10 @@
-ghost use Rattle.std.specs.Prelude.{◌≡◌, false, IfOk, OnOk, OnErr, IsTrue};
+ghost use Rattle.std.specs.Prelude.{◌≡◌, false, IfOk, IfErr, OnOk, OnErr, IsTrue};
 ghost use Rattle.sqlite.specs.Held.{state};
 ghost use Rattle.sqlite.specs.State.{HasCleanDisk, Survives};
 ghost use Rattle.partner_core.specs.Answers.{Waiting};
 ghost use Rattle.office_replies.specs.Contents.{content_of};
 ghost use Rattle.office_rows.specs.Effects.{with_kept};
+ghost use Rattle.office_tables.specs.Faults.{IsOfStore};
 ghost use Rattle.office_desk.specs.Answers.{told_answer};
 ghost use Rattle.office_delivery.specs.Writing.{Commits, IsUndone, IsWhole};
 
@@ -33,6 +34,7 @@ pub(crate) fn take_early<S: Alter>(
         OnErr result ((state S.Store conn.new).committed ≡ (state S.Store conn.old).committed) }
     ensures crash { Survives (state S.Store conn.old) (state S.Store conn.new)
         (IsWhole (with_kept partner number text.now) (state S.Store conn.old)) }
+    ensures fault { IfErr result IsOfStore }
     ensures was_open { HasCleanDisk (state S.Store conn.new) → IsTrue (state S.Store conn.new).is_open →
         IsTrue (state S.Store conn.old).is_open }
     ensures clean { HasCleanDisk (state S.Store conn.new) → HasCleanDisk (state S.Store conn.old) }

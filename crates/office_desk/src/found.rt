@@ -1,4 +1,4 @@
-ghost use Rattle.std.specs.Prelude.{◌≡◌, ◌≤◌, ℕ, List, None, Some, IfOk, OnOk, OnErr, length};
+ghost use Rattle.std.specs.Prelude.{◌≡◌, ◌≤◌, ℕ, List, None, Some, IfOk, IfErr, OnOk, OnErr, length};
 ghost use Rattle.sqlite.specs.Held.{state};
 ghost use Rattle.sqlite.specs.State.{HasCleanDisk};
 ghost use Rattle.partner_core.specs.Numbered.{with_number};
@@ -8,7 +8,8 @@ ghost use Rattle.office_rows.specs.Stored.{HasRows};
 ghost use Rattle.office_rows.specs.Tables.{office_schema};
 ghost use Rattle.office_setup.specs.Given.{IsGiven};
 ghost use Rattle.office_setup.specs.Setups.{SetupContent};
-ghost use Rattle.office_tables.specs.Answers.{IsKept};
+ghost use Rattle.office_tables.specs.Answers.{HasUnfitReply, IsKept};
+ghost use Rattle.office_tables.specs.Faults.{IsOfStoreOr};
 ghost use Rattle.office_history.specs.After.{AreAfter};
 ghost use Rattle.office_delivery.specs.Reading.{IsSame, OnlyReads};
 ghost use Rattle.office_desk.specs.Beside.{IsBeside, IsOrNone};
@@ -64,6 +65,10 @@ pub(crate) fn look<S: Alter>(
         (content : SetupContent) (old : Office) →
         HoldsOffice content old.rows old.terminal (state S.Store conn.old).now beside.old →
         IsOrNone old.rows old.terminal beside.new) }
+    ensures fault { HasCleanDisk (state S.Store conn.new) → IfErr result (λ fault.
+        (content : SetupContent) (old : Office) →
+        HoldsOffice content old.rows old.terminal (state S.Store conn.old).now beside.old →
+        partner ≤ length content.partners → IsOfStoreOr (HasUnfitReply partner number old.rows) fault) }
     ensures same { HasCleanDisk (state S.Store conn.new) → (state S.Store conn.old).now.schema ≡ office_schema →
         OnOk result (IsSame (state S.Store conn.old) (state S.Store conn.new)) }
     ensures reads { OnlyReads (state S.Store conn.old) (state S.Store conn.new) }

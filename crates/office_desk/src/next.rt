@@ -1,4 +1,4 @@
-ghost use Rattle.std.specs.Prelude.{◌≡◌, ◌⊎◌, ◌≤◌, false, length, IfOk, OnErr, IsTrue};
+ghost use Rattle.std.specs.Prelude.{◌≡◌, ◌⊎◌, ◌≤◌, false, length, IfOk, IfErr, OnErr, IsTrue};
 ghost use Rattle.sqlite.specs.Held.{state};
 ghost use Rattle.sqlite.specs.State.{HasCleanDisk};
 ghost use Rattle.sqlite.specs.Tree.{Trees};
@@ -7,6 +7,8 @@ ghost use Rattle.office_rows.specs.Stored.{HasRows};
 ghost use Rattle.office_rows.specs.Tables.{office_schema};
 ghost use Rattle.office_admission.specs.Outcomes.{IsAdmitted};
 ghost use Rattle.office_taking.specs.Taking.{machine_of};
+ghost use Rattle.office_tables.specs.Faults.{IsOfStoreOr};
+ghost use Rattle.office_delivery.specs.Reading.{HasUnfitBehind};
 ghost use Rattle.office_delivery.specs.Taking.{IsNumbered};
 ghost use Rattle.office_desk.specs.Noting.{IsNow};
 ghost use Rattle.office_desk.specs.Telling.{TakesNext, IsRunDone};
@@ -54,6 +56,8 @@ pub(crate) fn take_next<S: Alter>(
         (db : Trees) → (state S.Store conn.new).may_leave db →
         (state S.Store conn.old).may_leave db
         ⊎ IsRunDone rows admitted.now.partner number text.now (machine_of setup.now beside.terminal) db) }
+    ensures fault { HasCleanDisk (state S.Store conn.new) → IfErr result (λ fault. (rows : Rows) →
+        HasRows rows (state S.Store conn.old).now → IsOfStoreOr (HasUnfitBehind admitted.now.partner number rows) fault) }
     ensures was_open { HasCleanDisk (state S.Store conn.new) → IsTrue (state S.Store conn.new).is_open →
         IsTrue (state S.Store conn.old).is_open }
     ensures clean { HasCleanDisk (state S.Store conn.new) → HasCleanDisk (state S.Store conn.old) }

@@ -8,6 +8,7 @@ ghost use Rattle.office_rows.specs.Stored.{HasRows};
 ghost use Rattle.office_rows.specs.Tables.{office_schema};
 ghost use Rattle.office_setup.specs.Given.{IsGiven};
 ghost use Rattle.office_setup.specs.Setups.{SetupContent, setup_content};
+ghost use Rattle.office_tables.specs.Faults.{IsOfStore};
 ghost use Rattle.office_history.specs.After.{AreAfter};
 ghost use Rattle.office_loading.specs.Tables.{Loads};
 ghost use Rattle.office_delivery.specs.Reading.{IsSame, OnlyReads};
@@ -61,6 +62,9 @@ pub(crate) fn beside_of<S: Alter>(
     ensures office { HasCleanDisk (state S.Store conn.new) →
         IfOk result (λ now. (content : SetupContent) (rows : Rows) (terminal : TerminalState) →
         HoldsOffice content rows terminal (state S.Store conn.old).now beside → IsOf rows terminal now) }
+    ensures fault { HasCleanDisk (state S.Store conn.new) →
+        IfErr result (λ fault. (content : SetupContent) (rows : Rows) (terminal : TerminalState) →
+        HoldsOffice content rows terminal (state S.Store conn.old).now beside → IsOfStore fault) }
     ensures same { HasCleanDisk (state S.Store conn.new) → (state S.Store conn.old).now.schema ≡ office_schema →
         OnOk result (IsSame (state S.Store conn.old) (state S.Store conn.new)) }
     ensures reads { OnlyReads (state S.Store conn.old) (state S.Store conn.new) }

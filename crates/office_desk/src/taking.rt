@@ -46,6 +46,7 @@ pub(crate) fn take_in<S: Alter>(
 ) -> Result<Response, TableFault>
     requires idle { (state S.Store conn.old).in_transaction ≡ false }
     requires given { IsGiven (setup_content setup.now) }
+    requires from_one { 1 ≤ number }
     requires number { number ≤ LAST_NUMBER }
     requires admitted { IsAdmitted setup.now text.now admitted.now }
     ensures idle { (state S.Store conn.new).in_transaction ≡ false }
@@ -112,6 +113,7 @@ fn take_new<S: Alter>(
 ) -> Result<Response, TableFault>
     requires idle { (state S.Store conn.old).in_transaction ≡ false }
     requires given { IsGiven (setup_content setup.now) }
+    requires from_one { 1 ≤ number }
     requires number { number ≤ LAST_NUMBER }
     requires admitted { IsAdmitted setup.now text.now admitted.now }
     requires known { admitted.now.partner ≤ length there.nexts.items }

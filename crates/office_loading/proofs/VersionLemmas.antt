@@ -38,7 +38,7 @@ text_is text (Real x) holds = absurd cc
 text_is text (Blob b) holds = absurd cc
 
 module _ (db : Database) (answer : List Row) (it : ShowsTable setting (0 ∷ 1 ∷ []) (0 ∷ []) db answer) where
-  full : (r : Row) → Has it.by_key r → columns_at (0 ∷ 1 ∷ []) r ≡ r
+  pub full : (r : Row) → Has it.by_key r → columns_at (0 ∷ 1 ∷ []) r ≡ r
   full r has =
       let stored = has_contained _ r (Contains-permutation _ _ r (IsPermutation-sym _ _ it.same) (contains_had it.by_key r has)) in
       let s = has_mapped (columns_of setting) (db.trees setting.tree) r stored in

@@ -8,7 +8,7 @@ use Rattle.terminal_core.specs.State.{TerminalState}
 use Rattle.yard_core.specs.declared.block.Block.{Block}
 use Rattle.office_setup.specs.Setups.{SetupContent}
 use Rattle.office_rows.specs.Tables as table
-use Rattle.office_rows.specs.Rows.{Partner, PlaceContent, ListingContent, Setting, Rows}
+use Rattle.office_rows.specs.Rows.{Partner, PlaceContent, ListingContent, Setting}
 use Rattle.office_rows.specs.Values.{partner_values, visit_values, place_values, line_values, setting_values, block_values}
 use Rattle.office_rows.specs.Opening.{setting, tables_version}
 use Rattle.office_rows.specs.Stored.{columns_of}
@@ -126,6 +126,6 @@ FailsToLoad db (Store error) = Unit {0}
 
 -- ---- the next numbers
 
--- an account has a next number of more than 32 bits
-abbrev pub HasHighNext : Rows → Type 0
-HasHighNext rows = (p : Partner) × Contains rows.partners p × ¬ (p.next < 2 ^ 32)
+-- one of the accounts has a next number of more than 32 bits
+abbrev pub HasHighNext : List Partner → Type 0
+HasHighNext partners = (p : Partner) × Contains partners p × ¬ (p.next < 2 ^ 32)

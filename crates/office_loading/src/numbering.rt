@@ -1,7 +1,8 @@
-ghost use Rattle.std.specs.Prelude.{◌≡◌, ◌^◌, ⊤, IfOk, IfErr, OnOk, IsTrue, false, map};
+ghost use Rattle.std.specs.Prelude.{◌≡◌, ◌^◌, List, ⊤, IfOk, IfErr, OnOk, IsTrue, false, map};
 ghost use Rattle.sqlite.specs.Order.{column};
 ghost use Rattle.sqlite.specs.Held.{state};
 ghost use Rattle.sqlite.specs.State.{HasCleanDisk, IsUnchanged, KeepsCommit, Survives};
+ghost use Rattle.office_rows.specs.Rows.{Partner};
 ghost use Rattle.office_rows.specs.Tables.{office_schema};
 ghost use Rattle.office_rows.specs.Stored.{HasRows};
 ghost use Rattle.office_rows.specs.Values.{number};
@@ -10,7 +11,7 @@ ghost use Rattle.office_tables.specs.Faults.{IsOfStoreOr};
 ghost use Rattle.office_selecting.specs.Reads.{WritesNothing};
 ghost use Rattle.office_loading.specs.Columns.{SaysNumber};
 ghost use Rattle.office_loading.specs.Decoded.{Said, FailsOne};
-ghost use Rattle.office_loading.specs.Tables.{HasHighNext};
+ghost use Rattle.office_loading.specs.Tables.{HasHighNext, ShowsPartners};
 
 use crate::columns::number_at;
 use crate::record::append;
@@ -27,7 +28,10 @@ pub fn nexts<S: Alter>(alloc: Global, conn: &mut Connection<S>) -> Result<Vec<u3
         IfOk result (λ nexts. (rows : _) → HasRows rows (state S.Store conn.old).now → AreNexts rows nexts.items) }
     ensures fault { HasCleanDisk (state S.Store conn.new) →
         IfErr result (λ fault. (rows : _) → HasRows rows (state S.Store conn.old).now →
-        IsOfStoreOr (HasHighNext rows) fault) }
+        IsOfStoreOr (HasHighNext rows.partners) fault) }
+    ensures shown { HasCleanDisk (state S.Store conn.new) → (state S.Store conn.old).now.schema ≡ office_schema →
+        IfErr result (λ fault. (partners : List Partner) → ShowsPartners (state S.Store conn.old).now partners →
+        IsOfStoreOr (HasHighNext partners) fault) }
     ensures version { IfErr result (IsOfStoreOr ⊤) }
     ensures same { HasCleanDisk (state S.Store conn.new) → (state S.Store conn.old).now.schema ≡ office_schema →
         OnOk result (IsUnchanged (state S.Store conn.old) (state S.Store conn.new)) }

@@ -1,5 +1,7 @@
+use Rattle.std.proofs.lemmas.Result.{err_from_is_err_and}
 use Rattle.sqlite.specs.Held.{state}
 use Rattle.office_setup.specs.Setups.{setup_content}
+use Rattle.office_desk.proofs.Faults.{opens_alone}
 use Rattle.office_desk.proofs.NumberLemmas.{nexts_loaded}
 use Rattle.office_desk.proofs.OfficeLemmas.{loaded_is}
 use Rattle.office_desk.proofs.PartLemmas.{beside_loaded}
@@ -19,3 +21,9 @@ returns-in_ok-there-in-None-clause-office g c clean content rows terminal holds 
       (c.in_ok-there-in-None.ensures.loaded clean holds.has.schema);
   nexts = c.in_ok-there-in-None.ensures.nexts clean rows holds.has;
 }
+
+-- An office is loaded, but for want of store or memory.
+pub returns-in_err-there-in-None-clause-fault : goal.returns-in_err-there-in-None-clause-fault
+returns-in_err-there-in-None-clause-fault g c clean =
+    let p = err_from_is_err_and c.from_residual.result c.from_residual.ensures.1 in
+    rw (p.1, p.2) (λ content rows terminal holds. opens_alone _ content terminal _ holds.loads (c.in_err-there-in-None.ensures.refused clean holds.has.schema))

@@ -1,11 +1,13 @@
-use Rattle.std.proofs.Common.{◌≡◌, inl, [], ◌∷◌, ◌++◌, None, Some, not, sym, ap, subst, ◌∙◌}
+use Rattle.std.proofs.Common.{◌≡◌, inl, [], ◌∷◌, ◌++◌, None, Some, length, not, sym, ap, subst, ◌∙◌, arith}
+use Rattle.std.proofs.lemmas.List.{length-map}
 use Rattle.sqlite.specs.Held.{state}
 use Rattle.partner_core.specs.Deliveries.{delivery}
 use Rattle.office_replies.specs.Events.{delivered}
 use Rattle.office_rows.specs.Stored.{HasRows}
 use Rattle.office_rows.proofs.StepLemmas.{if_ok}
 use Rattle.office_setup.specs.Setups.{setup_content}
-use Rattle.office_tables.specs.Answers.{IsKept}
+use Rattle.office_tables.specs.Answers.{HasUnfitReply, IsKept}
+use Rattle.office_tables.specs.Faults.{IsOfStoreOr}
 use Rattle.office_delivery.specs.Reading.{IsSame}
 use Rattle.office_delivery.proofs.ReadLemmas.{no_text, text_kept}
 use Rattle.office_desk.specs.Beside.{IsAt}
@@ -216,7 +218,10 @@ returns-in_err-kept-clause-office g c clean is_open old holds =
     let mid = state g.S.Store c.look.new.conn in
     let settled : was.now ≡ was.committed = c.is_autocommit-is_idle.ensures.settled (c.is_autocommit-is_idle.ensures.value ∙ ap not c.requires.idle) (c.look.ensures.reads.was_open clean is_open) in
     let held = office_with content old.rows old.terminal was.committed was.now a.beside.now a.beside.now settled holds.beside holds in
+    let most = c.requires.admitted.known in
+    let many : length content.partners ≡ length a.setup.now.partners.items = length-map a.setup.now.partners.items _ in
     failed_stays _ content old (delivery a.admitted.now.partner a.number a.text.now) a.code.now c.from_residual.result _ _ c.from_residual.ensures.1
+    (λ fault is. subst (IsOfStoreOr (HasUnfitReply a.admitted.now.partner a.number old.rows)) (sym is) (c.in_err-kept.ensures.fault clean content old held (omega (arith, most, many))))
     (office_with content old.rows old.terminal was.committed mid.committed a.beside.now c.look.new.beside ((c.look.ensures.reads.keeps clean held.has.schema).committed is_open) (c.in_err-kept.ensures.stays clean content old held) holds)
 
 pub returns-in_err-answer_used-in-Some-clause-office : goal.returns-in_err-answer_used-in-Some-clause-office
@@ -230,6 +235,7 @@ returns-in_err-answer_used-in-Some-clause-office g c clean is_open old holds =
     let same : IsSame was mid = c.in_ok-kept.ensures.same clean held.has.schema in
     let found = c.in_ok-kept.field-0 in
     failed_stays _ content old (delivery a.admitted.now.partner a.number a.text.now) a.code.now c.from_residual-in_err-answer_used-in-Some.result _ _ c.from_residual-in_err-answer_used-in-Some.ensures.1
+    (λ fault is. subst (IsOfStoreOr (HasUnfitReply a.admitted.now.partner a.number old.rows)) (sym is) tt)
     (office_with content old.rows old.terminal was.committed mid.committed a.beside.now (Some found.there) same.committed (c.in_ok-kept.ensures.office clean content old held).there holds)
 
 pub returns-in_ok-answer_used-in-Some-clause-now : goal.returns-in_ok-answer_used-in-Some-clause-now

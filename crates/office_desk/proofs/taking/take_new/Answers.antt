@@ -1,4 +1,4 @@
-use Rattle.std.proofs.Common.{◌≡◌, Some, length, refl, sym, ap, subst, ◌∙◌, arith}
+use Rattle.std.proofs.Common.{◌≡◌, ◌+◌, Some, length, refl, sym, ap, subst, ◌∙◌, arith}
 use Rattle.std.proofs.lemmas.List.{length-map}
 use Rattle.office_rows.specs.Stored.{HasRows}
 use Rattle.office_rows.proofs.StepLemmas.{if_ok}
@@ -8,6 +8,10 @@ use Rattle.partner_core.specs.Deliveries.{delivery}
 use Rattle.office_desk.specs.Beside.{IsOrNone}
 use Rattle.office_desk.specs.Telling.{IsRunDone}
 use Rattle.office_desk.proofs.KeptLemmas.{early_or_stays, failed_stays, next_answers_so}
+use Rattle.office_tables.specs.Faults.{IsOfStore}
+use Rattle.office_tables.proofs.FaultLemmas.{of_store_alone, of_store_or}
+use Rattle.office_desk.proofs.Faults.{behind_fits, low_is_kept}
+use Rattle.office_desk.proofs.OfficeAccounts.{keeps_accounts, next_follows}
 use Rattle.office_desk.proofs.OfficeLemmas.{office_with}
 use Rattle.office_desk.proofs.HoldLemmas.{early_answers, machine_same, next_answers, numbered, if_on}
 use Rattle.office_desk.proofs.CrashLemmas.{early_after, either_of, on_err, on_err_then, on_ok, run_after}
@@ -76,7 +80,14 @@ pub returns-then-number-next-clause-office : goal.returns-then-number-next-claus
 returns-then-number-next-clause-office g c clean is_open old holds settled is_next free =
     let a = c.args in
     let was = state g.S.Store a.conn.now in
-    office_with (setup_content a.setup.now) old.rows old.terminal was.committed was.committed (Some a.there) a.beside.now refl (subst (IsOrNone old.rows old.terminal) (sym c.requires.out) tt) holds
+    let content = setup_content a.setup.now in
+    let its = (keeps_accounts content old.rows old.terminal was.committed holds.has holds.loads).0 in
+    let partner = a.admitted.now.partner in
+    let follows = next_follows content old.rows its partner a.next is_next in
+    let low = c.if-number-next.true in (
+      absurd (low_is_kept content old.rows its partner a.number c.requires.from_one (omega (arith, low, follows)) free),
+      office_with content old.rows old.terminal was.committed was.committed (Some a.there) a.beside.now refl (subst (IsOrNone old.rows old.terminal) (sym c.requires.out) tt) holds,
+    )
 
 pub returns-then-next-number-clause-office : goal.returns-then-next-number-clause-office
 returns-then-next-number-clause-office g c clean is_open old holds settled is_next free =
@@ -87,7 +98,7 @@ returns-then-next-number-clause-office g c clean is_open old holds settled is_ne
     let most = c.requires.admitted.known in
     let many : length content.partners ≡ length a.setup.now.partners.items = length-map a.setup.now.partners.items _ in
     early_or_stays content old (delivery a.admitted.now.partner a.number a.text.now) a.code.now c.take_early.result was end a.there a.next holds is_next free c.if-next-number.true c.requires.number c.requires.admitted.from_one (omega (arith, most, many))
-    c.take_early.ensures.told (c.take_early.ensures.ok clean) (c.take_early.ensures.err clean is_open)
+    c.take_early.ensures.told (c.take_early.ensures.ok clean) (c.take_early.ensures.err clean is_open) c.take_early.ensures.fault
 
 pub returns-in_err-answer-clause-office : goal.returns-in_err-answer-clause-office
 returns-in_err-answer-clause-office g c clean is_open old holds settled is_next free =
@@ -96,7 +107,13 @@ returns-in_err-answer-clause-office g c clean is_open old holds settled is_next 
     let was = state g.S.Store a.conn.now in
     let end = state g.S.Store c.take_next.new.conn in
     let schema = ap (λ db. db.schema) settled ∙ holds.has.schema in
+    let its = (keeps_accounts content old.rows old.terminal was.committed holds.has holds.loads).0 in
+    let partner = a.admitted.now.partner in
+    let same : a.number ≡ a.next = omega (arith, c.if-number-next.false, c.if-next-number.false) in
+    let follows = next_follows content old.rows its partner a.next is_next in
+    let stored = of_store_alone _ (behind_fits content old.rows its partner a.number (omega (arith, same, follows))) _ (c.in_err-answer.ensures.fault clean old.rows (subst (HasRows old.rows) (sym settled) holds.has)) in
     failed_stays _ content old (delivery a.admitted.now.partner a.number a.text.now) a.code.now c.from_residual.result _ _ c.from_residual.ensures.1
+    (λ fault is. of_store_or _ fault (subst IsOfStore (sym is) stored))
     (office_with content old.rows old.terminal was.committed end.committed (Some a.there) a.beside.now (c.in_err-answer.ensures.err clean is_open schema) (subst (IsOrNone old.rows old.terminal) (sym c.requires.out) tt) holds)
 
 pub returns-clause-office : goal.returns-clause-office

@@ -5,7 +5,7 @@ use Rattle.sqlite.specs.Held.{state}
 use Rattle.office_rows.proofs.NextLemmas.{nexts_listed}
 use Rattle.office_rows.proofs.StepLemmas.{if_ok}
 use Rattle.office_loading.specs.Decoded.{FailsOne}
-use Rattle.office_loading.proofs.NextLemmas.{IsRead, high_next}
+use Rattle.office_loading.proofs.NextLemmas.{IsRead, high_next, high_shown}
 use Rattle.office_loading.proofs.numbering.nexts.Goals as goal
 
 pub returns-clause-answer : goal.returns-clause-answer
@@ -21,3 +21,10 @@ returns-clause-fault g c clean =
     let answer = c.in_ok-rows.rows.items in
     IfErr-weaker c.read_nexts.result _ _ (λ fault failed. λ rows has.
     high_next rows old.now answer has (c.in_ok-rows.ensures.shown clean has.schema) fault (subst (λ l. FailsOne IsRead l fault) c.deref.ensures.value failed)) c.read_nexts.ensures.err
+
+pub returns-clause-shown : goal.returns-clause-shown
+returns-clause-shown g c clean schema =
+    let old = state g.S.Store c.args.conn.now in
+    let answer = c.in_ok-rows.rows.items in
+    IfErr-weaker c.read_nexts.result _ _ (λ fault failed. λ partners shows.
+    high_shown partners old.now answer shows (c.in_ok-rows.ensures.shown clean schema) fault (subst (λ l. FailsOne IsRead l fault) c.deref.ensures.value failed)) c.read_nexts.ensures.err

@@ -1,7 +1,9 @@
-use Rattle.std.proofs.Common.{◌≡◌, Ok, Err, [], ◌∷◌, ◌++◌, ◌-◌, get_or, string_bytes, arith, refl, sym, subst, ◌∙◌}
+use Rattle.std.proofs.Common.{◌≡◌, Ok, Err, Some, [], ◌∷◌, ◌++◌, ◌-◌, get_or, string_bytes, arith, refl, sym, subst, ◌∙◌}
 use Rattle.std.proofs.lemmas.Option.{slice_get-get_or}
 use Rattle.edi_segments.specs.Interchange.{interchange_of}
+use Rattle.edi_syntax.specs.Envelope.{header_of}
 use Rattle.edi_syntax.specs.Heads.{head_segments}
+use Rattle.edi_syntax.proofs.FaultLemmas.{control_number_within}
 use Rattle.office_replies.specs.Events.{delivered}
 use Rattle.office_replies.specs.declared.response.Response.TheVariants.{NotNow}
 use Rattle.office_admission.specs.Refusals.{RefusedSurely}
@@ -10,7 +12,9 @@ use Rattle.office_setup.specs.Setups.{setup_content}
 use Rattle.office_desk.proofs.Admitted.{code_at, admitted_surely, never_refused, numbered, refused_so}
 use Rattle.office_desk.proofs.DeliverLemmas.{refusal_delivered, refusal_leaves, refusal_over, admitted_leaves, answers_over, not_now_surely, notes_none, taken_in, not_taken}
 use Rattle.office_desk.proofs.CrashLemmas.{answered_behind, held_leaves}
+use Rattle.office_admission.specs.Admission.{admission}
 use Rattle.office_desk.specs.Crashes.{Leaves, LeavesEither}
+use Rattle.office_desk.specs.Kept.{NotedFor}
 use Rattle.sqlite.specs.Held.{state}
 use Rattle.office_desk.proofs.desk.DeskDeliver.deliver.Goals as goal
 
@@ -116,7 +120,7 @@ returns-in-Err-clause-office g c = λ sound old holds.
     let text = c.interchange_text-text.result.now in
     refusal_over g.S.Store old c.args.delivered.now text c.answer-answer.result _ c.in-Err.refusal
     c.interchange_text-text.ensures.exact (record { has = holds.has; loads = holds.loads; beside = holds.beside }) c.in-Err.ensures.err
-    (c.answer-answer.ensures.answer c.args.self.now.setup text c.in-Err.ensures.err) (c.answer-answer.ensures.sure c.args.self.now.setup text c.in-Err.ensures.err)
+    (c.answer-answer.ensures.answer c.args.self.now.setup text c.in-Err.ensures.err) (c.answer-answer.ensures.sure c.args.self.now.setup text c.in-Err.ensures.err) _ c.note_memory.ensures
 
 pub returns-in-Ok-taken-clause-office : goal.returns-in-Ok-taken-clause-office
 returns-in-Ok-taken-clause-office g c = λ sound old holds.
@@ -139,10 +143,22 @@ pub returns-in-Err-taken-clause-office : goal.returns-in-Err-taken-clause-office
 returns-in-Err-taken-clause-office g c = λ sound old holds.
     let desk = c.args.self.now in
     let taken : c.take_in-taken.result ≡ Err c.in-Err-taken.fault = let e = c.in-Err-taken.is in cc in
-    let P = parties_of desk.setup in (
+    let P = parties_of desk.setup in
+    let text = c.interchange_text-text.result.now in
+    let is = c.in-Ok.ensures.ok in
+    let partner = c.in-Ok.admitted.partner in
+    let number = c.number-number.result in
+    let here : admission P text ≡ Ok (partner, number) = numbered P text (head_segments c.head.result) partner number (c.head.ensures ∙ is.segments) c.number-number.ensures.number is.admits in
+    let there = subst (λ other. admission P other ≡ Ok (partner, number)) c.interchange_text-text.ensures.exact here in
+    let by = rw taken at (c.take_in-taken.ensures.office sound.0 sound.1 old holds) in (
       not_now_surely P (interchange_of c.args.delivered.now) (admitted_surely P c.args.delivered.now c.interchange_text-text.result.now _ NotNow c.interchange_text-text.ensures.exact c.in-Ok.ensures.ok.admits),
-      rw taken at (c.take_in-taken.ensures.office sound.0 sound.1 old holds),
+      subst (λ place. NotedFor place old.rows (Some c.in-Err-taken.fault)) (sym there) (c.in-Err-taken.fault, refl, by.0),
+      by.1,
     )
+
+-- The number that a header writes is from 1 on.
+pub take_in-taken-requires-clause-from_one : goal.take_in-taken-requires-clause-from_one
+take_in-taken-requires-clause-from_one g c = (control_number_within (header_of (head_segments c.head.result)) c.number-number.result c.number-number.ensures.number).0
 
 pub returns-in-Ok-taken-clause-noted : goal.returns-in-Ok-taken-clause-noted
 returns-in-Ok-taken-clause-noted g c = notes_none c.in-Ok-taken.response c.args.self.now.last_fault c.in-Ok-taken.ensures.now

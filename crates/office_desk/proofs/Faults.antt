@@ -1,0 +1,104 @@
+-- Why a call fails over the rows of an office.
+use Rattle.std.proofs.Common.{◌≡◌, ℕ, ◌+◌, ◌-◌, ◌<◌, ◌≤◌, List, [], ◌∷◌, length, inl, inr, None, Some, get_or, refl, sym, ap, subst, ◌∙◌, arith}
+use Rattle.std.specs.Prelude.{◌==◌, Contains, IsUtf8, codes, map}
+use Rattle.std.proofs.lemmas.List.Sorted.{Contains-permutation, IsPermutation-sym}
+use Rattle.std.proofs.lemmas.Bool.{and_parts, eqb-true}
+use Rattle.std.proofs.lemmas.List.FromFn.{length-map-range_with_len}
+use Rattle.std.proofs.lemmas.Option.{slice_get-get_or}
+use Rattle.partner_core.specs.Numbered.{with_number}
+use Rattle.partner_core.proofs.Numbered.{with_number-below}
+use Rattle.sqlite.specs.Effect.{Database}
+use Rattle.sqlite_rules.specs.Lists.{Has}
+use Rattle.sqlite_rules.proofs.ListLemmas.{contains_had, has_contained, has_filtered}
+use Rattle.edi_messages.specs.declared.partner_kind.PartnerKind.{PartnerKind}
+use Rattle.terminal_core.specs.State.{TerminalState}
+use Rattle.office_rows.specs.Rows.{Partner, Interchange, Rows}
+use Rattle.office_rows.specs.Effects.{is_pair}
+use Rattle.office_rows.specs.Office.{AreAccounts}
+use Rattle.office_rows.specs.Opening.{setting, tables_version}
+use Rattle.office_rows.specs.Shown.{AreNexts, columns_at}
+use Rattle.office_rows.specs.Stored.{columns_of}
+use Rattle.office_rows.specs.Tables as table
+use Rattle.office_rows.specs.Values.{setting_values}
+use Rattle.office_setup.specs.Setups.{SetupContent}
+use Rattle.office_history.specs.After.{reply_if_any}
+use Rattle.office_history.specs.Cascade.{text_in}
+use Rattle.office_tables.specs.Faults.{IsOfStore}
+use Rattle.office_tables.specs.declared.table_fault.TableFault.{TableFault}
+use Rattle.office_tables.specs.declared.table_fault.TableFault.TheVariants.{Store, Damaged, Version, Memory}
+use Rattle.office_loading.specs.Tables.{FailsToLoad, HasHighNext, HasVersion, Loads}
+use Rattle.office_loading.proofs.TableLemmas.{has_mapped}
+use Rattle.office_loading.proofs.VersionLemmas.{full}
+use Rattle.office_delivery.specs.Reading.{HasUnfitBehind}
+use Rattle.office_desk.specs.Offices.{FailsToOpen}
+use Rattle.office_desk.proofs.KeptNumbers.{own_reply}
+use Rattle.office_desk.proofs.NumberLemmas.{nexts_are}
+use Rattle.office_desk.proofs.OfficeAccounts.{KeepsAccounts}
+
+-- ---- the next numbers
+
+none_high : (id : ℕ) (partners : List Partner) (accounts : List (List ℕ × PartnerKind)) → AreAccounts id partners accounts → (p : Partner) → Has partners p → p.next ≤ 1000000000
+none_high id [] accounts are p inside = absurd inside
+none_high id (q ∷ qs) [] are p inside = absurd are
+none_high id (q ∷ qs) (account ∷ accounts) are p (inl same) = subst (λ (r : Partner). r.next ≤ 1000000000) (sym same) are.4
+none_high id (q ∷ qs) (account ∷ accounts) are p (inr later) = none_high (id + 1) qs accounts are.5 p later
+
+-- an office's next numbers are read
+pub nexts_fit : (db : Database) (content : SetupContent) (terminal : TerminalState) → (loads : Loads db content terminal) → ¬ (HasHighNext loads.0.partners)
+nexts_fit db content terminal loads high =
+    let low = none_high 1 loads.0.partners content.partners loads.2.accounts high.0 (has_contained loads.0.partners high.0 high.1) in
+    high.2 (omega (arith, low))
+
+-- the settings of an office name this version
+version_shown : (db : Database) (content : SetupContent) (terminal : TerminalState) → Loads db content terminal → HasVersion db
+version_shown db content terminal loads =
+    let it = loads.1.settings in
+    let version = setting_values (setting (codes "version") tables_version) in
+    let inside : Contains (map setting_values loads.0.settings) version = subst (λ l. Contains (map setting_values l) version) (sym loads.2.settings) (7, omega arith, refl) in
+    let r = has_mapped (columns_at (0 ∷ 1 ∷ [])) it.by_key version (subst (λ l. Has l version) it.is (has_contained _ version inside)) in
+    let whole : version ≡ r.0 = r.2 ∙ full db _ it r.0 r.1 in
+    subst (Contains (map (columns_of table.setting) (db.trees table.setting.tree))) (sym whole)
+    (Contains-permutation _ _ r.0 (IsPermutation-sym _ _ it.same) (contains_had it.by_key r.0 r.1))
+
+-- what shows an office is opened, but for want of store or memory
+pub opens_alone : (db : Database) (content : SetupContent) (terminal : TerminalState) (fault : TableFault) → Loads db content terminal → FailsToOpen db fault → IsOfStore fault
+opens_alone db content terminal fault loads (inl fails) = shows_one fault fails
+  where
+    shows_one : (fault : TableFault) → FailsToLoad db fault → IsOfStore fault
+    shows_one (Store error) fails = tt
+    shows_one Memory fails = tt
+    shows_one Damaged fails = fails.1 loads.0 content terminal loads.1 loads.2
+    shows_one Version fails = absurd (fails (version_shown db content terminal loads))
+opens_alone db content terminal fault loads (inr shows) = shows.3
+
+-- each account of an office has a next number beside the rows
+pub next_known : (content : SetupContent) (rows : Rows) → (its : KeepsAccounts content rows) → (nexts : List ℕ) → AreNexts rows nexts → (p : ℕ) → 1 ≤ p → p ≤ length content.partners → ¬ (with_number nexts p ≡ None)
+next_known content rows its nexts are p one most none =
+    let f : ℕ → ℕ = λ q. its.runs q + 1 in
+    let many : length nexts ≡ length content.partners = ap length (nexts_are f content.partners rows its.by_id nexts are) ∙ length-map-range_with_len f 1 (length content.partners) in
+    let there = slice_get-get_or nexts (p - 1) 0 (omega (arith, many, most, one)) in
+    let never : Some (get_or nexts (p - 1) 0) ≡ None = sym there ∙ sym (with_number-below nexts p one) ∙ none in
+    cc
+
+-- ---- what is kept under a number
+
+-- a number below a partner's next is kept
+pub low_is_kept : (content : SetupContent) (rows : Rows) → (its : KeepsAccounts content rows) → (p k : ℕ) → 1 ≤ k → k < its.runs p + 1 → ¬ (text_in rows p k ≡ None)
+low_is_kept content rows its p k one low free = let there = its.keeps.there p k one (omega (arith, low)) in cc
+
+-- what waits has no reply, which is a text
+waits_as_text : (reply : List ℕ) → reply_if_any reply ≡ None → IsUtf8 reply
+waits_as_text [] e = ([], (refl, refl))
+waits_as_text (byte ∷ bytes) e = absurd cc
+
+-- behind a partner's next number no reply is kept
+pub behind_fits : (content : SetupContent) (rows : Rows) → (its : KeepsAccounts content rows) → (p k : ℕ) → its.runs p < k → ¬ (HasUnfitBehind p k rows)
+behind_fits content rows its p k high unfit =
+    let i : Interchange = unfit.2.0 in
+    let own = has_filtered (is_pair p unfit.0) rows.interchanges i (has_contained _ i unfit.2.1) in
+    let parts = and_parts (i.partner == p) (i.number == unfit.0) own.1 in
+    let its_own : i.partner ≡ p = eqb-true i.partner p parts.0 in
+    let number : i.number ≡ unfit.0 = eqb-true i.number unfit.0 parts.1 in
+    let beyond : its.runs i.partner < i.number = subst (λ q. its.runs q < i.number) (sym its_own) (omega (arith, number, high, unfit.1)) in
+    unfit.2.2 (waits_as_text i.reply
+    (sym (own_reply (length content.partners) its.runs rows its.keeps i (contains_had rows.interchanges i own.0)) ∙ its.keeps.waits i.partner i.number beyond))
