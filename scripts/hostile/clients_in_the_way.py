@@ -5,8 +5,8 @@ import time
 
 from .served import Served, gate_in, get, post, received, reset
 
-READ_LIMIT = 10             # seconds for a read or a write
-REQUEST_LIMIT = 60          # seconds for a request
+FIRST_BYTE_LIMIT = 2        # seconds for the first byte of a request
+REQUEST_LIMIT = 10          # seconds for a request, and again for its answer
 DRAIN_LIMIT = 1             # seconds for a read of what is dropped behind a response
 SLACK = 3
 SLOWEST = REQUEST_LIMIT + DRAIN_LIMIT + SLACK + 4    # seconds that the slow client goes on
@@ -25,11 +25,12 @@ def behind(checks, server, name, limit):
 def silent(checks, path):
     """It sends nothing, or half a head, or half a body, and stays."""
     with Served(path) as server:
-        for name, sent in (
-                ('a client that sends nothing', ''), ('half a head', 'GET /yard HT'), ('half a body', post(gate_in(1))[:-9])):
+        for name, sent, limit in (
+                ('a client that sends nothing', '', FIRST_BYTE_LIMIT), ('half a head', 'GET /yard HT', REQUEST_LIMIT),
+                ('half a body', post(gate_in(1))[:-9], REQUEST_LIMIT)):
             with server.connect() as connection:
                 connection.sendall(sent.encode('latin-1'))
-                behind(checks, server, name, READ_LIMIT + DRAIN_LIMIT + SLACK)
+                behind(checks, server, name, limit + DRAIN_LIMIT + SLACK)
         server.same(checks, 'half a body was not delivered', get('/replies/HAULA/1'))
 
 

@@ -3,6 +3,7 @@
 
 mod body;
 mod content_type;
+mod deadline;
 mod endpoint;
 mod fields;
 mod found_head;
@@ -18,7 +19,8 @@ mod seen;
 mod serve;
 mod serve_fault;
 mod server;
-mod timed_stream;
+mod timed_reader;
+mod timed_writer;
 mod unwatched;
 mod watch;
 

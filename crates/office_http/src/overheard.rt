@@ -23,6 +23,11 @@ impl<T> Overheard<T> {
         }
     }
 
+    /// What it went through.
+    pub(crate) fn inner(&self) -> &T {
+        &self.inner
+    }
+
     /// The first bytes that went through, 256 at most.
     pub(crate) fn front(&self) -> &[u8] {
         self.front.as_slice()

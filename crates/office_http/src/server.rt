@@ -5,7 +5,8 @@ ghost use Rattle.office_http.specs.Served.{AtMost, AtMostOne};
 use crate::overheard::Overheard;
 use crate::seen::Seen;
 use crate::serve::serve_one;
-use crate::timed_stream::TimedStream;
+use crate::timed_reader::TimedReader;
+use crate::timed_writer::TimedWriter;
 use crate::watch::Watch;
 use office_queries::Report;
 use office_stream::{Gathered, Port};
@@ -15,8 +16,8 @@ use std::net::{Shutdown, TcpListener, TcpStream};
 use std::rt::Clock;
 
 /// Accepts so many connections, one after the other, and answers one request of each. A connection that fails is passed
-/// over, and so is one that gives or takes nothing for ten seconds or is not done with within a minute. What watches is
-/// told of each connection as soon as it is answered.
+/// over, and so is one whose first byte doesn't come within two seconds, whose request isn't whole within ten, or which
+/// doesn't take its response within ten. What watches is told of each connection as soon as it is answered.
 pub fn serve_on<C: Clock, D: Report, H: Watch>(
     alloc: Global,
     clock: &C,
@@ -51,21 +52,23 @@ fn serve_stream<C: Clock, D: Report, H: Watch>(
         → AtMostOne (D.stands opening) (D.answers opening) es desk.new }
     ensures stays { D.clean desk.new → D.clean desk.old }
 {
-    let Ok(timed) = TimedStream::new(stream, clock) else {
+    let Ok(timed) = TimedReader::of_request(stream, clock) else {
         return;
     };
-    let mut asked = Overheard::new(&timed);
-    let mut told = Overheard::new(&timed);
+    let mut asked = Overheard::new(timed);
+    let mut told = Overheard::new(TimedWriter::new(stream, clock));
     let mut writer = Port::new(Gathered::new(&mut told));
     let _ = serve_one(alloc, &mut Port::new(&mut asked), &mut writer, desk);
     let _ = stream.shutdown(Shutdown::Write);
     watch.served(&Seen::new(asked.front(), told.front(), told.count()));
-    drain(&timed.parting());
+    if let Some(deadline) = told.inner().deadline() {
+        drain(TimedReader::parting(stream, clock, deadline));
+    }
 }
 
-/// Reads what the peer still sends, up to 4 MiB and until a second brings nothing, since closing a connection with
-/// unread input could take the response away from the peer.
-fn drain<C: Clock>(mut stream: &TimedStream<'_, C>) {
+/// Reads what the peer still sends behind its request, up to 4 MiB and until a second brings nothing or the response's
+/// time is over, since closing a connection with unread input could take the response away from the peer.
+fn drain<C: Clock>(mut stream: TimedReader<'_, C>) {
     let mut buffer = [0; 4096];
     for _ in 0..1024 {
         match stream.read(&mut buffer) {
