@@ -115,7 +115,7 @@ def by_model_alone():
     failed = worked.check(TOP, answered_by_model, lambda row, setup, text: None)
     failed += cases.check(None, with_stores=False)
     failed += samples.check(TOP) + shown.check(TOP, None) + directory.check(TOP)
-    failed += damaged.judge_all(os.path.join(TOP, 'docs/TABLES.md'))
+    failed += damaged.judge_all()
     crowded.count_all()
     for mix in MIXES:
         report(mix, *compare(mix, 1, answered_by_model))

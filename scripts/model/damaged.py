@@ -2,15 +2,15 @@
 that is refused has the same rows behind it.
 """
 import os
-import re
 import shutil
 import sqlite3
 import tempfile
 
 from .office import Office
+from .old_stores import write_store
 from .opened import fault_of_rows
 from .reports import text_of
-from .rows import faults_of, rows_of, tables_of
+from .rows import faults_of, tables_of
 from .setup import DEMO
 from .setups import files_of
 from .stores import Program
@@ -126,27 +126,13 @@ def try_one(beside, program, fault, change):
     beside.expect('changed stores, rows', change, before, held(program.store))
 
 
-def made_by_page(path, page):
-    """Makes the store by SQLite's own library, with the schema that docs/TABLES.md writes out."""
-    with open(page, encoding='utf-8') as file:
-        schema = re.search(r'```sql\n(CREATE TABLE .*?)```', file.read(), re.S).group(1)
-
-    def make(store):
-        store.executescript(schema)
-        for table, rows in rows_of(Office(SETUP)).items():
-            for row in rows:
-                store.execute('INSERT INTO %s VALUES (%s)' % (table, ', '.join('?' * len(row))), row)
-        store.commit()
-    with_store(path, make)
-
-
-def judge_all(page):
+def judge_all():
     """Each store of damaged.txt by the model alone. Gives how many it judges otherwise."""
     rows, changes = cases()
     wrong = []
     with tempfile.TemporaryDirectory(prefix='beside-') as folder:
         made, other = os.path.join(folder, 'made'), os.path.join(folder, 'changed')
-        made_by_page(made, page)
+        write_store(made, Office(SETUP))
         for row in rows:
             changed(made, row)
         for fault, change in changes:
