@@ -10,10 +10,12 @@ file has one subject, in the order in which they stand on one another:
     messages.py    three messages, their faults, and the order of each line
     contrl.py      the text of CONTRL
     yard.py        what stands where, what fits, the first slot that fits
+    rules.py       what is done otherwise from version to version
     setup.py       set-ups, and the two files that say one
     terminal.py    what an order does: yard, visits, lists
     deliveries.py  the words of the headline: first text, run, order
-    office.py      admission, taking a text, the answer to a delivery
+    events.py      the accounts so far, and which texts were admitted as they came
+    office.py      taking a text, the answers to a delivery and to an addition
     stream.py      the lines and the exit status that answer a stream
     keys.py        the keys of reports
     reports.py     what can be asked of the office besides deliveries
@@ -30,6 +32,8 @@ and what holds the program to them:
     requests.py    random keys, and random requests of HTTP
     page.py        the page of worked rows, read
     stores.py      the program over stores in files, beside the model
+    old_stores.py  stores of any version, written by SQLite's own library
+    migrated.py    old stores that the program brings to the newest version
     worked_stores.py  the worked rows that want a store
     worked.py      the worked rows of docs/WORKED_ROWS.md, and the day of examples/day
     cases.py       streams and deliveries whose answers are written out, in cases.txt

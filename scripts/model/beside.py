@@ -5,7 +5,7 @@ import sys
 from collections import Counter
 from functools import partial
 
-from . import cases, counts, crowded, damaged, directory, replaced, samples, shown, stores, worked
+from . import cases, counts, crowded, damaged, directory, migrated, replaced, samples, shown, stores, worked
 from .days import stream
 from .messages import MESSAGE_FAULTS
 from .office import Office
@@ -115,7 +115,7 @@ def by_model_alone():
     failed = worked.check(TOP, answered_by_model, lambda row, setup, text: None)
     failed += cases.check(None, with_stores=False)
     failed += samples.check(TOP) + shown.check(TOP, None) + directory.check(TOP)
-    failed += damaged.judge_all(os.path.join(TOP, 'docs/TABLES.md'))
+    failed += damaged.judge_all() + migrated.check_real()
     crowded.count_all()
     for mix in MIXES:
         report(mix, *compare(mix, 1, answered_by_model))
@@ -141,6 +141,7 @@ def main():
     failed = worked.check(TOP, answered_by_program, over_store)
     failed += cases.check(PROGRAM, with_stores=not demo_alone)
     failed += samples.check(TOP) + shown.check(TOP, None if demo_alone else PROGRAM) + directory.check(TOP)
+    failed += migrated.check_real()
     if not demo_alone:
         damaged.try_all(beside)
         crowded.try_all(beside)

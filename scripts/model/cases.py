@@ -3,8 +3,9 @@ that stand there.
 
 A stream goes through `office demo`, where it has that set-up, and through `office deliver` over a store. Texts that are
 delivered by themselves are bodies of requests to `office serve`; where a stream of them is cut into just these, it is
-answered by the same lines; reports are asked for behind the last of them. Requests go to `office serve` in two pieces and,
-to a store of its own, byte by byte. Cases with a `page` are also what samples.py makes docs/SAMPLES.md of.
+answered by the same lines; reports are asked for behind the last of them. Accounts that are added between them are requests
+too, and, over another store, calls of `office account` between calls of `office deliver`. Requests go to `office serve` in
+two pieces and, to a store of its own, byte by byte. Cases with a `page` are also what samples.py makes docs/SAMPLES.md of.
 """
 import fcntl
 import os
@@ -18,6 +19,7 @@ from collections import namedtuple
 from functools import partial
 
 from .cuts import cut
+from .events import Added, Delivered
 from .http import response
 from .office import Office, json_text
 from .reports import text_of
@@ -28,18 +30,29 @@ from .stream import answers, lines, status
 from .yard import Block
 
 FILE = os.path.join(os.path.dirname(os.path.abspath(__file__)), 'cases.txt')
+
+
+def with_accounts(count):
+    """The demonstration's set-up with so many accounts, those behind its own being P6, P7 and so on, of hauliers."""
+    more = {'P%d' % place: 'gate' for place in range(len(DEMO.partners) + 1, count + 1)}
+    return DEMO._replace(partners=dict(DEMO.partners, **more))
+
+
 SETUPS = {
+    '998 accounts': with_accounts(998),
+    '999 accounts': with_accounts(999),
     'one stack of two tiers': DEMO._replace(plan=[Block('A', bays=1, rows=1, tiers=2)]),
     'one visit': DEMO._replace(most_visits=1),
     'two blocks, the second first': DEMO._replace(
         plan=[Block('B', bays=4, rows=2, tiers=3), Block('A', bays=4, rows=2, tiers=3)]),
 }
-WORDS = 'set-up stream deliver answer status cut request response look told page say'.split()
+WORDS = 'set-up stream deliver answer status cut request response look told account page say'.split()
 
-# texts are those that are delivered by themselves; requests are pairs of a request and its response; where there are
-# none of both, the stream is a text. The status is the stream's, which may be cut anywhere. Looks are pairs of a path and the
-# body that answers it behind the texts; `said` are the pairs of word and value that stand there
-Case = namedtuple('Case', 'name setup stream texts lines status is_cut requests looks said')
+# texts are those that are delivered by themselves, with a line each; steps are these and the accounts that are added between
+# them, each as an event with its line; requests are pairs of a request and its response; where there are none of all these,
+# the stream is a text. The status is the stream's, which may be cut anywhere. Looks are pairs of a path and the body that
+# answers it behind the texts; `said` are the pairs of word and value that stand there
+Case = namedtuple('Case', 'name setup stream texts lines steps status is_cut requests looks said')
 
 
 def case_of(part):
@@ -47,20 +60,29 @@ def case_of(part):
     name, *rest = part.splitlines()
     said = [line.partition(' ')[::2] for line in rest if line and not line.startswith('#')]
     values = {word: [value for other, value in said if other == word] for word in WORDS}
-    setups, streams, texts, lines_said, statuses, cuts, requests, responses, looks, told = (
-        values[word] for word in WORDS[:10])
+    setups, streams, texts, lines_said, statuses, cuts, requests, responses, looks, told, added = (
+        values[word] for word in WORDS[:11])
     kinds = [
-        len(streams) > 0 and len(statuses) == 1, 0 < len(texts) == len(lines_said), 0 < len(requests) == len(responses)]
+        len(streams) > 0 and len(statuses) == 1, 0 < len(texts + added) == len(lines_said),
+        0 < len(requests) == len(responses)]
     others = (
-        len(statuses) - kinds[0], len(texts) * (not kinds[1]), len(responses) * (not kinds[2]),
+        len(statuses) - kinds[0], len(texts + added) * (not kinds[1]), len(responses) * (not kinds[2]),
         len(looks) - len(told), len(looks) * (not kinds[1]))
     if kinds.count(True) != 1 or any(others) or len(setups) > 1 or not {word for word, _value in said} <= set(WORDS):
         raise ValueError('cases.txt: ' + name)
+    events = [event_of(word, value) for word, value in said if word in ('deliver', 'account')]
+    steps = list(zip(events, lines_said)) if events else []
+    lines_of_texts = [line for event, line in steps if isinstance(event, Delivered)] if events else lines_said
     return Case(
-        name, SETUPS[setups[0]] if setups else DEMO, read(''.join(streams)), [read(text) for text in texts], lines_said,
-        int(statuses[0]) if statuses else None, cuts == ['anywhere'],
+        name, SETUPS[setups[0]] if setups else DEMO, read(''.join(streams)), [read(text) for text in texts], lines_of_texts,
+        steps, int(statuses[0]) if statuses else None, cuts == ['anywhere'],
         [(read(request), read(wanted)) for request, wanted in zip(requests, responses)],
         list(zip(looks, map(read, told))), said)
+
+
+def event_of(word, value):
+    """A delivery or an addition."""
+    return Delivered(read(value)) if word == 'deliver' else Added(*read(value).split(' '))
 
 
 def read(text):
@@ -73,6 +95,24 @@ def read(text):
 def posting(text):
     """The request that delivers a text."""
     return 'POST /interchanges HTTP/1.1\r\nContent-Length: %d\r\n\r\n%s' % (len(text), text)
+
+
+def adding(code, kind):
+    """The request that adds an account."""
+    parts = [''.join('%%%02X' % ord(character) if character in '%/?' else character for character in part)
+             for part in (code, kind)]
+    return 'POST /partners/%s/%s HTTP/1.1\r\nContent-Length: 0\r\n\r\n' % tuple(parts)
+
+
+def request_of(event):
+    """The request that does what an event says."""
+    return posting(event.text) if isinstance(event, Delivered) else adding(*event)
+
+
+def answer_to(office, event):
+    """The line that answers an event."""
+    is_text = isinstance(event, Delivered)
+    return json_text(office.answer(event.text) if is_text else office.add_account(*event))
 
 
 def asking(path):
@@ -134,27 +174,43 @@ class Cases:
     def deliveries(self, case):
         """Texts by themselves, one after the other; and as a stream, where it is cut into them."""
         office = Office(case.setup)
-        given = [json_text(answer) for answer in map(office.answer, case.texts)]
-        self.expect(case.name, 'the model', case.lines, given)
+        given = [answer_to(office, event) for event, _line in case.steps]
+        self.expect(case.name, 'the model', [line for _event, line in case.steps], given)
         for path, wanted in case.looks:
             self.expect(case.name, 'the model, ' + path, wanted, response(office, asking(path)).partition('\r\n\r\n')[2])
         if self.with_stores:
             self.serve(case)
+        if len(case.steps) > len(case.texts):
+            self.calls(case)
+            return
         text = '\r\n'.join(case.texts)
         if cut(text) == (case.texts, None):
             refused = any(re.match(r'{"answer":"(refused|clash)"', line) for line in case.lines)
             self.stream(case, text, (text_of(case.lines), '', 1 if refused else 0))
 
     def serve(self, case):
-        """Each text as the body of a request, to a store of its own."""
+        """Each text as the body of a request, and each addition as one, to a store of its own."""
         office, requests = Office(case.setup), []
-        for text, line in zip(case.texts, case.lines):
-            request = posting(text)
+        for event, line in case.steps:
+            request = request_of(event)
             wanted = response(office, request)
             self.expect(case.name, 'the model over HTTP', line, wanted.partition('\r\n\r\n')[2])
             requests.append((request, wanted))
         requests += [(asking(path), response(office, asking(path))) for path, _wanted in case.looks]
         self.served(case, requests, in_two)
+
+    def calls(self, case):
+        """Each text by a call of `deliver`, and each addition by one of `account`, to a store of its own."""
+        if not self.with_stores:
+            return
+        with tempfile.TemporaryDirectory(prefix='beside-') as folder:
+            program = Program(self.path, folder)
+            program.init(*files_of(case.setup))
+            for event, line in case.steps:
+                is_text = isinstance(event, Delivered)
+                got = program.deliver(event.text) if is_text else program.account(*event)
+                refused = re.match(r'{"answer":"(refused|clash)"', line)
+                self.expect(case.name, 'calls', (line + '\n', '', 1 if refused else 0), got)
 
     def served(self, case, requests, pieces_of):
         """Requests, each in its pieces, to a store of their own."""
@@ -188,7 +244,7 @@ def check(path, with_stores):
     for case in cases:
         if case.requests:
             checked.requests(case)
-        elif case.texts:
+        elif case.steps:
             checked.deliveries(case)
         else:
             checked.stream(case, case.stream, (text_of(case.lines), '', case.status))

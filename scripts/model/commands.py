@@ -1,16 +1,21 @@
 """What a command prints, over files: docs/OPERATIONS.md.
 
 Files are a dict by their names, of texts and, where one is a store, of offices. The first fault is told, in this order:
-the words, input files as the words name them, the set-up, the store.
+the words, input files as the words name them, the set-up, the store; of a migration, the old store and then the new one.
 """
+import copy
+
 from .moments import are_digits
-from .office import Office
+from .office import Office, json_text
 from .reports import KINDS, printed, text_of
+from .rules import NEWEST
 from .setup import read_setup
 from .stream import answers, lines, status
 
 # how many words stand behind each command: at least, at most
-WORDS = {'init': (3, 3), 'deliver': (2, 2), 'serve': (3, 3), 'report': (2, 3), 'demo': (0, 0)}
+WORDS = {
+    'init': (3, 3), 'deliver': (2, 2), 'serve': (3, 3), 'report': (2, 3), 'demo': (0, 0), 'account': (3, 3),
+    'migrate': (2, 2)}
 CLAP = 'a text of clap'     # which the model doesn't know
 MOST_CONNECTIONS = 1000000
 
@@ -30,11 +35,19 @@ def text_in(files, name):
     return files[name]
 
 
-def office_in(files, name):
-    """The office whose store a file is."""
+def store_in(files, name):
+    """The office whose store a file is, of whatever version."""
     if not isinstance(files.get(name), Office):
         raise Fault('store: Store', 3)
     return files[name]
+
+
+def office_in(files, name):
+    """The office whose store a file is, of the newest version."""
+    office = store_in(files, name)
+    if office.version != NEWEST:
+        raise Fault('store: Version', 3)
+    return office
 
 
 def init(files, store, partners, blocks):
@@ -71,6 +84,24 @@ def report(files, store, kind, key=None):
     return printed(office_in(files, store), kind, key or '')
 
 
+def account(files, store, code, kind):
+    """The words are no keys: nothing in them is decoded."""
+    answer = office_in(files, store).add_account(code, kind)
+    return json_text(answer) + '\n', 1 if answer['answer'] == 'refused' else 0
+
+
+def migrate(files, old, new):
+    """The old store stays as it is, and the new one goes on from it."""
+    office = store_in(files, old)
+    if office.version == NEWEST:
+        raise Fault('store: Version', 3)
+    if files.get(new):
+        raise Fault('store: Store', 3)
+    files[new] = copy.deepcopy(office)
+    files[new].migrate()
+    return 'ready\n', 0
+
+
 def outcome(files, words):
     """What is printed, what is told of faults, and the status."""
     command, *others = words
@@ -79,7 +110,9 @@ def outcome(files, words):
     if command not in WORDS or not WORDS[command][0] <= len(others) <= WORDS[command][1]:
         return '', CLAP, 2
     try:
-        text, ended = {'init': init, 'deliver': deliver, 'serve': serve, 'report': report}[command](files, *others)
+        does = {
+            'init': init, 'deliver': deliver, 'serve': serve, 'report': report, 'account': account, 'migrate': migrate}
+        text, ended = does[command](files, *others)
         return text, '', ended
     except Fault as fault:
         return '', fault.text + '\n', fault.ended

@@ -8,7 +8,7 @@ from .deliveries import order
 from .messages import READ_WEIGHT, code_of, container_groups, groups_of, header_of, kilos_in, message_fault, type_of
 from .moments import are_digits
 from .names import length_of
-from .office import Fold
+from .office import Fold, newest
 from .setup import orders_of
 from .syntax import messages_of
 from .terminal import Terminal
@@ -95,17 +95,17 @@ class Counting(Fold):
         self.counted = Counter()
         self.terminal = Watched(setup, self.counted)
 
-    def take(self, partner, number, text):
+    def take(self, partner, number, text, rules):
         """Counts the weights of its messages, and takes it."""
         may_order = orders_of(self.setup, self.setup.partners[partner])
         for message in messages_of(text):
-            if message_fault(message, may_order) is None:
+            if message_fault(message, may_order, rules) is None:
                 count_weights(self.counted, message, may_order[type_of(message), code_of(message)])
-        super().take(partner, number, text)
+        super().take(partner, number, text, rules)
 
 
 def counted_in(setup, deliveries):
     """How often each came, as the texts of a list of deliveries were taken."""
     fold = Counting(setup)
-    fold.take_all(order(deliveries), deliveries)
+    fold.take_all(order(deliveries), deliveries, newest)
     return +fold.counted

@@ -6,6 +6,7 @@ A request is bytes, and so is its response. The head is the shortest front of th
 import re
 from collections import namedtuple
 
+from .keys import decoded
 from .moments import are_digits
 from .office import json_text
 from .reports import report
@@ -26,9 +27,11 @@ HEAD = re.compile(r'(?:%s)*(%s) (%s) HTTP/1\.[01]%s((?:%s:%s%s)*)%s' % (
 # fields are pairs of name and value, `length` how many bytes the head has
 Head = namedtuple('Head', 'method target fields length')
 
-# where a path leads, the method that it has, and the kind of report
+# where a path leads, the method that it has, and what is asked there: a kind of report, or one of the two that change the
+# office
 ROUTES = [
-    (r'/interchanges', 'POST', None),
+    (r'/interchanges', 'POST', 'delivery'),
+    (r'/partners/([^/]+/[^/]+)', 'POST', 'account'),
     (r'/yard', 'GET', 'yard'),
     (r'/visits/([^/]+)', 'GET', 'visits'),
     (r'/lists/([^/]+/[^/]+/[^/]+)', 'GET', 'list'),
@@ -40,6 +43,7 @@ PHRASES = {
     200: 'OK', 202: 'Accepted', 400: 'Bad Request', 404: 'Not Found', 405: 'Method Not Allowed', 409: 'Conflict',
     411: 'Length Required', 413: 'Payload Too Large', 503: 'Service Unavailable'}
 STATUSES = {'taken': 200, 'repeat': 200, 'waiting': 202, 'clash': 409, 'refused': 400}
+ACCOUNT_FAULTS = {'Partner': 400, 'Kind': 409, 'Accounts': 409}
 
 
 class Refusal(Exception):
@@ -65,7 +69,7 @@ def head_of(request):
 
 
 def route_of(head):
-    """The kind of report that its path leads to with its key; None and None for a delivery."""
+    """What its path leads to, and the key that stands in it."""
     for path, method, kind in ROUTES:
         found = re.fullmatch(path, head.target.split('?')[0])
         if found and head.method != method:
@@ -106,13 +110,22 @@ def response_text(status, content_type, body, allowed=None):
     return '\r\n'.join(lines)
 
 
+def added_by(key):
+    """Code and kind of an account. A part that can't be decoded stands for itself, since no code and no kind has a `%`."""
+    return [part if decoded(part) is None else decoded(part) for part in key.split('/')]
+
+
 def answered(office, request):
-    """Status, content type and body; a text that is delivered counts from here on."""
+    """Status, content type and body; a text that is delivered and an account that is added count from here on."""
     head = head_of(request)
     kind, key = route_of(head)
-    if kind is None:
+    if kind == 'delivery':
         answer = office.answer(body_of(head, request))
         return STATUSES[answer['answer']], 'application/json', json_text(answer)
+    if kind == 'account':
+        body_of(head, request)
+        answer = office.add_account(*added_by(key))
+        return ACCOUNT_FAULTS.get(answer.get('fault'), 200), 'application/json', json_text(answer)
     text = report(office, kind, key)
     if text is None:
         raise Refusal(404, 'none')

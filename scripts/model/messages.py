@@ -81,18 +81,18 @@ def call_of(message):
 
 # ---- faults of a message
 
-def is_other_type(message, may_order):
+def is_other_type(message, may_order, rules):
     """S009 is none of the three types, then D, 95B, UN. The association code is free."""
     identifier = [message[0].value(2, component) for component in (2, 3, 4)]
     return type_of(message) not in ('CODECO', 'COPRAR', 'COARRI') or identifier != ['D', '95B', 'UN']
 
 
-def has_no_bgm(message, may_order):
+def has_no_bgm(message, may_order, rules):
     """The header has no BGM."""
     return first(header_of(message), 'BGM') is None
 
 
-def is_other_code(message, may_order):
+def is_other_code(message, may_order, rules):
     """1001 is no code that its sender may send in a message of that type (own)."""
     return (type_of(message), code_of(message)) not in may_order
 
@@ -102,10 +102,10 @@ def function_of(message):
     return first(header_of(message), 'BGM').value(3)
 
 
-def is_other_function(message, may_order):
-    """1225 is none of an original, and is not 5 under the code of a list."""
-    is_list = may_order[type_of(message), code_of(message)] in LISTS
-    return function_of(message) not in (('', '9', '5') if is_list else ('', '9'))
+def is_other_function(message, may_order, rules):
+    """1225 is none of an original, and is not 5 under the code of a list. (Version 1 knew no 5.)"""
+    may_replace = rules.may_replace and may_order[type_of(message), code_of(message)] in LISTS
+    return function_of(message) not in (('', '9', '5') if may_replace else ('', '9'))
 
 
 def has_limits(value):
@@ -113,25 +113,25 @@ def has_limits(value):
     return 1 <= len(value) <= 35 and is_printable(value)
 
 
-def has_no_transport(message, may_order):
+def has_no_transport(message, may_order, rules):
     """A COPRAR or COARRI without such a TDT, or whose voyage or vessel is outside the limits."""
     if type_of(message) == 'CODECO':
         return False
     return transport_of(message) is None or not all(has_limits(value) for value in call_of(message))
 
 
-def has_no_equipment(message, may_order):
+def has_no_equipment(message, may_order, rules):
     """No EQD is a container."""
     return not container_groups(message)
 
 
-def has_other_equipment_count(message, may_order):
+def has_other_equipment_count(message, may_order, rules):
     """6066 of the first CNT in the whole message whose 6069 is 16, where there is one, isn't the number of all EQD."""
     control = first(message, 'CNT', lambda segment: segment.value(1, 1) == '16')
     return control is not None and not is_count(control.value(1, 2), len(groups_of(message)))
 
 
-def has_too_many(message, may_order):
+def has_too_many(message, may_order, rules):
     """Over 999 containers (own)."""
     return len(container_groups(message)) > 999
 
@@ -143,10 +143,10 @@ MESSAGE_FAULTS = [
 ]
 
 
-def message_fault(message, may_order):
+def message_fault(message, may_order, rules):
     """The lowest fault of a message from a partner who may order that, or None."""
     for name, applies in MESSAGE_FAULTS:
-        if applies(message, may_order):
+        if applies(message, may_order, rules):
             return name
     return None
 
@@ -215,8 +215,8 @@ def line_fault(group, order, moment_of_interchange):
     return None
 
 
-def order_in(group, order, moment_of_interchange, call):
-    """The order of a line without fault. 8169 is 4 for empty, anything else for full."""
+def order_in(group, order, moment_of_interchange, call, rules):
+    """The order of a line without fault. 8169 is 4 for empty, anything else for full. (Before version 3 no weight was read.)"""
     slot = place_in(group, 'ZZZ')
     return Order(
         name=order,
@@ -228,7 +228,7 @@ def order_in(group, order, moment_of_interchange, call):
         slot=slot_of(slot) if order in READ_SLOT and slot else None,
         call=call,
         port=kept(place_in(group, '11')) if order == 'ListLoad' else '',
-        kilos=kilos_in(group) if order in READ_WEIGHT else 0)
+        kilos=kilos_in(group) if rules.reads_weight and order in READ_WEIGHT else 0)
 
 
 def list_replaced(message, may_order):
@@ -238,13 +238,13 @@ def list_replaced(message, may_order):
     return call_of(message), may_order[type_of(message), code_of(message)]
 
 
-def lines_of(message, may_order, moment_of_interchange):
+def lines_of(message, may_order, moment_of_interchange, rules):
     """The lines of a message without fault, one for each container."""
     order = may_order[type_of(message), code_of(message)]
     lines = []
     for group in container_groups(message):
         fault = line_fault(group, order, moment_of_interchange)
         number = None if fault in ('Form', 'CheckDigit') else number_in(group)
-        told = None if fault else order_in(group, order, moment_of_interchange, call_of(message))
+        told = None if fault else order_in(group, order, moment_of_interchange, call_of(message), rules)
         lines.append(Line(fault, number, told))
     return lines

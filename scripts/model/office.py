@@ -1,33 +1,24 @@
-"""The office: which texts are admitted, what taking one does, and the answer to a delivery.
+"""The office: what taking a text does, and the answers to a delivery and to the addition of an account.
 
 docs/crates/office.md and docs/crates/partner_core.md. An answer is a line of JSON, compact, its keys in order.
 """
 import json
 
 from .contrl import acknowledgement, rejection
-from .deliveries import Delivery, answer_of, first_text, made_next, order
+from .deliveries import answer_of, first_text, made_next, order
+from .events import NAMES, Added, Delivered, Migrated, account_answer, delivery_of, deliveries_of, migration_in, refusal
+from .events import setup_after, setup_with
 from .messages import lines_of, list_replaced, message_fault
+from .rules import NEWEST, RULES
 from .setup import DEMO, orders_of
-from .syntax import BREAKS, FAULTS, fault_of, messages_of, moment_of_header, number_of, recipient_of, sender_of
+from .syntax import BREAKS, messages_of, moment_of_header, sender_of
 from .terminal import Terminal
 
 # the faults before Test: no CONTRL answers them
-NAMES = [name for name, _applies in FAULTS]
 WITHOUT_CONTRL = NAMES[:NAMES.index('Test')]
 
 
-# ---- admission
-
-def refusal(setup, text):
-    """Why a text is not admitted, the first that applies: one of the fifteen faults, then UnknownSender, then
-    WrongRecipient; or None. Sender and recipient are compared by 0004 and 0010 alone (own)."""
-    fault = fault_of(text)
-    if fault:
-        return fault
-    if sender_of(text) not in setup.partners:
-        return 'UnknownSender'
-    return None if recipient_of(text) == setup.terminal else 'WrongRecipient'
-
+# ---- refusals
 
 def refused(setup, text, fault):
     """A refusal carries a CONTRL where the header could be read and the sender has an account."""
@@ -47,20 +38,21 @@ class Fold:
         self.setup, self.replies = setup, {}
         self.terminal = Terminal(setup.plan, setup.most_visits)
 
-    def take(self, partner, number, text):
+    def take(self, partner, number, text, rules):
         """Its messages in order and each message's lines in order. The reply is the CONTRL and what became of each
         line. A message with a fault gives no orders and drops no list, and the other messages do. One that replaces a list
         drops it first."""
         faults, reports = [], []
+        self.terminal.rules = rules
         may_order = orders_of(self.setup, self.setup.partners[partner])
         for message in messages_of(text):
-            fault = message_fault(message, may_order)
+            fault = message_fault(message, may_order, rules)
             faults.append(fault)
             if fault:
                 report = dict(fault=fault, result='rejected')
             else:
                 report = self.replaced(list_replaced(message, may_order))
-                lines = lines_of(message, may_order, moment_of_header(text))
+                lines = lines_of(message, may_order, moment_of_header(text), rules)
                 report.update(lines=self.outcomes(lines, (partner, number)), result='accepted')
             reports.append(dict(report, reference=message[0].value(1)))
         contrl = acknowledgement(text, messages_of(text), faults)
@@ -83,56 +75,109 @@ class Fold:
             outcomes.append(dict(outcome, line=place + 1))
         return outcomes
 
-    def take_all(self, pairs, deliveries):
-        """The first texts under these partners and numbers, in turn."""
+    def take_all(self, pairs, deliveries, rules_of):
+        """The first texts under these partners and numbers, in turn, each by the rules of its pair."""
         for partner, number in pairs:
-            self.take(partner, number, first_text(deliveries, partner, number))
+            self.take(partner, number, first_text(deliveries, partner, number), rules_of(partner, number))
 
 
-def fold_of(setup, deliveries):
+def newest(_partner, _number):
+    """The rules of the newest version, for each pair of partner and number."""
+    return RULES[NEWEST]
+
+
+def rules_by_place(opening, version, events):
+    """The rules by which each pair is taken, as a function: what became next before the migration by those of the version
+    that the store then had, and all else by those of the version that it has."""
+    migration, before = migration_in(events)
+    pairs = order(deliveries_of(opening, before)) if migration else []
+    return lambda partner, number: RULES[migration.version if (partner, number) in pairs else version]
+
+
+def fold_of(setup, deliveries, rules_of):
     """The fold over the whole order, from an empty terminal on."""
     fold = Fold(setup)
-    fold.take_all(order(deliveries), deliveries)
+    fold.take_all(order(deliveries), deliveries, rules_of)
     return fold
 
 
 # ---- answers
 
 class Office:
-    """The set-up, and every admitted text that was delivered. Each answer is computed from these alone, anew.
+    """The set-up with which it was opened, and all that happened to it since: texts that were delivered, admitted or not,
+    accounts that were added, and the migration of its store. Each answer is computed from these alone, anew. `version` is
+    that of its store.
 
     For long streams that is too slow: 300 deliveries would take the first of them 300 times. There an office is made
-    with `keeps_fold`, and keeps the fold of the order so far: the order after one delivery more begins with the order
-    before it, and no reply changes once it was given. First texts and runs are computed anew all the same.
+    with `keeps_fold`, and keeps what was admitted and the fold of the order so far: the order after one delivery more begins
+    with the order before it, no reply changes once it was given, and an account more changes neither. First texts and runs
+    are computed anew all the same.
     """
 
-    def __init__(self, setup=DEMO, keeps_fold=False):
-        self.setup, self.deliveries = setup, []
-        self.kept = Fold(setup) if keeps_fold else None
+    def __init__(self, opening=DEMO, keeps_fold=False, version=NEWEST):
+        self.opening, self.events, self.version = opening, [], version
+        self.kept, self.admitted = Fold(opening) if keeps_fold else None, []
+
+    @property
+    def setup(self):
+        """The set-up with the accounts so far."""
+        return self.kept.setup if self.kept else setup_after(self.opening, self.events)
+
+    @property
+    def deliveries(self):
+        """What was delivered so far and admitted as it came."""
+        return self.admitted if self.kept else deliveries_of(self.opening, self.events)
 
     def fold(self):
         """Terminal and replies after what was delivered so far."""
-        return self.kept or fold_of(self.setup, self.deliveries)
+        return self.kept or self.fold_after(self.deliveries)
+
+    def fold_after(self, deliveries):
+        """The fold of a list of deliveries: by the accounts so far, and by the rules of each pair."""
+        return fold_of(self.setup, deliveries, rules_by_place(self.opening, self.version, self.events))
 
     def reply_of(self, deliveries, partner, number):
         """The reply to a partner's number, which is within its run, after a list of deliveries."""
-        fold = self.kept or fold_of(self.setup, deliveries)
+        fold = self.kept or self.fold_after(deliveries)
         return fold.replies[partner, number]
+
+    def happens(self, event):
+        """An event more."""
+        if self.kept:
+            self.keep(event)
+        self.events.append(event)
+
+    def keep(self, event):
+        """What is kept, with an event more."""
+        delivery, before = delivery_of(self.kept.setup, event), self.admitted
+        self.kept.setup = setup_with(self.kept.setup, event)
+        if delivery:
+            self.admitted = before + [delivery]
+            rules = RULES[self.version]
+            self.kept.take_all(made_next(before, delivery), self.admitted, lambda _partner, _number: rules)
 
     def answer(self, delivered):
         """The answer to a delivery, as a dict. CR and LF at both ends are no part of the text (own). One that is refused
         keeps nothing."""
-        text = delivered.strip(BREAKS)
-        fault = refusal(self.setup, text)
+        event, setup, before = Delivered(delivered.strip(BREAKS)), self.setup, self.deliveries
+        self.happens(event)
+        fault = refusal(setup, event.text)
         if fault:
-            return refused(self.setup, text, fault)
-        delivery = Delivery(sender_of(text), number_of(text), text)
-        before = self.deliveries
-        self.deliveries = before + [delivery]
-        if self.kept:
-            self.kept.take_all(made_next(before, delivery), self.deliveries)
+            return refused(setup, event.text, fault)
+        delivery = delivery_of(setup, event)
         answer = answer_of(before, delivery, self.reply_of)
         return dict(answer, number=delivery.number, partner=delivery.partner)
+
+    def add_account(self, code, kind):
+        """The answer to the addition of an account, as a dict."""
+        answer = account_answer(self.setup, code, kind)
+        self.happens(Added(code, kind))
+        return answer
+
+    def migrate(self):
+        """Its store is brought to the newest version."""
+        self.happens(Migrated(self.version))
+        self.version = NEWEST
 
 
 def json_text(value):

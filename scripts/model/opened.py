@@ -1,10 +1,11 @@
 """Whether the rows of a store are those of an office: docs/TABLES.md, what Damaged means.
 
-Each check is a predicate of all tables, which are dicts of lists of rows.
+Each check is a predicate of all tables, which are dicts of lists of rows. An old store is checked as if each weight in it
+were 0.
 """
 from .moments import moment_of
 from .names import length_of, number_fault, slot_of
-from .rows import COLUMNS, VERSION
+from .rows import COLUMNS, OLD_VERSIONS, VERSION
 from .setup import (
     BLOCKS_HEADER, CODE_NAMES, KINDS, MOST_VISITS, PARTNERS_HEADER, are_bad_blocks, are_bad_codes, are_bad_partners,
     is_bad_limit, is_bad_terminal)
@@ -103,14 +104,22 @@ def are_places(tables):
     return is_sound([Block(*block) for block in tables['block']], yard)
 
 
-def fault_of_rows(tables):
+def fault_of_rows(tables, versions=(VERSION,)):
     """Store without a table or its columns; Version where it is another or none, which is before all tables but that of the
     settings; Damaged where the rows are those of no office; else None."""
     if not isinstance(tables.get('setting'), list):
         return 'Store'
-    if dict(tables['setting']).get('version') != VERSION:
+    if dict(tables['setting']).get('version') not in versions:
         return 'Version'
     if not all(isinstance(tables.get(table), list) for table in COLUMNS):
         return 'Store'
     checks = are_readable, is_setup, are_accounts, are_interchanges, are_visits, are_lines, are_places
     return None if all(check(tables) for check in checks) else 'Damaged'
+
+
+def fault_of_old_rows(tables):
+    """The same of a store that is to be brought to the newest version, its tables read by their old columns."""
+    visits = tables.get('visit')
+    if isinstance(visits, list):
+        tables = dict(tables, visit=[(*visit, 0) for visit in visits])
+    return fault_of_rows(tables, OLD_VERSIONS)

@@ -10,6 +10,7 @@ import tempfile
 from .deliveries import first_text, run
 from .names import slot_text
 from .office import json_text
+from .rules import NEWEST, RULES
 from .setup import KINDS
 
 COLUMNS = {
@@ -22,7 +23,10 @@ COLUMNS = {
     'setting': 'name value',
     'block': 'letter bays lanes tiers',
 }
-VERSION = '3'
+VERSION = str(NEWEST)
+OLD_VERSIONS = {str(version) for version in RULES} - {VERSION}
+# before the newest version a visit had no weight
+OLD_COLUMNS = dict(COLUMNS, visit=COLUMNS['visit'].replace(' kilos', ''))
 WAYS = {'gate': 1, 'ship': 2}
 SIDES = {'load': 1, 'discharge': 2}
 
@@ -30,24 +34,24 @@ SIDES = {'load': 1, 'discharge': 2}
 # ---- what they should hold
 
 def identities(setup):
-    """1, 2 and so on, in the order of the set-up."""
+    """1, 2 and so on, in the order of the set-up, and then in that in which accounts were added."""
     return {code: place for place, code in enumerate(setup.partners, start=1)}
 
 
 def partner_rows(office):
     """The number that each sends next."""
+    setup, deliveries = office.setup, office.deliveries
     return [
-        (identity, code, KINDS.index(office.setup.partners[code]) + 1, run(office.deliveries, code) + 1)
-        for code, identity in identities(office.setup).items()]
+        (identity, code, KINDS.index(setup.partners[code]) + 1, run(deliveries, code) + 1)
+        for code, identity in identities(setup).items()]
 
 
 def interchange_rows(office):
     """The first text under each number that is used, with its reply where it was taken."""
-    replies = office.fold().replies
-    used = {(delivery.partner, delivery.number) for delivery in office.deliveries}
+    replies, deliveries, known = office.fold().replies, office.deliveries, identities(office.setup)
+    used = {(delivery.partner, delivery.number) for delivery in deliveries}
     return [
-        (identities(office.setup)[partner], number,
-         first_text(office.deliveries, partner, number).encode('latin-1'),
+        (known[partner], number, first_text(deliveries, partner, number).encode('latin-1'),
          json_text(replies[partner, number]) if (partner, number) in replies else '')
         for partner, number in used]
 
@@ -64,7 +68,8 @@ def visit_rows(office):
     """All visits, numbered as they were opened."""
     return [
         (place, visit.number, visit.size_type, int(visit.is_full), visit.booking, *passage_columns(office, visit.entry),
-         slot_text(visit.entry_slot), *passage_columns(office, visit.exit), visit.kilos)
+         slot_text(visit.entry_slot), *passage_columns(office, visit.exit),
+         *([visit.kilos] if office.version == NEWEST else []))
         for place, visit in enumerate(office.fold().terminal.visits, start=1)]
 
 
@@ -86,7 +91,7 @@ def listed_rows(office):
 def setting_rows(office):
     """The set-up: the version of the tables, and each number without leading zeros."""
     setup = office.setup
-    return [('version', VERSION), ('terminal', setup.terminal), ('visits', str(setup.most_visits)), *setup.codes.items()]
+    return [('version', str(office.version)), ('terminal', setup.terminal), ('visits', str(setup.most_visits)), *setup.codes.items()]
 
 
 def block_rows(office):
@@ -104,9 +109,9 @@ def rows_of(office):
 
 # ---- what a store holds
 
-def rows_in(path):
+def rows_in(path, columns=None):
     """What the tables of a store hold, and what SQLite itself finds wrong with it, by its own library. It reads a copy of
-    the file and of the log beside it, so that the store is left as it is."""
+    the file and of the log beside it, so that the store is left as it is. The columns are the newest, if none are named."""
     with tempfile.TemporaryDirectory(prefix='beside-') as folder:
         copy = os.path.join(folder, 'store')
         for end in ('', '-wal'):
@@ -114,20 +119,21 @@ def rows_in(path):
                 shutil.copyfile(path + end, copy + end)
         store = sqlite3.connect(copy)
         try:
-            return tables_of(store), faults_of(store)
+            return tables_of(store, columns), faults_of(store)
         except sqlite3.DatabaseError as fault:
             return {}, [str(fault)]
         finally:
             store.close()
 
 
-def tables_of(store):
+def tables_of(store, columns=None):
     """All rows of each table, with the tables by the names that the store has."""
+    columns = columns or COLUMNS
     names = [name for (name,) in store.execute("SELECT name FROM sqlite_schema WHERE type = 'table'")]
     tables = {name: 'no such columns' for name in names}
-    for name in set(names) & set(COLUMNS):
-        columns = [column[1] for column in store.execute('PRAGMA table_info(%s)' % name)]
-        if columns == COLUMNS[name].split():
+    for name in set(names) & set(columns):
+        found = [column[1] for column in store.execute('PRAGMA table_info(%s)' % name)]
+        if found == columns[name].split():
             tables[name] = sorted(store.execute('SELECT * FROM %s' % name))
     return tables
 

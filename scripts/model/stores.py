@@ -56,6 +56,14 @@ class Program:
         """The answers to a stream."""
         return self.run('deliver', self.store, self.file('stream.edi', text))
 
+    def account(self, code, kind):
+        """The answer to the addition of an account."""
+        return self.run('account', self.store, code, kind)
+
+    def migrate(self, old):
+        """Brings an old store to the newest version, as this one."""
+        return self.run('migrate', old, self.store)
+
     def report(self, kind, key):
         """A report; the yard's have no key."""
         return self.run('report', self.store, kind, *([] if kind in ('yard', 'yardcsv') else [key]))

@@ -6,6 +6,7 @@ outcome is what the answer tells of it.
 from collections import namedtuple
 
 from .names import length_of, slot_text
+from .rules import NEWEST, RULES
 from .yard import Place, blocker, first_slot, misfit, shift_misfit
 
 # how a container came or went: by gate or ship, by which partner's number, when
@@ -24,11 +25,11 @@ def refused(reason, **more):
 
 
 class Terminal:
-    """The plan, the most visits there may be, the yard, all visits in the order in which they were opened, and the
-    lines of the vessels' lists by call, side and container."""
+    """The plan, the most visits there may be, the rules that are in force, the yard, all visits in the order in which they
+    were opened, and the lines of the vessels' lists by call, side and container."""
 
     def __init__(self, plan, most_visits):
-        self.plan, self.most_visits = plan, most_visits
+        self.plan, self.most_visits, self.rules = plan, most_visits, RULES[NEWEST]
         self.yard, self.visits, self.lines = {}, [], {}
 
     def step(self, source, order):
@@ -61,7 +62,7 @@ class Terminal:
             return refused('NotIn')
         if blocker(self.yard, order.number):
             return refused('Buried', blocker=blocker(self.yard, order.number))
-        reason = shift_misfit(self.plan, self.yard, order.number, order.slot)
+        reason = shift_misfit(self.plan, self.yard, order.number, order.slot, self.rules.spares_empty)
         if reason:
             return refused(reason)
         self.yard[order.number] = self.yard[order.number]._replace(slot=order.slot)
@@ -126,11 +127,12 @@ class Terminal:
         if len(self.visits) >= self.most_visits:
             return refused('VisitLimit')
         length = length_of(order.size_type)
-        slot = order.slot or first_slot(self.plan, self.yard, length, order.is_full)
+        is_wary = self.rules.spares_empty and order.is_full
+        slot = order.slot or first_slot(self.plan, self.yard, length, is_wary)
         if slot is None:
             return refused('NoRoom')
         place = Place(length, slot, order.is_full)
-        reason = misfit(self.plan, self.yard, place, is_wary=order.is_full)
+        reason = misfit(self.plan, self.yard, place, is_wary)
         if reason:
             return refused(reason)
         self.yard[order.number] = place

@@ -10,7 +10,7 @@ import re
 from functools import partial
 
 from .names import length_of, number_fault, slot_of, slot_text
-from .office import Office, fold_of, json_text
+from .office import Office, json_text
 from .page import Page, is_told, short_of
 from .setup import DEMO, read_setup
 from .stream import answers, differences, lines, status
@@ -141,7 +141,7 @@ def released_characters(rows):
     row = 'Released characters and a booking'
     office = Office()
     answer = office.answer(rows.page.texts(row)[0])
-    visit = fold_of(DEMO, office.deliveries).terminal.visits[0]
+    visit = office.fold().terminal.visits[0]
     rows.expect(row, answer, answer in rows.deliver(row, rows.page.texts(row)[:1]))
     rows.expect(row, 'CONTRL', "UCM+M?'1+CODECO:D:95B:UN+7'" in answer['reply']['contrl'])
     rows.expect(row, 'the reference', answer['reply']['messages'][0]['reference'] == "M'1")

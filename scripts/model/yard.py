@@ -86,20 +86,21 @@ def misfit(plan, yard, place, is_wary):
     return 'OnEmpty' if is_wary and rests_on_empty(yard, place) else None
 
 
-def first_slot(plan, yard, length, is_full):
+def first_slot(plan, yard, length, is_wary):
     """The first of the plan's slots that fits, or None."""
     for slot in slots(plan):
-        if misfit(plan, yard, Place(length, slot, is_full), is_wary=is_full) is None:
+        if misfit(plan, yard, Place(length, slot, is_wary), is_wary) is None:
             return slot
     return None
 
 
-def shift_misfit(plan, yard, number, slot):
+def shift_misfit(plan, yard, number, slot, spares_empty=True):
     """Why a container of the yard does not fit in another slot of the yard without it, or None where it does. Where it
-    stands it may stay."""
+    stands it may stay. Where empty ones are spared a full one is wary."""
     place = yard[number]
     others = {other: standing for other, standing in yard.items() if other != number}
-    return misfit(plan, others, place._replace(slot=slot), is_wary=place.is_full and slot != place.slot)
+    is_wary = spares_empty and place.is_full and slot != place.slot
+    return misfit(plan, others, place._replace(slot=slot), is_wary)
 
 
 def is_sound(plan, yard):

@@ -1,0 +1,165 @@
+"""Old stores brought over by the program, beside the model: scripts/beside.
+
+Some are written by SQLite's own library from an office of the model that was played by old rules. Others, in real_stores,
+are the files as the program of version 1 left them (commit 6bfb941), with the set-up files and the streams that it read. The
+model has to come to the same rows by itself.
+"""
+import glob
+import hashlib
+import os
+import random
+import tarfile
+import tempfile
+
+from .days import Day, streamed
+from .events import Delivered
+from .office import Office
+from .old_stores import write_store
+from .opened import fault_of_old_rows
+from .requests import every_key, random_requests
+from .rows import OLD_COLUMNS, rows_in, rows_of
+from .setup import DEMO, read_setup
+from .setups import Files, files_of
+from .stores import Program
+from .stream import answers
+
+REAL_STORES = sorted(glob.glob(os.path.join(os.path.dirname(os.path.abspath(__file__)), 'real_stores', '*.tar.xz')))
+OLD_VERSIONS = (1, 2)
+
+# lists that are played by old rules, deliveries before the migration and behind it, texts of old times that come again, and
+# requests behind them
+LISTS = 16
+BEFORE, BEHIND = 24, 12
+AGAIN = 8
+REQUESTS = 20
+
+
+def contents(path):
+    """A hash of the bytes of a file, and one of the log beside it. An empty log says what none says."""
+    def read(name):
+        if not os.path.exists(name):
+            return b''
+        with open(name, 'rb') as file:
+            return file.read()
+    return [hashlib.sha256(read(path + end)).hexdigest() for end in ('', '-wal')]
+
+
+# ---- the program's own stores of version 1
+
+def unpacked(path, folder):
+    """The files of a real store; gives the office that the model makes of them, and the day that goes on behind them."""
+    with tarfile.open(path) as archive:
+        archive.extractall(folder)
+
+    def text(name):
+        with open(os.path.join(folder, name), encoding='latin-1', newline='') as file:
+            return file.read()
+    setup, _fault = read_setup(text('partners.csv'), text('blocks.csv'))
+    office = Office(setup, keeps_fold=True, version=1)
+    for name in sorted(name for name in os.listdir(folder) if name.endswith('.edi')):
+        answers(office, text(name))
+    return office
+
+
+def check_real():
+    """Whether the model comes to the rows of each real store. Gives how often it does not."""
+    wrong = []
+    for path in REAL_STORES:
+        with tempfile.TemporaryDirectory(prefix='beside-') as folder:
+            office = unpacked(path, folder)
+            got = rows_in(os.path.join(folder, 'office.db'), OLD_COLUMNS)
+            wrong += [] if got == (rows_of(office), []) and fault_of_old_rows(got[0]) is None else [path]
+    print(''.join('wrong: %s\n' % path for path in wrong), end='')
+    print('%d stores that the program of version 1 wrote, %d wrong' % (len(REAL_STORES), len(wrong)))
+    return len(wrong)
+
+
+# ---- one migration
+
+def goes_over(beside, name, program, old, office):
+    """A store is brought over, and the old one stays byte for byte; what is asked of it otherwise is refused."""
+    before = contents(old)
+    beside.expect('migrate', name, ('ready\n', '', 0), program.migrate(old))
+    beside.expect('an old store stays', name, before, contents(old))
+    office.migrate()
+    beside.rows(name, program, office)
+    for words, fault in (
+            (['migrate', old, program.store], 'Store'), (['report', old, 'yard'], 'Version'),
+            (['migrate', program.store, program.store + '2'], 'Version')):
+        beside.expect('migrate refused', name, ('', 'store: %s\n' % fault, 3), program.run(*words))
+    beside.expect('an old store stays', name, before, contents(old))
+
+
+def goes_on(beside, name, program, office, day):
+    """All reports; texts of old times again, those that were refused and those that wait among them; more deliveries,
+    requests, and the rows behind them."""
+    chance = random.Random('migrated %s' % name)
+    for kind, key in [('yard', ''), ('yardcsv', '')] + every_key(office):
+        beside.report(name, program, office, kind, key)
+    texts = [event.text for event in office.events if isinstance(event, Delivered) and event.text]
+    again = chance.sample(texts, min(AGAIN, len(texts)))
+    beside.deliver(name, program, office, '\n'.join(again))
+    beside.deliver(name, program, office, streamed(day, BEHIND, 0.05))
+    beside.rows(name, program, office)
+    beside.serve(name, program, office, random_requests(chance, day, office, REQUESTS))
+    beside.rows(name, program, office)
+
+
+def try_played(beside, seed, version):
+    """A store that the model played by old rules, of a random set-up or the demonstration's."""
+    name = 'version %d, list %d' % (version, seed)
+    files = Files(seed).both()
+    setup = read_setup(*files)[0] or DEMO if seed % 3 else DEMO
+    office, day = Office(setup, keeps_fold=True, version=version), Day('old %d' % seed, setup)
+    answers(office, streamed(day, BEFORE, 0.03))
+    with tempfile.TemporaryDirectory(prefix='beside-') as folder:
+        program, old = Program(beside.path, folder), os.path.join(folder, 'old.db')
+        write_store(old, office)
+        beside.expect('old stores, the model', name, None, fault_of_old_rows(rows_in(old, OLD_COLUMNS)[0]))
+        goes_over(beside, name, program, old, office)
+        goes_on(beside, name, program, office, day)
+
+
+def try_real(beside, path):
+    """A store that the program of version 1 wrote."""
+    with tempfile.TemporaryDirectory(prefix='beside-') as folder:
+        office, name = unpacked(path, folder), os.path.basename(path)
+        old, program = os.path.join(folder, 'office.db'), Program(beside.path, folder)
+        program.store = os.path.join(folder, 'new.db')
+        goes_over(beside, name, program, old, office)
+        goes_on(beside, name, program, office, Day(name, office.setup))
+
+
+# ---- what a migration is refused for
+
+def try_faults(beside):
+    """The first fault of two paths: that of the old store, then that of the new one."""
+    with tempfile.TemporaryDirectory(prefix='beside-') as folder:
+        program, other = Program(beside.path, folder), os.path.join(folder, 'other.db')
+        old, link, text = (os.path.join(folder, name) for name in ('old.db', 'link.db', 'text.db'))
+        missing, nowhere = os.path.join(folder, 'missing.db'), os.path.join(folder, 'none', 'new.db')
+        write_store(old, Office(version=2))
+        write_store(other, Office())
+        os.symlink(old, link)
+        program.file('text.db', 'no store')
+        before = contents(old), contents(other), contents(text)
+        for given, new, fault in (
+                (missing, program.store, 'Store'), (missing, missing, 'Store'), (text, program.store, 'Store'),
+                (folder, program.store, 'Store'), (other, program.store, 'Version'), (other, other, 'Version'),
+                (other, old, 'Version'), (old, other, 'Store'), (old, old, 'Store'), (old, link, 'Store'),
+                (link, old, 'Store'), (old, os.path.join(folder, '.', 'old.db'), 'Store'), (old, text, 'Store'),
+                (old, folder, 'Store'), (old, nowhere, 'Store')):
+            told = program.run('migrate', given, new)
+            beside.expect('migrate refused', '%s to %s' % (given, new), ('', 'store: %s\n' % fault, 3), told)
+        beside.expect('migrate refused', 'what was there', before, (contents(old), contents(other), contents(text)))
+        beside.expect('migrate refused', 'a store that is missing', False, os.path.exists(missing))
+        beside.expect('migrate', 'through a link', ('ready\n', '', 0), program.migrate(link))
+
+
+def try_all(beside):
+    """Faults, the stores of the program of version 1, and random ones of each old version."""
+    try_faults(beside)
+    for path in REAL_STORES:
+        try_real(beside, path)
+    for seed in range(1, LISTS + 1):
+        try_played(beside, seed, OLD_VERSIONS[seed % len(OLD_VERSIONS)])
