@@ -49,7 +49,7 @@ kill9:
 memory:
 	scripts/memory
 
-# Real clients against `office serve`, curl and sockets, kind ones and others: once it is built, some 80 seconds.
+# Real clients against `office serve`, curl and sockets, kind ones and others: once it is built, half a minute.
 clients:
 	scripts/clients
 
