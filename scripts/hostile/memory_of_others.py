@@ -1,4 +1,4 @@
-"""Each allocation of `init`, `report` and `serve` refused in turn: scripts/memory.
+"""Each allocation of `init`, `report`, `serve`, `account` and `migrate` refused in turn: scripts/memory.
 
 With one allocation refused, a command does what it does with all of them, or it tells by name that memory ran out. An
 `init` that told so left no store, or a whole one; a `report` or a request that is answered so changes nothing.
@@ -16,6 +16,7 @@ from model.setup import DEMO
 from model.stores import exchanged
 
 from .books import Different, expect
+from .commands import refuse_commands
 from .sampled import free_port
 from .served import get, post
 
@@ -132,10 +133,12 @@ def serve(refusing, before, requests, refused, counted, what):
 
 
 def try_others(refusing, office, setup, text, steps, counted):
-    """All three, over a store that holds an office, with a text that is next."""
+    """All of them, over a store that holds an office, with a text that is next."""
     kept = os.path.join(refusing.folder, 'kept.db')
     refusing.copy_to(kept)
     refuse_init(refusing, setup, steps[1], counted)
     refusing.copy_from(kept)
     refuse_reports(refusing, office, max(steps[0] // 10, 1), counted)
+    refuse_commands(refusing, office, steps[1], counted)
+    refusing.copy_from(kept)
     refuse_requests(refusing, office, text, steps, counted)

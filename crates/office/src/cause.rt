@@ -18,7 +18,9 @@ pub(crate) fn cause_of(rt: &HostRuntime, path: &str, fault: &TableFault) -> &'st
         TableFault::Damaged => {
             "its rows are those of no office: take the last copy, and deliver again what came since"
         }
-        TableFault::Version => "its tables are of another version: use the program that made them",
+        TableFault::Version => {
+            "its tables are of another version: `office migrate` brings those of version 1 and 2 to this one"
+        }
         TableFault::Memory => "memory ran out: try again",
     }
 }

@@ -1,5 +1,5 @@
 use crate::cause::cause_of;
-use office_replies::Response;
+use office_replies::Worst;
 use office_tables::TableFault;
 
 /// What a person was told of why answers are `not now`: once, and again when it changes.
@@ -19,12 +19,12 @@ impl<'a> Causes<'a> {
     pub(crate) fn behind(
         &mut self,
         rt: &HostRuntime,
-        response: &Response,
+        worst: Worst,
         fault: Option<&TableFault>,
     ) -> Option<&'static str> {
-        match (response, fault) {
-            (Response::NotNow, Some(fault)) => self.again(cause_of(rt, self.path, fault)),
-            (Response::NotNow, None) => self.again("memory ran out: try again"),
+        match (worst, fault) {
+            (Worst::NotNow, Some(fault)) => self.again(cause_of(rt, self.path, fault)),
+            (Worst::NotNow, None) => self.again("memory ran out: try again"),
             _ => {
                 self.told = None;
                 None

@@ -4,7 +4,7 @@ use crate::causes::Causes;
 use crate::faults::Faults;
 use crate::request_log::RequestLog;
 use office_queries::{NotNow, Query, Report};
-use office_replies::{Deliver, Response};
+use office_replies::{AccountAnswer, AddAccount, Deliver, Response, Worst};
 use std::alloc::Global;
 use std::time::Instant;
 
@@ -32,14 +32,12 @@ impl<'a, D: Report + Faults> Logged<'a, D> {
         }
     }
 
-    /// Notes how a delivery was answered, and tells why, if it is `not now` for another cause than before.
-    fn note(&mut self, response: &Response)
+    /// Notes an answer by its body, and tells why, if it is `not now` for another cause than before.
+    fn note(&mut self, body: &str, worst: Worst)
         ensures { self.new.desk ≡ self.old.desk }
     {
-        self.log.note_answer(response);
-        let cause = self
-            .causes
-            .behind(self.rt, response, self.desk.last_fault());
+        self.log.note_answer(body);
+        let cause = self.causes.behind(self.rt, worst, self.desk.last_fault());
         if let Some(cause) = cause {
             self.log.tell_cause(cause);
         }
@@ -55,14 +53,28 @@ impl<D: Report + Faults> Deliver for Logged<'_, D> {
 
     ghost answers = { λ opening es text response. D.answers opening es text response };
 
+    ghost added = { λ opening es code kind answer. D.added opening es code kind answer };
+
     fn deliver(&mut self, alloc: Global, delivered: &[u8]) -> Response {
         let begun = Instant::now(self.rt).ok();
         let response = self.desk.deliver(alloc, delivered);
         if self.log.is_on() {
             self.log.note_time(begun);
-            self.note(&response);
+            self.note(response.body(), response.worst());
         }
         response
+    }
+}
+
+impl<D: Report + AddAccount + Faults> AddAccount for Logged<'_, D> {
+    fn add_account(&mut self, alloc: Global, code: &[u8], kind: &[u8]) -> AccountAnswer {
+        let begun = Instant::now(self.rt).ok();
+        let answer = self.desk.add_account(alloc, code, kind);
+        if self.log.is_on() {
+            self.log.note_time(begun);
+            self.note(answer.body(), answer.worst());
+        }
+        answer
     }
 }
 

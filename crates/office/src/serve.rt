@@ -6,6 +6,7 @@ use crate::store::open_store;
 use crate::telling::{DONE, FAILED, print, tell, tell_store};
 use office_http::serve_on;
 use office_queries::Report;
+use office_replies::AddAccount;
 use office_stream::Port;
 use std::io::Write;
 use std::net::TcpListener;
@@ -26,7 +27,7 @@ pub(crate) fn serve<W: Write, E: Write>(
     }
 }
 
-fn serve_logged<D: Report + Faults, W: Write, E: Write>(
+fn serve_logged<D: Report + AddAccount + Faults, W: Write, E: Write>(
     rt: &HostRuntime,
     store: &str,
     desk: D,
@@ -40,7 +41,7 @@ fn serve_logged<D: Report + Faults, W: Write, E: Write>(
     serve_desk(rt, &mut logged, &log, place, writer, errors)
 }
 
-fn serve_desk<D: Report + Faults, W: Write, E: Write>(
+fn serve_desk<D: Report + AddAccount + Faults, W: Write, E: Write>(
     rt: &HostRuntime,
     desk: &mut Logged<'_, D>,
     log: &RequestLog<'_>,

@@ -7,7 +7,8 @@ use Rattle.sqlite.specs.Steps.{over_memory}
 use Rattle.sqlite.specs.declared.connection.Connection.{Connection}
 use Rattle.sqlite_trees.specs.declared.memory.MemStore.{MemStore}
 use Rattle.office_setup.specs.Setups.{setup_content}
-use Rattle.office_desk.specs.Desks.{IsSound, StandsFor, answers_for}
+use Rattle.office_desk.specs.Answers.{AnswersNext}
+use Rattle.office_desk.specs.Desks.{IsSound, StandsFor}
 use Rattle.office_stream.specs.Streams.{Began, Delivered, port_bytes}
 use Rattle.office_stream.specs.Faults.{MatchFault}
 use Rattle.office_stream.specs.declared.stream_fault.StreamFault.{StreamFault}
@@ -19,9 +20,9 @@ use Rattle.office_commands.specs.Demo.{OpensDemo, DemoLeft, IsOfPorts, port_fail
 -- what a stream from such a desk on leaves behind
 pub left_by : (left left' written written' : Option (List ℕ)) (opening desk : MemoryDesk) (fault : StreamFault) → OpensDemo opening
     → MatchFault fault
-    (Began (StandsFor over_memory (setup_content opening.setup)) (answers_for (setup_content opening.setup)) [] (port_bytes left left' written written') desk)
-    (Delivered (StandsFor over_memory (setup_content opening.setup)) (answers_for (setup_content opening.setup)) [] (port_bytes left left' written written') desk)
-    (Began (StandsFor over_memory (setup_content opening.setup)) (answers_for (setup_content opening.setup)) [] (port_bytes left left' written written') desk)
+    (Began (StandsFor over_memory (setup_content opening.setup)) (AnswersNext (setup_content opening.setup)) [] (port_bytes left left' written written') desk)
+    (Delivered (StandsFor over_memory (setup_content opening.setup)) (AnswersNext (setup_content opening.setup)) [] (port_bytes left left' written written') desk)
+    (Began (StandsFor over_memory (setup_content opening.setup)) (AnswersNext (setup_content opening.setup)) [] (port_bytes left left' written written') desk)
     → DemoLeft (port_bytes left left' written written') (Stream fault)
 left_by left left' written written' opening desk Read opens began = record { opening = opening; desk = desk; opens = opens; began = began }
 left_by left left' written written' opening desk Turns opens began = record { opening = opening; desk = desk; opens = opens; began = began }

@@ -11,15 +11,17 @@ use Rattle.office_replies.specs.declared.response.Response.TheVariants.{Taken, R
 use Rattle.office_replies.specs.declared.worst.Worst.{Worst}
 use Rattle.office_admission.specs.Refusals.{MayBeNotNow}
 use Rattle.office_setup.specs.Setups.{SetupContent}
-use Rattle.office_history.specs.After.{SaysSame}
+use Rattle.office_history.specs.After.{SaysSame, content_after}
 use Rattle.office_history.proofs.Alike.{parties_same}
 use Rattle.office_stream.specs.Faults.{MatchFault}
 use Rattle.office_stream.specs.Streams.{PortBytes, Answered, Streamed, Began, LineCutShort, EndCutShort, Delivered}
 use Rattle.office_stream.specs.declared.stream_fault.StreamFault.{StreamFault}
 use Rattle.office_stream.specs.declared.stream_fault.StreamFault.TheVariants.{Read, Write, Turns}
-use Rattle.office_desk.specs.Desks.{StandsFor, answers_for}
+use Rattle.office_desk.specs.Answers.{AnswersNext}
+use Rattle.office_desk.specs.Desks.{StandsFor}
 use Rattle.office_desk.specs.declared.desk.Desk.{Desk}
 use Rattle.office_desk.proofs.AlikeLemmas.{answers_alike}
+use Rattle.office_commands.proofs.NowAlike.{now_alike}
 use Rattle.office_commands.specs.Delivering.{Streams, StreamsFrom, StandsAlike}
 use Rattle.office_commands.specs.Ending.{Ports, LeavesPorts, most_turns}
 
@@ -140,22 +142,19 @@ module _ {D : Type 0} (stands stands' : List Event → D → Type 0) (answers an
 -- ---- set-ups that say the same
 
 module _ (one other : SetupContent) (says : SaysSame one other) where
-  pub answer_alike : (es : List Event) (sent : List ℕ) (given : Response) → answers_for one es sent given → answers_for other es sent given
+  pub answer_alike : (es : List Event) (sent : List ℕ) (given : Response) → AnswersNext one es sent given → AnswersNext other es sent given
   answer_alike es sent (Taken body) is = is ∙ (answers_alike one other says es).answers sent
   answer_alike es sent (Repeat body) is = is ∙ (answers_alike one other says es).answers sent
   answer_alike es sent (Waiting body) is = is ∙ (answers_alike one other says es).answers sent
   answer_alike es sent (Clash body) is = is ∙ (answers_alike one other says es).answers sent
   answer_alike es sent (Refused fault) is = is ∙ (answers_alike one other says es).answers sent
   answer_alike es sent (Rejected fault body) is = is ∙ (answers_alike one other says es).answers sent
-  answer_alike es sent NotNow may = subst (λ parties. MayBeNotNow parties (interchange_of sent)) (parties_same one other says) may
+  answer_alike es sent NotNow may = subst (λ parties. MayBeNotNow parties (interchange_of sent)) (parties_same (content_after one es) (content_after other es) (now_alike one other says es)) may
 
   pub stand_alike : {D : Type 0} {g : Ghosts D} (es : List Event) (desk : Desk (FileStore D g) over_files) → StandsFor over_files one es desk → StandsAlike other es desk
-  stand_alike es desk stands = record {
-    says = subst (λ content. SaysSame content other) (sym stands.setup) says;
-    stands = subst (λ content. StandsFor over_files content es desk) (sym stands.setup) stands;
-  }
+  stand_alike es desk stands = record { opening = one; says = says; stands = stands }
 
   pub streams_alike : {D : Type 0} {g : Ghosts D} (es : List Event) (ports : PortBytes) (desk : Desk (FileStore D g) over_files) (outcome : Result Worst StreamFault)
-      → Streams (StandsFor over_files one) (answers_for one) es ports desk outcome → Streams (StandsAlike other) (answers_for other) es ports desk outcome
+      → Streams (StandsFor over_files one) (AnswersNext one) es ports desk outcome → Streams (StandsAlike other) (AnswersNext other) es ports desk outcome
   streams_alike es ports desk outcome =
-      streams_also (StandsFor over_files one) (StandsAlike other) (answers_for one) (answers_for other) (stand_alike) answer_alike es ports desk outcome
+      streams_also (StandsFor over_files one) (StandsAlike other) (AnswersNext one) (AnswersNext other) (stand_alike) answer_alike es ports desk outcome

@@ -11,7 +11,7 @@ use Rattle.office_stream.specs.Streams.{PortBytes, Streamed, Began, Delivered}
 use Rattle.office_stream.specs.declared.stream_fault.StreamFault.{StreamFault}
 use Rattle.office_stream.specs.declared.stream_fault.StreamFault.TheVariants.{Read, Write, Turns}
 use Rattle.office_setup.specs.Given.{IsGiven}
-use Rattle.office_setup.specs.Setups.{SetupContent, setup_content}
+use Rattle.office_setup.specs.Setups.{SetupContent}
 use Rattle.office_history.specs.After.{SaysSame}
 use Rattle.office_desk.specs.Desks.{StandsFor}
 use Rattle.office_desk.specs.declared.desk.Desk.{Desk}
@@ -40,8 +40,9 @@ module _ {D Opening : Type 0} (clean : D → Type 0) (stands : Opening → List 
 abbrev pub BeginsAt : Image → SetupContent → List Event → Type 0
 BeginsAt image content es = IsGiven content × HoldsAfter image content es
 
--- a desk whose set-up says the same, after those events
+-- a desk that stands, after those events, for an opening set-up that says the same
 pub record StandsAlike {D : Type 0} {g : Ghosts D} (content : SetupContent) (es : List Event)
     (desk : Desk (FileStore D g) over_files) : Type 0 where
-  pub says : SaysSame (setup_content desk.setup) content
-  pub stands : StandsFor over_files (setup_content desk.setup) es desk
+  pub opening : SetupContent
+  pub says : SaysSame opening content
+  pub stands : StandsFor over_files opening es desk

@@ -2,7 +2,8 @@ ghost use Rattle.std.specs.Prelude.{◌≡◌, ◌≤◌, ◌+◌, false, IfOk, 
 ghost use Rattle.sqlite.specs.Files.{over_files};
 ghost use Rattle.sqlite.specs.WalFiles.{image_at};
 ghost use Rattle.office_stream.specs.Streams.{port_bytes};
-ghost use Rattle.office_desk.specs.Desks.{IsSound, answers_for};
+ghost use Rattle.office_desk.specs.Answers.{AnswersNext};
+ghost use Rattle.office_desk.specs.Desks.{IsSound};
 ghost use Rattle.office_commands.specs.Delivering.{StreamsFrom, BeginsAt, StandsAlike};
 ghost use Rattle.office_commands.specs.Ending.{Tells, StreamEnds, LeavesPorts, ports, store_text, most_turns};
 
@@ -60,7 +61,7 @@ pub fn deliver_over<S: Start, R: Read, W: Write, E: Write>(
     // From whatever events the files held the rows, the lines are the answers of that office.
     ensures ends { IfOk result.1 (λ desk.
         StreamEnds (LeavesPorts (ports reader.old writer.old) (ports reader.new writer.new))
-        (StreamsFrom (IsSound over_files) StandsAlike answers_for (BeginsAt (image_at S.Start))
+        (StreamsFrom (IsSound over_files) StandsAlike AnswersNext (BeginsAt (image_at S.Start))
         (port_bytes (R.remaining reader.old.inner) (R.remaining reader.new.inner)
         (W.contents writer.old.inner) (W.contents writer.new.inner)) desk)
         (Tells errors.new.failed (E.contents errors.old.inner) (E.contents errors.new.inner)) result.0) }

@@ -1,3 +1,4 @@
+pub mod AccountLemmas
 pub mod AccountedSteps
 pub mod Admitted
 pub mod AlikeLemmas

@@ -8,3 +8,4 @@ pub mod Reports
 pub mod Kept
 pub mod Noting
 pub mod Alike
+pub mod Accounts

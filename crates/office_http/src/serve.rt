@@ -9,17 +9,18 @@ use crate::content_type::ContentType;
 use crate::refusal::Refusal;
 use crate::request::Request;
 use crate::requests::read_request;
-use crate::response::{write_answer, write_refusal, write_text};
+use crate::response::{write_account_answer, write_answer, write_refusal, write_text};
 use crate::serve_fault::ServeFault;
 use http::StatusCode;
 use office_queries::{NotNow, Query, Report, ReportKind};
+use office_replies::AddAccount;
 use office_stream::Port;
 use std::alloc::Global;
 use std::io::{self, Read, Write};
 
 /// Reads one request, does what it asks for, and writes its response. What a reader gives behind a request has no
 /// effect.
-pub fn serve_one<R: Read, W: Write, D: Report>(
+pub fn serve_one<R: Read, W: Write, D: Report + AddAccount>(
     alloc: Global,
     reader: &mut Port<R>,
     writer: &mut Port<W>,
@@ -29,7 +30,7 @@ pub fn serve_one<R: Read, W: Write, D: Report>(
     ensures ok { OnOk result
         (D.clean desk.new → (opening : D.Opening) (es : List Event) → D.stands opening es desk.old
         → IfSome (R.remaining reader.old.inner) (λ stream.
-        AnswersTo (D.stands opening) (D.answers opening) D.tells es stream desk.old desk.new
+        AnswersTo (D.stands opening) (D.answers opening) (D.added opening) D.tells es stream desk.old desk.new
         (W.contents writer.old.inner) (W.contents writer.new.inner))) }
 
     // After a failed read nothing was delivered, and nothing written. After a failed write what was asked for is done.
@@ -38,11 +39,11 @@ pub fn serve_one<R: Read, W: Write, D: Report>(
         ((writer.new.failed ≡ true) × (reader.new.failed ≡ reader.old.failed)
         × (D.clean desk.new → (opening : D.Opening) (es : List Event) → D.stands opening es desk.old
         → IfSome (R.remaining reader.old.inner) (λ stream. (bytes : List ℕ)
-        × Serves (D.stands opening) (D.answers opening) D.tells es stream desk.old desk.new bytes)))) }
+        × Serves (D.stands opening) (D.answers opening) (D.added opening) D.tells es stream desk.old desk.new bytes)))) }
 
-    // Whatever the reader gives, at most one text is delivered.
+    // Whatever the reader gives, at most one text is delivered or one account asked for.
     ensures steps { D.clean desk.new → (opening : D.Opening) (es : List Event) → D.stands opening es desk.old
-        → AtMostOne (D.stands opening) (D.answers opening) es desk.new }
+        → AtMostOne (D.stands opening) (D.answers opening) (D.added opening) es desk.new }
 
     // Whatever desk it is, a refusal leaves it as it was, and a report is what it has to tell. Exactly its bytes are
     // written.
@@ -80,14 +81,14 @@ pub fn serve_one<R: Read, W: Write, D: Report>(
 }
 
 /// Does what a request asks for, writes its response, and flushes it.
-fn send_answer<W: Write, D: Report>(
+fn send_answer<W: Write, D: Report + AddAccount>(
     alloc: Global,
     writer: &mut Port<W>,
     desk: &mut D,
     request: Request,
 ) -> io::Result<()>
     ensures does { D.clean desk.new → (opening : D.Opening) (es : List Event) → D.stands opening es desk.old
-        → (bytes : List ℕ) × Does (D.stands opening) (D.answers opening) D.tells es request desk.old desk.new bytes
+        → (bytes : List ℕ) × Does (D.stands opening) (D.answers opening) (D.added opening) D.tells es request desk.old desk.new bytes
         × OnOk result (Appends (W.contents writer.old.inner) (W.contents writer.new.inner) bytes) }
     ensures refused { Refuses request desk.old desk.new
         (λ bytes. OnOk result (Appends (W.contents writer.old.inner) (W.contents writer.new.inner) bytes)) }
@@ -103,14 +104,14 @@ fn send_answer<W: Write, D: Report>(
 }
 
 /// Does what a request asks for, and writes its response.
-fn answer<W: Write, D: Report>(
+fn answer<W: Write, D: Report + AddAccount>(
     alloc: Global,
     writer: &mut Port<W>,
     desk: &mut D,
     request: Request,
 ) -> io::Result<()>
     ensures does { D.clean desk.new → (opening : D.Opening) (es : List Event) → D.stands opening es desk.old
-        → (bytes : List ℕ) × Does (D.stands opening) (D.answers opening) D.tells es request desk.old desk.new bytes
+        → (bytes : List ℕ) × Does (D.stands opening) (D.answers opening) (D.added opening) D.tells es request desk.old desk.new bytes
         × OnOk result (Appends (W.contents writer.old.inner) (W.contents writer.new.inner) bytes) }
     ensures refused { Refuses request desk.old desk.new
         (λ bytes. OnOk result (Appends (W.contents writer.old.inner) (W.contents writer.new.inner) bytes)) }
@@ -124,6 +125,10 @@ fn answer<W: Write, D: Report>(
         Request::Delivery(body) => {
             let response = desk.deliver(alloc, body.as_slice());
             write_answer(writer, &response)
+        }
+        Request::Account(key) => {
+            let answer = desk.add_account(alloc, key.code.as_slice(), key.kind.as_slice());
+            write_account_answer(writer, &answer)
         }
         Request::Report(kind, query) => answer_report(alloc, writer, desk, kind, &query),
         Request::Refused(refusal) => write_refusal(writer, refusal),
@@ -139,7 +144,7 @@ fn answer_report<W: Write, D: Report>(
 ) -> io::Result<()>
     ensures does { D.clean desk.new → (opening : D.Opening) (es : List Event) → D.stands opening es desk.old
         → (bytes : List ℕ)
-        × Does (D.stands opening) (D.answers opening) D.tells es (Report kind query.now) desk.old desk.new bytes
+        × Does (D.stands opening) (D.answers opening) (D.added opening) D.tells es (Report kind query.now) desk.old desk.new bytes
         × OnOk result (Appends (W.contents writer.old.inner) (W.contents writer.new.inner) bytes) }
     ensures reported { D.clean desk.new → Reports D.tells (Report kind query.now) desk.old
         (λ bytes. OnOk result (Appends (W.contents writer.old.inner) (W.contents writer.new.inner) bytes)) }

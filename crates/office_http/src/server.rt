@@ -9,6 +9,7 @@ use crate::timed_reader::TimedReader;
 use crate::timed_writer::TimedWriter;
 use crate::watch::Watch;
 use office_queries::Report;
+use office_replies::AddAccount;
 use office_stream::{Gathered, Port};
 use std::alloc::Global;
 use std::io::Read;
@@ -18,7 +19,7 @@ use std::rt::Clock;
 /// Accepts so many connections, one after the other, and answers one request of each. A connection that fails is passed
 /// over, and so is one whose first byte doesn't come within two seconds, whose request isn't whole within ten, or which
 /// doesn't take its response within ten. What watches is told of each connection as soon as it is answered.
-pub fn serve_on<C: Clock, D: Report, H: Watch>(
+pub fn serve_on<C: Clock, D: Report + AddAccount, H: Watch>(
     alloc: Global,
     clock: &C,
     listener: &TcpListener,
@@ -26,9 +27,9 @@ pub fn serve_on<C: Clock, D: Report, H: Watch>(
     desk: &mut D,
     watch: &mut H,
 )
-    // At most so many texts are delivered, each answered at its place.
+    // At most so many texts are delivered and accounts asked for, each answered at its place.
     ensures steps { D.clean desk.new → (opening : D.Opening) (es : List Event) → D.stands opening es desk.old
-        → AtMost (D.stands opening) (D.answers opening) es count desk.new }
+        → AtMost (D.stands opening) (D.answers opening) (D.added opening) es count desk.new }
 
     // Nothing is said of a desk whose records have not told the truth.
     ensures stays { D.clean desk.new → D.clean desk.old }
@@ -41,7 +42,7 @@ pub fn serve_on<C: Clock, D: Report, H: Watch>(
 }
 
 /// Answers one request, in one write if the response is small, and then takes leave of the peer.
-fn serve_stream<C: Clock, D: Report, H: Watch>(
+fn serve_stream<C: Clock, D: Report + AddAccount, H: Watch>(
     alloc: Global,
     clock: &C,
     stream: &TcpStream,
@@ -49,7 +50,7 @@ fn serve_stream<C: Clock, D: Report, H: Watch>(
     watch: &mut H,
 )
     ensures steps { D.clean desk.new → (opening : D.Opening) (es : List Event) → D.stands opening es desk.old
-        → AtMostOne (D.stands opening) (D.answers opening) es desk.new }
+        → AtMostOne (D.stands opening) (D.answers opening) (D.added opening) es desk.new }
     ensures stays { D.clean desk.new → D.clean desk.old }
 {
     let Ok(timed) = TimedReader::of_request(stream, clock) else {

@@ -9,3 +9,5 @@ pub mod Kinds
 pub mod Contents
 pub mod Events
 pub mod Delivering
+pub mod AccountAnswers
+pub mod Adding

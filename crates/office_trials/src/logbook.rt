@@ -46,6 +46,9 @@ impl<W: Write + Drop> Deliver for Logbook<W> {
 
     ghost answers = { λ opening es text response. response ≡ Refused UnknownSender };
 
+    // it has no accounts
+    ghost added = { λ opening es code kind answer. ⊥ };
+
     fn deliver(&mut self, _alloc: Global, delivered: &[u8]) -> Response {
         match self.pages.write_all(delivered) {
             Ok(()) => Response::Refused(Fault::UnknownSender),

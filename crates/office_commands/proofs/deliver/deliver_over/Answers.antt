@@ -1,4 +1,3 @@
-use Rattle.office_setup.specs.Setups.{setup_content}
 use Rattle.office_commands.proofs.StreamLemmas.{streams_alike}
 use Rattle.office_commands.proofs.deliver.deliver_over.Goals as goal
 
@@ -13,6 +12,5 @@ returns-in-Ok-clause-ends g c =
       ports_are = ends.ports_are;
       left = λ sound content es begins.
           let at = c.in-Ok.ensures.opens (c.deliver_to-status.ensures.stays sound) content es begins.0 begins.1 in
-          let found = setup_content c.in-Ok.desk.setup in
-          streams_alike found content at.says es _ _ ends.outcome (ends.left sound found es at.stands);
+          streams_alike at.opening content at.opening_says es _ _ ends.outcome (ends.left sound at.opening es at.stands);
     }

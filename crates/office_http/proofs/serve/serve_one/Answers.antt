@@ -1,6 +1,6 @@
 use Rattle.std.proofs.Common.{inr}
 use Rattle.std.proofs.lemmas.Option.{IfSome_then}
-use Rattle.office_http.proofs.Serving.{refuses_so, reports_so}
+use Rattle.office_http.proofs.Serving.{one_at_most, refuses_so, reports_so}
 use Rattle.office_http.proofs.serve.serve_one.Goals as goal
 
 -- a write that failed, behind what was asked for
@@ -22,3 +22,13 @@ returns-in-Err-send_answer-clause-asked g c =
       refused = refuses_so c.in-Ok.request _ _ _ _ (λ bytes written. tt) c.send_answer.ensures.refused;
       reported = λ clean. reports_so _ c.in-Ok.request _ _ _ (λ bytes written. tt) (c.send_answer.ensures.reported clean);
     }))
+
+pub returns-in-Ok-send_answer-clause-steps : goal.returns-in-Ok-send_answer-clause-steps
+returns-in-Ok-send_answer-clause-steps g c = λ clean opening es at.
+    let done = c.send_answer.ensures.does clean opening es at in
+    one_at_most (g.D.Deliver.stands opening) (g.D.Deliver.answers opening) (g.D.Deliver.added opening) g.D.Report.tells es c.in-Ok.request c.args.desk.now _ done.0 at done.1
+
+pub returns-in-Err-send_answer-clause-steps : goal.returns-in-Err-send_answer-clause-steps
+returns-in-Err-send_answer-clause-steps g c = λ clean opening es at.
+    let done = c.send_answer.ensures.does clean opening es at in
+    one_at_most (g.D.Deliver.stands opening) (g.D.Deliver.answers opening) (g.D.Deliver.added opening) g.D.Report.tells es c.in-Ok.request c.args.desk.now _ done.0 at done.1

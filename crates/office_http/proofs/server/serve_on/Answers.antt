@@ -8,7 +8,7 @@ use Rattle.office_http.proofs.server.serve_on.Goals.{in-Ok, in_default}
 pub connections-init : goal.connections-init
 connections-init g c = record {
   stays = λ clean. clean;
-  few = λ clean opening es is. none_yet (g.D.Deliver.stands opening) (g.D.Deliver.answers opening) es c.args.desk.now is;
+  few = λ clean opening es is. none_yet (g.D.Deliver.stands opening) (g.D.Deliver.answers opening) (g.D.Deliver.added opening) es c.args.desk.now is;
 }
 
 -- one connection more, or none that could be had
@@ -21,8 +21,9 @@ connections-preserved g c = elim c.match-accept.branch [
         few = λ clean opening es is.
             let stands = g.D.Deliver.stands opening in
             let answers = g.D.Deliver.answers opening in
-            subst (λ desk. AtMost stands answers es (c.connections.counter + 1) desk) (sym w.desk-is)
-            (one_more stands answers es c.connections.counter c.connections.desk _
+            let added = g.D.Deliver.added opening in
+            subst (λ desk. AtMost stands answers added es (c.connections.counter + 1) desk) (sym w.desk-is)
+            (one_more stands answers added es c.connections.counter c.connections.desk _
             (c.connections.invariant.few (stayed clean) opening es is)
             (λ more now. w.serve_stream.ensures.steps (subst g.D.Deliver.clean w.desk-is clean) opening more now));
       }
@@ -33,8 +34,9 @@ connections-preserved g c = elim c.match-accept.branch [
         few = λ clean opening es is.
             let stands = g.D.Deliver.stands opening in
             let answers = g.D.Deliver.answers opening in
-            subst (λ desk. AtMost stands answers es (c.connections.counter + 1) desk) (sym w.desk-is)
-            (one_more stands answers es c.connections.counter c.connections.desk c.connections.desk
+            let added = g.D.Deliver.added opening in
+            subst (λ desk. AtMost stands answers added es (c.connections.counter + 1) desk) (sym w.desk-is)
+            (one_more stands answers added es c.connections.counter c.connections.desk c.connections.desk
             (c.connections.invariant.few (same clean) opening es is) (λ more now. inl now));
       }
 ]

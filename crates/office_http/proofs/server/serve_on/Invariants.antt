@@ -8,5 +8,5 @@ abbrev pub invariant-connections : goal.invariant-connections
 invariant-connections g l = record {
   stays : g.D.Deliver.clean l.desk → g.D.Deliver.clean l.fn.desk;
   few : g.D.Deliver.clean l.desk → (opening : g.D.Deliver.Opening) (es : List Event) → g.D.Deliver.stands opening es l.fn.desk →
-      AtMost (g.D.Deliver.stands opening) (g.D.Deliver.answers opening) es l.counter l.desk;
+      AtMost (g.D.Deliver.stands opening) (g.D.Deliver.answers opening) (g.D.Deliver.added opening) es l.counter l.desk;
 }

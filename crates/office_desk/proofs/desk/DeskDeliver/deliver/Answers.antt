@@ -4,16 +4,15 @@ use Rattle.edi_segments.specs.Interchange.{interchange_of}
 use Rattle.edi_syntax.specs.Envelope.{header_of}
 use Rattle.edi_syntax.specs.Heads.{head_segments}
 use Rattle.edi_syntax.proofs.FaultLemmas.{control_number_within}
-use Rattle.office_replies.specs.Events.{delivered}
 use Rattle.office_replies.specs.declared.response.Response.TheVariants.{NotNow}
 use Rattle.office_admission.specs.Refusals.{RefusedSurely}
 use Rattle.office_setup.specs.Parties.{parties_of}
 use Rattle.office_setup.specs.Setups.{setup_content}
 use Rattle.office_desk.proofs.Admitted.{code_at, admitted_surely, never_refused, numbered, refused_so}
-use Rattle.office_desk.proofs.DeliverLemmas.{refusal_delivered, refusal_leaves, refusal_over, admitted_leaves, answers_over, not_now_surely, notes_none, taken_in, not_taken}
+use Rattle.office_desk.proofs.DeliverLemmas.{refusal_delivered, refusal_leaves, refusal_over, comes_for, answers_over, not_now_surely, notes_none, taken_in, not_taken}
 use Rattle.office_desk.proofs.CrashLemmas.{answered_behind, held_leaves}
 use Rattle.office_admission.specs.Admission.{admission}
-use Rattle.office_desk.specs.Crashes.{Leaves, LeavesEither}
+use Rattle.office_desk.specs.Crashes.{Leaves}
 use Rattle.office_desk.specs.Kept.{NotedFor}
 use Rattle.sqlite.specs.Held.{state}
 use Rattle.office_desk.proofs.desk.DeskDeliver.deliver.Goals as goal
@@ -26,8 +25,8 @@ returns-in-Err-clause-sure g c =
 pub returns-in-Err-clause-delivers : goal.returns-in-Err-clause-delivers
 returns-in-Err-clause-delivers g c = λ sound content es stands.
     let text = c.interchange_text-text.result.now in
-    refusal_delivered g.S.Store content es c.args.delivered.now text c.answer-answer.result _ c.in-Err.refusal
-    c.interchange_text-text.ensures.exact (record { setup = stands.setup; holds = stands.holds }) c.in-Err.ensures.err
+    refusal_delivered g.S.Store content es c.args.delivered.now text c.answer-answer.result c.args.self.now c.in-Err.refusal
+    c.interchange_text-text.ensures.exact (record { given = stands.given; now_is = stands.now_is; rows = stands.rows; has = stands.has; after = stands.after; beside = stands.beside }) c.in-Err.ensures.err
     (c.answer-answer.ensures.answer c.args.self.now.setup text c.in-Err.ensures.err) (c.answer-answer.ensures.sure c.args.self.now.setup text c.in-Err.ensures.err)
 
 pub returns-in-Ok-taken-clause-sure : goal.returns-in-Ok-taken-clause-sure
@@ -50,54 +49,47 @@ returns-in-Ok-taken-clause-delivers g c = λ sound content es stands.
     let found = slice_get-get_or accounts place c.index-accounts-place.result (omega (arith, is.from_one, is.known)) in
     let named : c.as_str-code.result.now ≡ string_bytes account.code = rw c.as_slice-accounts.ensures at c.as_str-code.ensures.value in
     let code = named ∙ sym (code_at accounts admitted.partner account is.from_one found) in
-    taken_in g.S.Store content es c.args.delivered.now text c.in-Ok-taken.response old _ admitted.partner c.number-number.result c.as_str-code.result.now
-    c.interchange_text-text.ensures.exact stands refl
+    taken_in g.S.Store content es c.args.delivered.now text c.in-Ok-taken.response old (state g.S.Store c.take_in-taken.new.conn).committed c.take_in-taken.new.beside admitted.partner c.number-number.result c.as_str-code.result.now
+    c.interchange_text-text.ensures.exact stands
     (numbered (parties_of old.setup) text (head_segments c.head.result) admitted.partner c.number-number.result (c.head.ensures ∙ is.segments) c.number-number.ensures.number is.admits)
-    code (c.in-Ok-taken.ensures.ok sound.0 sound.1)
+    code (c.in-Ok-taken.ensures.ok sound.0 sound.1 content es c.args.delivered.now)
 
 pub returns-in-Err-taken-clause-delivers : goal.returns-in-Err-taken-clause-delivers
 returns-in-Err-taken-clause-delivers g c = λ sound content es stands.
-    not_taken g.S.Store content es c.args.delivered.now c.args.self.now _ stands refl
+    not_taken g.S.Store content es c.args.delivered.now c.args.self.now (state g.S.Store c.take_in-taken.new.conn).committed c.take_in-taken.new.beside stands
     (admitted_surely (parties_of c.args.self.now.setup) c.args.delivered.now c.interchange_text-text.result.now _ NotNow c.interchange_text-text.ensures.exact c.in-Ok.ensures.ok.admits)
-    (c.in-Err-taken.ensures.err sound.0 sound.1)
+    (c.in-Err-taken.ensures.err sound.0 sound.1 content es)
 
 pub returns-in-Err-clause-crash : goal.returns-in-Err-clause-crash
 returns-in-Err-clause-crash g c = λ sound clean content es stands.
     let leaves : Leaves content es (state g.S.Store c.args.self.now.conn) =
-    held_leaves content es (state g.S.Store c.args.self.now.conn) c.args.self.now.beside sound.1 (λ db left. g.met.S.Store.settled c.args.self.now.conn.store db sound.1 left) stands.holds in
+    held_leaves content es (setup_content c.args.self.now.setup) (state g.S.Store c.args.self.now.conn) c.args.self.now.beside sound.1 (λ db left. g.met.S.Store.settled c.args.self.now.conn.store db sound.1 left) stands in
     refusal_leaves g.S.Store content es c.args.delivered.now c.interchange_text-text.result.now c.answer-answer.result c.args.self.now c.in-Err.refusal
-    c.interchange_text-text.ensures.exact (record { setup = stands.setup; holds = stands.holds }) c.in-Err.ensures.err leaves
+    c.interchange_text-text.ensures.exact (record { given = stands.given; now_is = stands.now_is; rows = stands.rows; has = stands.has; after = stands.after; beside = stands.beside }) c.in-Err.ensures.err leaves
 
 pub returns-in-Ok-taken-clause-crash : goal.returns-in-Ok-taken-clause-crash
 returns-in-Ok-taken-clause-crash g c = λ sound clean content es stands.
     let leaves : Leaves content es (state g.S.Store c.args.self.now.conn) =
-    held_leaves content es (state g.S.Store c.args.self.now.conn) c.args.self.now.beside sound.1 (λ db left. g.met.S.Store.settled c.args.self.now.conn.store db sound.1 left) stands.holds in
+    held_leaves content es (setup_content c.args.self.now.setup) (state g.S.Store c.args.self.now.conn) c.args.self.now.beside sound.1 (λ db left. g.met.S.Store.settled c.args.self.now.conn.store db sound.1 left) stands in
     let old = c.args.self.now in
     let text = c.interchange_text-text.result.now in
     let admitted = c.in-Ok.admitted in
     let end = state g.S.Store c.take_in-taken.new.conn in
-    answered_behind content es c.args.delivered.now c.in-Ok-taken.response end
-    (admitted_leaves g.S.Store content es c.args.delivered.now text old admitted.partner c.number-number.result (λ k. Leaves k (es ++ delivered c.args.delivered.now ∷ []) end)
-    c.interchange_text-text.ensures.exact stands
-    (numbered (parties_of old.setup) text (head_segments c.head.result) admitted.partner c.number-number.result (c.head.ensures ∙ c.in-Ok.ensures.ok.segments) c.number-number.ensures.number c.in-Ok.ensures.ok.admits)
-    leaves
-    (λ before now e f holds still comes. subst (λ l. Leaves (setup_content old.setup) (l ++ delivered c.args.delivered.now ∷ []) end) e (subst (λ t. Leaves (setup_content old.setup) (before ++ delivered t ∷ []) end) f
-    (c.in-Ok-taken.ensures.leaves clean sound.1 before now holds still comes))))
+    let comes = comes_for g.S.Store content es c.args.delivered.now text old admitted.partner c.number-number.result c.interchange_text-text.ensures.exact stands
+    (numbered (parties_of old.setup) text (head_segments c.head.result) admitted.partner c.number-number.result (c.head.ensures ∙ c.in-Ok.ensures.ok.segments) c.number-number.ensures.number c.in-Ok.ensures.ok.admits) in
+    answered_behind content es c.args.delivered.now c.in-Ok-taken.response end (c.in-Ok-taken.ensures.leaves clean sound.1 content es c.args.delivered.now stands leaves comes)
 
 pub returns-in-Err-taken-clause-crash : goal.returns-in-Err-taken-clause-crash
 returns-in-Err-taken-clause-crash g c = λ sound clean content es stands.
     let leaves : Leaves content es (state g.S.Store c.args.self.now.conn) =
-    held_leaves content es (state g.S.Store c.args.self.now.conn) c.args.self.now.beside sound.1 (λ db left. g.met.S.Store.settled c.args.self.now.conn.store db sound.1 left) stands.holds in
+    held_leaves content es (setup_content c.args.self.now.setup) (state g.S.Store c.args.self.now.conn) c.args.self.now.beside sound.1 (λ db left. g.met.S.Store.settled c.args.self.now.conn.store db sound.1 left) stands in
     let old = c.args.self.now in
     let text = c.interchange_text-text.result.now in
     let admitted = c.in-Ok.admitted in
     let end = state g.S.Store c.take_in-taken.new.conn in
-    admitted_leaves g.S.Store content es c.args.delivered.now text old admitted.partner c.number-number.result (λ k. LeavesEither k es c.args.delivered.now end)
-    c.interchange_text-text.ensures.exact stands
-    (numbered (parties_of old.setup) text (head_segments c.head.result) admitted.partner c.number-number.result (c.head.ensures ∙ c.in-Ok.ensures.ok.segments) c.number-number.ensures.number c.in-Ok.ensures.ok.admits)
-    leaves
-    (λ before now e f holds still comes. subst (λ l. LeavesEither (setup_content old.setup) l c.args.delivered.now end) e (subst (λ t. LeavesEither (setup_content old.setup) before t end) f
-    (c.in-Err-taken.ensures.crash clean sound.1 before now holds still comes)))
+    let comes = comes_for g.S.Store content es c.args.delivered.now text old admitted.partner c.number-number.result c.interchange_text-text.ensures.exact stands
+    (numbered (parties_of old.setup) text (head_segments c.head.result) admitted.partner c.number-number.result (c.head.ensures ∙ c.in-Ok.ensures.ok.segments) c.number-number.ensures.number c.in-Ok.ensures.ok.admits) in
+    c.in-Err-taken.ensures.crash clean sound.1 content es c.args.delivered.now stands leaves comes
 
 pub returns-in-Err-clause-refused : goal.returns-in-Err-clause-refused
 returns-in-Err-clause-refused g c fault e =

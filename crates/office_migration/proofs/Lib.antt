@@ -1,0 +1,3 @@
+pub mod MoreLemmas
+pub mod PairLemmas
+pub mod MigratedLemmas
