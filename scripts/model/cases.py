@@ -20,12 +20,12 @@ from functools import partial
 from .cuts import cut
 from .http import response
 from .office import Office, json_text
-from .reports import text_of
 from .setup import DEMO
 from .setups import files_of
 from .stores import Program, exchanged, in_bytes, in_two
 from .stream import answers, lines, status
 from .yard import Block
+from .words import text_of
 
 FILE = os.path.join(os.path.dirname(os.path.abspath(__file__)), 'cases.txt')
 SETUPS = {

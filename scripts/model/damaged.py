@@ -9,11 +9,11 @@ import tempfile
 
 from .office import Office
 from .opened import fault_of_rows
-from .reports import text_of
 from .rows import faults_of, rows_of, tables_of
 from .setup import DEMO
 from .setups import files_of
 from .stores import Program
+from .words import text_of
 
 FILE = os.path.join(os.path.dirname(os.path.abspath(__file__)), 'damaged.txt')
 SETUP = DEMO._replace(partners={'HAULA': 'gate', 'LINEA': 'line'}, most_visits=1000)

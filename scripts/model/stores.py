@@ -10,14 +10,16 @@ from functools import partial
 from .days import Day, streamed
 from .http import response
 from .office import Office
-from .reports import printed, text_of
+from .reports import REPORTS, has_key, printed
 from .requests import every_key, question, random_requests
 from .rows import rows_in, rows_of
 from .setup import DEMO, read_setup
 from .setups import Files, at_limits, files_of
 from .stream import answers, lines, status
+from .words import text_of
 
 SECONDS = 60                # that an answer over a socket may take
+WHOLE = [(kind, '') for kind in REPORTS if not has_key(kind)]
 
 # how many set-ups are tried, lists of deliveries over a store, requests by HTTP, and what is asked after each list
 SETUPS = 150
@@ -57,8 +59,8 @@ class Program:
         return self.run('deliver', self.store, self.file('stream.edi', text))
 
     def report(self, kind, key):
-        """A report; the yard's have no key."""
-        return self.run('report', self.store, kind, *([] if kind in ('yard', 'yardcsv') else [key]))
+        """A report; those on the whole terminal have no key."""
+        return self.run('report', self.store, kind, *([key] if has_key(kind) else []))
 
     def serve(self, requests, expect, exchange=None):
         """Sends each request on a connection of its own, and hands on the response that it should have beside the one
@@ -206,7 +208,7 @@ def try_list(beside, seed, requests):
         for _call in range(chance.choice([1, 2, 3])):
             beside.deliver(name, program, office, streamed(day, DELIVERIES, ALTERED))
         asked = [question(chance, office) for _question in range(QUESTIONS)]
-        for kind, key in [('yard', ''), ('yardcsv', '')] + asked:
+        for kind, key in WHOLE + asked:
             beside.report(name, program, office, kind, key)
         beside.rows(name, program, office)
         if requests:
@@ -241,7 +243,7 @@ def over_store(beside, name, setup, text):
         office = beside.init(name, program, files_of(setup))
         beside.deliver(name, program, office, text)
         beside.rows(name, program, office)
-        for kind, key in [('yard', ''), ('yardcsv', '')] + every_key(office):
+        for kind, key in WHOLE + every_key(office):
             beside.report(name, program, office, kind, key)
 
 

@@ -15,12 +15,13 @@ from .http import response
 from .office import Office
 from .opened import fault_of_rows
 from .page import is_told
-from .reports import printed, text_of
+from .reports import printed
 from .rows import COLUMNS, rows_of, tables_of
 from .setup import read_setup
 from .setups import files_of
 from .stores import Program
 from .stream import answers, lines
+from .words import text_of
 
 
 class Store(tempfile.TemporaryDirectory):

@@ -126,8 +126,13 @@ fn wants_key(kind: ReportKind) -> bool
     ensures { result ≡ wants_key kind }
 {
     match kind {
-        ReportKind::Yard | ReportKind::YardTable => false,
-        ReportKind::Visits | ReportKind::List | ReportKind::Ticket | ReportKind::Reply => true,
+        ReportKind::Yard | ReportKind::YardTable | ReportKind::Blocks => false,
+        ReportKind::Visits
+        | ReportKind::List
+        | ReportKind::Ticket
+        | ReportKind::Reply
+        | ReportKind::Container
+        | ReportKind::Contrl => true,
     }
 }
 
@@ -141,6 +146,9 @@ fn kind_of(word: &str) -> Option<ReportKind>
         "list" => Some(ReportKind::List),
         "ticket" => Some(ReportKind::Ticket),
         "reply" => Some(ReportKind::Reply),
+        "container" => Some(ReportKind::Container),
+        "blocks" => Some(ReportKind::Blocks),
+        "contrl" => Some(ReportKind::Contrl),
         _ => None,
     }
 }

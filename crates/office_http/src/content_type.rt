@@ -8,6 +8,10 @@ pub(crate) enum ContentType {
     Json,
     /// Plain text.
     Text,
+    /// Comma-separated values (RFC 4180).
+    Table,
+    /// An interchange of UN/EDIFACT.
+    Interchange,
 }
 
 impl ContentType {
@@ -18,6 +22,8 @@ impl ContentType {
         match self {
             ContentType::Json => "application/json",
             ContentType::Text => "text/plain",
+            ContentType::Table => "text/csv",
+            ContentType::Interchange => "application/EDIFACT",
         }
     }
 }

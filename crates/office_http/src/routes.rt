@@ -45,6 +45,13 @@ fn router(alloc: Global) -> Result<Router<Endpoint>, InsertError>
         "/lists/{vessel}/{voyage}/{side}",
         Endpoint::Report(ReportKind::List),
     )?;
+    router.insert("/yard.csv", Endpoint::Report(ReportKind::YardTable))?;
+    router.insert("/containers/{box}", Endpoint::Report(ReportKind::Container))?;
+    router.insert("/blocks", Endpoint::Report(ReportKind::Blocks))?;
+    router.insert(
+        "/contrls/{partner}/{number}",
+        Endpoint::Report(ReportKind::Contrl),
+    )?;
     Ok(router)
 }
 
@@ -88,10 +95,14 @@ fn front_of(kind: ReportKind) -> &'static str
     ensures { result.now ≡ front_of kind }
 {
     match kind {
-        ReportKind::Yard | ReportKind::YardTable => "/yard",
+        ReportKind::Yard => "/yard",
+        ReportKind::YardTable => "/yard.csv",
         ReportKind::Visits => "/visits/",
         ReportKind::List => "/lists/",
         ReportKind::Ticket => "/tickets/",
         ReportKind::Reply => "/replies/",
+        ReportKind::Container => "/containers/",
+        ReportKind::Blocks => "/blocks",
+        ReportKind::Contrl => "/contrls/",
     }
 }

@@ -159,6 +159,13 @@ fn content_of(kind: ReportKind) -> ContentType
 {
     match kind {
         ReportKind::Reply => ContentType::Json,
-        _ => ContentType::Text,
+        ReportKind::YardTable => ContentType::Table,
+        ReportKind::Contrl => ContentType::Interchange,
+        ReportKind::Yard
+        | ReportKind::Visits
+        | ReportKind::List
+        | ReportKind::Ticket
+        | ReportKind::Container
+        | ReportKind::Blocks => ContentType::Text,
     }
 }

@@ -13,4 +13,10 @@ pub enum ReportKind {
     Ticket,
     /// What an interchange was answered.
     Reply,
+    /// Where a container is.
+    Container,
+    /// The blocks of the yard, and how full they are.
+    Blocks,
+    /// The CONTRL that an interchange was answered.
+    Contrl,
 }
