@@ -30,11 +30,18 @@ Head = namedtuple('Head', 'method target fields length')
 ROUTES = [
     (r'/interchanges', 'POST', None),
     (r'/yard', 'GET', 'yard'),
+    (r'/yard\.csv', 'GET', 'yardcsv'),
+    (r'/blocks', 'GET', 'blocks'),
+    (r'/partners', 'GET', 'partners'),
+    (r'/containers/([^/]+)', 'GET', 'container'),
     (r'/visits/([^/]+)', 'GET', 'visits'),
     (r'/lists/([^/]+/[^/]+/[^/]+)', 'GET', 'list'),
     (r'/tickets/([^/]+/[^/]+)', 'GET', 'ticket'),
     (r'/replies/([^/]+/[^/]+)', 'GET', 'reply'),
+    (r'/contrls/([^/]+/[^/]+)', 'GET', 'contrl'),
 ]
+# what the body of a report is, if not plain text
+CONTENT_TYPES = {'reply': 'application/json', 'yardcsv': 'text/csv', 'contrl': 'application/EDIFACT'}
 
 PHRASES = {
     200: 'OK', 202: 'Accepted', 400: 'Bad Request', 404: 'Not Found', 405: 'Method Not Allowed', 409: 'Conflict',
@@ -116,7 +123,7 @@ def answered(office, request):
     text = report(office, kind, key)
     if text is None:
         raise Refusal(404, 'none')
-    return 200, 'application/json' if kind == 'reply' else 'text/plain', text
+    return 200, CONTENT_TYPES.get(kind, 'text/plain'), text
 
 
 def response(office, request):

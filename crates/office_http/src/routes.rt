@@ -45,6 +45,15 @@ fn router(alloc: Global) -> Result<Router<Endpoint>, InsertError>
         "/lists/{vessel}/{voyage}/{side}",
         Endpoint::Report(ReportKind::List),
     )?;
+    router.insert("/yard.csv", Endpoint::Report(ReportKind::YardTable))?;
+    router.insert("/containers/{box}", Endpoint::Report(ReportKind::Container))?;
+    router.insert("/partners", Endpoint::Report(ReportKind::Partners))?;
+    router.insert("/blocks", Endpoint::Report(ReportKind::Blocks))?;
+    router.insert(
+        "/contrls/{partner}/{number}",
+        Endpoint::Report(ReportKind::Contrl),
+    )?;
+    router.insert("/picture", Endpoint::Report(ReportKind::Picture))?;
     Ok(router)
 }
 
@@ -88,10 +97,16 @@ fn front_of(kind: ReportKind) -> &'static str
     ensures { result.now ≡ front_of kind }
 {
     match kind {
-        ReportKind::Yard | ReportKind::YardTable => "/yard",
+        ReportKind::Yard => "/yard",
+        ReportKind::YardTable => "/yard.csv",
         ReportKind::Visits => "/visits/",
         ReportKind::List => "/lists/",
         ReportKind::Ticket => "/tickets/",
         ReportKind::Reply => "/replies/",
+        ReportKind::Container => "/containers/",
+        ReportKind::Partners => "/partners",
+        ReportKind::Blocks => "/blocks",
+        ReportKind::Contrl => "/contrls/",
+        ReportKind::Picture => "/picture",
     }
 }

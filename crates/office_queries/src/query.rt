@@ -32,4 +32,19 @@ pub enum Query {
         /// Its control reference, from 1 to 999,999,999.
         number: u32,
     },
+    /// Where a container is.
+    Container(BoxNumber),
+    /// The partners, and what of theirs waits.
+    Partners,
+    /// The blocks of the yard, and how full they are.
+    Blocks,
+    /// The CONTRL that an interchange was answered.
+    Contrl {
+        /// The code of its sender.
+        partner: String,
+        /// Its control reference, from 1 to 999,999,999.
+        number: u32,
+    },
+    /// The yard as a page.
+    Picture,
 }

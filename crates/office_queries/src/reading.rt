@@ -1,16 +1,17 @@
 ghost use Rattle.std.specs.Prelude.{◌≡◌, IfOk, option_map, string_bytes};
-ghost use Rattle.office_queries.specs.Keys.{query_asked, if_empty, interchange_of, list_in, query_of};
-ghost use Rattle.office_queries.specs.declared.report_kind.ReportKind.TheVariants as kind;
+ghost use Rattle.office_queries.specs.Keys.{query_asked, container_of, if_empty, interchange_of, list_in, query_of};
 
 use crate::parts::{one_part, three_parts, two_parts};
 use crate::query::Query;
 use crate::report_kind::ReportKind;
 use crate::values::{read_box, read_name, read_number, read_side};
+use box6346::BoxNumber;
 use edi_messages::Call;
 use std::alloc::{AllocError, Global};
 
-/// What a key asks for: the empty key for the yard, `BOX` for the visits, `VESSEL/VOYAGE/SIDE` for a list, and
-/// `PARTNER/NUMBER` for a ticket and for a reply. In each part `%` and two hexadecimal digits stand for a byte. None:
+/// What a key asks for: the empty key for the yard, its table and its page, for the partners and for the blocks, `BOX`
+/// for a container and for its visits, `VESSEL/VOYAGE/SIDE` for a list, and `PARTNER/NUMBER` for a ticket, for a reply
+/// and for a CONTRL. In each part `%` and two hexadecimal digits stand for a byte. None:
 /// the key can't be read, or nothing can be found under it.
 pub fn read_query(alloc: Global, kind: ReportKind, key: &str) -> Result<Option<Query>, AllocError>
     ensures { IfOk result (λ query. option_map query_asked query ≡ query_of kind key.now) }
@@ -18,7 +19,17 @@ pub fn read_query(alloc: Global, kind: ReportKind, key: &str) -> Result<Option<Q
     match kind {
         ReportKind::Yard => Ok(if_empty(key, Query::Yard)),
         ReportKind::YardTable => Ok(if_empty(key, Query::YardTable)),
-        ReportKind::Visits => read_visits(alloc, key),
+        ReportKind::Partners => Ok(if_empty(key, Query::Partners)),
+        ReportKind::Blocks => Ok(if_empty(key, Query::Blocks)),
+        ReportKind::Picture => Ok(if_empty(key, Query::Picture)),
+        ReportKind::Visits => match read_container(alloc, key)? {
+            Some(number) => Ok(Some(Query::Visits(number))),
+            None => Ok(None),
+        },
+        ReportKind::Container => match read_container(alloc, key)? {
+            Some(number) => Ok(Some(Query::Container(number))),
+            None => Ok(None),
+        },
         ReportKind::List => match three_parts(key) {
             Some((vessel, voyage, side)) => read_list(alloc, vessel, voyage, side),
             None => Ok(None),
@@ -31,6 +42,10 @@ pub fn read_query(alloc: Global, kind: ReportKind, key: &str) -> Result<Option<Q
             Some((partner, number)) => Ok(Some(Query::Reply { partner, number })),
             None => Ok(None),
         },
+        ReportKind::Contrl => match read_interchange(alloc, key)? {
+            Some((partner, number)) => Ok(Some(Query::Contrl { partner, number })),
+            None => Ok(None),
+        },
     }
 }
 
@@ -40,14 +55,12 @@ fn if_empty(key: &str, query: Query) -> Option<Query>
     if key.is_empty() { Some(query) } else { None }
 }
 
-fn read_visits(alloc: Global, key: &str) -> Result<Option<Query>, AllocError>
-    ensures { IfOk result (λ query. option_map query_asked query ≡ query_of kind.Visits key.now) }
+/// The container that a key names.
+fn read_container(alloc: Global, key: &str) -> Result<Option<BoxNumber>, AllocError>
+    ensures { IfOk result (λ number. number ≡ container_of key.now) }
 {
-    let Some(part) = one_part(key) else {
-        return Ok(None);
-    };
-    match read_box(alloc, part)? {
-        Some(number) => Ok(Some(Query::Visits(number))),
+    match one_part(key) {
+        Some(part) => read_box(alloc, part),
         None => Ok(None),
     }
 }
