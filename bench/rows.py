@@ -7,7 +7,7 @@ import tempfile
 import time
 
 import streams
-from running import Server, Stream, instructions, least_seconds
+from running import Server, Stream, instructions, least_seconds, spent
 
 PART = 1000                 # interchanges that are timed together
 PARTS = 5                   # of which the least counts
@@ -211,6 +211,22 @@ def opening(stores):
     return [
         Row('opening the store that gate-ins and gate-outs leave, with a small report', 'ms', spent, rows_only, '1200 ms'),
         Row('the same; the peer reads all rows', 'ms', spent, all_rows)]
+
+
+def migrating(stores):
+    """An older store with the rows that the longest stream has left, brought over, beside opening the new one; both in a file
+    system in memory, if there is one."""
+    with tempfile.TemporaryDirectory(prefix='bench-', dir=IN_MEMORY) as folder:
+        old, turns = stores.older(stores.path('office-gate-ins-end'), 'older', folder), []
+        for turn in range(3):
+            new = os.path.join(folder, 'migrated-%d.db' % turn)
+            turns.append((spent(stores.office, 'migrate', old, new), spent(stores.office, 'report', new, 'yard')))
+    moved, opened = (min(turn[each] for turn in turns) for each in (0, 1))
+    return [
+        Row('migrating an older store of 105,000 gate-ins and gate-outs, no sync', 'ms', moved[0] * 1e3),
+        Row('opening the new one, with a report of the yard', 'ms', opened[0] * 1e3),
+        Row('the former by the latter', 'times', moved[0] / opened[0], None, 'at most 4'),
+        Row('most memory of the migration', 'MB', moved[2])]
 
 
 def filled(stores):

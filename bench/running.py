@@ -71,6 +71,17 @@ def command(*words):
     return done.stdout
 
 
+def spent(*words):
+    """Seconds of a clock and of a processor that a command takes, and the most memory that it has, in megabytes."""
+    started = time.monotonic()
+    with subprocess.Popen(words, stdout=subprocess.DEVNULL) as process:
+        _pid, status, used = os.wait4(process.pid, 0)
+        process.returncode = os.waitstatus_to_exitcode(status)
+    if process.returncode != 0:
+        raise SystemExit('bench: %s ended with %d' % (' '.join(words), process.returncode))
+    return time.monotonic() - started, used.ru_utime + used.ru_stime, used.ru_maxrss / 1024
+
+
 def least_seconds(times, *words):
     """The least time that a command takes from its start to its end."""
     least = None

@@ -1,8 +1,11 @@
 """Stores of the bench: made by the office, copied for the peer, and whether both do the same."""
 import os
 import shutil
+import sqlite3
+from contextlib import closing
 
-from model.rows import rows_in
+from model.old_stores import schema_of
+from model.rows import OLD_COLUMNS, rows_in
 
 import streams
 from running import Stream, command
@@ -47,6 +50,20 @@ class Stores:
     def new(self, name, yard='large', folder=None):
         """A store to which nothing was delivered."""
         return self.copy(self.path(yard), os.path.join(folder or self.folder, name + '.db'))
+
+    def older(self, store, name, folder=None):
+        """A store of version 2 with the rows of a store, but for weights, written by SQLite's own library."""
+        path = os.path.join(folder or self.folder, name + '.db')
+        newest = self.copy(store, self.path(name + '-newest'))
+        with closing(sqlite3.connect(path, isolation_level=None)) as made:
+            made.executescript(schema_of(2))
+            made.execute('ATTACH ? AS newest', (newest,))
+            made.execute('BEGIN')
+            for table, columns in OLD_COLUMNS.items():
+                made.execute('INSERT INTO %s SELECT %s FROM newest.%s' % (table, ', '.join(columns.split()), table))
+            made.execute("UPDATE setting SET value = '2' WHERE name = 'version'")
+            made.execute('COMMIT')
+        return path
 
     def streams(self, name, yard='large', folder=None):
         """Office and peer, each ready for a stream over a new store of its own."""

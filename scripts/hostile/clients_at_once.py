@@ -8,10 +8,11 @@ import time
 from model.setup import DEMO
 from model.yard import Block
 
-from .served import Served, gate_in, get, post, received
+from .served import Served, account, gate_in, get, post, received
 
 CLIENTS = 200
 TOO_MUCH = 100              # clients that send more than their Content-Length
+ADDED = 40                  # accounts that are added among deliveries, each by two clients
 STOPS = 4                   # of a server, by each signal
 SENT = 40                   # deliveries to a server that is stopped among them
 
@@ -67,6 +68,29 @@ def two_hundred(checks, path):
         mixed = [get('/yard') if place % 2 else get('/tickets/HAULA/%d' % (place + 1)) for place in range(CLIENTS)]
         for request, response in zip(mixed, at_once(mixed, server.ask)):
             checks.expect(request, server.owed(request), response)
+
+
+def accounts_at_once(checks, path):
+    """Accounts that are added while interchanges come, each by two clients: one of them is told `added` and the other one
+    `known`, with one id. The ids are those behind the set-up's; and each of these senders is then admitted."""
+    with Served(path, LARGE_YARD) as server:
+        codes = ['HAUL-%d' % place for place in range(ADDED)]
+        requests = [account(code, 'gate') for code in codes for _client in range(2)]
+        requests += [post(gate_in(number)) for number in range(1, ADDED + 1)]
+        order = random.Random(2).sample(range(len(requests)), len(requests))
+        came = dict(zip(order, at_once([requests[place] for place in order], server.ask)))
+        told = {code: [body_of(came[2 * place + client]) for client in range(2)] for place, code in enumerate(codes)}
+        for code in sorted(codes, key=lambda code: told[code][0]['id']):
+            owed = [server.owed(account(code, 'gate')) for _client in range(2)]
+            pair = [came[2 * codes.index(code) + client] for client in range(2)]
+            checks.expect('two clients add %s' % code, sorted(owed), sorted(pair))
+        for number in range(1, ADDED + 1):
+            server.owed(post(gate_in(number)))
+        for number in range(1, ADDED + 1):
+            server.same(checks, 'delivery %d among additions, again' % number, post(gate_in(number)))
+        for place, code in enumerate(codes):
+            server.same(checks, 'the first text of ' + code, post(gate_in(1, code, 1000 + place)))
+        server.same(checks, 'the yard behind the additions', get('/yard'))
 
 
 def more_than_said(checks, path):
@@ -145,4 +169,4 @@ def sent_again(checks, name, server, owed, count):
     server.same(checks, name + ', the yard', get('/yard'))
 
 
-CHECKS = [two_hundred, more_than_said, stopped]
+CHECKS = [two_hundred, accounts_at_once, more_than_said, stopped]

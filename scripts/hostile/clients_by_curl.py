@@ -3,7 +3,7 @@ import subprocess
 
 from model.syntax import LONGEST_TEXT
 
-from .served import Served, gate_in, get, listening, post, received
+from .served import Served, account, gate_in, get, listening, post, received
 
 MOST_STALL = 0.5            # seconds that an answer may take
 CURL_WAITS = 0.2            # seconds that curl is told to wait for a 100
@@ -16,6 +16,10 @@ PATHS = [
     '/lists/91%2f23/%5612/load', '/lists/91/23/V12/load', '/lists/91%2F23/V12/discharge', '/tickets/HAULA/1',
     '/tickets/HAULA/00001', '/tickets/HAULA/2', '/replies/HAULA/1', '/replies/LINEA/1', '/replies/HAULA/3', '/replies/HAULA/9',
     '/replies/HAULA%2F1', '/interchanges', '/', '/nothing', '/yard/', '/visits/%zz']
+ODD_ACCOUNTS = [
+    '/partners/%48AULF/%67ate', '/partners/%zz/gate', '/partners/HAULG/%zz', '/partners/%00/gate', '/partners/%2F/gate',
+    '/partners/HAUL%2fG/gate', '/partners/' + 35 * 'H' + '/yard', '/partners/' + 36 * 'H' + '/yard', '/partners/HAULG',
+    '/partners/HAULG/', '/partners//gate', '/partners/HAULG/gate/1', '/partners/HAULC/gate?x=1']
 
 
 def routes(checks, path):
@@ -40,6 +44,31 @@ def routes(checks, path):
         chunked = ['-H', 'Transfer-Encoding: chunked', '--data-binary', server.file(gate_in(2))]
         owed = server.owed('POST /interchanges HTTP/1.1\r\nTransfer-Encoding: chunked\r\n\r\n')
         checks.expect('curl, chunked', owed, server.curl('/interchanges', *chunked)[0])
+
+
+def accounts(checks, path):
+    """Accounts by curl: with no body, with one that nobody looks at, with no length, and by parts that need their escapes.
+    What a sender sent before stays refused, and what it sends behind is taken."""
+    with Served(path) as server:
+        text = gate_in(1, 'HAULC')
+        server.same(checks, 'before its account', post(text))
+        for kind in ('gate', 'gate', 'line', 'port', 'GATE'):
+            came, _seconds = server.curl('/partners/HAULC/' + kind, '--data', '')
+            checks.expect("curl --data '' as " + kind, server.owed(account('HAULC', kind)), came)
+        came, _seconds = server.curl('/partners/HAULD/gate', '--data-binary', server.file(gate_in(1)))
+        checks.expect('curl, an account with a body', server.owed(account('HAULD', 'gate')), came)
+        server.same(checks, 'the body was not delivered', get('/replies/HAULA/1'))
+        came, _seconds = server.curl('/partners/HAULE/gate', '-X', 'POST')
+        checks.expect('curl -X POST', server.owed('POST /partners/HAULE/gate HTTP/1.1\r\n\r\n'), came)
+        chunked = ['-H', 'Transfer-Encoding: chunked', '--data', '']
+        owed = server.owed('POST /partners/HAULE/gate HTTP/1.1\r\nTransfer-Encoding: chunked\r\n\r\n')
+        checks.expect('curl, an account, chunked', owed, server.curl('/partners/HAULE/gate', *chunked)[0])
+        for asked in ODD_ACCOUNTS:
+            came, _seconds = server.curl(asked, '--path-as-is', '--data', '')
+            checks.expect('curl ' + asked, server.owed('POST %s HTTP/1.1\r\nContent-Length: 0\r\n\r\n' % asked), came)
+        came, _seconds = server.curl('/partners/HAULC/gate')
+        checks.expect('curl, GET of an account', server.owed(get('/partners/HAULC/gate')), came)
+        server.same(checks, 'behind its account', post(text))
 
 
 def forms(checks, path):
@@ -124,4 +153,4 @@ def served_so_many(checks, path):
         checks.expect('nothing listens behind it', 7, done.returncode)
 
 
-CHECKS = [bound, served_so_many, routes, forms, piece_by_piece, of_a_mebibyte, expecting]
+CHECKS = [bound, served_so_many, routes, accounts, forms, piece_by_piece, of_a_mebibyte, expecting]

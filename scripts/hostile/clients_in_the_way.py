@@ -1,15 +1,17 @@
-"""Clients that hold the office up: ones that send nothing or slowly, that don't read or slowly, that reset. Each is given up
-within limits, and others are served behind it."""
+"""Clients that hold the office up: ones that send nothing or slowly, that don't read or slowly, that stay or reset. Each is
+given up within limits, and others are served behind it."""
 import threading
 import time
 
 from .served import Served, gate_in, get, post, received, reset
 
 FIRST_BYTE_LIMIT = 2        # seconds for the first byte of a request
-REQUEST_LIMIT = 10          # seconds for a request, and again for its answer
+REQUEST_LIMIT = 10          # seconds until a request is whole
+RESPONSE_LIMIT = 10         # seconds until a response is taken, and until the peer has closed behind it
 DRAIN_LIMIT = 1             # seconds for a read of what is dropped behind a response
 SLACK = 3
-SLOWEST = REQUEST_LIMIT + DRAIN_LIMIT + SLACK + 4    # seconds that the slow client goes on
+SLOWEST = REQUEST_LIMIT + RESPONSE_LIMIT + SLACK     # seconds that a slow client goes on
+SILENT = 3                  # clients that send nothing, one behind the other
 
 MESSAGES = 145              # of 999 lines each: a mebibyte, whose reply is some seven
 TOO_SMALL = 4096            # bytes that a client takes in unread
@@ -23,15 +25,41 @@ def behind(checks, server, name, limit):
 
 
 def silent(checks, path):
-    """It sends nothing, or half a head, or half a body, and stays."""
+    """It sends nothing, or a byte, or half a head, or half a body, and stays."""
     with Served(path) as server:
         for name, sent, limit in (
-                ('a client that sends nothing', '', FIRST_BYTE_LIMIT), ('half a head', 'GET /yard HT', REQUEST_LIMIT),
+                ('a client that sends nothing', '', FIRST_BYTE_LIMIT),
+                ('a client that sends a byte', 'G', REQUEST_LIMIT),
+                ('half a head', 'GET /yard HT', REQUEST_LIMIT),
                 ('half a body', post(gate_in(1))[:-9], REQUEST_LIMIT)):
             with server.connect() as connection:
                 connection.sendall(sent.encode('latin-1'))
-                behind(checks, server, name, limit + DRAIN_LIMIT + SLACK)
+                behind(checks, server, name, limit + SLACK)
+                checks.expect('%s: it gets no answer' % name, '', received(connection))
         server.same(checks, 'half a body was not delivered', get('/replies/HAULA/1'))
+
+
+def silent_ones(checks, path):
+    """Several send nothing and stay: each costs the next one two seconds, and each counts as a connection."""
+    with Served(path, count=SILENT + 1) as server:
+        staying = [server.connect() for _place in range(SILENT)]
+        time.sleep(0.2)
+        behind(checks, server, '%d clients that send nothing' % SILENT, SILENT * FIRST_BYTE_LIMIT + SLACK)
+        checks.expect('each of them is counted', ('served %d\n' % (SILENT + 1), 0), server.wait())
+        for connection in staying:
+            connection.close()
+
+
+def late(checks, path):
+    """Its first byte comes in time, and its request whole, but not at once: it is answered."""
+    with Served(path) as server:
+        with server.connect() as connection:
+            time.sleep(FIRST_BYTE_LIMIT / 2)
+            connection.sendall(b'GET /yard HT')
+            time.sleep(REQUEST_LIMIT / 2)
+            connection.sendall(b'TP/1.1\r\n\r\n')
+            checks.expect('a client that is late, but in time', server.owed(get('/yard')), received(connection))
+        behind(checks, server, 'a client that is late, but in time', SLACK)
 
 
 def slow(checks, path):
@@ -40,16 +68,38 @@ def slow(checks, path):
         sender = threading.Thread(target=trickle, args=[connection, 'GET /yard HTTP/1.1\r\nX: ', SLOWEST])
         sender.start()
         time.sleep(0.2)
-        behind(checks, server, 'a client that sends a byte a second', REQUEST_LIMIT + DRAIN_LIMIT + SLACK)
+        behind(checks, server, 'a client that sends a byte a second', REQUEST_LIMIT + SLACK)
         sender.join()
 
 
-def trickle(connection, front, seconds):
-    """Sends a front, and then a byte each second, until the peer is gone or the time is over."""
+def slow_body(checks, path):
+    """It sends the body of a delivery a byte a second."""
+    with Served(path) as server:
+        with server.connect() as connection:
+            sender = threading.Thread(target=trickle, args=[connection, post(gate_in(1))[:-60], SLOWEST])
+            sender.start()
+            time.sleep(0.2)
+            behind(checks, server, 'a client that sends a body a byte a second', REQUEST_LIMIT + SLACK)
+            sender.join()
+        server.same(checks, 'it was not delivered', get('/replies/HAULA/1'))
+
+
+def going_on(checks, path):
+    """It has its answer, and goes on sending a byte a half second, so that each read brings something."""
+    with Served(path) as server, server.connect() as connection:
+        sender = threading.Thread(target=trickle, args=[connection, get('/yard'), SLOWEST, 0.5])
+        sender.start()
+        time.sleep(0.2)
+        behind(checks, server, 'a client that goes on sending behind its answer', RESPONSE_LIMIT + SLACK)
+        sender.join()
+
+
+def trickle(connection, front, seconds, pause=1):
+    """Sends a front, and then a byte behind each pause, until the peer is gone or the time is over."""
     connection.sendall(front.encode('latin-1'))
-    for _second in range(seconds):
+    for _time in range(int(seconds / pause)):
         try:
-            time.sleep(1)
+            time.sleep(pause)
             connection.sendall(b'x')
         except OSError:
             return
@@ -81,7 +131,7 @@ def unread(checks, path):
         with server.connect(TOO_SMALL) as connection:
             connection.sendall(get('/replies/HAULA/1').encode('latin-1'))
             time.sleep(0.2)
-            behind(checks, server, "a client that doesn't read", REQUEST_LIMIT + DRAIN_LIMIT + SLACK)
+            behind(checks, server, "a client that doesn't read", RESPONSE_LIMIT + SLACK)
         with server.connect() as connection:
             connection.sendall(get('/yard').encode('latin-1'))
             time.sleep(0.2)
@@ -89,7 +139,7 @@ def unread(checks, path):
 
 
 def slow_reader(checks, path):
-    """It asks for a long reply and reads a little of it every five seconds."""
+    """It asks for a long reply and reads a little of it every second."""
     with Served(path) as server:
         server.same(checks, 'a reply of megabytes', post(long_reply()))
         with server.connect(TOO_SMALL) as connection:
@@ -97,14 +147,14 @@ def slow_reader(checks, path):
             reader = threading.Thread(target=sip, args=[connection, SLOWEST])
             reader.start()
             time.sleep(0.2)
-            behind(checks, server, 'a client that reads a little every five seconds', REQUEST_LIMIT + DRAIN_LIMIT + SLACK)
+            behind(checks, server, 'a client that reads a little every second', RESPONSE_LIMIT + SLACK)
             reader.join()
 
 
 def sip(connection, seconds):
-    """Reads a little every five seconds, until the peer is gone or the time is over."""
-    for _time in range(seconds // 5):
-        time.sleep(5)
+    """Reads a little every second, until the peer is gone or the time is over."""
+    for _second in range(seconds):
+        time.sleep(1)
         try:
             if not connection.recv(TOO_SMALL):
                 return
@@ -126,4 +176,4 @@ def resets(checks, path):
         server.same(checks, 'nothing of it was delivered', get('/replies/HAULA/2'))
 
 
-CHECKS = [slow, slow_reader, silent, unread, resets, slow_but_whole]
+CHECKS = [slow, slow_body, slow_reader, silent, silent_ones, late, going_on, unread, resets, slow_but_whole]

@@ -1,4 +1,4 @@
-"""Each allocation of `init`, `report` and `serve` refused in turn: scripts/memory.
+"""Each allocation of `init`, `report`, `serve`, `account` and `migrate` refused in turn: scripts/memory.
 
 With one allocation refused, a command does what it does with all of them, or it tells by name that memory ran out. An
 `init` that told so left no store, or a whole one; a `report` or a request that is answered so changes nothing.
@@ -16,8 +16,9 @@ from model.setup import DEMO
 from model.stores import exchanged
 
 from .books import Different, expect
+from .commands import CODE, KIND, refuse_commands
 from .sampled import free_port
-from .served import get, post
+from .served import account, get, post
 
 NOT_NOW = response_text(503, 'application/json', '{"answer":"not now"}')
 
@@ -97,10 +98,10 @@ class Server:
 
 
 def refuse_requests(refusing, before, text, steps, counted):
-    """Each allocation of a server that is sent a delivery, a question and the delivery again."""
+    """Each allocation of a server that is sent a delivery, a question and the delivery again, and then an account twice."""
     start = os.path.join(refusing.folder, 'start.db')
     refusing.copy_to(start)
-    requests = [post(text), get('/yard'), post(text)]
+    requests = [post(text), get('/yard'), post(text), account(CODE, KIND), account(CODE, KIND)]
     opened = serve(refusing, before, requests[:1], 0, counted, 'nothing refused')
     refusing.copy_from(start)
     every = serve(refusing, before, requests, 0, counted, 'nothing refused')
@@ -132,10 +133,12 @@ def serve(refusing, before, requests, refused, counted, what):
 
 
 def try_others(refusing, office, setup, text, steps, counted):
-    """All three, over a store that holds an office, with a text that is next."""
+    """All of them, over a store that holds an office, with a text that is next."""
     kept = os.path.join(refusing.folder, 'kept.db')
     refusing.copy_to(kept)
     refuse_init(refusing, setup, steps[1], counted)
     refusing.copy_from(kept)
     refuse_reports(refusing, office, max(steps[0] // 10, 1), counted)
+    refuse_commands(refusing, office, steps, counted)
+    refusing.copy_from(kept)
     refuse_requests(refusing, office, text, steps, counted)

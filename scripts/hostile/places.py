@@ -102,6 +102,22 @@ def try_gone(program, seed, counted):
         book.again()
 
 
+def try_removed(program, seed, counted):
+    """The folder is removed while a process works on the store in it: what comes then is not now, and no report lost."""
+    with tempfile.TemporaryDirectory(prefix='kill9-') as top:
+        folder = os.path.join(top, 'store')
+        os.mkdir(folder)
+        book = prefilled(program, folder, seed, BEFORE)
+        with Served(program, book.store) as worker:
+            for not_now in (0, 5):
+                lines = []
+                worker.answers(book.upcoming(5), lines.append)
+                expect('the answers that are not now', not_now, book.take(lines))
+                shutil.rmtree(folder, ignore_errors=True)
+        expect('a folder', False, os.path.exists(folder))
+        counted['the folder removed while serve works: not now'] += 5
+
+
 def try_copies(program, seed, counted):
     """A copy while nothing runs opens and goes on by itself; a copy of the file without its log; other names."""
     with tempfile.TemporaryDirectory(prefix='kill9-') as folder, tempfile.TemporaryDirectory(prefix='kill9-') as other:
@@ -168,7 +184,7 @@ def try_hanging_up(program, seed, counted):
 
 def try_all(program, seed, counted):
     """Each kind."""
-    for trial in (try_read_only, try_gone, try_copies, try_leaving, try_hanging_up):
+    for trial in (try_read_only, try_gone, try_removed, try_copies, try_leaving, try_hanging_up):
         try:
             trial(program, seed, counted)
         except Different as fault:

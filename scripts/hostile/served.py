@@ -17,13 +17,18 @@ from model.stores import SECONDS, Program, exchanged
 from .sampled import free_port
 
 GATE_IN = (
-    "UNB+UNOA:3+HAULA+TERM1+240305:0910+%d'UNH+1+CODECO:D:95B:UN'BGM+34+G1+9'EQD+CN+%s+22G1:102:5+++5'UNT+4+1'UNZ+1+%d'")
+    "UNB+UNOA:3+%s+TERM1+240305:0910+%d'UNH+1+CODECO:D:95B:UN'BGM+34+G1+9'EQD+CN+%s+22G1:102:5+++5'UNT+4+1'UNZ+1+%d'")
 
 
-def gate_in(number):
-    """An interchange of HAULA that brings in a container of its own."""
-    first_ten = 'ABCU%06d' % number
-    return GATE_IN % (number, first_ten + str(check_digit(first_ten)), number)
+def gate_in(number, sender='HAULA', serial=None):
+    """An interchange that brings in a container, one of the number's own if none is named."""
+    first_ten = 'ABCU%06d' % (number if serial is None else serial)
+    return GATE_IN % (sender, number, first_ten + str(check_digit(first_ten)), number)
+
+
+def account(code, kind):
+    """The request that adds an account."""
+    return 'POST /partners/%s/%s HTTP/1.1\r\nContent-Length: 0\r\n\r\n' % (code, kind)
 
 
 def post(text):

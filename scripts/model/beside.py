@@ -144,10 +144,12 @@ def main():
     failed += migrated.check_real()
     if not demo_alone:
         damaged.try_all(beside)
+        damaged.try_all_old(beside)
         crowded.try_all(beside)
         replaced.try_all(beside)
     if len(sys.argv) == 1:
         stores.try_all(beside)
+        migrated.try_all(beside)
     failed += stores.told(beside)
     for mix in mixes:
         counted, differing = compare(mix, first_seed, answered_by_program)

@@ -23,21 +23,13 @@ from .events import Added, Delivered
 from .http import response
 from .office import Office, json_text
 from .reports import text_of
-from .setup import DEMO
+from .setup import DEMO, with_accounts
 from .setups import files_of
 from .stores import Program, exchanged, in_bytes, in_two
 from .stream import answers, lines, status
 from .yard import Block
 
 FILE = os.path.join(os.path.dirname(os.path.abspath(__file__)), 'cases.txt')
-
-
-def with_accounts(count):
-    """The demonstration's set-up with so many accounts, those behind its own being P6, P7 and so on, of hauliers."""
-    more = {'P%d' % place: 'gate' for place in range(len(DEMO.partners) + 1, count + 1)}
-    return DEMO._replace(partners=dict(DEMO.partners, **more))
-
-
 SETUPS = {
     '998 accounts': with_accounts(998),
     '999 accounts': with_accounts(999),

@@ -23,6 +23,8 @@ WEIGHED_AGAIN = 0.25        # of these: another one
 WEIGHED_AT_FRONT = 0.05     # a MEA before the first EQD
 ASKED_AGAIN = 0.25          # of the slots that are named: the one that was named for that container before
 ON_TOP = 0.35               # of the others: the one above a slot that was named before, of whatever container
+NEWCOMER = 0.08             # of all deliveries, where a sender has no account yet: one of such a sender
+SENT_BEFORE = 0.5           # of what a sender sends behind its addition: what it sent under that number before
 
 # how many different containers a stream has, and of how many messages an interchange, of how many containers a message
 CONTAINERS = [(1, 5), (2, 14), (1, 30)]
@@ -92,6 +94,8 @@ MEASURES = [
     (0.5, 'AAE++KGM:24000'), (0.5, 'G+KGM+KGM:24000'), (0.5, '')]
 PORTS = [(2, 'DEHAM:139:6'), (2, 'NLRTM'), (1, '')]
 REFERENCES = [(8, '%d'), (4, "M?'%d"), (2, 'M??%d'), (2, 'M?:?+%d'), (2, '%014d')]
+ADDED_KINDS = ['gate', 'line', 'quay', 'yard', 'port', 'GATE']
+NEWCOMERS = {'HAULN': 'gate', 'LINE-N': 'line', 'YARD.N': 'yard'}
 TRANSPORTS = [(6, 'TDT+20+V12++++++9123456:146'), (2, 'TDT+20+V13++++++9123456')]
 
 BETWEEN = [(3, ''), (3, '\n'), (3, '\r\n'), (1, '\n\n')]
@@ -102,10 +106,11 @@ PLACED_BYTES = "'+:?UNZBHT0159 ~\r\n\x00\x1f\x7f\x80\xe9"
 
 
 class Day:
-    """One stream in the making, for a terminal of some set-up."""
+    """One stream in the making, for a terminal of some set-up. Newcomers send too, by their codes and kinds, and have no
+    account until one is added."""
 
-    def __init__(self, seed, setup=DEMO):
-        self.random, self.setup = random.Random(seed), setup
+    def __init__(self, seed, setup=DEMO, newcomers=()):
+        self.random, self.setup, self.newcomers, self.earlier = random.Random(seed), setup, dict(newcomers), {}
         self.sent = {code: {} for code in setup.partners}
         self.senders = [(SENDERS[kind][0], (code, SENDERS[kind][1])) for code, kind in setup.partners.items()]
         self.codes = {meant.order: (meant.type_name, setup.codes[name]) for name, meant in CODE_NAMES.items()}
@@ -237,6 +242,28 @@ class Day:
         _fault, what, by = self.random.choice(SPOILS)
         return re.sub(what, by, text, count=1, flags=re.DOTALL)
 
+    # ---- accounts
+
+    def addition(self):
+        """Code and kind of an account: most often that of a newcomer, who sends as any partner from then on and numbers from
+        1 again; or one that is known, of another kind or of no form."""
+        if self.newcomers and self.happens(0.7):
+            code = self.random.choice(sorted(self.newcomers))
+            kind = self.newcomers.pop(code)
+            self.earlier[code], self.sent[code] = self.sent.get(code, {}), {}
+            self.senders.append((SENDERS[kind][0], (code, SENDERS[kind][1])))
+            return code, kind
+        code = self.random.choice(sorted(self.setup.partners))
+        return self.pick([(2, code), (1, code.lower()), (1, code + '/'), (1, code * 9)]), self.random.choice(ADDED_KINDS)
+
+    def of_newcomer(self):
+        """An interchange of a sender that has no account yet."""
+        code = self.random.choice(sorted(self.newcomers))
+        sent = self.sent.setdefault(code, {})
+        text = self.interchange(code, SENDERS[self.newcomers[code]][1], len(sent) + 1)
+        sent[len(sent) + 1] = text
+        return text
+
     # ---- a stream
 
     def again(self):
@@ -246,6 +273,8 @@ class Day:
 
     def delivery(self):
         """What is sent next, by whomever."""
+        if self.newcomers and self.happens(NEWCOMER):
+            return self.of_newcomer()
         code, orders = self.pick(self.senders)
         sent = self.sent[code]
         if sent and self.happens(SENT_AGAIN):
@@ -255,6 +284,9 @@ class Day:
         number = min(number for number in range(1, len(sent) + 2) if number not in sent)
         if self.happens(SENT_EARLY):
             number += self.random.randint(1, 3)
+        if number in self.earlier.get(code, {}) and self.happens(SENT_BEFORE):
+            sent[number] = self.earlier[code][number]
+            return sent[number]
         text = self.interchange(code, orders, number)
         if self.happens(SPOILED):
             return self.spoiled(text)

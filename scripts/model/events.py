@@ -61,11 +61,15 @@ def refusal(setup, text):
     return None if recipient_of(text) == setup.terminal else 'WrongRecipient'
 
 
+def as_delivery(text):
+    """The delivery that an admitted text is."""
+    return Delivery(sender_of(text), number_of(text), text)
+
+
 def delivery_of(setup, event):
     """The delivery that an event is, or None: of texts, those that are admitted are one."""
-    if not isinstance(event, Delivered) or refusal(setup, event.text):
-        return None
-    return Delivery(sender_of(event.text), number_of(event.text), event.text)
+    is_admitted = isinstance(event, Delivered) and refusal(setup, event.text) is None
+    return as_delivery(event.text) if is_admitted else None
 
 
 def deliveries_of(opening, events):

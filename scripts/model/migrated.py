@@ -1,15 +1,18 @@
 """Old stores brought over by the program, beside the model: scripts/beside.
 
 Some are written by SQLite's own library from an office of the model that was played by old rules. Others, in real_stores,
-are the files as the program of version 1 left them (commit 6bfb941), with the set-up files and the streams that it read. The
-model has to come to the same rows by itself.
+are the files as the program of version 1 left them, the log beside each as it stood, with the set-up files and the streams
+that it read. (It is commit 6bfb941, built by `rt try`, which proves nothing; the program was kept from its folder.) The model
+has to come to the same rows by itself.
 """
 import glob
 import hashlib
 import os
 import random
+import sqlite3
 import tarfile
 import tempfile
+from contextlib import closing
 
 from .days import Day, streamed
 from .events import Delivered
@@ -19,12 +22,15 @@ from .opened import fault_of_old_rows
 from .requests import every_key, random_requests
 from .rows import OLD_COLUMNS, rows_in, rows_of
 from .setup import DEMO, read_setup
-from .setups import Files, files_of
+from .setups import Files
 from .stores import Program
 from .stream import answers
 
 REAL_STORES = sorted(glob.glob(os.path.join(os.path.dirname(os.path.abspath(__file__)), 'real_stores', '*.tar.xz')))
 OLD_VERSIONS = (1, 2)
+
+# bytes of a log before its first page: its own head, and the page's
+LOG_HEAD, PAGE_HEAD = 32, 24
 
 # lists that are played by old rules, deliveries before the migration and behind it, texts of old times that come again, and
 # requests behind them
@@ -34,14 +40,20 @@ AGAIN = 8
 REQUESTS = 20
 
 
+def pages_logged(log):
+    """A log that holds a whole page, which stands behind its own head and that of the log; else nothing."""
+    return log if len(log) >= LOG_HEAD + PAGE_HEAD + int.from_bytes(log[8:12], 'big') else b''
+
+
 def contents(path):
-    """A hash of the bytes of a file, and one of the log beside it. An empty log says what none says."""
+    """A hash of the bytes of a file, and one of the log beside it. A log without a page says what none says: whoever opens a
+    store, to read it alone, makes one."""
     def read(name):
         if not os.path.exists(name):
             return b''
         with open(name, 'rb') as file:
             return file.read()
-    return [hashlib.sha256(read(path + end)).hexdigest() for end in ('', '-wal')]
+    return [hashlib.sha256(text).hexdigest() for text in (read(path), pages_logged(read(path + '-wal')))]
 
 
 # ---- the program's own stores of version 1
@@ -153,6 +165,10 @@ def try_faults(beside):
             beside.expect('migrate refused', '%s to %s' % (given, new), ('', 'store: %s\n' % fault, 3), told)
         beside.expect('migrate refused', 'what was there', before, (contents(old), contents(other), contents(text)))
         beside.expect('migrate refused', 'a store that is missing', False, os.path.exists(missing))
+        with closing(sqlite3.connect(old, isolation_level=None)) as holder:
+            holder.execute('BEGIN IMMEDIATE')
+            beside.expect('migrate refused', 'an old store that is held', ('', 'store: Store\n', 3), program.migrate(old))
+            holder.execute('ROLLBACK')
         beside.expect('migrate', 'through a link', ('ready\n', '', 0), program.migrate(link))
 
 

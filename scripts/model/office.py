@@ -6,8 +6,9 @@ import json
 
 from .contrl import acknowledgement, rejection
 from .deliveries import answer_of, first_text, made_next, order
-from .events import NAMES, Added, Delivered, Migrated, account_answer, delivery_of, deliveries_of, migration_in, refusal
-from .events import setup_after, setup_with
+from .events import (
+    NAMES, Added, Delivered, Migrated, account_answer, as_delivery, deliveries_of, delivery_of, migration_in, refusal,
+    setup_after, setup_with)
 from .messages import lines_of, list_replaced, message_fault
 from .rules import NEWEST, RULES
 from .setup import DEMO, orders_of
@@ -164,7 +165,7 @@ class Office:
         fault = refusal(setup, event.text)
         if fault:
             return refused(setup, event.text, fault)
-        delivery = delivery_of(setup, event)
+        delivery = as_delivery(event.text)
         answer = answer_of(before, delivery, self.reply_of)
         return dict(answer, number=delivery.number, partner=delivery.partner)
 

@@ -79,7 +79,10 @@ def short_of(answer):
     if word == 'waiting':
         return 'waiting, next %d' % answer['next']
     if word in ('taken', 'repeat'):
-        line = answer['reply']['messages'][0]['lines'][0]
+        message = answer['reply']['messages'][0]
+        if 'fault' in message:
+            return '%s: rejected %s' % (word, message['fault'])
+        line = message['lines'][0]
         return ' '.join([word + ':', line['outcome'], line.get('reason', line.get('slot', ''))]).strip()
     code = re.findall(r"UCI.*\+4\+(\d+)'UNT\+3\+1'", answer.get('contrl', ''))
     return ' '.join([word, answer.get('fault', '')]).strip() + ''.join(', ' + number for number in code)

@@ -13,7 +13,7 @@ ODD_KEYS = [
 
 KINDS = [
     (14, 'delivery'), (2, 'altered delivery'), (8, 'report'), (2, 'odd report'), (1, 'method'), (1, 'route'),
-    (2, 'length'), (1, 'cut'), (6, 'altered head'), (2, 'large')]
+    (2, 'length'), (1, 'cut'), (6, 'altered head'), (2, 'large'), (2, 'account'), (1, 'odd account')]
 METHODS = ['GET', 'POST', 'PUT', 'HEAD', 'get', 'OPTIONS', 'DELETE', 'X', 'PATCH', 'CONNECT', "!#$%&'*+-.^_`|~"]
 PATHS = [
     '/', '*', '/x', '/yard/', '//yard', '/Yard', 'yard', 'http://127.0.0.1/yard', '/yardcsv', '/visits', '/visits/',
@@ -35,6 +35,10 @@ FIELDS = [
     'Connection: keep-alive', 'X: \xe9\xff', "!#$%&'*+-.^_`|~: 1", 'Content-Type: application/edifact']
 PLACED_BYTES = ' \t\r\n\x00\x0b\x1f\x7f\x80\xe9:/%?#AZ19"(),;'
 LARGE = [(3, 'fields'), (3, 'head'), (1, 'body')]
+ODD_ACCOUNTS = [
+    '%zz/gate', 'HAULZ/%zz', '%00/gate', '%2F/gate', 'HAULZ/GATE', 'HAULZ/port', 'HAULZ/', '/gate', 'HAULZ/gate/', 'HAULZ',
+    'H' * 36 + '/gate', 'HAUL Z/gate', 'HAULA/1', '%/gate', 'HAULZ/gat%6', 'H\xc3\x84ULZ/gate', '\xff/gate', '%FF/gate',
+    './gate', '../gate', '%2e%2E/line']
 
 
 # ---- keys
@@ -133,6 +137,23 @@ def report_path(random, office):
     return path_of(*known(random, office))
 
 
+def account(random, code, kind):
+    """An addition, its body of any length and sometimes another method."""
+    body = random.choice(['', '', '', 'x', "UNB+'", '\r\n'])
+    method = random.choice(['POST'] * 8 + ['GET', 'PUT'])
+    line = '%s /partners/%s/%s%s HTTP/1.1' % (
+        method, written(random, code), written(random, kind), weighted(random, QUERIES))
+    return request(random, line, ['Content-Length: %d' % len(body)], body + random.choice(['', '', 'AAAA']))
+
+
+def odd_account(random):
+    """An addition whose path is odd, or whose length is said in another way."""
+    if random.random() < 0.5:
+        return request(random, 'POST /partners/%s HTTP/1.1' % random.choice(ODD_ACCOUNTS), ['Content-Length: 0'])
+    fields = [field.replace('%d', '0') for field in random.choice(LENGTHS)]
+    return request(random, 'POST /partners/HAULZ/gate HTTP/1.1', fields)
+
+
 def of_length(random, text):
     """A delivery whose length is said in another way."""
     fields = [field.replace('%d', str(len(text))) for field in random.choice(LENGTHS)]
@@ -179,6 +200,10 @@ def random_request(random, day, office):
         return get(random, random.choice(PATHS), random.choice(['GET', 'POST', 'PUT']))
     if kind == 'length':
         return of_length(random, text)
+    if kind == 'account':
+        return account(random, *day.addition())
+    if kind == 'odd account':
+        return odd_account(random)
     if kind == 'cut':
         whole = post(random, text)
         return whole[:random.randrange(len(whole))]

@@ -39,6 +39,12 @@ DEMO = Setup(
     most_visits=MOST_VISITS)
 
 
+def with_accounts(count):
+    """The demonstration's set-up with so many accounts, those behind its own being P6, P7 and so on, of hauliers."""
+    more = {'P%d' % place: 'gate' for place in range(len(DEMO.partners) + 1, count + 1)}
+    return DEMO._replace(partners=dict(DEMO.partners, **more))
+
+
 def orders_of(setup, kind):
     """What a partner of that kind may order: orders by type and 1001."""
     return {

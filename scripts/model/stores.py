@@ -7,9 +7,9 @@ import tempfile
 from collections import Counter
 from functools import partial
 
-from .days import Day, streamed
+from .days import NEWCOMERS, Day, streamed
 from .http import response
-from .office import Office
+from .office import Office, json_text
 from .reports import printed, text_of
 from .requests import every_key, question, random_requests
 from .rows import rows_in, rows_of
@@ -144,6 +144,12 @@ class Beside:
         self.expect('deliver', name, (text_of(lines(given)), '', status(given)), program.deliver(text))
         self.counted['answers over a store'] += len(given)
 
+    def account(self, name, program, office, code, kind):
+        """An addition by a command."""
+        answer = office.add_account(code, kind)
+        wanted = json_text(answer) + '\n', '', 1 if answer['answer'] == 'refused' else 0
+        self.expect('account ' + answer['answer'], name, wanted, program.account(code, kind))
+
     def report(self, name, program, office, kind, key=''):
         """A report, or that there is none."""
         text, ended = printed(office, kind, key)
@@ -201,8 +207,8 @@ def try_setups(beside):
 
 
 def try_list(beside, seed, requests):
-    """Deliveries in one to three calls over a store of a random set-up, with all reports and rows behind them, and then
-    requests by HTTP, with the rows again."""
+    """Deliveries in one to three calls over a store of a random set-up, with additions between them, with all reports and
+    rows behind them, and then requests by HTTP, with the rows again."""
     name, chance = 'list %d' % seed, random.Random('list %d' % seed)
     files = Files(seed).both()
     if read_setup(*files)[1] or seed % 8 == 0:
@@ -210,9 +216,11 @@ def try_list(beside, seed, requests):
     with tempfile.TemporaryDirectory(prefix='beside-') as folder:
         program = Program(beside.path, folder)
         office = beside.init(name, program, files)
-        day = Day(seed, office.setup)
+        day = Day(seed, office.setup, NEWCOMERS)
         for _call in range(chance.choice([1, 2, 3])):
             beside.deliver(name, program, office, streamed(day, DELIVERIES, ALTERED))
+            if chance.random() < 0.7:
+                beside.account(name, program, office, *day.addition())
         asked = [question(chance, office) for _question in range(QUESTIONS)]
         for kind, key in [('yard', ''), ('yardcsv', '')] + asked:
             beside.report(name, program, office, kind, key)

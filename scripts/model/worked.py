@@ -12,7 +12,7 @@ from functools import partial
 from .names import length_of, number_fault, slot_of, slot_text
 from .office import Office, json_text
 from .page import Page, is_told, short_of
-from .setup import DEMO, read_setup
+from .setup import DEMO, read_setup, with_accounts
 from .stream import answers, differences, lines, status
 from .worked_stores import EVERY, check_told, has_own_calls, told_in
 from .yard import Block, Place, blocker, first_slot, misfit, shift_misfit
@@ -23,6 +23,7 @@ OTHER_SETUPS = {
     'The first slot that fits a full container': DEMO._replace(plan=[Block('A', bays=2, rows=1, tiers=2)]),
     'No more visits': DEMO._replace(most_visits=1),
     'No more visits, opened again': DEMO._replace(most_visits=1),
+    'No more accounts': with_accounts(999),
 }
 
 
@@ -82,7 +83,7 @@ class Rows:
 def rows_of_tables(rows):
     """Each row with a table of what is delivered and what is answered."""
     for row, text in rows.page.rows.items():
-        if '| Delivered | Answer |' in text and row != 'What no CONTRL answers' and not has_own_calls(rows.page, row):
+        if '\n| Delivered | Answer |' in text and row != 'What no CONTRL answers' and not has_own_calls(rows.page, row):
             table = rows.page.table(row)
             rows.tell(row, [rows.page.interchange(cells[0]) for cells in table], [cells[1] for cells in table])
 

@@ -13,10 +13,12 @@ from .commands import CLAP, outcome
 from .crowded import empty
 from .http import response
 from .office import Office
+from .old_stores import write_store
 from .opened import fault_of_rows
 from .page import is_told
 from .reports import printed, text_of
 from .rows import COLUMNS, rows_of, tables_of
+from .rules import NEWEST
 from .setup import read_setup
 from .setups import files_of
 from .stores import Program
@@ -131,8 +133,12 @@ def is_output(cell, printed_text, told_text):
 
 
 def commands(rows):
-    """Commands one after the other, over files in one folder."""
-    row = 'Commands and their statuses'
+    """The commands of an office that is made by the first of them."""
+    commands_of_row(rows, 'Commands and their statuses', {})
+
+
+def commands_of_row(rows, row, stores):
+    """Commands one after the other, over files in one folder: those of the page, and stores that stand there."""
     first, demo = rows.page.first, files_of(rows.setup(row))
     files = {
         'partners.csv': demo[0], 'blocks.csv': demo[1], 'bad.csv': 'what,name\n', 'first.edi': first,
@@ -141,6 +147,9 @@ def commands(rows):
         program = rows.beside and Program(rows.beside.path, folder)
         for name, text in files.items() if program else ():
             program.file(name, text)
+        for name, office in stores.items() if program else ():
+            write_store(os.path.join(folder, name), office)
+        files.update(stores)
         for words, cell, ended in rows.page.table(row):
             words = words.strip('`').split()
             wanted = outcome(files, words)
@@ -149,6 +158,62 @@ def commands(rows):
                 got = program.run(*[os.path.join(folder, word) if '.' in word else word for word in words])
                 clap = tuple(CLAP if CLAP == model and text else text for model, text in zip(wanted, got))
                 rows.beside.expect('commands', ' '.join(words), wanted, clap[:2] + got[2:])
+
+
+def accounts_by_commands(rows):
+    """Accounts that are added by commands."""
+    commands_of_row(rows, 'An account by a command', {})
+
+
+# ---- old stores
+
+OLD_ROWS = (
+    'What waited in an old store', 'A full container on an empty one in an old store', 'A list replaced in an old store',
+    'A weight in an old store')
+
+
+def old_commands(rows):
+    """A store of version 2 and the commands that are given to it."""
+    old = Office(version=2)
+    old.answer(rows.page.first)
+    commands_of_row(rows, 'Old stores by commands', {'old.db': old})
+
+
+def old_stores(rows):
+    """What was delivered to a store of an old version, and behind its migration."""
+    for row in OLD_ROWS:
+        table = [(int(version), rows.page.interchange(short), cell) for version, short, cell in rows.page.table(row)]
+        office, before = Office(version=table[0][0]), [line for line in table if line[0] != NEWEST]
+        for place, (version, text, cell) in enumerate(table):
+            if place == len(before):
+                office.migrate()
+            given = office.answer(text)
+            rows.expect(row, 'version %d, %s, and not %s' % (version, cell, json.dumps(given)), is_told(cell, given))
+        told = told_in(rows.page, row)
+        for word, key, what, text in told:
+            got = table_text(office, word) if what == 'holds' else printed(office, word, key)[0]
+            rows.expect(row, '%s %s: %s' % (word, key, got), got == text)
+        rows.told.add(row)
+        if rows.beside:
+            over_old_store(rows, row, Office(version=table[0][0]), before, table[len(before):])
+
+
+def over_old_store(rows, row, office, before, behind):
+    """The same by the program: the old store is the model's."""
+    for _version, text, _cell in before:
+        office.answer(text)
+    with tempfile.TemporaryDirectory(prefix='beside-') as folder:
+        program, old = Program(rows.beside.path, folder), os.path.join(folder, 'old.db')
+        write_store(old, office)
+        rows.beside.expect('migrate', row, ('ready\n', '', 0), program.migrate(old))
+        office.migrate()
+        rows.beside.rows(row, program, office)
+        for _version, text, _cell in behind:
+            rows.beside.deliver(row, program, office, text)
+        rows.beside.rows(row, program, office)
+        for word, key, what, _text in told_in(rows.page, row):
+            if what == 'reports':
+                rows.beside.report(row, program, office, word, key)
 
 
 # ---- requests
@@ -167,8 +232,10 @@ def ending_of(words, endings):
 
 
 def request_of(page, cell):
-    """The bytes of a request that a cell says."""
+    """The bytes of a request that a cell says. An addition has no body."""
     method, _space, words = cell.partition(' ')
+    if (method, words[:1]) == ('POST', '`'):
+        return 'POST %s HTTP/1.1\r\nContent-Length: 0\r\n\r\n' % words.strip('`')
     if method != 'POST':
         fields = MANY_FIELDS.get(ending_of(words, MANY_FIELDS), [])
         return '\r\n'.join(['%s %s HTTP/1.1' % (method, words.split('`')[1])] + fields + ['', ''])
@@ -195,19 +262,36 @@ def is_response(cells, given):
 
 def requests(rows):
     """The empty yard's response, to the byte, and requests one after the other."""
-    empty, row = 'The yard, empty', 'Requests'
+    empty = 'The yard, empty'
     asked = 'GET /yard HTTP/1.1\r\n\r\n'
     head, body = told_response(rows.page, empty)
     rows.expect(empty, asked, response(Office(rows.setup(empty)), asked) == head + body)
-    office, every = Office(rows.setup(row)), [asked]
-    for cells in rows.page.table(row):
-        every.append(request_of(rows.page, cells[0]))
-        given = response(office, every[-1])
-        rows.expect(row, '%s: %s' % (cells[0], given), is_response(cells, given))
+    requests_of_row(rows, 'Requests', [asked])
+
+
+def requests_of_row(rows, row, every):
+    """Requests one after the other, behind some to which nothing is held but the model; and what they leave in a store."""
+    office = Office(rows.setup(row))
+    every = every + [request_of(rows.page, cells[0]) for cells in rows.page.table(row)]
+    given = [response(office, request) for request in every]
+    for cells, answer in zip(rows.page.table(row), given[-len(rows.page.table(row)):]):
+        rows.expect(row, '%s: %s' % (cells[0], answer), is_response(cells, answer))
+    for word, _key, _what, text in told_in(rows.page, row):
+        rows.expect(row, 'the rows of ' + word, table_text(office, word) == text)
+    rows.told.add(row)
     if rows.beside:
-        with Store(rows.beside, row, office.setup) as store:
+        with Store(rows.beside, row, office.opening) as store:
             rows.beside.serve(row, store.program, store.office, every)
             rows.beside.rows(row, store.program, store.office)
+
+
+def accounts(rows):
+    """Accounts that are added between interchanges; the answer to an addition, to the byte."""
+    first, row = 'An answer to an addition', 'An account is added'
+    asked = request_of(rows.page, 'POST `/partners/HAULC/gate`')
+    rows.expect(first, asked, response(Office(), asked) == ''.join(told_response(rows.page, first))[:-1])
+    for name in (row, 'No more accounts'):
+        requests_of_row(rows, name, [])
 
 
 def told_response(page, row):
@@ -307,4 +391,6 @@ def changed_rows(rows):
                 rows.beside.expect('changed rows', statement, ['store: %s\n' % fault, 3] if fault else ['', 0], got)
 
 
-EVERY = [keys, setup_files, commands, requests, calls_of_their_own, full_on_empty, changed_rows]
+EVERY = [
+    keys, setup_files, commands, requests, calls_of_their_own, full_on_empty, changed_rows, accounts, accounts_by_commands,
+    old_commands, old_stores]

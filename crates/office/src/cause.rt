@@ -7,6 +7,10 @@ use std::os::unix::fs::MetadataExt;
 /// What `init` meets where an office's tables are.
 const HAS_TABLES: &str = "it has its tables already: work on it, or name another file";
 
+/// What a process meets whose store's file was removed while it worked.
+pub(crate) const NAMELESS: &str =
+    "the store's file was removed: reports still tell what was answered; stop, and put the last copy back";
+
 /// Why a store could not be worked on, and what to do about it, for a person. `path` is the store's.
 pub(crate) fn cause_of(rt: &HostRuntime, path: &str, fault: &TableFault) -> &'static str {
     match fault {
@@ -18,7 +22,9 @@ pub(crate) fn cause_of(rt: &HostRuntime, path: &str, fault: &TableFault) -> &'st
         TableFault::Damaged => {
             "its rows are those of no office: take the last copy, and deliver again what came since"
         }
-        TableFault::Version => "its tables are of another version: use the program that made them",
+        TableFault::Version => {
+            "its tables are of another version: `office migrate` brings those of version 1 and 2 to this one"
+        }
         TableFault::Memory => "memory ran out: try again",
     }
 }

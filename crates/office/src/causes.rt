@@ -1,6 +1,6 @@
-use crate::cause::cause_of;
-use office_replies::Response;
-use office_tables::TableFault;
+use crate::cause::{NAMELESS, cause_of};
+use crate::faults::Faults;
+use office_replies::Worst;
 
 /// What a person was told of why answers are `not now`: once, and again when it changes.
 #[derive(Clone, Copy)]
@@ -15,16 +15,17 @@ impl<'a> Causes<'a> {
         Causes { path, told: None }
     }
 
-    /// The cause that has to be told behind an answer, given the fault that the desk last met.
-    pub(crate) fn behind(
+    /// The cause that has to be told behind an answer of that desk.
+    pub(crate) fn behind<F: Faults>(
         &mut self,
         rt: &HostRuntime,
-        response: &Response,
-        fault: Option<&TableFault>,
+        worst: Worst,
+        desk: &F,
     ) -> Option<&'static str> {
-        match (response, fault) {
-            (Response::NotNow, Some(fault)) => self.again(cause_of(rt, self.path, fault)),
-            (Response::NotNow, None) => self.again("memory ran out: try again"),
+        match (worst, desk.last_fault()) {
+            (Worst::NotNow, _) if desk.is_nameless() => self.again(NAMELESS),
+            (Worst::NotNow, Some(fault)) => self.again(cause_of(rt, self.path, fault)),
+            (Worst::NotNow, None) => self.again("memory ran out: try again"),
             _ => {
                 self.told = None;
                 None

@@ -1,5 +1,7 @@
+use crate::account::account;
 use crate::deliver::deliver;
 use crate::init::init;
+use crate::migrate::migrate;
 use crate::report::report;
 use crate::serve::serve;
 use crate::telling::{COMMAND_LINE, DONE, FAILED, print, tell};
@@ -37,6 +39,8 @@ pub(crate) fn run<R: Read, W: Write, E: Write>(
             log,
         } => serve(rt, store, (port, count), log, writer, errors),
         Request::Report { store, kind, key } => report(rt, store, kind, key, writer, errors),
+        Request::Account { store, code, kind } => account(rt, store, code, kind, writer, errors),
+        Request::Migrate { old, new } => migrate(rt, old, new, writer, errors),
         Request::Demo => demonstrate(rt.alloc(), reader, writer, errors),
     }
 }

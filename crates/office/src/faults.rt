@@ -6,10 +6,17 @@ use office_tables::TableFault;
 pub(crate) trait Faults {
     /// The fault for which it last did so.
     fn last_fault(&self) -> Option<&TableFault>;
+
+    /// Whether it did so because the store's path names its file no more.
+    fn is_nameless(&self) -> bool;
 }
 
 impl Faults for Desk<Store> {
     fn last_fault(&self) -> Option<&TableFault> {
         Desk::last_fault(self)
+    }
+
+    fn is_nameless(&self) -> bool {
+        false
     }
 }

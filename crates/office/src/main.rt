@@ -1,8 +1,10 @@
 //! The office of a container terminal: `office init` makes a store, `office deliver` and `office serve` take
-//! interchanges, `office report` looks things up, and `office demo` takes interchanges from standard input to tables in
-//! memory. Its texts and exit statuses are tested; what its commands are made of is proved.
+//! interchanges, `office account` adds an account, `office report` looks things up, `office migrate` brings an older
+//! store to this version, and `office demo` takes interchanges from standard input to tables in memory. Its texts and
+//! exit statuses are tested; what its commands are made of is proved.
 #![tactic(auto)]
 
+mod account;
 mod cause;
 mod causes;
 mod clock_time;
@@ -14,6 +16,8 @@ mod init;
 mod lines;
 mod logged;
 mod looked_at;
+mod migrate;
+mod named;
 mod placed;
 mod report;
 mod request_log;

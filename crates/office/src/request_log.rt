@@ -1,6 +1,5 @@
 use crate::clock_time::ClockTime;
 use office_http::{Seen, Watch};
-use office_replies::Response;
 use std::cell::Cell;
 use std::str;
 use std::time::Instant;
@@ -12,7 +11,7 @@ pub(crate) struct RequestLog<'a> {
     rt: &'a HostRuntime,
     is_on: bool,
     microseconds: Cell<u128>,
-    delivered: Cell<Option<String>>,
+    answered: Cell<Option<String>>,
 }
 
 impl<'a> RequestLog<'a> {
@@ -21,7 +20,7 @@ impl<'a> RequestLog<'a> {
             rt,
             is_on,
             microseconds: Cell::new(0),
-            delivered: Cell::new(None),
+            answered: Cell::new(None),
         }
     }
 
@@ -46,26 +45,27 @@ impl<'a> RequestLog<'a> {
         }
     }
 
-    /// Notes how a delivery was answered.
-    pub(crate) fn note_answer(&self, response: &Response) {
-        let body = response.body();
+    /// Notes how a delivery or an account was answered, by the body.
+    pub(crate) fn note_answer(&self, body: &str) {
         let answer = text_behind(body, "\"answer\":\"");
         let partner = text_behind(body, "\"partner\":\"");
         let number = text_behind(body, "\"number\":");
         let text = if partner.is_empty() {
             format!(in self.rt.alloc(); " {answer}")
+        } else if number.is_empty() {
+            format!(in self.rt.alloc(); " {partner} {answer}")
         } else {
             format!(in self.rt.alloc(); " {partner}/{number} {answer}")
         };
-        self.delivered.set(text.ok());
+        self.answered.set(text.ok());
     }
 
     /// Writes the line of a connection, of which that was seen.
     fn tell(&self, method: &str, target: &str, status: u16, bytes: u64) {
         let time = ClockTime::now(self.rt);
         let spent = self.microseconds.replace(0);
-        let delivered = self.delivered.replace(None);
-        let about = match &delivered {
+        let answered = self.answered.replace(None);
+        let about = match &answered {
             Some(text) => text.as_str(),
             None => "",
         };

@@ -1,11 +1,13 @@
 use crate::faults::Faults;
 use crate::logged::Logged;
 use crate::looked_at::is_looked_at;
+use crate::named::Named;
 use crate::request_log::RequestLog;
 use crate::store::open_store;
 use crate::telling::{DONE, FAILED, print, tell, tell_store};
 use office_http::serve_on;
 use office_queries::Report;
+use office_replies::AddAccount;
 use office_stream::Port;
 use std::io::Write;
 use std::net::TcpListener;
@@ -26,7 +28,7 @@ pub(crate) fn serve<W: Write, E: Write>(
     }
 }
 
-fn serve_logged<D: Report + Faults, W: Write, E: Write>(
+fn serve_logged<D: Report + AddAccount + Faults, W: Write, E: Write>(
     rt: &HostRuntime,
     store: &str,
     desk: D,
@@ -36,11 +38,12 @@ fn serve_logged<D: Report + Faults, W: Write, E: Write>(
     errors: &mut Port<E>,
 ) -> u8 {
     let log = RequestLog::new(rt, log || is_looked_at(rt));
-    let mut logged = Logged::new(desk, rt, &log, store);
+    let named = Named::new(desk, rt, store);
+    let mut logged = Logged::new(named, rt, &log, store);
     serve_desk(rt, &mut logged, &log, place, writer, errors)
 }
 
-fn serve_desk<D: Report + Faults, W: Write, E: Write>(
+fn serve_desk<D: Report + AddAccount + Faults, W: Write, E: Write>(
     rt: &HostRuntime,
     desk: &mut Logged<'_, D>,
     log: &RequestLog<'_>,

@@ -48,10 +48,30 @@ pub(crate) fn tell_store<E: Write>(
 ) -> u8 {
     let status = tell_fault(errors, fault);
     if is_looked_at(rt) {
-        let _ = errors.write_all(cause_of(rt, path, fault).as_bytes());
-        let _ = errors.write_all(b"\n");
+        tell_cause(errors, cause_of(rt, path, fault));
     }
     status
+}
+
+/// Tells a person why an answer was `not now`, if one was: the fault for which the store at a path gave it.
+pub(crate) fn tell_not_now<E: Write>(
+    rt: &HostRuntime,
+    errors: &mut Port<E>,
+    path: &str,
+    fault: Option<&TableFault>,
+) {
+    match fault {
+        Some(fault) if is_looked_at(rt) => {
+            let _ = errors.write_all(b"not now: ");
+            tell_cause(errors, cause_of(rt, path, fault));
+        }
+        _ => {}
+    }
+}
+
+fn tell_cause<E: Write>(errors: &mut Port<E>, cause: &str) {
+    let _ = errors.write_all(cause.as_bytes());
+    let _ = errors.write_all(b"\n");
 }
 
 /// Tells a person something in lines of their own.

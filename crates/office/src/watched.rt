@@ -38,9 +38,7 @@ impl<'a, D: Deliver + Faults> Watched<'a, D> {
         ensures { self.new.desk ≡ self.old.desk }
     {
         self.tally.count(response);
-        let cause = self
-            .causes
-            .behind(self.rt, response, self.desk.last_fault());
+        let cause = self.causes.behind(self.rt, response.worst(), &self.desk);
         if let Some(cause) = cause {
             let _ = eprintln!(self.rt; "not now: {cause}");
         }
@@ -58,6 +56,10 @@ impl<D: Deliver + Faults> Deliver for Watched<'_, D> {
     ghost stands = { λ opening es watched. D.stands opening es watched.desk };
 
     ghost answers = { λ opening es text response. D.answers opening es text response };
+
+    ghost added = { λ opening es code kind answer. D.added opening es code kind answer };
+
+    ghost leads = { λ old text response new. D.leads old.desk text response new.desk };
 
     fn deliver(&mut self, alloc: Global, delivered: &[u8]) -> Response {
         let response = self.desk.deliver(alloc, delivered);

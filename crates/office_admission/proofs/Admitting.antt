@@ -1,24 +1,17 @@
 -- What the head of a text, and its body, tell of its admission.
-use Rattle.std.proofs.Common.{◌≡◌, ℕ, ◌+◌, Bool, true, false, cond, List, [], ◌∷◌, ◌++◌, Option, Some, None, Result, Ok, Err, inl, inr, ◌⊎◌, ◌&&◌, refl, sym, ap, subst, ◌∙◌}
-use Rattle.std.specs.Option.{unwrap_or, is_none}
+use Rattle.std.proofs.Common.{◌≡◌, ℕ, ◌+◌, Bool, true, false, cond, List, [], ◌∷◌, ◌++◌, Option, Some, None, Ok, Err, ◌&&◌, refl, sym, ap, ◌∙◌}
+use Rattle.std.specs.Option.{is_none}
 use Rattle.std.specs.List.{find, list_all}
 use Rattle.std.specs.Str.{bytes_eq}
-use Rattle.std.proofs.lemmas.List.{append-nil}
 use Rattle.edi_segments.specs.Text.{Content}
-use Rattle.edi_segments.specs.Interchange.{interchange_of, segments_in}
+use Rattle.edi_segments.specs.Interchange.{segments_in}
 use Rattle.edi_segments.specs.declared.syntax_fault.SyntaxFault.{SyntaxFault}
 use Rattle.edi_syntax.specs.Envelope.{header_of}
-use Rattle.edi_syntax.specs.Header.{sender, recipient, control_number}
+use Rattle.edi_syntax.specs.Header.{sender, recipient}
 use Rattle.edi_syntax.proofs.FaultLemmas.{of_body}
 use Rattle.edi_syntax.specs.Faults.{applies, text_faults, header_faults, fault_of, head_fault_of, body_fault_of}
 use Rattle.edi_messages.specs.ErrorCodes.{interchange_error}
-use Rattle.office_replies.specs.Responses.{fault_status}
-use Rattle.office_replies.specs.Refusals.{refusal_text}
-use Rattle.office_replies.specs.declared.fault.Fault.{Fault}
 use Rattle.office_replies.specs.declared.fault.Fault.TheVariants.{Syntax, UnknownSender, WrongRecipient}
-use Rattle.office_replies.specs.declared.response.Response.{Response}
-use Rattle.office_replies.specs.declared.response.Response.TheVariants as response
-use Rattle.office_replies.specs.declared.worst.Worst.TheVariants as worst
 use Rattle.partner_core.specs.Numbered.{with_number}
 use Rattle.partner_core.proofs.Numbered.{with_number-at}
 use Rattle.std.specs.Prelude.{slice_get}
@@ -29,9 +22,6 @@ use Rattle.office_setup.specs.declared.account.Account.{Account}
 use Rattle.office_setup.specs.Parties.{Parties, partner_from, partner_kinds}
 use Rattle.office_admission.specs.Outcomes.{IsOpened}
 use Rattle.office_admission.specs.Admission.{admission, by_header, by_recipient, sender_of, number_in}
-use Rattle.office_replies.specs.Contents.{GivesOrNotNow, content_of, answer_with}
-use Rattle.office_replies.specs.Kinds as kinds
-use Rattle.office_admission.specs.Refusals.{error_of, refusal_of, refusal_to, plain_refusal, rejection, HasNoContrl, RefusedSurely}
 
 pub syntax_refused : (P : Parties) (text : List ℕ) (fault : SyntaxFault) → fault_of text ≡ Some fault → admission P text ≡ Err (Syntax fault)
 syntax_refused P text fault e = ap (by_header P (header_of (segments_in text))) e

@@ -1,3 +1,5 @@
+pub mod Growing
+pub mod Adding
 pub mod Admitting
 pub mod Refusing
 pub mod Results

@@ -20,6 +20,10 @@ sender_of parties header = partner_from 1 (sender header 1) parties.partners
 abbrev pub number_in : Content → ℕ
 number_in header = unwrap_or (control_number header) 0
 
+-- the number that a text says
+abbrev pub number_said : List ℕ → ℕ
+number_said text = number_in (header_of (segments_in text))
+
 abbrev pub by_recipient : Parties → Content → Option ℕ → Result (ℕ × ℕ) Fault
 by_recipient parties header None = Err UnknownSender
 by_recipient parties header (Some partner) =

@@ -3,6 +3,7 @@
 
 mod admission;
 mod admitted;
+pub mod laws;
 mod refusal;
 
 pub use admission::{admit, admit_for};

@@ -36,6 +36,15 @@ unfoldable pub report_app : App
 report_app = with_rule (with_rule (with_rule (new_app (codes "report")) (word (codes "DB"))) (word (codes "KIND")))
     (word_if_any (codes "KEY"))
 
+-- account DB CODE KIND
+unfoldable pub account_app : App
+account_app = with_rule (with_rule (with_rule (new_app (codes "account")) (word (codes "DB"))) (word (codes "CODE")))
+    (word (codes "KIND"))
+
+-- migrate OLD NEW
+unfoldable pub migrate_app : App
+migrate_app = with_rule (with_rule (new_app (codes "migrate")) (word (codes "OLD"))) (word (codes "NEW"))
+
 -- demo
 unfoldable pub demo_app : App
 demo_app = new_app (codes "demo")
@@ -48,7 +57,11 @@ unfoldable pub office_app : App
 office_app =
     with_subcommand
     (with_subcommand
+    (with_subcommand
+    (with_subcommand
     (with_subcommand (with_subcommand
     (with_subcommand (needs_subcommand (new_app (codes "office"))) init_app.top) deliver_app.top) serve_app.top)
     report_app.top)
+    account_app.top)
+    migrate_app.top)
     demo_app.top

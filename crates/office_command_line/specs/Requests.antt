@@ -22,6 +22,8 @@ pub data Asked : Type 0 where
   deliver : Text → Text → Asked
   serve : Text → ℕ → ℕ → Bool → Asked
   report : Text → ReportKind → Option Text → Asked
+  account : Text → Text → Text → Asked
+  migrate : Text → Text → Asked
   demo : Asked
 
 abbrev pub request_asked : Request → Asked
@@ -29,6 +31,8 @@ request_asked (request.Init store partners blocks) = init store.now partners.now
 request_asked (request.Deliver store file) = deliver store.now file.now
 request_asked (request.Serve store port count log) = serve store.now port count log
 request_asked (request.Report store kind key) = report store.now kind (option_map (λ text. text.now) key)
+request_asked (request.Account store code kind) = account store.now code.now kind.now
+request_asked (request.Migrate old new) = migrate old.now new.now
 request_asked request.Demo = demo
 
 -- ---- numbers
@@ -108,6 +112,20 @@ report_asked rows =
     (option_and_then kind_said (first_of (codes "KIND") rows)))
     (first_of (codes "DB") rows)
 
+-- the code and the kind as they stand: whether they are any is not asked here
+abbrev pub account_asked : List Row → Option Asked
+account_asked rows =
+    option_and_then (λ (store : Text).
+    option_and_then (λ (code : Text).
+    option_map (λ (kind : Text). account store code kind) (first_of (codes "KIND") rows))
+    (first_of (codes "CODE") rows))
+    (first_of (codes "DB") rows)
+
+abbrev pub migrate_asked : List Row → Option Asked
+migrate_asked rows = option_and_then
+    (λ (old : Text). option_map (λ (new : Text). migrate old new) (first_of (codes "NEW") rows))
+    (first_of (codes "OLD") rows)
+
 -- what a subcommand and its words ask for
 abbrev pub asked_by : Text → List Row → Option Asked
 asked_by name rows =
@@ -115,6 +133,8 @@ asked_by name rows =
     else if bytes_eq name (codes "deliver") then deliver_asked rows
     else if bytes_eq name (codes "serve") then serve_asked rows
     else if bytes_eq name (codes "report") then report_asked rows
+    else if bytes_eq name (codes "account") then account_asked rows
+    else if bytes_eq name (codes "migrate") then migrate_asked rows
     else if bytes_eq name (codes "demo") then Some demo
     else None
 

@@ -1,7 +1,7 @@
 ghost use Rattle.std.specs.Prelude.{◌≡◌, IfOk, true, false};
 ghost use Rattle.clap.specs.Words.{app_of, rule_of};
 ghost use Rattle.clap.specs.declared.builder.command.Command.TheViews.{out-Command};
-ghost use Rattle.office_command_line.specs.Commands.{word, word_if_any, flag, init_app, deliver_app, serve_app, report_app, demo_app};
+ghost use Rattle.office_command_line.specs.Commands.{word, word_if_any, flag, init_app, deliver_app, serve_app, report_app, account_app, migrate_app, demo_app};
 
 use clap::{Arg, ArgAction, Command};
 use std::alloc::{AllocError, Global};
@@ -84,6 +84,46 @@ pub(crate) fn report_command<'a>(alloc: Global) -> Result<Command<'a>, AllocErro
         .arg(kind)?
         .arg(key)?;
     Ok(report)
+}
+
+/// `account DB CODE KIND`
+pub(crate) fn account_command<'a>(alloc: Global) -> Result<Command<'a>, AllocError>
+    ensures app { IfOk result (λ command. app_of command ≡ account_app) }
+    ensures local { IfOk result (λ command. (out-Command command).has_globals ≡ false) }
+{
+    let store = word(alloc, "DB", "The store");
+    let code = word(
+        alloc,
+        "CODE",
+        "The partner's code: 1 to 35 letters, digits, hyphens, dots and underscores",
+    );
+    let kind = word(alloc, "KIND", "gate, line, quay or yard");
+    let account = Command::new(alloc, "account")
+        .about("Adds an account, and prints the answer")
+        .after_help("Example: office account office.db HAULC gate")
+        .arg(store)?
+        .arg(code)?
+        .arg(kind)?;
+    Ok(account)
+}
+
+/// `migrate OLD NEW`
+pub(crate) fn migrate_command<'a>(alloc: Global) -> Result<Command<'a>, AllocError>
+    ensures app { IfOk result (λ command. app_of command ≡ migrate_app) }
+    ensures local { IfOk result (λ command. (out-Command command).has_globals ≡ false) }
+{
+    let old = word(
+        alloc,
+        "OLD",
+        "A store of an older version, which stays as it is",
+    );
+    let new = word(alloc, "NEW", "The store to make");
+    let migrate = Command::new(alloc, "migrate")
+        .about("Makes a store of this version with what an older one keeps")
+        .after_help("Example: office migrate office.db new.db")
+        .arg(old)?
+        .arg(new)?;
+    Ok(migrate)
 }
 
 /// `demo`

@@ -2,7 +2,10 @@ ghost use Rattle.std.specs.Prelude.{◌≡◌, IfOk};
 ghost use Rattle.clap.specs.Words.{app_of};
 ghost use Rattle.office_command_line.specs.Commands.{office_app};
 
-use crate::builders::{deliver_command, demo_command, init_command, report_command, serve_command};
+use crate::builders::{
+    account_command, deliver_command, demo_command, init_command, migrate_command, report_command,
+    serve_command,
+};
 use clap::Command;
 use std::alloc::{AllocError, Global};
 
@@ -14,6 +17,8 @@ pub(crate) fn office_command<'a>(alloc: Global) -> Result<Command<'a>, AllocErro
     let deliver = deliver_command(alloc)?;
     let serve = serve_command(alloc)?;
     let report = report_command(alloc)?;
+    let account = account_command(alloc)?;
+    let migrate = migrate_command(alloc)?;
     let demo = demo_command(alloc);
     let office = Command::new(alloc, "office")
         .about("The office system of a container terminal")
@@ -23,6 +28,8 @@ pub(crate) fn office_command<'a>(alloc: Global) -> Result<Command<'a>, AllocErro
         .subcommand(deliver)?
         .subcommand(serve)?
         .subcommand(report)?
+        .subcommand(account)?
+        .subcommand(migrate)?
         .subcommand(demo)?;
     Ok(office)
 }

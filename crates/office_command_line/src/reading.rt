@@ -1,7 +1,7 @@
 ghost use Rattle.std.specs.Prelude.{◌≡◌, IfOk, IfErr, map};
 ghost use Rattle.std.specs.Option.{option_map};
 ghost use Rattle.clap.specs.Words.{found_of, rows_of, subcommand_rows_of, first_of};
-ghost use Rattle.office_command_line.specs.Requests.{request_asked, init_asked, deliver_asked, serve_asked, report_asked, report_with, asked_by, met_asks, is_set, kind_said, usage_line, wants_key, RefusesWords, RefusesMet, WordsAsk};
+ghost use Rattle.office_command_line.specs.Requests.{request_asked, init_asked, account_asked, migrate_asked, deliver_asked, serve_asked, report_asked, report_with, asked_by, met_asks, is_set, kind_said, usage_line, wants_key, RefusesWords, RefusesMet, WordsAsk};
 
 use crate::command_fault::CommandFault;
 use crate::numbers::number_upto;
@@ -62,6 +62,8 @@ fn request_by<'a>(name: &str, inner: &ArgMatches<'a>) -> Option<Request<'a>>
         "deliver" => deliver_in(inner),
         "serve" => serve_in(inner),
         "report" => report_in(inner),
+        "account" => account_in(inner),
+        "migrate" => migrate_in(inner),
         "demo" => Some(Request::Demo),
         _ => None,
     }
@@ -108,6 +110,23 @@ fn report_in<'a>(matches: &ArgMatches<'a>) -> Option<Request<'a>>
     let store = text_of(matches, "DB")?;
     let kind = kind_of(text_of(matches, "KIND")?)?;
     report_with(store, kind, text_of(matches, "KEY"))
+}
+
+fn account_in<'a>(matches: &ArgMatches<'a>) -> Option<Request<'a>>
+    ensures { option_map request_asked result ≡ account_asked (rows_of (found_of matches.now)) }
+{
+    let store = text_of(matches, "DB")?;
+    let code = text_of(matches, "CODE")?;
+    let kind = text_of(matches, "KIND")?;
+    Some(Request::Account { store, code, kind })
+}
+
+fn migrate_in<'a>(matches: &ArgMatches<'a>) -> Option<Request<'a>>
+    ensures { option_map request_asked result ≡ migrate_asked (rows_of (found_of matches.now)) }
+{
+    let old = text_of(matches, "OLD")?;
+    let new = text_of(matches, "NEW")?;
+    Some(Request::Migrate { old, new })
 }
 
 /// The report, if a key is given where one is wanted and nowhere else.

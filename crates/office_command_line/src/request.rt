@@ -39,6 +39,22 @@ pub enum Request<'a> {
         /// By what it is found; none for the yard alone.
         key: Option<&'a str>,
     },
+    /// To add an account to a store.
+    Account {
+        /// The store's path.
+        store: &'a str,
+        /// The partner's code, of whatever form.
+        code: &'a str,
+        /// The name of a kind, if it is one.
+        kind: &'a str,
+    },
+    /// To bring what a store of an older version keeps into a new store.
+    Migrate {
+        /// The path of the store that is there.
+        old: &'a str,
+        /// The path of the store to make.
+        new: &'a str,
+    },
     /// To deliver the interchanges of the standard input over tables in memory.
     Demo,
 }

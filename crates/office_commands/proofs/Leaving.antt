@@ -1,5 +1,5 @@
 -- What the demonstration's stream leaves behind where it ends before the input.
-use Rattle.std.proofs.Common.{◌≡◌, ℕ, Bool, true, List, [], Option, rules}
+use Rattle.std.proofs.Common.{◌≡◌, ℕ, Bool, true, List, [], Result, Ok, Err, rules}
 use Rattle.sqlite_trees.specs.View.{doubt}
 use Rattle.sqlite.specs.Held.{state}
 use Rattle.sqlite.specs.State.{HasCleanDisk}
@@ -7,25 +7,25 @@ use Rattle.sqlite.specs.Steps.{over_memory}
 use Rattle.sqlite.specs.declared.connection.Connection.{Connection}
 use Rattle.sqlite_trees.specs.declared.memory.MemStore.{MemStore}
 use Rattle.office_setup.specs.Setups.{setup_content}
-use Rattle.office_desk.specs.Desks.{IsSound, StandsFor, answers_for}
-use Rattle.office_stream.specs.Streams.{Began, Delivered, port_bytes}
+use Rattle.office_desk.specs.Answers.{AnswersNext}
+use Rattle.office_replies.specs.declared.worst.Worst.{Worst}
+use Rattle.office_desk.specs.Calls.{Leads}
+use Rattle.office_desk.specs.Desks.{IsSound, StandsFor}
+use Rattle.office_stream.specs.Streams.{AreDelivered, Answered, PortBytes, Streams}
 use Rattle.office_stream.specs.Faults.{MatchFault}
 use Rattle.office_stream.specs.declared.stream_fault.StreamFault.{StreamFault}
 use Rattle.office_stream.specs.declared.stream_fault.StreamFault.TheVariants.{Read, Write, Turns}
+use Rattle.office_stream.proofs.StreamLemmas.{streams_as}
 use Rattle.office_commands.specs.declared.demo_fault.DemoFault.TheVariants.{Stream}
 use Rattle.office_commands.specs.Opening.{MemoryDesk}
 use Rattle.office_commands.specs.Demo.{OpensDemo, DemoLeft, IsOfPorts, port_failures}
 
 -- what a stream from such a desk on leaves behind
-pub left_by : (left left' written written' : Option (List ℕ)) (opening desk : MemoryDesk) (fault : StreamFault) → OpensDemo opening
-    → MatchFault fault
-    (Began (StandsFor over_memory (setup_content opening.setup)) (answers_for (setup_content opening.setup)) [] (port_bytes left left' written written') desk)
-    (Delivered (StandsFor over_memory (setup_content opening.setup)) (answers_for (setup_content opening.setup)) [] (port_bytes left left' written written') desk)
-    (Began (StandsFor over_memory (setup_content opening.setup)) (answers_for (setup_content opening.setup)) [] (port_bytes left left' written written') desk)
-    → DemoLeft (port_bytes left left' written written') (Stream fault)
-left_by left left' written written' opening desk Read opens began = record { opening = opening; desk = desk; opens = opens; began = began }
-left_by left left' written written' opening desk Turns opens began = record { opening = opening; desk = desk; opens = opens; began = began }
-left_by left left' written written' opening desk Write opens delivered = record { opening = opening; desk = desk; opens = opens; delivered = delivered }
+pub left_by : (ports : PortBytes) (opening desk : MemoryDesk) (fault : StreamFault) → OpensDemo opening
+    → Streams (Answered (StandsFor over_memory (setup_content opening.setup)) (AnswersNext (setup_content opening.setup)) [] desk) ports (Err fault) → DemoLeft ports (Stream fault)
+left_by ports opening desk Read opens began = record { opening = opening; desk = desk; opens = opens; began = began }
+left_by ports opening desk Turns opens began = record { opening = opening; desk = desk; opens = opens; began = began }
+left_by ports opening desk Write opens delivered = record { opening = opening; desk = desk; opens = opens; delivered = delivered }
 
 -- what is kept in memory is returned as it was written
 pub memory_clean : (conn : Connection MemStore) → HasCleanDisk (state over_memory conn)
@@ -43,3 +43,12 @@ pub failed_by : (read read' write write' : Bool) (fault : StreamFault) (Many End
 failed_by read read' write write' Read Many Ended failed = failed
 failed_by read read' write write' Turns Many Ended failed = (failed.0, failed.1)
 failed_by read read' write write' Write Many Ended failed = failed
+
+-- what a stream to such a desk did, which is sound in the end
+pub answered_in_memory : (ports : PortBytes) (opening desk : MemoryDesk) (outcome : Result Worst StreamFault) → OpensDemo opening
+    → Streams (AreDelivered (IsSound over_memory) (StandsFor over_memory) AnswersNext (Leads over_memory) opening desk) ports outcome
+    → Streams (Answered (StandsFor over_memory (setup_content opening.setup)) (AnswersNext (setup_content opening.setup)) [] desk) ports outcome
+answered_in_memory ports opening desk outcome opens =
+    streams_as (AreDelivered (IsSound over_memory) (StandsFor over_memory) AnswersNext (Leads over_memory) opening desk)
+    (Answered (StandsFor over_memory (setup_content opening.setup)) (AnswersNext (setup_content opening.setup)) [] desk)
+    (λ texts responses done. done.answered (memory_sound desk) (setup_content opening.setup) [] opens.opens.stands) ports outcome

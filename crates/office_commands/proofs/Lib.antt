@@ -2,4 +2,6 @@ mod DemoGiven
 mod Leaving
 mod OpenedLemmas
 mod StreamLemmas
+mod NowAlike
 mod ReportLemmas
+mod AccountLemmas

@@ -13,7 +13,7 @@ use Rattle.office_setup.specs.Setups.{SetupContent, setup_content}
 use Rattle.office_rows.specs.Rows.{Rows}
 use Rattle.office_rows.specs.Stored.{HasRows}
 use Rattle.office_loading.specs.Tables.{Loads}
-use Rattle.office_history.specs.After.{SaysSame}
+use Rattle.office_history.specs.After.{SaysSame, content_after}
 use Rattle.office_history.proofs.Alike.{parties_same}
 use Rattle.office_queries.specs.declared.query.Query.{Query}
 use Rattle.office_queries.specs.declared.query.Query.TheVariants as query
@@ -22,6 +22,7 @@ use Rattle.office_reports.specs.Visits.{visit_report}
 use Rattle.office_desk.specs.Reports.{TellsOf, TellsAfter, TellsReplyOf, DeskTells, ticket_of, partner_called}
 use Rattle.office_desk.specs.declared.desk.Desk.{Desk}
 use Rattle.office_desk.proofs.AlikeLemmas.{answers_alike}
+use Rattle.office_commands.proofs.NowAlike.{now_alike}
 use Rattle.office_commands.specs.Opening.{OpensOver}
 use Rattle.office_commands.specs.Reporting.{TellsKey, TellsOver, in_lines, report_text, report_status}
 
@@ -48,14 +49,15 @@ module _ (one other : SetupContent) (says : SaysSame one other) where
   of_alike state rows (query.Reply partner number) found told =
       subst (λ called. TellsReplyOf rows (string_bytes partner) number called found) (called_alike (string_bytes partner)) told
 
+module _ (one other : SetupContent) (says : SaysSame one other) where
   pub after_alike : (es : List Event) (asked : Query) (found : Option (List ℕ)) → TellsAfter one es asked found → TellsAfter other es asked found
   after_alike es asked found told =
       let alike = answers_alike one other says es in
       record {
         rows = told.rows;
         after = alike.rows told.rows told.after;
-        tells = subst (λ state. TellsOf other state told.rows asked found) alike.terminal
-            (of_alike _ told.rows asked found told.tells);
+        tells = subst (λ state. TellsOf (content_after other es) state told.rows asked found) alike.terminal
+            (of_alike (content_after one es) (content_after other es) (now_alike one other says es) _ told.rows asked found told.tells);
       }
 
 -- what a desk that was opened over those tables tells

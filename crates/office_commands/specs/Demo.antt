@@ -8,10 +8,11 @@ use Rattle.edi_messages.specs.declared.partner_kind.PartnerKind.TheVariants.{Gat
 use Rattle.yard_core.specs.declared.block.Block.{Block}
 use Rattle.office_setup.specs.Setups.{SetupContent, setup_content}
 use Rattle.sqlite.specs.Steps.{over_memory}
-use Rattle.office_desk.specs.Desks.{StandsFor, answers_for}
+use Rattle.office_desk.specs.Answers.{AnswersNext}
+use Rattle.office_desk.specs.Desks.{StandsFor}
 use Rattle.office_commands.specs.Opening.{MemoryDesk, OpensEmpty}
 use Rattle.office_replies.specs.declared.worst.Worst.{Worst}
-use Rattle.office_stream.specs.Streams.{PortBytes, Streamed, Began, Delivered}
+use Rattle.office_stream.specs.Streams.{PortBytes, Answered, Streamed, Began, Delivered}
 use Rattle.office_stream.specs.declared.stream_fault.StreamFault.TheVariants.{Read, Write, Turns}
 use Rattle.office_commands.specs.declared.demo_fault.DemoFault.{DemoFault}
 use Rattle.office_commands.specs.declared.demo_fault.DemoFault.TheVariants.{Store, Stream}
@@ -55,24 +56,24 @@ pub record DemoRuns (ports : PortBytes) (worst : Worst) : Type 0 where
   pub opening : MemoryDesk
   pub desk : MemoryDesk
   pub opens : OpensDemo opening
-  pub streamed : Streamed (StandsFor over_memory (setup_content opening.setup))
-      (answers_for (setup_content opening.setup)) [] ports desk worst
+  pub streamed : Streamed (Answered (StandsFor over_memory (setup_content opening.setup))
+      (AnswersNext (setup_content opening.setup)) [] desk) ports worst
 
 -- All interchanges of what was read were delivered to such a desk and answered by their lines.
 pub record DemoBegan (ports : PortBytes) : Type 0 where
   pub opening : MemoryDesk
   pub desk : MemoryDesk
   pub opens : OpensDemo opening
-  pub began : Began (StandsFor over_memory (setup_content opening.setup))
-      (answers_for (setup_content opening.setup)) [] ports desk
+  pub began : Began (Answered (StandsFor over_memory (setup_content opening.setup))
+      (AnswersNext (setup_content opening.setup)) [] desk) ports
 
 -- They were delivered to such a desk as far as lines could be written, of which the last was cut short.
 pub record DemoDelivered (ports : PortBytes) : Type 0 where
   pub opening : MemoryDesk
   pub desk : MemoryDesk
   pub opens : OpensDemo opening
-  pub delivered : Delivered (StandsFor over_memory (setup_content opening.setup))
-      (answers_for (setup_content opening.setup)) [] ports desk
+  pub delivered : Delivered (Answered (StandsFor over_memory (setup_content opening.setup))
+      (AnswersNext (setup_content opening.setup)) [] desk) ports
 
 -- What was done before a fault. If the desk did not open, nothing was read or written. A read that failed leaves what
 -- was answered before, and so do too many reads. So does a write that failed, but for the line that it cut short.

@@ -3,4 +3,5 @@ pub mod Ending
 pub mod Demo
 pub mod Command
 pub mod Delivering
+pub mod Accounts
 pub mod Reporting

@@ -1,9 +1,7 @@
 ghost use Rattle.std.specs.Prelude.{◌≡◌, ◌≤◌, ◌+◌, false, IfOk, IfErr};
-ghost use Rattle.sqlite.specs.Files.{over_files};
 ghost use Rattle.sqlite.specs.WalFiles.{image_at};
-ghost use Rattle.office_stream.specs.Streams.{port_bytes};
-ghost use Rattle.office_desk.specs.Desks.{IsSound, answers_for};
-ghost use Rattle.office_commands.specs.Delivering.{StreamsFrom, BeginsAt, StandsAlike};
+ghost use Rattle.office_stream.specs.Streams.{AreDelivered, Streams, port_bytes};
+ghost use Rattle.office_commands.specs.Delivering.{AreDeliveredOver};
 ghost use Rattle.office_commands.specs.Ending.{Tells, StreamEnds, LeavesPorts, ports, store_text, most_turns};
 
 use crate::opening::open_store;
@@ -29,11 +27,11 @@ pub fn deliver_to<R: Read, W: Write, E: Write, D: Deliver>(
     writer: &mut Port<W>,
     errors: &mut Port<E>,
 ) -> u8
-    // From whatever events the desk stood at.
+    // What each delivery did to the desk, and how it was answered, from whatever events it stood at.
     ensures ends { StreamEnds (LeavesPorts (ports reader.old writer.old) (ports reader.new writer.new))
-        (StreamsFrom D.clean D.stands D.answers (λ opening es. D.stands opening es desk.old)
+        (Streams (AreDelivered D.clean D.stands D.answers D.leads desk.old desk.new)
         (port_bytes (R.remaining reader.old.inner) (R.remaining reader.new.inner)
-        (W.contents writer.old.inner) (W.contents writer.new.inner)) desk.new)
+        (W.contents writer.old.inner) (W.contents writer.new.inner)))
         (Tells errors.new.failed (E.contents errors.old.inner) (E.contents errors.new.inner)) result }
 
     // Nothing is said of a desk whose records have not told the truth.
@@ -57,12 +55,13 @@ pub fn deliver_over<S: Start, R: Read, W: Write, E: Write>(
     writer: &mut Port<W>,
     errors: &mut Port<E>,
 ) -> (u8, Result<Desk<FileStore<FileFrom<S>>>, TableFault>)
-    // From whatever events the files held the rows, the lines are the answers of that office.
+    // From whatever events the files held the rows, the lines are the answers of that office, and what was answered
+    // outlasts a crash. And what each delivery did to the desk, whatever the files held.
     ensures ends { IfOk result.1 (λ desk.
         StreamEnds (LeavesPorts (ports reader.old writer.old) (ports reader.new writer.new))
-        (StreamsFrom (IsSound over_files) StandsAlike answers_for (BeginsAt (image_at S.Start))
+        (Streams (AreDeliveredOver (image_at S.Start) desk)
         (port_bytes (R.remaining reader.old.inner) (R.remaining reader.new.inner)
-        (W.contents writer.old.inner) (W.contents writer.new.inner)) desk)
+        (W.contents writer.old.inner) (W.contents writer.new.inner)))
         (Tells errors.new.failed (E.contents errors.old.inner) (E.contents errors.new.inner)) result.0) }
 
     // If it did not open, nothing was read or written.

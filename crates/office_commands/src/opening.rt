@@ -34,11 +34,24 @@ pub fn open_store<S: Start>(
     ensures office { IfOk result
         (λ desk. IsSound over_files desk → (db : Trees) → HoldsTables (image_at S.Start) db → OpensOver db desk) }
 {
+    let conn = open_there(rt, path, start)?;
+    Desk::open(rt.alloc(), conn)
+}
+
+/// A connection to the store in the file at a path, as `open_found` makes it. No file is made, and an empty one is no
+/// store.
+pub fn open_there<S: Start>(
+    rt: &HostRuntime,
+    path: &str,
+    start: S,
+) -> Result<Connection<FileStore<FileFrom<S>>>, TableFault>
+    ensures idle { IfOk result (λ conn. conn.in_transaction ≡ false) }
+    ensures found { IfOk result (λ conn. HasCleanDisk (file_state conn) → ShowsHeld (image_at S.Start) conn) }
+{
     if !is_there(rt, path) {
         return Err(TableFault::Store(NO_STORE));
     }
-    let conn = open_found(rt, path, start)?;
-    Desk::open(rt.alloc(), conn)
+    open_found(rt, path, start)
 }
 
 /// Makes the tables of a store with the rows of a set-up, wholly or not at all, and answers the connection to them. A
@@ -59,8 +72,8 @@ pub fn make_store<S: Start>(
 }
 
 /// A connection to the files at a path, which shows the database that they held, and no tables where the database file
-/// was empty.
-fn open_found<S: Start>(
+/// was empty. A file that isn't there is made.
+pub fn open_found<S: Start>(
     rt: &HostRuntime,
     path: &str,
     start: S,

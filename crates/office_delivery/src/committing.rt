@@ -1,7 +1,7 @@
 ghost use Rattle.std.specs.Prelude.{◌≡◌, ◌<◌, false, All, OnOk, OnErr, IfErr, IsTrue};
 ghost use Rattle.sqlite.specs.Held.{state};
 ghost use Rattle.sqlite.specs.State.{HasCleanDisk, IsRolledBack, Shows, Survives};
-ghost use Rattle.office_rows.specs.Effects.{with_kept};
+ghost use Rattle.office_rows.specs.Effects.{with_kept, with_partner};
 ghost use Rattle.office_tables.specs.Faults.{IsOfStore};
 ghost use Rattle.office_history.specs.Cascade.{with_run};
 ghost use Rattle.office_delivery.specs.Taken.{taken_contents};
@@ -9,7 +9,8 @@ ghost use Rattle.office_delivery.specs.Writing.{Commits, IsUndone, IsWhole};
 
 use crate::taken::Taken;
 use crate::writing::write_all;
-use office_tables::TableFault;
+use edi_messages::PartnerKind;
+use office_tables::{TableFault, add_partner};
 use sqlite::{Alter, Connection, Transaction};
 
 /// Keeps the text of the partner's next interchange, and marks it and those behind it as taken: wholly or not at all.
@@ -61,6 +62,32 @@ pub fn write_early<S: Alter>(
     ensures fault { IfErr result IsOfStore }
 {
     write_run(conn, partner, number, text, &[])
+}
+
+/// Adds an account under an id, wholly or not at all. The caller gives the next id and a code of no account.
+pub fn write_account<S: Alter>(
+    conn: &mut Connection<S>,
+    id: u16,
+    code: &str,
+    kind: PartnerKind,
+) -> Result<(), TableFault>
+    requires idle { (state S.Store conn.old).in_transaction ≡ false }
+    ensures idle { (state S.Store conn.new).in_transaction ≡ false }
+    ensures ok { HasCleanDisk (state S.Store conn.new) →
+        OnOk result (Commits (with_partner id code.now kind) (state S.Store conn.old) (state S.Store conn.new)) }
+    ensures was_open { HasCleanDisk (state S.Store conn.new) → IsTrue (state S.Store conn.new).is_open →
+        IsTrue (state S.Store conn.old).is_open }
+    ensures err { HasCleanDisk (state S.Store conn.new) → IsTrue (state S.Store conn.new).is_open →
+        OnErr result (IsUndone (state S.Store conn.old) (state S.Store conn.new)) }
+    ensures crash { Survives (state S.Store conn.old) (state S.Store conn.new)
+        (IsWhole (with_partner id code.now kind) (state S.Store conn.old)) }
+    ensures fault { IfErr result IsOfStore }
+{
+    let is_idle = conn.is_autocommit();
+    prove!(is_idle);
+    let mut tx = conn.transaction();
+    add_partner(&mut tx, id, code, kind)?;
+    commit(tx)
 }
 
 /// Commits what a transaction wrote, or nothing of it.

@@ -7,6 +7,6 @@ mod taken;
 mod taking;
 mod writing;
 
-pub use committing::{write_early, write_run};
+pub use committing::{write_account, write_early, write_run};
 pub use running::take_run;
 pub use taken::Taken;

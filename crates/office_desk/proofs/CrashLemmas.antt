@@ -16,7 +16,7 @@ use Rattle.office_rows.proofs.StepLemmas.{stores}
 use Rattle.office_setup.specs.Given.{IsGiven}
 use Rattle.office_setup.specs.Setups.{SetupContent}
 use Rattle.office_admission.specs.Admission.{admission}
-use Rattle.office_history.specs.After.{AreAfter, delivered_to, machine_after, machine_with, parties_in}
+use Rattle.office_history.specs.After.{AreAfter, content_after, deliveries_of, machine_after, machine_with, parties_in}
 use Rattle.office_history.specs.Cascade.{AreTakenFrom, text_in, texts_with, with_run}
 use Rattle.office_history.specs.Laws.{IsFor}
 use Rattle.office_history.proofs.Lawful.{refused_adds, used_adds, early_adds, next_adds}
@@ -66,21 +66,21 @@ either_of f g (inr y) = inr (g y)
 
 module _ (content : SetupContent) (es : List Event) (sent : List ℕ) where
   -- what is refused adds nothing
-  pub refused_leaves : (fault : Fault) (s : State) → admission (parties_in content) (interchange_of sent) ≡ Err fault → Leaves content es s → Leaves content (es ++ delivered sent ∷ []) s
+  pub refused_leaves : (fault : Fault) (s : State) → admission (parties_in (content_after content es)) (interchange_of sent) ≡ Err fault → Leaves content es s → Leaves content (es ++ delivered sent ∷ []) s
   refused_leaves fault s refused leaves db left =
       let is = leaves db left in
       record { rows = is.rows; are = is.are; after = (refused_adds content es is.rows sent fault is.after refused).rows_are }
 
   -- nor does what is used
-  pub used_leaves : (rows : Rows) (partner number : ℕ) (kept : List ℕ) (old new : State) → AreAfter content es rows → IsFor content sent partner number → text_in rows partner number ≡ Some kept →
+  pub used_leaves : (rows : Rows) (partner number : ℕ) (kept : List ℕ) (old new : State) → AreAfter content es rows → IsFor content es sent partner number → text_in rows partner number ≡ Some kept →
       ((db : Trees) → new.may_leave db → old.may_leave db) → Leaves content es old → Leaves content (es ++ delivered sent ∷ []) new
   used_leaves rows partner number kept old new after is_for there less leaves db left =
       let is = leaves db (less db left) in
       let here : text_in is.rows partner number ≡ Some kept = is.after.texts partner number ∙ sym (after.texts partner number) ∙ there in
       record { rows = is.rows; are = is.are; after = (used_adds content es is.rows sent partner number kept is.after is_for here).rows_are }
 
-  pub early_after : (rows : Rows) (text : List ℕ) (partner number next : ℕ) (db : Trees) → AreAfter content es rows → Comes content sent text partner number → text_in rows partner number ≡ None →
-      next ≡ run (delivered_to content es) partner + 1 → next < number → StoresRows (with_kept partner number text rows) db → IsAfter content (es ++ delivered sent ∷ []) db
+  pub early_after : (rows : Rows) (text : List ℕ) (partner number next : ℕ) (db : Trees) → AreAfter content es rows → Comes content es sent text partner number → text_in rows partner number ≡ None →
+      next ≡ run (deliveries_of content es) partner + 1 → next < number → StoresRows (with_kept partner number text rows) db → IsAfter content (es ++ delivered sent ∷ []) db
   early_after rows text partner number next db after comes free is later are = record {
     rows = with_kept partner number (interchange_of sent) rows;
     are = subst (λ t. StoresRows (with_kept partner number t rows) db) comes.text_is are;
@@ -88,13 +88,13 @@ module _ (content : SetupContent) (es : List Event) (sent : List ℕ) where
   }
 
   pub run_after : (rows : Rows) (text : List ℕ) (partner number next : ℕ) (now : Beside) (db : Trees) → IsGiven content → AreAfter content es rows → IsAt content es now →
-      Comes content sent text partner number → text_in rows partner number ≡ None → next ≡ run (delivered_to content es) partner + 1 → number ≡ next →
-      IsRunDone rows partner number text (machine_with content now.terminal) db → IsAfter content (es ++ delivered sent ∷ []) db
+      Comes content es sent text partner number → text_in rows partner number ≡ None → next ≡ run (deliveries_of content es) partner + 1 → number ≡ next →
+      IsRunDone rows partner number text (machine_with (content_after content es) now.terminal) db → IsAfter content (es ++ delivered sent ∷ []) db
   run_after rows text partner number next now db given after at comes free is same done =
       let own = interchange_of sent in
       let here : AreTakenFrom partner (texts_with rows partner number own) number (machine_after content es) done.taken done.new =
       subst (λ m. AreTakenFrom partner (texts_with rows partner number own) number m done.taken done.new) at.terminal
-      (subst (λ t. AreTakenFrom partner (texts_with rows partner number t) number (machine_with content now.terminal) done.taken done.new) comes.text_is done.are_taken) in
+      (subst (λ t. AreTakenFrom partner (texts_with rows partner number t) number (machine_with (content_after content es) now.terminal) done.taken done.new) comes.text_is done.are_taken) in
       record {
         rows = with_run partner number own done.taken rows;
         are = subst (λ t. StoresRows (with_run partner number t done.taken rows) db) comes.text_is done.are;
@@ -116,6 +116,6 @@ pub committed_leaves : (content : SetupContent) (es : List Event) (s : State) (r
 committed_leaves content es s rows done has after db left = record { rows = rows; are = subst (StoresRows rows) (sym (done.alone db left)) (stores rows s.committed has); after = after }
 
 -- while it is open, a crash leaves what was committed alone, so the rows that are held
-pub held_leaves : (content : SetupContent) (es : List Event) (s : State) (there : Option Beside) → IsTrue s.is_open → ((db : Trees) → s.may_leave db → db ≡ s.committed.trees) →
-    Holds content es s.committed there → Leaves content es s
-held_leaves content es s there is_open alone holds = committed_leaves content es s holds.rows (record { is_open = is_open; alone = alone }) holds.has holds.after
+pub held_leaves : (content : SetupContent) (es : List Event) (now : SetupContent) (s : State) (there : Option Beside) → IsTrue s.is_open → ((db : Trees) → s.may_leave db → db ≡ s.committed.trees) →
+    Holds content es now s.committed there → Leaves content es s
+held_leaves content es now s there is_open alone holds = committed_leaves content es s holds.rows (record { is_open = is_open; alone = alone }) holds.has holds.after

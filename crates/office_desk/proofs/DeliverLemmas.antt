@@ -1,6 +1,7 @@
 -- One delivery more to a desk.
 use Rattle.std.proofs.Common.{◌≡◌, ℕ, List, [], ◌∷◌, ◌++◌, Option, Ok, Err, string_bytes, refl, sym, ap, subst, ◌∙◌}
 use Rattle.std.proofs.lemmas.Simd.{map-map}
+use Rattle.sqlite.specs.Effect.{Database}
 use Rattle.sqlite.specs.Held.{state}
 use Rattle.sqlite_trees.specs.declared.store.Store.{Ghosts}
 use Rattle.edi_segments.specs.Interchange.{interchange_of, segments_in}
@@ -9,7 +10,7 @@ use Rattle.partner_core.specs.Answers.{Told}
 use Rattle.partner_core.specs.Answers as told
 use Rattle.office_replies.specs.Events.{Event, delivered}
 use Rattle.office_replies.specs.Contents.{AnswerContent, GivesOrNotNow, content_of}
-use Rattle.office_replies.specs.Delivering.{Delivers}
+use Rattle.office_replies.specs.Delivering.{with_answered}
 use Rattle.office_replies.specs.declared.response.Response.{Response}
 use Rattle.office_replies.specs.declared.response.Response.TheVariants as response
 use Rattle.office_replies.specs.declared.worst.Worst.TheVariants as worst
@@ -20,23 +21,23 @@ use Rattle.office_admission.specs.Admission.{admission}
 use Rattle.office_admission.specs.Outcomes.{IsRefused, fault_in}
 use Rattle.office_admission.specs.Refusals.{refusal_of, MayBeNotNow, RefusedSurely}
 use Rattle.office_admission.specs.declared.refusal.Refusal.{Refusal}
-use Rattle.office_taking.specs.Taking.{interchange_taken}
-use Rattle.office_history.specs.After.{parties_in, opening_of, delivered_to}
-use Rattle.office_history.specs.Laws.{IsFor, told_of}
+use Rattle.office_history.specs.After.{content_after, parties_in}
+use Rattle.office_history.specs.Laws.{told_of}
 use Rattle.office_history.proofs.Lawful.{refused_adds}
-use Rattle.office_desk.specs.Answers.{told_answer, answer_at, answer_to, code_of}
+use Rattle.office_desk.specs.Answers.{AnswersNext, told_answer, answer_at, answer_to, code_of}
 use Rattle.office_desk.proofs.Admitted.{refused_for}
 use Rattle.office_desk.specs.Telling.{Answers, Comes, Holds}
-use Rattle.office_desk.specs.Desks.{StandsFor, answers_for}
+use Rattle.office_desk.specs.Desks.{StandsFor}
 use Rattle.office_desk.specs.Kept.{AnswersAt, AnswersByKept, AnswersOver, NotedFor, Office}
 use Rattle.office_desk.specs.Noting.{IsNow, NotesFault, NotesMemory}
 use Rattle.office_desk.specs.Offices.{DeskHolds}
+use Rattle.office_desk.specs.declared.beside.Beside.{Beside}
 use Rattle.office_desk.specs.declared.desk.Desk.{Desk}
 use Rattle.office_tables.specs.declared.table_fault.TableFault.{TableFault}
 use Rattle.partner_core.specs.Deliveries.{delivery}
 use Rattle.office_desk.specs.Crashes.{Leaves, LeavesBehind}
 use Rattle.office_desk.proofs.CrashLemmas.{answered_behind, refused_leaves}
-use Rattle.office_desk.proofs.HoldLemmas.{beside_same}
+use Rattle.office_desk.proofs.HoldLemmas.{beside_same, now_stays}
 
 pub parties_same : (setup : Setup) → parties_of setup ≡ parties_in (setup_content setup)
 parties_same setup = ap (λ (codes : List (List ℕ)). record { terminal = string_bytes setup.terminal; partners = codes }) (sym (map-map _ _ setup.partners.items))
@@ -76,116 +77,100 @@ notes_none (response.Refused fault) last is = refl
 notes_none (response.Rejected fault body) last is = refl
 notes_none response.NotNow last is = absurd is
 
-module _ {S : Type 0} (g : Ghosts S) (content : SetupContent) where
-  abbrev Next : List Event → List ℕ → Response → Desk S g → Type 0
-  Next es sent given desk = Delivers (StandsFor g content) (answers_for content) es sent given desk
+module _ {S : Type 0} (g : Ghosts S) (content : SetupContent) (es : List Event) where
+  -- the answer, and what is held behind it
+  abbrev Next : List ℕ → Response → SetupContent → Database → Option Beside → Type 0
+  Next sent given now db there = AnswersNext content es sent given × Holds content (with_answered es sent given) now db there
 
-  abbrev answer : List Event → List ℕ → AnswerContent
-  answer es sent = answer_to (parties_in content) interchange_taken (opening_of content) es sent
+  abbrev parties : Parties
+  parties = parties_in (content_after content es)
 
-  answers_or_not : (es : List Event) (sent : List ℕ) (given : Response) (desk : Desk S g) → GivesOrNotNow (answer es sent) given → RefusedSurely (parties_in content) (interchange_of sent) given →
-      StandsFor g content es desk → StandsFor g content (es ++ delivered sent ∷ []) desk → Next es sent given desk
-  answers_or_not es sent (response.Taken body) desk gives surely before after = (gives, after)
-  answers_or_not es sent (response.Repeat body) desk gives surely before after = (gives, after)
-  answers_or_not es sent (response.Waiting body) desk gives surely before after = (gives, after)
-  answers_or_not es sent (response.Clash body) desk gives surely before after = (gives, after)
-  answers_or_not es sent (response.Refused fault) desk gives surely before after = (gives, after)
-  answers_or_not es sent (response.Rejected fault body) desk gives surely before after = (gives, after)
-  answers_or_not es sent response.NotNow desk gives surely before after = (not_now_surely (parties_in content) (interchange_of sent) surely, before)
+  -- the accounts of a desk that stands there are those so far
+  pub parties_now : (desk : Desk S g) → StandsFor g content es desk → parties_of desk.setup ≡ parties
+  parties_now desk stands = parties_same desk.setup ∙ ap parties_in (sym stands.now_is)
 
-  answers_now : (es : List Event) (sent : List ℕ) (given : Response) (desk : Desk S g) (code : List ℕ) (number : ℕ) (kind : Told) → content_of given ≡ told_answer code number kind →
-      content_of given ≡ answer es sent → StandsFor g content (es ++ delivered sent ∷ []) desk → Next es sent given desk
-  answers_now es sent (response.Taken body) desk code number kind e is after = (is, after)
-  answers_now es sent (response.Repeat body) desk code number kind e is after = (is, after)
-  answers_now es sent (response.Waiting body) desk code number kind e is after = (is, after)
-  answers_now es sent (response.Clash body) desk code number kind e is after = (is, after)
-  answers_now es sent (response.Refused fault) desk code number kind e is after = (is, after)
-  answers_now es sent (response.Rejected fault body) desk code number kind e is after = (is, after)
-  answers_now es sent response.NotNow desk code number kind e is after = absurd (never_now code number kind e)
+  -- a text that its accounts admit comes for that partner
+  pub comes_for : (sent text : List ℕ) (desk : Desk S g) (partner number : ℕ) → text ≡ interchange_of sent → StandsFor g content es desk → admission (parties_of desk.setup) text ≡ Ok (partner, number) →
+      Comes content es sent text partner number
+  comes_for sent text desk partner number is stands admits = record {
+    text_is = is;
+    is_for = subst (λ P. admission P (interchange_of sent) ≡ Ok (partner, number)) (parties_now desk stands) (subst (λ t. admission (parties_of desk.setup) t ≡ Ok (partner, number)) is admits);
+  }
 
-  pub refusal_delivered : (es : List Event) (sent text : List ℕ) (given : Response) (desk : Desk S g) (refusal : Refusal) → text ≡ interchange_of sent → StandsFor g content es desk →
+  answers_or_not : (sent : List ℕ) (given : Response) (now : SetupContent) (db : Database) (there : Option Beside) → GivesOrNotNow (answer_to content es sent) given → RefusedSurely parties (interchange_of sent) given →
+      Holds content es now db there → Holds content (es ++ delivered sent ∷ []) now db there → Next sent given now db there
+  answers_or_not sent (response.Taken body) now db there gives surely before after = (gives, after)
+  answers_or_not sent (response.Repeat body) now db there gives surely before after = (gives, after)
+  answers_or_not sent (response.Waiting body) now db there gives surely before after = (gives, after)
+  answers_or_not sent (response.Clash body) now db there gives surely before after = (gives, after)
+  answers_or_not sent (response.Refused fault) now db there gives surely before after = (gives, after)
+  answers_or_not sent (response.Rejected fault body) now db there gives surely before after = (gives, after)
+  answers_or_not sent response.NotNow now db there gives surely before after = (not_now_surely parties (interchange_of sent) surely, before)
+
+  answers_now : (sent : List ℕ) (given : Response) (now : SetupContent) (db : Database) (there : Option Beside) (code : List ℕ) (number : ℕ) (kind : Told) → content_of given ≡ told_answer code number kind →
+      content_of given ≡ answer_to content es sent → Holds content (es ++ delivered sent ∷ []) now db there → Next sent given now db there
+  answers_now sent (response.Taken body) now db there code number kind e is after = (is, after)
+  answers_now sent (response.Repeat body) now db there code number kind e is after = (is, after)
+  answers_now sent (response.Waiting body) now db there code number kind e is after = (is, after)
+  answers_now sent (response.Clash body) now db there code number kind e is after = (is, after)
+  answers_now sent (response.Refused fault) now db there code number kind e is after = (is, after)
+  answers_now sent (response.Rejected fault body) now db there code number kind e is after = (is, after)
+  answers_now sent response.NotNow now db there code number kind e is after = absurd (never_now code number kind e)
+
+  pub refusal_delivered : (sent text : List ℕ) (given : Response) (desk : Desk S g) (refusal : Refusal) → text ≡ interchange_of sent → StandsFor g content es desk →
       IsRefused desk.setup text refusal → GivesOrNotNow (refusal_of (parties_of desk.setup) (header_of (segments_in text)) (fault_in refusal)) given → RefusedSurely (parties_of desk.setup) text given →
-      Next es sent given desk
-  refusal_delivered es sent text given desk refusal is stands refused gives surely =
+      Next sent given (setup_content desk.setup) (state g desk.conn).committed desk.beside
+  refusal_delivered sent text given desk refusal is stands refused gives surely =
       let own = interchange_of sent in
-      let P = parties_in content in
       let fault = fault_in refusal in
-      let same : parties_of desk.setup ≡ P = parties_same desk.setup ∙ ap parties_in stands.setup in
-      let here : admission P own ≡ Err fault = subst (λ others. admission others own ≡ Err fault) same (subst (λ other. admission (parties_of desk.setup) other ≡ Err fault) is (refused_for desk.setup text refusal refused)) in
-      let adds = refused_adds content es stands.holds.rows sent fault stands.holds.after here in
+      let same : parties_of desk.setup ≡ parties = parties_now desk stands in
+      let here : admission parties own ≡ Err fault = subst (λ others. admission others own ≡ Err fault) same (subst (λ other. admission (parties_of desk.setup) other ≡ Err fault) is (refused_for desk.setup text refusal refused)) in
+      let adds = refused_adds content es stands.rows sent fault stands.after here in
       let after : StandsFor g content (es ++ delivered sent ∷ []) desk = record {
-        setup = stands.setup;
-        holds = record { rows = stands.holds.rows; has = stands.holds.has; after = adds.rows_are; beside = beside_same content es (es ++ delivered sent ∷ []) desk.beside adds.machine adds.runs stands.holds.beside };
+        given = stands.given;
+        now_is = now_stays content es sent ∙ stands.now_is;
+        rows = stands.rows;
+        has = stands.has;
+        after = adds.rows_are;
+        beside = beside_same content es sent desk.beside adds.machine adds.runs stands.beside;
       } in
-      let told : GivesOrNotNow (refusal_of P (header_of (segments_in own)) fault) given =
+      let told : GivesOrNotNow (refusal_of parties (header_of (segments_in own)) fault) given =
       subst (λ others. GivesOrNotNow (refusal_of others (header_of (segments_in own)) fault) given) same
       (subst (λ other. GivesOrNotNow (refusal_of (parties_of desk.setup) (header_of (segments_in other)) fault) given) is gives) in
-      answers_or_not es sent given desk
-      (subst (λ place. GivesOrNotNow (answer_at P interchange_taken (opening_of content) (delivered_to content es) own place) given) (sym here) told)
+      answers_or_not sent given (setup_content desk.setup) (state g desk.conn).committed desk.beside
+      (subst (λ place. GivesOrNotNow (answer_at content es sent place) given) (sym here) told)
       (subst (λ others. RefusedSurely others own given) same (subst (λ other. RefusedSurely (parties_of desk.setup) other given) is surely)) stands after
 
-  pub taken_delivered : (es : List Event) (sent : List ℕ) (given : Response) (desk : Desk S g) (partner number : ℕ) (code : List ℕ) → setup_content desk.setup ≡ content →
-      IsFor content sent partner number → code ≡ code_of (parties_in content) partner →
-      Answers content es sent partner number code given (state g desk.conn).committed desk.beside → Next es sent given desk
-  taken_delivered es sent given desk partner number code setup is_for is_code told =
-      let kind = told_of content es partner number sent in
-      let here : content_of given ≡ told_answer (code_of (parties_in content) partner) number kind = told.answers ∙ ap (λ c. told_answer c number kind) is_code in
-      answers_now es sent given desk (code_of (parties_in content) partner) number kind here
-      (subst (λ place. content_of given ≡ answer_at (parties_in content) interchange_taken (opening_of content) (delivered_to content es) (interchange_of sent) place) (sym is_for) here)
-      (record { setup = setup; holds = told.holds })
-
-  pub not_now_delivered : (es : List Event) (sent : List ℕ) (desk : Desk S g) → StandsFor g content es desk → RefusedSurely (parties_in content) (interchange_of sent) response.NotNow →
-      Next es sent response.NotNow desk
-  not_now_delivered es sent desk stands surely = (not_now_surely (parties_in content) (interchange_of sent) surely, stands)
-
   -- a text that is admitted, and was taken in
-  pub taken_in : (es : List Event) (sent text : List ℕ) (given : Response) (old new : Desk S g) (partner number : ℕ) (code : List ℕ) → text ≡ interchange_of sent → StandsFor g content es old →
-      new.setup ≡ old.setup → admission (parties_of old.setup) text ≡ Ok (partner, number) → code ≡ code_of (parties_of old.setup) partner →
-      ((before : List Event) (now : List ℕ) → Holds (setup_content old.setup) before (state g old.conn).committed old.beside → Comes (setup_content old.setup) now text partner number →
-      Answers (setup_content old.setup) before now partner number code given (state g new.conn).committed new.beside) →
-      Next es sent given new
-  taken_in es sent text given old new partner number code is stands same admits is_code takes =
-      let first = setup_content old.setup in
-      let own : IsFor first sent partner number = subst (λ P. admission P (interchange_of sent) ≡ Ok (partner, number)) (parties_same old.setup) (subst (λ t. admission (parties_of old.setup) t ≡ Ok (partner, number)) is admits) in
-      let holds : Holds first es (state g old.conn).committed old.beside = subst (λ k. Holds k es (state g old.conn).committed old.beside) (sym stands.setup) stands.holds in
-      let told = takes es sent holds (record { text_is = is; is_for = own }) in
-      taken_delivered es sent given new partner number code (ap setup_content same ∙ stands.setup) (subst (λ k. IsFor k sent partner number) stands.setup own)
-      (is_code ∙ ap (λ P. code_of P partner) (parties_same old.setup ∙ ap parties_in stands.setup))
-      (subst (λ k. Answers k es sent partner number code given (state g new.conn).committed new.beside) stands.setup told)
+  pub taken_in : (sent text : List ℕ) (given : Response) (old : Desk S g) (db : Database) (there : Option Beside) (partner number : ℕ) (code : List ℕ) → text ≡ interchange_of sent → StandsFor g content es old →
+      admission (parties_of old.setup) text ≡ Ok (partner, number) → code ≡ code_of (parties_of old.setup) partner →
+      (StandsFor g content es old → Comes content es sent text partner number → Answers content es sent partner number code given (setup_content old.setup) db there) →
+      Next sent given (setup_content old.setup) db there
+  taken_in sent text given old db there partner number code is stands admits is_code takes =
+      let comes = comes_for sent text old partner number is stands admits in
+      let told = takes stands comes in
+      let kind = told_of content es partner number sent in
+      let named : code ≡ code_of parties partner = is_code ∙ ap (λ P. code_of P partner) (parties_now old stands) in
+      let here : content_of given ≡ told_answer (code_of parties partner) number kind = told.answers ∙ ap (λ c. told_answer c number kind) named in
+      answers_now sent given (setup_content old.setup) db there (code_of parties partner) number kind here
+      (subst (λ place. content_of given ≡ answer_at content es sent place) (sym comes.is_for) here) told.holds
 
   -- one that is admitted, and could not be taken now
-  pub not_taken : (es : List Event) (sent : List ℕ) (old new : Desk S g) → StandsFor g content es old → new.setup ≡ old.setup → RefusedSurely (parties_of old.setup) (interchange_of sent) response.NotNow →
-      ((before : List Event) → Holds (setup_content old.setup) before (state g old.conn).committed old.beside → Holds (setup_content old.setup) before (state g new.conn).committed new.beside) →
-      Next es sent response.NotNow new
-  not_taken es sent old new stands same surely keeps =
-      let holds = keeps es (subst (λ k. Holds k es (state g old.conn).committed old.beside) (sym stands.setup) stands.holds) in
-      not_now_delivered es sent new
-      (record { setup = ap setup_content same ∙ stands.setup; holds = subst (λ k. Holds k es (state g new.conn).committed new.beside) stands.setup holds })
-      (subst (λ P. RefusedSurely P (interchange_of sent) response.NotNow) (parties_same old.setup ∙ ap parties_in stands.setup) surely)
+  pub not_taken : (sent : List ℕ) (old : Desk S g) (db : Database) (there : Option Beside) → StandsFor g content es old → RefusedSurely (parties_of old.setup) (interchange_of sent) response.NotNow →
+      (StandsFor g content es old → Holds content es (setup_content old.setup) db there) →
+      Next sent response.NotNow (setup_content old.setup) db there
+  not_taken sent old db there stands surely keeps =
+      (not_now_surely parties (interchange_of sent) (subst (λ P. RefusedSurely P (interchange_of sent) response.NotNow) (parties_now old stands) surely), keeps stands)
 
   -- ---- what a crash leaves
 
-  pub refusal_leaves : (es : List Event) (sent text : List ℕ) (given : Response) (desk : Desk S g) (refusal : Refusal) → text ≡ interchange_of sent → StandsFor g content es desk →
+  pub refusal_leaves : (sent text : List ℕ) (given : Response) (desk : Desk S g) (refusal : Refusal) → text ≡ interchange_of sent → StandsFor g content es desk →
       IsRefused desk.setup text refusal → Leaves content es (state g desk.conn) → LeavesBehind content es sent given (state g desk.conn)
-  refusal_leaves es sent text given desk refusal is stands refused leaves =
-      let same : parties_of desk.setup ≡ parties_in content = parties_same desk.setup ∙ ap parties_in stands.setup in
-      let here : admission (parties_in content) (interchange_of sent) ≡ Err (fault_in refusal) =
-      subst (λ others. admission others (interchange_of sent) ≡ Err (fault_in refusal)) same
+  refusal_leaves sent text given desk refusal is stands refused leaves =
+      let here : admission parties (interchange_of sent) ≡ Err (fault_in refusal) =
+      subst (λ others. admission others (interchange_of sent) ≡ Err (fault_in refusal)) (parties_now desk stands)
       (subst (λ other. admission (parties_of desk.setup) other ≡ Err (fault_in refusal)) is (refused_for desk.setup text refusal refused)) in
       answered_behind content es sent given (state g desk.conn) (refused_leaves content es sent (fault_in refusal) (state g desk.conn) here leaves)
-
-  -- what is told of a text that is admitted, for the desk's own set-up
-  pub admitted_leaves : (es : List Event) (sent text : List ℕ) (old : Desk S g) (partner number : ℕ) (P : SetupContent → Type 0) → text ≡ interchange_of sent → StandsFor g content es old →
-      admission (parties_of old.setup) text ≡ Ok (partner, number) → Leaves content es (state g old.conn) →
-      ((before : List Event) (now : List ℕ) → before ≡ es → now ≡ sent → Holds (setup_content old.setup) before (state g old.conn).committed old.beside → Leaves (setup_content old.setup) before (state g old.conn) →
-      Comes (setup_content old.setup) now text partner number → P (setup_content old.setup)) →
-      P content
-  admitted_leaves es sent text old partner number P is stands admits leaves takes =
-      let first = setup_content old.setup in
-      let own : IsFor first sent partner number = subst (λ P. admission P (interchange_of sent) ≡ Ok (partner, number)) (parties_same old.setup) (subst (λ t. admission (parties_of old.setup) t ≡ Ok (partner, number)) is admits) in
-      subst P stands.setup
-      (takes es sent refl refl (subst (λ k. Holds k es (state g old.conn).committed old.beside) (sym stands.setup) stands.holds)
-      (subst (λ k. Leaves k es (state g old.conn)) (sym stands.setup) leaves) (record { text_is = is; is_for = own }))
 
 -- ---- over any office
 

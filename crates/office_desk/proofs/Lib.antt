@@ -1,3 +1,4 @@
+pub mod AccountLemmas
 pub mod AccountedSteps
 pub mod Admitted
 pub mod AlikeLemmas
@@ -17,3 +18,5 @@ pub mod ReportLemmas
 pub mod RunLoads
 pub mod RunNexts
 pub mod RunSteps
+pub mod LookLemmas
+pub mod CallLemmas

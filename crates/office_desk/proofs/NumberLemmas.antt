@@ -15,7 +15,7 @@ use Rattle.office_rows.specs.Rows.{Partner, Rows}
 use Rattle.office_rows.specs.Shown.{AreNexts}
 use Rattle.office_setup.specs.Setups.{SetupContent}
 use Rattle.office_taking.specs.Taking.{MachineState, interchange_taken}
-use Rattle.office_history.specs.After.{AreAfter, accounts_from, delivered_to}
+use Rattle.office_history.specs.After.{AreAfter, accounts_from, content_after, deliveries_of}
 use Rattle.office_history.specs.Cascade.{AreTakenFrom}
 use Rattle.office_history.proofs.Shown.{Rises, head_in, tail_in, rising_same}
 use Rattle.office_delivery.specs.Taken.{taken_contents}
@@ -191,10 +191,10 @@ module _ (f : ℕ → ℕ) (accounts : List (List ℕ × PartnerKind)) (rows : R
       ∙ nexts_by f by_id (λ p inside. next_by p (Contains-permutation by_id rows.partners p (IsPermutation-sym rows.partners by_id are.1) inside))
       ∙ ap (map f) (ids_are by_id are.1 are.2)
 
--- the numbers that the rows after deliveries have are those after them
+-- the numbers that the rows after events have are those after them
 pub nexts_loaded : (content : SetupContent) (es : List Event) (rows : Rows) (nexts : List ℕ) → AreAfter content es rows → AreNexts rows nexts → nexts ≡ nexts_after content es
 nexts_loaded content es rows nexts after are =
-    nexts_are (λ p. run (delivered_to content es) p + 1) content.partners rows (subst (IsPermutation rows.partners) after.partners (IsPermutation-refl rows.partners)) nexts are
+    nexts_are (λ p. run (deliveries_of content es) p + 1) (content_after content es).partners rows (subst (IsPermutation rows.partners) after.partners (IsPermutation-refl rows.partners)) nexts are
 
 -- ---- a run
 

@@ -11,13 +11,16 @@ use Rattle.partner_core.specs.Order.{numbers_above, order, reply_among, reply_of
 use Rattle.partner_core.proofs.Cascades.{takes_none, takes_one_more}
 use Rattle.partner_core.proofs.Keepings.{keeps_run}
 use Rattle.partner_core.proofs.OnePartner.{run_of_none}
+use Rattle.terminal_core.specs.Versions.{newest}
 use Rattle.terminal_core.specs.Forms.{IsWellFormed}
 use Rattle.terminal_core.specs.State.{IsWhole}
 use Rattle.office_taking.specs.Taking.{MachineState, interchange_taken}
 use Rattle.office_taking.proofs.Forming.{interchange_formed}
 use Rattle.office_taking.proofs.Turning.{interchange_leads}
 use Rattle.office_history.specs.Cascade.{TakenContent, AreTakenFrom}
+use Rattle.office_setup.specs.Setups.{SetupContent}
 use Rattle.office_history.proofs.Ground.{OnGround, state_on_ground}
+use Rattle.office_history.proofs.Places.{no_rules_before}
 use Rattle.office_desk.proofs.AccountedSteps.{IsAccounted, interchange_keeps}
 use Rattle.office_desk.proofs.PartLemmas.{set_taken}
 
@@ -69,7 +72,10 @@ module _ (machine : MachineState) (p : ℕ) (text : List ℕ) where
   pub interchange_stays : OnGround machine.terminal next.terminal
   interchange_stays =
       let keeps = keeps_run interchange_taken machine [] (delivery p 1 text) none_held one_held none_keeps one_run in
-      subst (λ (m : MachineState). OnGround machine.terminal m.terminal) (sym keeps.state_is) (state_on_ground machine (delivery p 1 text ∷ []))
+      let content : SetupContent = record { terminal = machine.parties.terminal; codes = machine.codes; partners = []; blocks = machine.blocks; visit_limit = machine.visit_limit } in
+      subst (λ (m : MachineState). OnGround machine.terminal m.terminal) (sym keeps.state_is)
+      (subst (λ (taking : Taking MachineState). OnGround machine.terminal (state taking machine (delivery p 1 text ∷ [])).terminal) (no_rules_before newest content)
+      (state_on_ground newest content [] machine (delivery p 1 text ∷ [])))
 
 -- ---- interchanges, one after the other
 

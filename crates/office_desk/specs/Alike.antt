@@ -3,15 +3,12 @@ use Rattle.std.specs.Prelude.{◌≡◌, ℕ, List}
 use Rattle.office_replies.specs.Events.{Event}
 use Rattle.office_setup.specs.Setups.{SetupContent}
 use Rattle.office_rows.specs.Rows.{Rows}
-use Rattle.office_taking.specs.Taking.{interchange_taken}
-use Rattle.office_history.specs.After.{SaysSame, parties_in, opening_of, machine_after, AreAfter}
+use Rattle.office_history.specs.After.{SaysSame, machine_after, AreAfter}
 use Rattle.office_desk.specs.Answers.{answer_to}
 
 -- after those events both answer every text alike, and have the same terminal and the same rows
 pub record AnswersAlike (one other : SetupContent) (es : List Event) : Type 0 where
-  pub answers : (sent : List ℕ) →
-      answer_to (parties_in one) interchange_taken (opening_of one) es sent
-      ≡ answer_to (parties_in other) interchange_taken (opening_of other) es sent
+  pub answers : (sent : List ℕ) → answer_to one es sent ≡ answer_to other es sent
   pub terminal : (machine_after one es).terminal ≡ (machine_after other es).terminal
   pub rows : (rows : Rows) → AreAfter one es rows → AreAfter other es rows
 

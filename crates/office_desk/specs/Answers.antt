@@ -3,9 +3,7 @@ use Rattle.std.specs.Prelude.{◌≡◌, ℕ, List, [], Result, Ok, Err, codes}
 use Rattle.std.specs.Option.{unwrap_or}
 use Rattle.edi_segments.specs.Interchange.{interchange_of, segments_in}
 use Rattle.edi_syntax.specs.Envelope.{header_of}
-use Rattle.partner_core.specs.Machine.{Taking}
-use Rattle.partner_core.specs.Deliveries.{Delivery, delivery}
-use Rattle.partner_core.specs.Answers.{Told, answer_of}
+use Rattle.partner_core.specs.Answers.{Told}
 use Rattle.partner_core.specs.Answers as told
 use Rattle.partner_core.specs.Numbered.{with_number}
 use Rattle.office_replies.specs.Events.{Event}
@@ -17,9 +15,11 @@ use Rattle.office_replies.specs.declared.response.Response.{Response}
 use Rattle.office_replies.specs.declared.response.Response.TheVariants as response
 use Rattle.office_replies.specs.declared.worst.Worst.TheVariants as worst
 use Rattle.office_setup.specs.Parties.{Parties}
+use Rattle.office_setup.specs.Setups.{SetupContent, parties_in}
 use Rattle.office_admission.specs.Admission.{admission}
-use Rattle.office_admission.specs.Deliveries.{deliveries_of}
+use Rattle.office_admission.specs.Accounts.{content_after}
 use Rattle.office_admission.specs.Refusals.{refusal_of, MayBeNotNow}
+use Rattle.office_history.specs.Laws.{told_of}
 
 -- the answer to an interchange of the partner with a code that is taken, with its reply
 abbrev pub taken_answer : List ℕ → ℕ → List ℕ → AnswerContent
@@ -40,19 +40,19 @@ told_answer code number told.Clash = answer_with kinds.Clash 409 (clash_text num
 abbrev pub code_of : Parties → ℕ → List ℕ
 code_of parties partner = unwrap_or (with_number parties.partners partner) []
 
-abbrev pub answer_at : {S : Type 0} → Parties → Taking S → S → List Delivery → List ℕ → Result (ℕ × ℕ) Fault →
-    AnswerContent
-answer_at parties taken opening before text (Err fault) = refusal_of parties (header_of (segments_in text)) fault
-answer_at parties taken opening before text (Ok place) =
-    told_answer (code_of parties place.0) place.1 (answer_of taken opening before (delivery place.0 place.1 text))
+abbrev pub answer_at : SetupContent → List Event → List ℕ → Result (ℕ × ℕ) Fault → AnswerContent
+answer_at content es sent (Err fault) =
+    refusal_of (parties_in (content_after content es)) (header_of (segments_in (interchange_of sent))) fault
+answer_at content es sent (Ok place) =
+    told_answer (code_of (parties_in (content_after content es)) place.0) place.1
+    (told_of content es place.0 place.1 sent)
 
--- AnswerOf: the answer to a text that is delivered after those events
-abbrev pub answer_to : {S : Type 0} → Parties → Taking S → S → List Event → List ℕ → AnswerContent
-answer_to parties taken opening es sent =
-    answer_at parties taken opening (deliveries_of parties es) (interchange_of sent)
-    (admission parties (interchange_of sent))
+-- AnswerOf: the answer to a text that is delivered after those events, by the accounts so far
+abbrev pub answer_to : SetupContent → List Event → List ℕ → AnswerContent
+answer_to content es sent =
+    answer_at content es sent (admission (parties_in (content_after content es)) (interchange_of sent))
 
--- from that opening state, after those events, the response is the answer to the next, or NotNow if that may be
-abbrev pub AnswersNext : {S : Type 0} → Taking S → Parties → S → List Event → List ℕ → Response → Type 0
-AnswersNext taken parties opening es sent response.NotNow = MayBeNotNow parties (interchange_of sent)
-AnswersNext taken parties opening es sent given = content_of given ≡ answer_to parties taken opening es sent
+-- from that opening set-up, after those events, the response is the answer to the next, or NotNow if that may be
+abbrev pub AnswersNext : SetupContent → List Event → List ℕ → Response → Type 0
+AnswersNext content es sent response.NotNow = MayBeNotNow (parties_in (content_after content es)) (interchange_of sent)
+AnswersNext content es sent given = content_of given ≡ answer_to content es sent

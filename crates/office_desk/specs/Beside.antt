@@ -7,18 +7,20 @@ use Rattle.office_replies.specs.Events.{Event}
 use Rattle.office_rows.specs.Rows.{Rows}
 use Rattle.office_rows.specs.Shown.{AreNexts}
 use Rattle.office_setup.specs.Setups.{SetupContent}
-use Rattle.office_history.specs.After.{delivered_to, machine_after, machine_with}
+use Rattle.office_history.specs.After.{content_after, deliveries_of, machine_after, machine_with}
 use Rattle.office_desk.specs.declared.beside.Beside.{Beside}
 
--- after the events, partner by partner in the order of their ids: the number after its unbroken run
+-- after the events, partner by partner of the accounts so far, in the order of their ids: the number after its unbroken
+-- run
 abbrev pub nexts_after : SetupContent → List Event → List ℕ
 nexts_after content es =
-    map (λ partner. run (delivered_to content es) partner + 1) (range_with_len 1 (length content.partners))
+    map (λ partner. run (deliveries_of content es) partner + 1)
+    (range_with_len 1 (length (content_after content es).partners))
 
 -- beside the rows after the events: the set-up's machine over the terminal is that after them, and the numbers are
 -- theirs
 pub record IsAt (content : SetupContent) (es : List Event) (there : Beside) : Type 0 where
-  pub terminal : machine_with content there.terminal ≡ machine_after content es
+  pub terminal : machine_with (content_after content es) there.terminal ≡ machine_after content es
   pub nexts : there.nexts.items ≡ nexts_after content es
 
 -- it is at these events, or there is none: then it has to be loaded

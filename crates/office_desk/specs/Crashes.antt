@@ -2,6 +2,7 @@
 use Rattle.std.specs.Prelude.{◌≡◌, ◌⊎◌, IsTrue, ℕ, List, [], ◌∷◌, ◌++◌}
 use Rattle.sqlite.specs.State.{State}
 use Rattle.sqlite.specs.Tree.{Trees}
+use Rattle.office_replies.specs.Delivering.{with_answered}
 use Rattle.office_replies.specs.Events.{Event, delivered}
 use Rattle.office_replies.specs.declared.response.Response.{Response}
 use Rattle.office_replies.specs.declared.response.Response.TheVariants as response
@@ -38,3 +39,13 @@ LeavesNoMore old new = (db : Trees) → new.may_leave db → old.may_leave db
 abbrev pub LeavesBehind : SetupContent → List Event → List ℕ → Response → State → Type 0
 LeavesBehind content es sent response.NotNow s = LeavesEither content es sent s
 LeavesBehind content es sent given s = Leaves content (es ++ delivered sent ∷ []) s
+
+-- behind those deliveries a crash leaves the rows after those that were answered; where the last was answered NotNow, it
+-- is there whole or not at all
+abbrev pub LeavesAll : SetupContent → List Event → List (List ℕ) → List Response → State → Type 0
+LeavesAll content es [] [] s = Leaves content es s
+LeavesAll content es [] (response ∷ responses) s = ⊥
+LeavesAll content es (text ∷ texts) [] s = ⊥
+LeavesAll content es (text ∷ []) (response ∷ []) s = LeavesBehind content es text response s
+LeavesAll content es (text ∷ texts) (response ∷ responses) s =
+    LeavesAll content (with_answered es text response) texts responses s

@@ -13,9 +13,7 @@ use Rattle.office_setup.specs.Parties.{parties_of}
 use Rattle.office_setup.specs.Setups.{SetupContent, setup_content}
 use Rattle.office_admission.specs.Admission.{admission}
 use Rattle.office_admission.specs.Refusals.{refusal_of}
-use Rattle.office_taking.specs.Taking.{interchange_taken}
-use Rattle.office_history.specs.After.{SaysSame, parties_in, opening_of}
-use Rattle.office_desk.specs.Answers.{AnswersNext}
+use Rattle.office_history.specs.After.{SaysSame, content_after}
 use Rattle.office_desk.specs.Telling.{Holds}
 use Rattle.office_desk.specs.Crashes.{Leaves}
 use Rattle.office_desk.specs.declared.desk.Desk.{Desk}
@@ -24,24 +22,19 @@ use Rattle.office_desk.specs.declared.desk.Desk.{Desk}
 abbrev pub IsSound : {S : Type 0} (g : Ghosts S) → Desk S g → Type 0
 IsSound g desk = HasCleanDisk (state g desk.conn) × IsTrue (state g desk.conn).is_open
 
--- for that set-up, after those events, it is this desk
-pub record StandsFor {S : Type 0} (g : Ghosts S) (content : SetupContent) (es : List Event)
-    (desk : Desk S g) : Type 0 where
-  pub setup : setup_content desk.setup ≡ content
-  pub holds : Holds content es (state g desk.conn).committed desk.beside
+-- for that opening set-up, after those events, it is this desk
+abbrev pub StandsFor : {S : Type 0} (g : Ghosts S) → SetupContent → List Event → Desk S g → Type 0
+StandsFor g content es desk = Holds content es (setup_content desk.setup) (state g desk.conn).committed desk.beside
 
--- a desk that was opened on the rows after those events: its set-up says the same, it stands there, and a crash
--- leaves these
+-- a desk that was opened on the rows after those events: its set-up says the same as the opening one with the accounts
+-- so far, it stands there for an opening set-up that says the same, and a crash leaves these rows
 pub record OpensAt {S : Type 0} (g : Ghosts S) (content : SetupContent) (es : List Event)
     (desk : Desk S g) : Type 0 where
-  pub says : SaysSame (setup_content desk.setup) content
-  pub stands : StandsFor g (setup_content desk.setup) es desk
-  pub leaves : Leaves (setup_content desk.setup) es (state g desk.conn)
-
--- for that set-up, after those events, an answer to the next text
-abbrev pub answers_for : SetupContent → List Event → List ℕ → Response → Type 0
-answers_for content es sent given =
-    AnswersNext interchange_taken (parties_in content) (opening_of content) es sent given
+  pub says : SaysSame (setup_content desk.setup) (content_after content es)
+  pub opening : SetupContent
+  pub opening_says : SaysSame opening content
+  pub stands : StandsFor g opening es desk
+  pub leaves : Leaves opening es (state g desk.conn)
 
 -- a text that is refused is answered so, or NotNow, and the desk is as it was
 abbrev pub Refuses : {S : Type 0} (g : Ghosts S) → List ℕ → Desk S g → Response → Desk S g → Type 0

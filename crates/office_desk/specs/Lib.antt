@@ -8,3 +8,5 @@ pub mod Reports
 pub mod Kept
 pub mod Noting
 pub mod Alike
+pub mod Accounts
+pub mod Calls

@@ -1,7 +1,11 @@
 -- Why a desk answered NotNow.
-use Rattle.std.specs.Prelude.{◌≡◌, Option, Some}
+use Rattle.std.specs.Prelude.{◌≡◌, ℕ, List, Option, Some, Result, Ok, Err}
+use Rattle.office_replies.specs.declared.account_answer.AccountAnswer.{AccountAnswer}
+use Rattle.office_replies.specs.declared.account_answer.AccountAnswer.TheVariants as account
 use Rattle.office_replies.specs.declared.response.Response.{Response}
 use Rattle.office_replies.specs.declared.response.Response.TheVariants as response
+use Rattle.office_queries.specs.declared.not_now.NotNow.{NotNow as Unreported}
+use Rattle.office_tables.specs.Faults.{IsOfStore}
 use Rattle.office_tables.specs.declared.table_fault.TableFault.{TableFault}
 use Rattle.office_tables.specs.declared.table_fault.TableFault.TheVariants.{Memory}
 
@@ -18,6 +22,16 @@ NotesFault given old new = new ≡ old
 abbrev pub NotesMemory : Response → (old new : Option TableFault) → Type 0
 NotesMemory response.NotNow old new = new ≡ Some Memory
 NotesMemory given old new = new ≡ old
+
+-- the same behind the answer to an account that is to be added: the fault is one of the store, or of memory
+abbrev pub NotesStore : AccountAnswer → (old new : Option TableFault) → Type 0
+NotesStore account.NotNow old new = (fault : TableFault) × (new ≡ Some fault) × IsOfStore fault
+NotesStore given old new = new ≡ old
+
+-- the same behind a report: it has a fault behind one that can't be told now
+abbrev pub NotesLook : Result (Option (List ℕ)) Unreported → (old new : Option TableFault) → Type 0
+NotesLook (Ok found) old new = new ≡ old
+NotesLook (Err refusal) old new = HasFault new
 
 -- the response isn't NotNow
 abbrev pub IsNow : Response → Type 0

@@ -11,7 +11,7 @@ use Rattle.office_rows.specs.Rows.{Rows}
 use Rattle.office_setup.specs.Parties.{partner_from}
 use Rattle.office_setup.specs.Setups.{SetupContent, setup_content}
 use Rattle.office_tables.specs.Answers.{IsNextOf}
-use Rattle.office_history.specs.After.{AreAfter, machine_after, parties_in, reply_in}
+use Rattle.office_history.specs.After.{AreAfter, content_after, machine_after, parties_in, reply_in}
 use Rattle.office_history.specs.Cascade.{text_in}
 use Rattle.office_queries.specs.declared.query.Query.{Query}
 use Rattle.office_queries.specs.declared.query.Query.TheVariants as query
@@ -76,13 +76,14 @@ pub record TellsAfter (content : SetupContent) (es : List Event) (query : Query)
     (found : Option (List ℕ)) : Type 0 where
   pub rows : Rows
   pub after : AreAfter content es rows
-  pub tells : TellsOf content (machine_after content es).terminal rows query found
+  pub tells : TellsOf (content_after content es) (machine_after content es).terminal rows query found
 
 -- what the desk tells, whatever rows it has: those after events tell what the rows after that tell; those of any
 -- office tell what they are
 pub record DeskTells {S : Type 0} (g : Ghosts S) (desk : Desk S g) (query : Query)
     (found : Option (List ℕ)) : Type 0 where
-  pub after : (es : List Event) → Holds (setup_content desk.setup) es (state g desk.conn).committed desk.beside →
-      TellsAfter (setup_content desk.setup) es query found
+  pub after : (content : SetupContent) (es : List Event) →
+      Holds content es (setup_content desk.setup) (state g desk.conn).committed desk.beside →
+      TellsAfter content es query found
   pub office : (rows : Rows) (terminal : TerminalState) → DeskHolds g desk rows terminal →
       TellsOf (setup_content desk.setup) terminal rows query found

@@ -10,10 +10,11 @@ use Rattle.office_replies.specs.Contents.{content_of}
 use Rattle.office_replies.specs.declared.response.Response.{Response}
 use Rattle.office_rows.specs.Rows.{Rows}
 use Rattle.office_rows.specs.Stored.{HasRows, StoresRows}
+use Rattle.office_setup.specs.Given.{IsGiven}
 use Rattle.office_setup.specs.Setups.{SetupContent}
 use Rattle.office_setup.specs.declared.setup.Setup.{Setup}
 use Rattle.office_taking.specs.Taking.{MachineState, machine_of}
-use Rattle.office_history.specs.After.{AreAfter}
+use Rattle.office_history.specs.After.{AreAfter, content_after}
 use Rattle.office_history.specs.Cascade.{TakenContent, AreTakenFrom, texts_with, with_run}
 use Rattle.office_history.specs.Laws.{IsFor, told_of}
 use Rattle.office_desk.specs.Answers.{told_answer}
@@ -41,20 +42,24 @@ pub record IsRunDone (rows : Rows) (partner number : ℕ) (text : List ℕ) (old
   pub are_taken : AreTakenFrom partner (texts_with rows partner number text) number old taken new
   pub are : StoresRows (with_run partner number text taken rows) db
 
--- the database has the rows after the events, and what stands beside it is at them
-pub record Holds (content : SetupContent) (es : List Event) (db : Database) (there : Option Beside) : Type 0 where
+-- for that opening set-up, after those events: with the accounts so far it is the set-up of now, the database has the
+-- rows, and what stands beside it is at them
+pub record Holds (content : SetupContent) (es : List Event) (now : SetupContent) (db : Database) (there : Option Beside)
+    : Type 0 where
+  pub given : IsGiven content
+  pub now_is : content_after content es ≡ now
   pub rows : Rows
   pub has : HasRows rows db
   pub after : AreAfter content es rows
   pub beside : IsBeside content es there
 
--- the text is what was delivered, and admitted for that partner under that number
-pub record Comes (content : SetupContent) (sent text : List ℕ) (partner number : ℕ) : Type 0 where
+-- the text is what was delivered, and the accounts so far admit it for that partner under that number
+pub record Comes (content : SetupContent) (es : List Event) (sent text : List ℕ) (partner number : ℕ) : Type 0 where
   pub text_is : text ≡ interchange_of sent
-  pub is_for : IsFor content sent partner number
+  pub is_for : IsFor content es sent partner number
 
 -- the response to the partner with a code is what is to be told, and these are held behind it
 pub record Answers (content : SetupContent) (es : List Event) (sent : List ℕ) (partner number : ℕ)
-    (code : List ℕ) (response : Response) (db : Database) (there : Option Beside) : Type 0 where
+    (code : List ℕ) (response : Response) (now : SetupContent) (db : Database) (there : Option Beside) : Type 0 where
   pub answers : content_of response ≡ told_answer code number (told_of content es partner number sent)
-  pub holds : Holds content (es ++ delivered sent ∷ []) db there
+  pub holds : Holds content (es ++ delivered sent ∷ []) now db there

@@ -6,7 +6,10 @@ ghost use Rattle.office_setup.specs.Parties.{parties_of};
 ghost use Rattle.office_setup.specs.Given.{IsGiven};
 ghost use Rattle.office_setup.specs.Setups.{SetupContent, setup_content};
 
+use crate::account_standing::AccountStanding;
+use crate::adding::add_new;
 use crate::beside::Beside;
+use crate::judging::{asked, judge_account};
 use crate::noting::note_memory;
 use crate::reloading::{beside_of, load_beside};
 use crate::taking::take_in;
@@ -14,7 +17,7 @@ use crate::telling::tell;
 use edi_segments::interchange_text;
 use office_admission::admit;
 use office_queries::{NotNow, Query, Report};
-use office_replies::{Deliver, Response};
+use office_replies::{AccountAnswer, AccountFault, AddAccount, Deliver, Response, account_known};
 use office_setup::Setup;
 use office_tables::TableFault;
 use sqlite::{Alter, Connection};
@@ -141,7 +144,7 @@ impl<S: Alter + Drop> Desk<S> {
     }
 }
 
-impl<S: Alter + Drop> Report for Desk<S> {
+impl<S: Alter + Drop> Desk<S> {
     ghost use Rattle.std.specs.Prelude.{string_bytes};
     ghost use Rattle.std.specs.Option.{option_map};
     ghost use Rattle.sqlite.specs.Held.{state};
@@ -155,9 +158,8 @@ impl<S: Alter + Drop> Report for Desk<S> {
     ghost use Rattle.office_desk.specs.Offices.{DeskHolds};
     ghost use Rattle.office_desk.specs.Reports.{DeskTells};
 
-    ghost tells = { DeskTells S.Store };
-
-    fn report(&mut self, alloc: Global, query: &Query) -> Result<Option<String>, NotNow>
+    /// What the rows tell at a query, if there is something; NotNow, if it met a fault, which it keeps.
+    fn answer_query(&mut self, alloc: Global, query: &Query) -> Result<Option<String>, NotNow>
         ensures told { IsSound S.Store self.new →
             IfOk result (λ found. DeskTells S.Store self.old query.now (option_map string_bytes found)) }
         ensures same { IsSound S.Store self.new → (content : SetupContent) (es : List Event) →
@@ -181,29 +183,22 @@ impl<S: Alter + Drop> Report for Desk<S> {
     }
 }
 
-impl<S: Alter + Drop> Deliver for Desk<S> {
+impl<S: Alter + Drop> Desk<S> {
     ghost use Rattle.sqlite.specs.Held.{state};
     ghost use Rattle.sqlite.specs.State.{HasCleanDisk};
     ghost use Rattle.office_admission.specs.Refusals.{RefusedSurely};
     ghost use Rattle.office_desk.specs.Crashes.{LeavesBehind};
-    ghost use Rattle.office_desk.specs.Desks.{IsSound, StandsFor, answers_for, Refuses};
+    ghost use Rattle.office_desk.specs.Answers.{AnswersNext};
+    ghost use Rattle.office_desk.specs.Desks.{IsSound, StandsFor, Refuses};
     ghost use Rattle.office_desk.specs.Kept.{AnswersOver, Office};
     ghost use Rattle.office_desk.specs.Noting.{NotesFault};
     ghost use Rattle.office_desk.specs.Offices.{DeskHolds};
 
-    ghost clean = { IsSound S.Store };
-
-    ghost Opening = { SetupContent };
-
-    ghost stands = { StandsFor S.Store };
-
-    ghost answers = { answers_for };
-
-    /// A refusal without a CONTRL takes no memory and no store, so it is never answered NotNow.
-    fn deliver(&mut self, alloc: Global, delivered: &[u8]) -> Response
+    /// Delivers a text, and answers it. A refusal without a CONTRL takes no memory and no store, so it is never answered NotNow.
+    fn answer_text(&mut self, alloc: Global, delivered: &[u8]) -> Response
         ensures delivers { IsSound S.Store self.new → (content : SetupContent) (es : List Event) →
             StandsFor S.Store content es self.old →
-            Delivers (StandsFor S.Store content) (answers_for content) es delivered.now result self.new }
+            Delivers (StandsFor S.Store content) (AnswersNext content) es delivered.now result self.new }
         ensures office { IsSound S.Store self.new → (old : Office) →
             DeskHolds S.Store self.old old.rows old.terminal →
             AnswersOver S.Store old delivered.now result self.new }
@@ -248,5 +243,109 @@ impl<S: Alter + Drop> Deliver for Desk<S> {
                 Response::NotNow
             }
         }
+    }
+}
+
+impl<S: Alter + Drop> Desk<S> {
+    ghost use Rattle.sqlite.specs.Held.{state};
+    ghost use Rattle.sqlite.specs.State.{HasCleanDisk};
+    ghost use Rattle.office_admission.specs.Accounts.{account_answer};
+    ghost use Rattle.office_replies.specs.Adding.{Adds};
+    ghost use Rattle.office_desk.specs.Accounts.{AddsOver, AnswersAccount, LeavesAdded, Says};
+    ghost use Rattle.office_desk.specs.Desks.{IsSound, StandsFor};
+    ghost use Rattle.office_desk.specs.Noting.{NotesStore};
+
+    /// Adds an account, and answers it. What is refused takes no memory and no store, so it is never answered NotNow.
+    fn answer_account(&mut self, alloc: Global, code: &[u8], kind: &[u8]) -> AccountAnswer
+        ensures adds { IsSound S.Store self.new → (content : SetupContent) (es : List Event) →
+            StandsFor S.Store content es self.old →
+            Adds (StandsFor S.Store content) (AnswersAccount content) es code.now kind.now result self.new }
+        ensures stays { IsSound S.Store self.new → IsSound S.Store self.old }
+        ensures says { Says (account_answer (setup_content self.old.setup).partners code.now kind.now) code.now result }
+        ensures over { IsSound S.Store self.new → AddsOver S.Store self.old code.now kind.now result self.new }
+        ensures crash { IsSound S.Store self.old → HasCleanDisk (state S.Store self.new.conn) →
+            (content : SetupContent) (es : List Event) → StandsFor S.Store content es self.old →
+            LeavesAdded content es code.now kind.now result (state S.Store self.new.conn) }
+        ensures noted { NotesStore result self.old.last_fault self.new.last_fault }
+    {
+        let is_idle = self.conn.is_autocommit();
+        prove!(is_idle);
+        let Some((code, kind)) = asked(code, kind) else {
+            return AccountAnswer::Refused(AccountFault::Partner);
+        };
+        match judge_account(&self.setup, code, kind) {
+            AccountStanding::Refused(fault) => AccountAnswer::Refused(fault),
+            AccountStanding::Known(id) => match account_known(alloc, id, code) {
+                Ok(body) => AccountAnswer::Known { id, body },
+                Err(_) => {
+                    self.last_fault = Some(TableFault::Memory);
+                    AccountAnswer::NotNow
+                }
+            },
+            AccountStanding::New(id) => {
+                let added = add_new(
+                    alloc,
+                    &mut self.conn,
+                    &mut self.setup,
+                    &mut self.beside,
+                    id,
+                    code,
+                    kind,
+                );
+                match added {
+                    Ok(body) => AccountAnswer::Added { id, body },
+                    Err(fault) => {
+                        self.last_fault = Some(fault);
+                        AccountAnswer::NotNow
+                    }
+                }
+            }
+        }
+    }
+}
+
+impl<S: Alter + Drop> Deliver for Desk<S> {
+    ghost use Rattle.office_desk.specs.Accounts.{AnswersAccount};
+    ghost use Rattle.office_desk.specs.Answers.{AnswersNext};
+    ghost use Rattle.office_desk.specs.Calls.{Leads};
+    ghost use Rattle.office_desk.specs.Desks.{IsSound, StandsFor};
+
+    ghost clean = { IsSound S.Store };
+
+    ghost Opening = { SetupContent };
+
+    ghost stands = { StandsFor S.Store };
+
+    ghost answers = { AnswersNext };
+
+    ghost added = { AnswersAccount };
+
+    ghost leads = { Leads S.Store };
+
+    fn deliver(&mut self, alloc: Global, delivered: &[u8]) -> Response {
+        self.answer_text(alloc, delivered)
+    }
+}
+
+impl<S: Alter + Drop> AddAccount for Desk<S> {
+    ghost use Rattle.office_desk.specs.Calls.{Enrols};
+
+    ghost enrols = { Enrols S.Store };
+
+    fn add_account(&mut self, alloc: Global, code: &[u8], kind: &[u8]) -> AccountAnswer {
+        self.answer_account(alloc, code, kind)
+    }
+}
+
+impl<S: Alter + Drop> Report for Desk<S> {
+    ghost use Rattle.office_desk.specs.Calls.{Looks};
+    ghost use Rattle.office_desk.specs.Reports.{DeskTells};
+
+    ghost tells = { DeskTells S.Store };
+
+    ghost looks = { Looks S.Store };
+
+    fn report(&mut self, alloc: Global, query: &Query) -> Result<Option<String>, NotNow> {
+        self.answer_query(alloc, query)
     }
 }

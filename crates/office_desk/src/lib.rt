@@ -1,11 +1,14 @@
 //! The desk that keeps its records in the tables of a store.
 #![tactic(auto)]
 
+mod account_standing;
+mod adding;
 mod answers;
 mod beside;
 mod desk;
 mod early;
 mod found;
+mod judging;
 pub mod laws;
 mod next;
 mod noting;
@@ -13,6 +16,7 @@ mod reloading;
 mod taking;
 mod telling;
 
+pub use account_standing::AccountStanding;
 pub use beside::Beside;
 pub use desk::Desk;
 pub use found::Found;

@@ -6,15 +6,14 @@ ghost use Rattle.partner_core.specs.Deliveries.{delivery, run};
 ghost use Rattle.office_replies.specs.Events.{Event, delivered};
 ghost use Rattle.office_rows.specs.Rows.{Rows};
 ghost use Rattle.office_rows.specs.Stored.{HasRows};
-ghost use Rattle.office_setup.specs.Setups.{setup_content};
+ghost use Rattle.office_setup.specs.Setups.{SetupContent, setup_content};
 ghost use Rattle.office_admission.specs.Outcomes.{IsAdmitted};
 ghost use Rattle.office_setup.specs.Given.{IsGiven};
 ghost use Rattle.office_tables.specs.Answers.{IsNextOf};
-ghost use Rattle.office_history.specs.After.{AreAfter, delivered_to};
+ghost use Rattle.office_history.specs.After.{deliveries_of};
 ghost use Rattle.office_history.specs.Cascade.{text_in};
 ghost use Rattle.office_delivery.specs.Taking.{IsNumbered};
 ghost use Rattle.office_desk.specs.Crashes.{HasCommitted, IsAfter, Leaves, LeavesEither};
-ghost use Rattle.office_desk.specs.Beside.{IsBeside};
 ghost use Rattle.office_desk.specs.Kept.{AnswersOrStays, Office};
 ghost use Rattle.office_desk.specs.Noting.{IsNow};
 ghost use Rattle.office_desk.specs.Offices.{HoldsOffice};
@@ -53,27 +52,27 @@ pub(crate) fn take_in<S: Alter>(
     ensures now { IfOk result IsNow }
     ensures ok { HasCleanDisk (state S.Store conn.new) → IsTrue (state S.Store conn.new).is_open →
         IfOk result (λ response.
-        (es : List Event) (sent : List ℕ) →
-        Holds (setup_content setup.now) es (state S.Store conn.old).committed beside.old →
-        Comes (setup_content setup.now) sent text.now admitted.now.partner number →
-        Answers (setup_content setup.now) es sent admitted.now.partner number code.now response
+        (content : SetupContent) (es : List Event) (sent : List ℕ) →
+        Holds content es (setup_content setup.now) (state S.Store conn.old).committed beside.old →
+        Comes content es sent text.now admitted.now.partner number →
+        Answers content es sent admitted.now.partner number code.now response (setup_content setup.now)
         (state S.Store conn.new).committed beside.new) }
     ensures err { HasCleanDisk (state S.Store conn.new) → IsTrue (state S.Store conn.new).is_open →
-        OnErr result ((es : List Event) →
-        Holds (setup_content setup.now) es (state S.Store conn.old).committed beside.old →
-        Holds (setup_content setup.now) es (state S.Store conn.new).committed beside.new) }
+        OnErr result ((content : SetupContent) (es : List Event) →
+        Holds content es (setup_content setup.now) (state S.Store conn.old).committed beside.old →
+        Holds content es (setup_content setup.now) (state S.Store conn.new).committed beside.new) }
     ensures leaves { HasCleanDisk (state S.Store conn.new) → IsTrue (state S.Store conn.old).is_open →
-        OnOk result ((es : List Event) (sent : List ℕ) →
-        Holds (setup_content setup.now) es (state S.Store conn.old).committed beside.old →
-        Leaves (setup_content setup.now) es (state S.Store conn.old) →
-        Comes (setup_content setup.now) sent text.now admitted.now.partner number →
-        Leaves (setup_content setup.now) (es ++ delivered sent ∷ []) (state S.Store conn.new)) }
+        OnOk result ((content : SetupContent) (es : List Event) (sent : List ℕ) →
+        Holds content es (setup_content setup.now) (state S.Store conn.old).committed beside.old →
+        Leaves content es (state S.Store conn.old) →
+        Comes content es sent text.now admitted.now.partner number →
+        Leaves content (es ++ delivered sent ∷ []) (state S.Store conn.new)) }
     ensures crash { HasCleanDisk (state S.Store conn.new) → IsTrue (state S.Store conn.old).is_open →
-        OnErr result ((es : List Event) (sent : List ℕ) →
-        Holds (setup_content setup.now) es (state S.Store conn.old).committed beside.old →
-        Leaves (setup_content setup.now) es (state S.Store conn.old) →
-        Comes (setup_content setup.now) sent text.now admitted.now.partner number →
-        LeavesEither (setup_content setup.now) es sent (state S.Store conn.new)) }
+        OnErr result ((content : SetupContent) (es : List Event) (sent : List ℕ) →
+        Holds content es (setup_content setup.now) (state S.Store conn.old).committed beside.old →
+        Leaves content es (state S.Store conn.old) →
+        Comes content es sent text.now admitted.now.partner number →
+        LeavesEither content es sent (state S.Store conn.new)) }
     ensures office { HasCleanDisk (state S.Store conn.new) → IsTrue (state S.Store conn.new).is_open →
         (old : Office) →
         HoldsOffice (setup_content setup.now) old.rows old.terminal (state S.Store conn.old).committed beside.old →
@@ -122,32 +121,32 @@ fn take_new<S: Alter>(
     ensures now { IfOk result IsNow }
     ensures ok { HasCleanDisk (state S.Store conn.new) → IsTrue (state S.Store conn.new).is_open →
         IfOk result (λ response.
-        (es : List Event) (sent : List ℕ) (rows : Rows) →
-        HasRows rows (state S.Store conn.old).now → (state S.Store conn.old).now ≡ (state S.Store conn.old).committed →
-        AreAfter (setup_content setup.now) es rows → IsBeside (setup_content setup.now) es (Some there) →
-        text_in rows admitted.now.partner number ≡ None →
-        next ≡ run (delivered_to (setup_content setup.now) es) admitted.now.partner + 1 →
-        Comes (setup_content setup.now) sent text.now admitted.now.partner number →
-        Answers (setup_content setup.now) es sent admitted.now.partner number code.now response
+        (content : SetupContent) (es : List Event) (sent : List ℕ)
+        (holds : Holds content es (setup_content setup.now) (state S.Store conn.old).now (Some there)) →
+        (state S.Store conn.old).now ≡ (state S.Store conn.old).committed →
+        text_in holds.rows admitted.now.partner number ≡ None →
+        next ≡ run (deliveries_of content es) admitted.now.partner + 1 →
+        Comes content es sent text.now admitted.now.partner number →
+        Answers content es sent admitted.now.partner number code.now response (setup_content setup.now)
         (state S.Store conn.new).committed beside.new) }
     ensures err { HasCleanDisk (state S.Store conn.new) → IsTrue (state S.Store conn.new).is_open → OnErr result (
-        (es : List Event) (rows : Rows) →
-        HasRows rows (state S.Store conn.old).now → (state S.Store conn.old).now ≡ (state S.Store conn.old).committed →
-        AreAfter (setup_content setup.now) es rows → IsBeside (setup_content setup.now) es (Some there) →
-        Holds (setup_content setup.now) es (state S.Store conn.new).committed beside.new) }
+        (content : SetupContent) (es : List Event) →
+        Holds content es (setup_content setup.now) (state S.Store conn.old).now (Some there) →
+        (state S.Store conn.old).now ≡ (state S.Store conn.old).committed →
+        Holds content es (setup_content setup.now) (state S.Store conn.new).committed beside.new) }
     ensures commits { HasCleanDisk (state S.Store conn.new) →
         OnOk result ((rows : Rows) → HasRows rows (state S.Store conn.old).now →
         (state S.Store conn.old).now ≡ (state S.Store conn.old).committed → IsNumbered admitted.now.partner rows →
         HasCommitted (state S.Store conn.new)) }
     ensures crash { HasCleanDisk (state S.Store conn.new) → OnErr result (
-        (es : List Event) (sent : List ℕ) (rows : Rows) →
-        HasRows rows (state S.Store conn.old).now → (state S.Store conn.old).now ≡ (state S.Store conn.old).committed →
-        AreAfter (setup_content setup.now) es rows → IsBeside (setup_content setup.now) es (Some there) →
-        text_in rows admitted.now.partner number ≡ None →
-        next ≡ run (delivered_to (setup_content setup.now) es) admitted.now.partner + 1 →
-        Comes (setup_content setup.now) sent text.now admitted.now.partner number →
+        (content : SetupContent) (es : List Event) (sent : List ℕ)
+        (holds : Holds content es (setup_content setup.now) (state S.Store conn.old).now (Some there)) →
+        (state S.Store conn.old).now ≡ (state S.Store conn.old).committed →
+        text_in holds.rows admitted.now.partner number ≡ None →
+        next ≡ run (deliveries_of content es) admitted.now.partner + 1 →
+        Comes content es sent text.now admitted.now.partner number →
         (db : Trees) → (state S.Store conn.new).may_leave db →
-        (state S.Store conn.old).may_leave db ⊎ IsAfter (setup_content setup.now) (es ++ delivered sent ∷ []) db) }
+        (state S.Store conn.old).may_leave db ⊎ IsAfter content (es ++ delivered sent ∷ []) db) }
     ensures office { HasCleanDisk (state S.Store conn.new) → IsTrue (state S.Store conn.new).is_open →
         (old : Office) →
         HoldsOffice (setup_content setup.now) old.rows old.terminal (state S.Store conn.old).committed (Some there) →

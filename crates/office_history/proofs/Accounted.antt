@@ -10,7 +10,7 @@ use Rattle.edi_moments.specs.Moments.{CivilMoment}
 use Rattle.edi_messages.specs.declared.codes.Codes.{Codes}
 use Rattle.edi_messages.specs.declared.message_fault.MessageFault.{MessageFault}
 use Rattle.edi_messages.specs.declared.partner_kind.PartnerKind.{PartnerKind}
-use Rattle.edi_messages.specs.Message.{LineContent as ReadLine, ordered, refused as refused_line, MessageContent, reading}
+use Rattle.edi_messages.specs.Message.{LineContent as ReadLine, ordered, refused as refused_line, MessageContent}
 use Rattle.edi_messages.specs.Orders.{EntryContent, OrderContent, gate_in, gate_out, move, list_discharge, list_load, discharge, load}
 use Rattle.edi_messages.specs.Purposes.{CallContent}
 use Rattle.edi_segments.specs.Text.{Content}
@@ -20,11 +20,13 @@ use Rattle.edi_syntax.specs.Header.{preparation}
 use Rattle.edi_syntax.specs.Messages.{Message}
 use Rattle.partner_core.specs.Deliveries.{Delivery}
 use Rattle.partner_core.specs.Numbered.{with_number}
+use Rattle.partner_core.specs.Machine.{Taking}
 use Rattle.partner_core.specs.Order.{state, state_after, order, text_under}
 use Rattle.yard_core.specs.declared.placement.Placement.{Placement}
 use Rattle.yard_core.specs.Decisions.{Refusal, yard_without, yard_with_move}
 use Rattle.yard_core.specs.YardMap.{YardMap}
-use Rattle.terminal_core.specs.Versions.{newest, spares}
+use Rattle.terminal_core.specs.Versions.{spares}
+use Rattle.terminal_core.specs.declared.version.Version.{Version}
 use Rattle.terminal_core.specs.declared.departure.Departure.{Departure}
 use Rattle.terminal_core.specs.declared.line_state.LineState.{LineState}
 use Rattle.terminal_core.specs.declared.line_state.LineState.TheVariants.{Pending, Done as LineIsDone}
@@ -38,57 +40,60 @@ use Rattle.terminal_core.specs.declared.way.Way.{Way}
 use Rattle.terminal_core.specs.declared.way.Way.TheVariants.{Gate, Ship}
 use Rattle.terminal_core.specs.Rows.{VisitContent}
 use Rattle.terminal_core.specs.State.{TerminalState, LineContent, line_of, is_in, is_open_visit}
-use Rattle.terminal_core.specs.Step.{Stepped, with_refusal, step, yard_with_entry, is_full, visit_of, after_entry, entered_at, closed_visit, after_departure, departed_at, departure_by, moved_at, listed_at, then_line_done_at, by_line, by_state}
+use Rattle.terminal_core.specs.Step.{Stepped, with_refusal, step_by, yard_with_entry, is_full, visit_of, after_entry, entered_at, closed_visit, after_departure, departed_at, departure_by, moved_at, listed_at, then_line_done_at, by_line, by_state}
 use Rattle.terminal_core.proofs.Changing.{either}
 use Rattle.terminal_core.proofs.Indexed.{mapped_at}
 use Rattle.terminal_core.proofs.Numbered.{contained, found_at}
 use Rattle.office_admission.specs.Admission.{admission, is_for}
 use Rattle.office_replies.specs.declared.fault.Fault.{Fault}
 use Rattle.office_setup.specs.Parties.{Parties}
-use Rattle.office_setup.specs.Setups.{SetupContent}
+use Rattle.office_setup.specs.Setups.{SetupContent, parties_in}
 use Rattle.office_rows.specs.Office.{HasAccounts}
-use Rattle.office_taking.specs.Taking.{MachineState, cleared, cleared_for, list_replaced, line_taken, lines_taken, verdict_on, messages_taken, codes_for, source_in, nothing_taken, taken_at, taken_of, interchange_taken}
-use Rattle.office_history.specs.After.{parties_in, opening_of}
+use Rattle.office_taking.specs.Taking.{MachineState, cleared, cleared_for, list_replaced, line_taken_by, lines_taken_by, verdict_on_by, messages_taken_by, codes_for, source_in, nothing_taken, taken_at_by, taken_of_by, interchange_taken_by}
+use Rattle.office_taking.specs.Readings.{reading_by}
+use Rattle.office_replies.specs.Events.{Event}
+use Rattle.office_history.specs.After.{opening_of, taking_in}
+use Rattle.office_history.proofs.Places.{placed, in_force}
 use Rattle.office_history.proofs.Telling.{within}
 
 -- ---- an order
 
-module _ (count : ℕ) where
-  abbrev pub AreAccounted : TerminalState → Type 0
-  AreAccounted state = (visit : VisitContent) → Contains state.visits visit → HasAccounts count visit
+abbrev AreAccounted : ℕ → TerminalState → Type 0
+AreAccounted count state = (visit : VisitContent) → Contains state.visits visit → HasAccounts count visit
 
+module _ (version : Version) (count : ℕ) where
   abbrev Keeps : Stepped → Type 0
-  Keeps after = AreAccounted after.state
+  Keeps after = AreAccounted count after.state
 
-  entered_keeps : (state : TerminalState) (way : Way) (source : Source) (entry : EntryContent) (r : Result (YardMap × Slot) Refusal) → source.partner ≤ count → AreAccounted state → Keeps (entered_at state way source entry r)
+  entered_keeps : (state : TerminalState) (way : Way) (source : Source) (entry : EntryContent) (r : Result (YardMap × Slot) Refusal) → source.partner ≤ count → AreAccounted count state → Keeps (entered_at state way source entry r)
   entered_keeps state way source entry (Err refusal) has are = are
   entered_keeps state way source entry (Ok (y, slot)) has are = λ visit inside. elim (Contains-push_cases state.visits (visit_of state way source entry slot) visit inside) [
     | inl old ↦ are visit old
     | inr same ↦ subst (HasAccounts count) same (record { came = has; left = tt })
   ]
 
-  enters_keeps : (state : TerminalState) (way : Way) (source : Source) (entry : EntryContent) → source.partner ≤ count → AreAccounted state → Keeps (after_entry newest state way source entry)
+  enters_keeps : (state : TerminalState) (way : Way) (source : Source) (entry : EntryContent) → source.partner ≤ count → AreAccounted count state → Keeps (after_entry version state way source entry)
   enters_keeps state way source entry has are =
-      either Keeps (is_full state) (with_refusal state VisitLimit) (entered_at state way source entry (yard_with_entry newest state.yard entry)) are (entered_keeps state way source entry (yard_with_entry newest state.yard entry) has are)
+      either Keeps (is_full state) (with_refusal state VisitLimit) (entered_at state way source entry (yard_with_entry version state.yard entry)) are (entered_keeps state way source entry (yard_with_entry version state.yard entry) has are)
 
   closed_has : (departure : Departure) (v : VisitContent) (is : Bool) → departure.source.partner ≤ count → HasAccounts count v → HasAccounts count (cond is (record v { departure = Some departure }) v)
   closed_has departure v true has old = record { came = old.came; left = has }
   closed_has departure v false has old = old
 
-  departed_keeps : (state : TerminalState) (b : BoxNumber) (departure : Departure) (r : Result (YardMap × Placement) Refusal) → departure.source.partner ≤ count → AreAccounted state → Keeps (departed_at state b departure r)
+  departed_keeps : (state : TerminalState) (b : BoxNumber) (departure : Departure) (r : Result (YardMap × Placement) Refusal) → departure.source.partner ≤ count → AreAccounted count state → Keeps (departed_at state b departure r)
   departed_keeps state b departure (Err refusal) has are = are
   departed_keeps state b departure (Ok (y, s)) has are = λ visit inside.
       let row = mapped_at (closed_visit departure b) state.visits inside.0 visit (found_at (map (closed_visit departure b) state.visits) visit inside) in
       subst (HasAccounts count) row.2 (closed_has departure row.0 (is_open_visit b row.0) has (are row.0 (contained state.visits inside.0 row.0 row.1)))
 
-  departs_keeps : (state : TerminalState) (way : Way) (source : Source) (b : BoxNumber) (moment : CivilMoment) → source.partner ≤ count → AreAccounted state → Keeps (after_departure state way source b moment)
+  departs_keeps : (state : TerminalState) (way : Way) (source : Source) (b : BoxNumber) (moment : CivilMoment) → source.partner ≤ count → AreAccounted count state → Keeps (after_departure state way source b moment)
   departs_keeps state way source b moment has are = departed_keeps state b (departure_by way source moment) (yard_without state.yard b) has are
 
-  moved_keeps : (state : TerminalState) (b : BoxNumber) (slot : Slot) (r : Result YardMap Refusal) → AreAccounted state → Keeps (moved_at state b slot r)
+  moved_keeps : (state : TerminalState) (b : BoxNumber) (slot : Slot) (r : Result YardMap Refusal) → AreAccounted count state → Keeps (moved_at state b slot r)
   moved_keeps state b slot (Ok y) are = are
   moved_keeps state b slot (Err refusal) are = are
 
-  listed_keeps : (state : TerminalState) (call : CallContent) (side : Side) (b : BoxNumber) (port : List ℕ) (o : Option LineContent) → AreAccounted state → Keeps (listed_at state call side b port o)
+  listed_keeps : (state : TerminalState) (call : CallContent) (side : Side) (b : BoxNumber) (port : List ℕ) (o : Option LineContent) → AreAccounted count state → Keeps (listed_at state call side b port o)
   listed_keeps state call side b port (Some line) are = are
   listed_keeps state call side b port None are = are
 
@@ -98,55 +103,55 @@ module _ (count : ℕ) where
   then_keeps call side b line after Gone are = are
   then_keeps call side b line after Listed are = are
 
-  state_keeps : (state : TerminalState) (call : CallContent) (side : Side) (b : BoxNumber) (line : LineContent) (after : Stepped) (s : LineState) → AreAccounted state → Keeps after → Keeps (by_state state call side b line after s)
+  state_keeps : (state : TerminalState) (call : CallContent) (side : Side) (b : BoxNumber) (line : LineContent) (after : Stepped) (s : LineState) → AreAccounted count state → Keeps after → Keeps (by_state state call side b line after s)
   state_keeps state call side b line after LineIsDone are then = are
   state_keeps state call side b line after Pending are then = then_keeps call side b line after after.outcome then
 
-  line_keeps : (state : TerminalState) (call : CallContent) (side : Side) (b : BoxNumber) (o : Option LineContent) (after : Stepped) → AreAccounted state → Keeps after → Keeps (by_line state call side b o after)
+  line_keeps : (state : TerminalState) (call : CallContent) (side : Side) (b : BoxNumber) (o : Option LineContent) (after : Stepped) → AreAccounted count state → Keeps after → Keeps (by_line state call side b o after)
   line_keeps state call side b None after are then = are
   line_keeps state call side b (Some line) after are then = state_keeps state call side b line after line.state are then
 
-  step_keeps : (state : TerminalState) (source : Source) (order : OrderContent) → source.partner ≤ count → AreAccounted state → Keeps (step state source order)
-  step_keeps state source (gate_in entry) has are = either Keeps (is_in state entry.number) (with_refusal state AlreadyIn) (after_entry newest state Gate source entry) are (enters_keeps state Gate source entry has are)
+  step_keeps : (state : TerminalState) (source : Source) (order : OrderContent) → source.partner ≤ count → AreAccounted count state → Keeps (step_by version state source order)
+  step_keeps state source (gate_in entry) has are = either Keeps (is_in state entry.number) (with_refusal state AlreadyIn) (after_entry version state Gate source entry) are (enters_keeps state Gate source entry has are)
   step_keeps state source (gate_out b moment) has are = departs_keeps state Gate source b moment has are
-  step_keeps state source (move b slot) has are = moved_keeps state b slot (yard_with_move (spares newest) state.yard b slot) are
+  step_keeps state source (move b slot) has are = moved_keeps state b slot (yard_with_move (spares version) state.yard b slot) are
   step_keeps state source (list_discharge call b) has are = listed_keeps state call Discharge b [] (line_of state call Discharge b) are
   step_keeps state source (list_load call b port) has are = listed_keeps state call Load b port (line_of state call Load b) are
   step_keeps state source (discharge call entry) has are =
-      either Keeps (is_in state entry.number) (with_refusal state AlreadyIn) (by_line state call Discharge entry.number (line_of state call Discharge entry.number) (after_entry newest state Ship source entry)) are
-      (line_keeps state call Discharge entry.number (line_of state call Discharge entry.number) (after_entry newest state Ship source entry) are (enters_keeps state Ship source entry has are))
+      either Keeps (is_in state entry.number) (with_refusal state AlreadyIn) (by_line state call Discharge entry.number (line_of state call Discharge entry.number) (after_entry version state Ship source entry)) are
+      (line_keeps state call Discharge entry.number (line_of state call Discharge entry.number) (after_entry version state Ship source entry) are (enters_keeps state Ship source entry has are))
   step_keeps state source (load call b moment) has are =
       either Keeps (is_in state b) (by_line state call Load b (line_of state call Load b) (after_departure state Ship source b moment)) (with_refusal state NotIn)
       (line_keeps state call Load b (line_of state call Load b) (after_departure state Ship source b moment) are (departs_keeps state Ship source b moment has are)) are
 
   -- ---- an interchange
 
-  read_keeps : (state : TerminalState) (source : Source) (line : ReadLine) → source.partner ≤ count → AreAccounted state → AreAccounted (line_taken state source line).0
+  read_keeps : (state : TerminalState) (source : Source) (line : ReadLine) → source.partner ≤ count → AreAccounted count state → AreAccounted count (line_taken_by version state source line).0
   read_keeps state source (ordered order) has are = step_keeps state source order has are
   read_keeps state source (refused_line fault number) has are = are
 
-  lines_keep : (state : TerminalState) (source : Source) (lines : List ReadLine) → source.partner ≤ count → AreAccounted state → AreAccounted (lines_taken state source lines).0
+  lines_keep : (state : TerminalState) (source : Source) (lines : List ReadLine) → source.partner ≤ count → AreAccounted count state → AreAccounted count (lines_taken_by version state source lines).0
   lines_keep state source [] has are = are
-  lines_keep state source (line ∷ lines) has are = lines_keep (line_taken state source line).0 source lines has (read_keeps state source line has are)
+  lines_keep state source (line ∷ lines) has are = lines_keep (line_taken_by version state source line).0 source lines has (read_keeps state source line has are)
 
-  cleared_keeps : (state : TerminalState) (list : Option (CallContent × Side)) → AreAccounted state → AreAccounted (cleared state list).state
+  cleared_keeps : (state : TerminalState) (list : Option (CallContent × Side)) → AreAccounted count state → AreAccounted count (cleared state list).state
   cleared_keeps state None are = are
   cleared_keeps state (Some list) are = are
 
-  verdict_keeps : (state : TerminalState) (source : Source) (read : Result MessageContent MessageFault) → source.partner ≤ count → AreAccounted state → AreAccounted (verdict_on state source read).0
+  verdict_keeps : (state : TerminalState) (source : Source) (read : Result MessageContent MessageFault) → source.partner ≤ count → AreAccounted count state → AreAccounted count (verdict_on_by version state source read).0
   verdict_keeps state source (Ok content) has are = lines_keep (cleared_for state content).state source content.lines has (cleared_keeps state (list_replaced content) are)
   verdict_keeps state source (Err fault) has are = are
 
-  messages_keep : (state : TerminalState) (codes : Codes) (source : Source) (opened : CivilMoment) (messages : List Message) → source.partner ≤ count → AreAccounted state → AreAccounted (messages_taken state codes source opened messages).0
+  messages_keep : (state : TerminalState) (codes : Codes) (source : Source) (opened : CivilMoment) (messages : List Message) → source.partner ≤ count → AreAccounted count state → AreAccounted count (messages_taken_by version state codes source opened messages).0
   messages_keep state codes source opened [] has are = are
   messages_keep state codes source opened (message ∷ messages) has are =
-      messages_keep (verdict_on state source (reading codes opened message)).0 codes source opened messages has (verdict_keeps state source (reading codes opened message) has are)
+      messages_keep (verdict_on_by version state source (reading_by version codes opened message)).0 codes source opened messages has (verdict_keeps state source (reading_by version codes opened message) has are)
 
-  at_keeps : (machine : MachineState) (partner : ℕ) (kind : PartnerKind) (segments : List Content) (opened : Option CivilMoment) → partner ≤ count → AreAccounted machine.terminal → AreAccounted (taken_at machine partner kind segments opened).0.terminal
+  at_keeps : (machine : MachineState) (partner : ℕ) (kind : PartnerKind) (segments : List Content) (opened : Option CivilMoment) → partner ≤ count → AreAccounted count machine.terminal → AreAccounted count (taken_at_by version machine partner kind segments opened).0.terminal
   at_keeps machine partner kind segments None has are = are
   at_keeps machine partner kind segments (Some opened) has are = messages_keep machine.terminal (codes_for machine kind) (source_in partner (header_of segments)) opened (messages_of segments) has are
 
-  of_keeps : (machine : MachineState) (partner : ℕ) (segments : List Content) (kind : Option PartnerKind) → partner ≤ count → AreAccounted machine.terminal → AreAccounted (taken_of machine partner segments kind).0.terminal
+  of_keeps : (machine : MachineState) (partner : ℕ) (segments : List Content) (kind : Option PartnerKind) → partner ≤ count → AreAccounted count machine.terminal → AreAccounted count (taken_of_by version machine partner segments kind).0.terminal
   of_keeps machine partner segments None has are = are
   of_keeps machine partner segments (Some kind) has are = at_keeps machine partner kind segments (preparation (header_of segments)) has are
 
@@ -164,40 +169,50 @@ admitted_partner parties text partner (Ok place) e is =
     omega (arith, own, range.1)
 admitted_partner parties text partner (Err fault) e is = absurd cc
 
-parties_at : (machine : MachineState) (partner : ℕ) (kind : PartnerKind) (segments : List Content) (opened : Option CivilMoment) → (taken_at machine partner kind segments opened).0.parties ≡ machine.parties
-parties_at machine partner kind segments None = refl
-parties_at machine partner kind segments (Some opened) = refl
+parties_at : (version : Version) (machine : MachineState) (partner : ℕ) (kind : PartnerKind) (segments : List Content) (opened : Option CivilMoment) → (taken_at_by version machine partner kind segments opened).0.parties ≡ machine.parties
+parties_at version machine partner kind segments None = refl
+parties_at version machine partner kind segments (Some opened) = refl
 
-parties_of : (machine : MachineState) (partner : ℕ) (segments : List Content) (kind : Option PartnerKind) → (taken_of machine partner segments kind).0.parties ≡ machine.parties
-parties_of machine partner segments None = refl
-parties_of machine partner segments (Some kind) = parties_at machine partner kind segments (preparation (header_of segments))
+parties_of : (version : Version) (machine : MachineState) (partner : ℕ) (segments : List Content) (kind : Option PartnerKind) → (taken_of_by version machine partner segments kind).0.parties ≡ machine.parties
+parties_of version machine partner segments None = refl
+parties_of version machine partner segments (Some kind) = parties_at version machine partner kind segments (preparation (header_of segments))
 
 if_keeps : (parties : Parties) (machine : MachineState) (is : Bool) (taken : MachineState × List ℕ) → IsAccounted parties machine → (is ≡ true → IsAccounted parties taken.0) → IsAccounted parties (cond is taken (nothing_taken machine)).0
 if_keeps parties machine true taken are then = then refl
 if_keeps parties machine false taken are then = are
 
-interchange_keeps : (parties : Parties) (machine : MachineState) (partner : ℕ) (text : List ℕ) → IsAccounted parties machine → IsAccounted parties (interchange_taken machine partner text).0
-interchange_keeps parties machine partner text are =
-    if_keeps parties machine (is_for partner (admission machine.parties text)) (taken_of machine partner (segments_in text) (with_number machine.kinds partner)) are
+interchange_keeps : (version : Version) (parties : Parties) (machine : MachineState) (partner : ℕ) (text : List ℕ) → IsAccounted parties machine → IsAccounted parties (interchange_taken_by version machine partner text).0
+interchange_keeps version parties machine partner text are =
+    if_keeps parties machine (is_for partner (admission machine.parties text)) (taken_of_by version machine partner (segments_in text) (with_number machine.kinds partner)) are
     (λ is.
     let has : partner ≤ length machine.parties.partners = admitted_partner machine.parties text partner (admission machine.parties text) refl is in
     let here : partner ≤ length parties.partners = subst (λ (p : Parties). partner ≤ length p.partners) are.own has in
     record {
-      own = parties_of machine partner (segments_in text) (with_number machine.kinds partner) ∙ are.own;
-      visits = of_keeps (length parties.partners) machine partner (segments_in text) (with_number machine.kinds partner) here are.visits;
+      own = parties_of version machine partner (segments_in text) (with_number machine.kinds partner) ∙ are.own;
+      visits = of_keeps version (length parties.partners) machine partner (segments_in text) (with_number machine.kinds partner) here are.visits;
     })
 
 -- ---- a run
 
-run_keeps : (parties : Parties) (texts : ℕ → ℕ → List ℕ) (numbers : List (ℕ × ℕ)) (machine : MachineState) → IsAccounted parties machine → IsAccounted parties (state_after interchange_taken texts numbers machine)
-run_keeps parties texts [] machine are = are
-run_keeps parties texts (e ∷ numbers) machine are = run_keeps parties texts numbers (interchange_taken machine e.0 (texts e.0 e.1)).0 (interchange_keeps parties machine e.0 (texts e.0 e.1) are)
+abbrev KeepsAccounts : Taking MachineState → Type 0
+KeepsAccounts taken = (parties : Parties) (machine : MachineState) (partner : ℕ) (text : List ℕ) → IsAccounted parties machine → IsAccounted parties (taken machine partner text).0
+
+run_keeps : (taken : Taking MachineState) → KeepsAccounts taken → (parties : Parties) (texts : ℕ → ℕ → List ℕ) (numbers : List (ℕ × ℕ)) (machine : MachineState) → IsAccounted parties machine → IsAccounted parties (state_after taken texts numbers machine)
+run_keeps taken each parties texts [] machine are = are
+run_keeps taken each parties texts (e ∷ numbers) machine are = run_keeps taken each parties texts numbers (taken machine e.0 (texts e.0 e.1)).0 (each parties machine e.0 (texts e.0 e.1) are)
 
 opening_accounted : (content : SetupContent) → IsAccounted (parties_in content) (opening_of content)
 opening_accounted content = record { own = refl; visits = λ visit inside. (let bad : inside.0 < 0 = inside.1 in absurd (omega arith)) }
 
--- whatever was delivered, each partner by whose interchanges a visit was opened and closed has an account
-pub state_accounted : (content : SetupContent) (D : List Delivery) (visit : VisitContent) → Contains (state interchange_taken (opening_of content) D).terminal.visits visit → HasAccounts (length content.partners) visit
+after_accounted : (taken : Taking MachineState) → KeepsAccounts taken → (now : SetupContent) (D : List Delivery) → IsAccounted (parties_in now) (state taken (opening_of now) D)
 unfolding state
-state_accounted content D visit inside =
-    subst (λ n. HasAccounts n visit) (length-map content.partners _) ((run_keeps (parties_in content) (text_under D) (order D) (opening_of content) (opening_accounted content)).visits visit inside)
+after_accounted taken each now D = run_keeps taken each (parties_in now) (text_under D) (order D) (opening_of now) (opening_accounted now)
+
+-- whatever was delivered, each partner by whose interchanges a visit was opened and closed has an account
+pub state_accounted : (version : Version) (content : SetupContent) (es : List Event) (now : SetupContent) (D : List Delivery) (visit : VisitContent) → Contains (state (taking_in version content es) (opening_of now) D).terminal.visits visit
+    → HasAccounts (length now.partners) visit
+state_accounted version content es now D visit inside =
+    let each : KeepsAccounts (taking_in version content es) =
+    in_force KeepsAccounts interchange_keeps
+    (λ before old new one two parties machine p text are. placed (λ taken. IsAccounted parties taken.0) before old new machine p text (one parties machine p text are) (two parties machine p text are)) version content es in
+    subst (λ n. HasAccounts n visit) (length-map now.partners _) ((after_accounted (taking_in version content es) each now D).visits visit inside)

@@ -1,13 +1,14 @@
 -- The rows after one delivery more.
-use Rattle.std.proofs.Common.{◌≡◌, ℕ, suc, ◌+◌, ◌-◌, ◌<◌, ◌≤◌, inl, inr, List, [], ◌∷◌, ◌++◌, length, Bool, true, false, cond, Option, None, Some, is_some, Result, Ok, Err, refl, sym, ap, subst, ◌∙◌, arith}
+use Rattle.std.proofs.Common.{◌≡◌, ℕ, suc, ◌+◌, ◌-◌, ◌<◌, ◌≤◌, inl, inr, List, [], ◌∷◌, ◌++◌, length, Bool, true, false, cond, Option, None, Some, is_some, Ok, refl, sym, ap, subst, ◌∙◌, arith}
 use Rattle.std.specs.Prelude.{find, ◌&&◌, ◌==◌, if◌then◌else◌}
 use Rattle.std.specs.Option.{option_map, option_and_then, option_or, unwrap_or}
 use Rattle.std.proofs.lemmas.Bool.{eq-eqb, eqb-true, ne_eqb, cond-true, cond-false, cases_eq}
-use Rattle.std.proofs.lemmas.List.{append-nil, length-map}
-use Rattle.edi_segments.specs.Interchange.{interchange_of, segments_in}
+use Rattle.std.proofs.lemmas.List.{length-map}
+use Rattle.edi_segments.specs.Interchange.{segments_in}
 use Rattle.edi_segments.specs.declared.syntax_fault.SyntaxFault.{SyntaxFault}
 use Rattle.edi_syntax.specs.Envelope.{header_of}
-use Rattle.partner_core.specs.Deliveries.{Delivery, delivery, first_text, run}
+use Rattle.partner_core.specs.Deliveries.{Delivery, delivery, run}
+use Rattle.partner_core.specs.Machine.{Taking}
 use Rattle.partner_core.specs.Order.{state, reply_of, numbers_above, numbers_between, reply_among}
 use Rattle.partner_core.specs.Answers.{answer_of, answer_by}
 use Rattle.partner_core.specs.Standings.{standing_of}
@@ -17,111 +18,52 @@ use Rattle.partner_core.specs.Growth.{AddsNothing}
 use Rattle.partner_core.proofs.Cascades.{takes_none}
 use Rattle.partner_core.proofs.Firsts.{none_of}
 use Rattle.partner_core.proofs.Growths.{adds_nothing, adds_text}
-use Rattle.partner_core.proofs.Keepings.{keeps_run}
 use Rattle.partner_core.proofs.OnceEach.{replied_within}
 use Rattle.partner_core.proofs.Answering.{answer-kept}
 use Rattle.terminal_core.specs.Changes.{rows_of}
 use Rattle.terminal_core.proofs.Keeping.{empty_whole}
 use Rattle.terminal_core.proofs.Forming.{empty_formed}
-use Rattle.office_admission.specs.Admission.{admission, by_header}
-use Rattle.office_admission.specs.Deliveries.{with_delivery, deliveries_of}
-use Rattle.office_replies.specs.Events.{Event, delivered}
-use Rattle.office_replies.specs.declared.fault.Fault.{Fault}
+use Rattle.office_admission.specs.Admission.{by_header}
+use Rattle.terminal_core.specs.declared.version.Version.{Version}
 use Rattle.office_setup.specs.Parties.{Parties}
 use Rattle.office_setup.specs.Setups.{SetupContent}
 use Rattle.office_setup.specs.Given.{IsGiven}
 use Rattle.office_taking.specs.Taking.{MachineState, interchange_taken}
-use Rattle.office_taking.specs.Laws.{IsSoundMachine}
-use Rattle.office_taking.proofs.Reaching.{run_sound}
+use Rattle.office_taking.specs.Laws.{IsSoundMachine, KeepsSound}
+use Rattle.office_taking.proofs.Reaching.{runs_sound}
 use Rattle.office_rows.specs.Rows.{Interchange, Rows}
 use Rattle.office_rows.specs.Effects.{is_pair, with_kept}
-use Rattle.office_rows.specs.Opening.{settings_of}
-use Rattle.office_history.specs.After.{parties_in, opening_of, empty_yard, delivered_to, accounts_from, reply_if_any, reply_in, AreKeptOnce, AreAfter}
+use Rattle.office_history.specs.After.{opening_of, empty_yard, accounts_from, reply_if_any, reply_in, AreKeptOnce, AreRowsOf}
 use Rattle.office_history.specs.Cascade.{text_in, TakenContent, texts_with, with_run, AreTakenFrom}
-use Rattle.office_history.specs.Laws.{AreRowsByKey}
 use Rattle.office_history.proofs.ByKeys.{once_more, none_found}
 use Rattle.office_history.proofs.Runs.{RunLeaves, run_leaves}
 
--- ---- one delivery more
-
-added_on : (text : List ℕ) (place : Result (ℕ × ℕ) Fault) (later more : List Delivery) → with_delivery text place (later ++ more) ≡ with_delivery text place later ++ more
-added_on text (Ok place) later more = refl
-added_on text (Err fault) later more = refl
-
-pub deliveries_more : (P : Parties) (es : List Event) (sent : List ℕ)
-    → deliveries_of P (es ++ delivered sent ∷ []) ≡ deliveries_of P es ++ with_delivery (interchange_of sent) (admission P (interchange_of sent)) []
-deliveries_more P [] sent = refl
-deliveries_more P (delivered first ∷ es) sent =
-    ap (with_delivery (interchange_of first) (admission P (interchange_of first))) (deliveries_more P es sent)
-    ∙ added_on (interchange_of first) (admission P (interchange_of first)) (deliveries_of P es) _
-
-pub admitted_more : (content : SetupContent) (es : List Event) (sent : List ℕ) (p k : ℕ) → admission (parties_in content) (interchange_of sent) ≡ Ok (p, k)
-    → delivered_to content (es ++ delivered sent ∷ []) ≡ delivered_to content es ++ delivery p k (interchange_of sent) ∷ []
-admitted_more content es sent p k is = deliveries_more (parties_in content) es sent ∙ ap (λ place. delivered_to content es ++ with_delivery (interchange_of sent) place []) is
-
-pub refused_more : (content : SetupContent) (es : List Event) (sent : List ℕ) (fault : Fault) → admission (parties_in content) (interchange_of sent) ≡ Err fault
-    → delivered_to content (es ++ delivered sent ∷ []) ≡ delivered_to content es
-refused_more content es sent fault is =
-    deliveries_more (parties_in content) es sent ∙ ap (λ place. delivered_to content es ++ with_delivery (interchange_of sent) place []) is ∙ append-nil (delivered_to content es)
-
 -- ---- the rows after deliveries of partners
 
--- the same of a list of the partners' deliveries
-pub record AreAfterThese (content : SetupContent) (D : List Delivery) (rows : Rows) : Type 0 where
-  pub partners : rows.partners ≡ accounts_from 1 (λ partner. run D partner + 1) content.partners
-  pub texts : (partner number : ℕ) → text_in rows partner number ≡ first_text D partner number
-  pub replies : (partner number : ℕ) → reply_in rows partner number ≡ reply_of interchange_taken (opening_of content) D partner number
-  pub kept_once : AreKeptOnce rows.interchanges
-  pub by_key : AreRowsByKey rows (rows_of (state interchange_taken (opening_of content) D).terminal)
-  pub settings : rows.settings ≡ settings_of content
-  pub blocks : rows.blocks ≡ content.blocks
+abbrev held : Taking MachineState → SetupContent → List Delivery → Rows → Holdings MachineState
+held taking now D rows = record { texts = text_in rows; counts = run D; replies = reply_in rows; state_now = state taking (opening_of now) D }
 
-pub these : (content : SetupContent) (es : List Event) (rows : Rows) → AreAfter content es rows → AreAfterThese content (delivered_to content es) rows
-these content es rows are = record {
-  partners = are.partners;
-  texts = are.texts;
-  replies = are.replies;
-  kept_once = are.kept_once;
-  by_key = record { same = are.terminal; placed_once = are.placed_once; listed_once = are.listed_once };
-  settings = are.settings;
-  blocks = are.blocks;
-}
-
-pub those : (content : SetupContent) (es : List Event) (rows : Rows) → AreAfterThese content (delivered_to content es) rows → AreAfter content es rows
-those content es rows are = record {
-  partners = are.partners;
-  texts = are.texts;
-  replies = are.replies;
-  kept_once = are.kept_once;
-  terminal = are.by_key.same;
-  placed_once = are.by_key.placed_once;
-  listed_once = are.by_key.listed_once;
-  settings = are.settings;
-  blocks = are.blocks;
-}
-
-abbrev held : SetupContent → List Delivery → Rows → Holdings MachineState
-held content D rows = record { texts = text_in rows; counts = run D; replies = reply_in rows; state_now = state interchange_taken (opening_of content) D }
-
-held_keeps : (content : SetupContent) (D : List Delivery) (rows : Rows) → AreAfterThese content D rows → Keeps interchange_taken (opening_of content) D (held content D rows)
-held_keeps content D rows are = record { firsts = are.texts; runs = λ p. refl; replies_are = are.replies; state_is = refl }
+held_keeps : (version : Version) (taking : Taking MachineState) (now : SetupContent) (D : List Delivery) (rows : Rows) → AreRowsOf version taking now D rows → Keeps taking (opening_of now) D (held taking now D rows)
+held_keeps version taking now D rows are = record { firsts = are.texts; runs = λ p. refl; replies_are = are.replies; state_is = refl }
 
 -- ---- nothing more
 
-nothing_more : (content : SetupContent) (D : List Delivery) (d : Delivery) (rows : Rows) → AreAfterThese content D rows → AddsNothing interchange_taken (opening_of content) D d → AreAfterThese content (D ++ d ∷ []) rows
-nothing_more content D d rows are adds = record {
-  partners = are.partners ∙ sym (λ i. accounts_from 1 (λ p. adds.runs p i + 1) content.partners);
+nothing_more : (version : Version) (taking : Taking MachineState) (now : SetupContent) (D : List Delivery) (d : Delivery) (rows : Rows) → AreRowsOf version taking now D rows → AddsNothing taking (opening_of now) D d → AreRowsOf version taking now (D ++ d ∷ []) rows
+nothing_more version taking now D d rows are adds = record {
+  partners = are.partners ∙ sym (λ i. accounts_from 1 (λ p. adds.runs p i + 1) now.partners);
   texts = λ p k. are.texts p k ∙ sym (adds.first p k);
   replies = λ p k. are.replies p k ∙ sym (adds.replies p k);
   kept_once = are.kept_once;
-  by_key = subst (λ (m : MachineState). AreRowsByKey rows (rows_of m.terminal)) (sym adds.state_is) are.by_key;
+  terminal = are.terminal ∙ ap (λ (m : MachineState). rows_of m.terminal) (sym adds.state_is);
+  placed_once = are.placed_once;
+  listed_once = are.listed_once;
   settings = are.settings;
   blocks = are.blocks;
 }
 
-pub known_adds : (content : SetupContent) (D : List Delivery) (d : Delivery) (rows : Rows) (kept : List ℕ) → AreAfterThese content D rows → text_in rows d.partner d.number ≡ Some kept → AreAfterThese content (D ++ d ∷ []) rows
-known_adds content D d rows kept are there =
-    nothing_more content D d rows are (adds_nothing interchange_taken (opening_of content) D d (ap is_some (sym (are.texts d.partner d.number) ∙ there)))
+pub known_adds : (version : Version) (taking : Taking MachineState) (now : SetupContent) (D : List Delivery) (d : Delivery) (rows : Rows) (kept : List ℕ) → AreRowsOf version taking now D rows → text_in rows d.partner d.number ≡ Some kept → AreRowsOf version taking now (D ++ d ∷ []) rows
+known_adds version taking now D d rows kept are there =
+    nothing_more version taking now D d rows are (adds_nothing taking (opening_of now) D d (ap is_some (sym (are.texts d.partner d.number) ∙ there)))
 
 -- ---- a text more
 
@@ -181,17 +123,19 @@ once_with rows p k text free once q j =
     once_more (is_pair q j) rows.interchanges (waiting p k text) ((p == q) && (k == j)) refl (once q j)
     (λ e. let is = pair_is p k q j e in none_found (is_pair q j) rows.interchanges (ap (λ r. find (is_pair r j) rows.interchanges) is.0 ∙ ap (λ r. find (is_pair p r) rows.interchanges) is.1 ∙ none_many (find (is_pair p k) rows.interchanges) free))
 
-pub early_keeps : (content : SetupContent) (D : List Delivery) (p k : ℕ) (text : List ℕ) (rows : Rows) → AreAfterThese content D rows → text_in rows p k ≡ None → run D p + 1 < k
-    → AreAfterThese content (D ++ delivery p k text ∷ []) (with_kept p k text rows)
-early_keeps content D p k text rows are free early =
+pub early_keeps : (version : Version) (taking : Taking MachineState) (now : SetupContent) (D : List Delivery) (p k : ℕ) (text : List ℕ) (rows : Rows) → AreRowsOf version taking now D rows → text_in rows p k ≡ None → run D p + 1 < k
+    → AreRowsOf version taking now (D ++ delivery p k text ∷ []) (with_kept p k text rows)
+early_keeps version taking now D p k text rows are free early =
     let d = delivery p k text in
-    let adds = adds_text interchange_taken (opening_of content) D d (ap is_some (sym (are.texts p k) ∙ free)) early in
+    let adds = adds_text taking (opening_of now) D d (ap is_some (sym (are.texts p k) ∙ free)) early in
     record {
-      partners = are.partners ∙ sym (λ i. accounts_from 1 (λ q. adds.runs q i + 1) content.partners);
+      partners = are.partners ∙ sym (λ i. accounts_from 1 (λ q. adds.runs q i + 1) now.partners);
       texts = λ q j. text_with rows p k text free q j ∙ ap (cond ((p == q) && (k == j)) (Some text)) (are.texts q j) ∙ sym (adds.first q j);
       replies = λ q j. reply_with rows p k text q j ∙ are.replies q j ∙ sym (adds.replies q j);
       kept_once = once_with rows p k text free are.kept_once;
-      by_key = subst (λ (m : MachineState). AreRowsByKey (with_kept p k text rows) (rows_of m.terminal)) (sym adds.state_is) (record { same = are.by_key.same; placed_once = are.by_key.placed_once; listed_once = are.by_key.listed_once });
+      terminal = are.terminal ∙ ap (λ (m : MachineState). rows_of m.terminal) (sym adds.state_is);
+      placed_once = are.placed_once;
+      listed_once = are.listed_once;
       settings = are.settings;
       blocks = are.blocks;
     }
@@ -199,38 +143,42 @@ early_keeps content D p k text rows are free early =
 -- ---- a run more
 
 -- the opening is sound, and so is what any run leaves
-opening_sound : (content : SetupContent) → IsGiven content → IsSoundMachine (opening_of content)
-opening_sound content given =
-    let few : length content.partners ≤ 999 = given.counted.1 in
-    let same : length (opening_of content).kinds ≡ length content.partners = length-map content.partners _ in
+opening_sound : (now : SetupContent) → IsGiven now → IsSoundMachine (opening_of now)
+opening_sound now given =
+    let few : length now.partners ≤ 999 = given.counted.1 in
+    let same : length (opening_of now).kinds ≡ length now.partners = length-map now.partners _ in
     record {
       few = omega arith;
-      whole = empty_whole (empty_yard content) content.visit_limit given.plan refl;
-      formed = empty_formed (empty_yard content) content.visit_limit refl;
+      whole = empty_whole (empty_yard now) now.visit_limit given.plan refl;
+      formed = empty_formed (empty_yard now) now.visit_limit refl;
     }
 
-pub state_sound : (content : SetupContent) (D : List Delivery) → IsGiven content → IsSoundMachine (state interchange_taken (opening_of content) D)
-state_sound content D given = run_sound (opening_of content) D (opening_sound content given)
+pub state_sound : (taking : Taking MachineState) (now : SetupContent) (D : List Delivery) → KeepsSound taking → IsGiven now → IsSoundMachine (state taking (opening_of now) D)
+state_sound taking now D sound given = runs_sound taking (opening_of now) D sound (opening_sound now given)
 
 -- no reply is kept above the run
-pub unreplied : (content : SetupContent) (D : List Delivery) (rows : Rows) (p k : ℕ) → AreAfterThese content D rows → run D p + 1 ≤ k → reply_in rows p k ≡ None
-unreplied content D rows p k are beyond = none_of (reply_in rows p k) (none (is_some (reply_in rows p k)) refl)
+pub unreplied : (version : Version) (taking : Taking MachineState) (now : SetupContent) (D : List Delivery) (rows : Rows) (p k : ℕ) → AreRowsOf version taking now D rows → run D p + 1 ≤ k → reply_in rows p k ≡ None
+unreplied version taking now D rows p k are beyond = none_of (reply_in rows p k) (none (is_some (reply_in rows p k)) refl)
   where
     none : (b : Bool) → is_some (reply_in rows p k) ≡ b → is_some (reply_in rows p k) ≡ false
     none true e =
-        let within = replied_within interchange_taken (opening_of content) D p k (sym (ap is_some (are.replies p k)) ∙ e) in
+        let within = replied_within taking (opening_of now) D p k (sym (ap is_some (are.replies p k)) ∙ e) in
         absurd (omega (arith, within.1))
     none false e = e
 
+-- a run that is taken by the rules in force goes on from the fold by those rules
+abbrev pub GoesOn : Taking MachineState → SetupContent → List Delivery → Delivery → Type 0
+GoesOn taking now D d = (here there : Holdings MachineState) → Keeps taking (opening_of now) D here → TakesRun interchange_taken here there d → Keeps taking (opening_of now) (D ++ d ∷ []) there
+
 -- what is left of a run
-pub record RunMore (content : SetupContent) (D : List Delivery) (p k : ℕ) (text : List ℕ) (count : ℕ) (rows : Rows) (machine' : MachineState) : Type 0 where
-  pub rows_are : AreAfterThese content (D ++ delivery p k text ∷ []) rows
-  pub machine : machine' ≡ state interchange_taken (opening_of content) (D ++ delivery p k text ∷ [])
+pub record RunMore (version : Version) (taking : Taking MachineState) (now : SetupContent) (D : List Delivery) (p k : ℕ) (text : List ℕ) (count : ℕ) (rows : Rows) (machine' : MachineState) : Type 0 where
+  pub rows_are : AreRowsOf version taking now (D ++ delivery p k text ∷ []) rows
+  pub machine : machine' ≡ state taking (opening_of now) (D ++ delivery p k text ∷ [])
   pub ends : run (D ++ delivery p k text ∷ []) p + 1 ≡ k + count
 
-module _ (content : SetupContent) (D : List Delivery) (p k : ℕ) (text : List ℕ) (rows : Rows) (taken : List TakenContent) (machine' : MachineState)
-    (given : IsGiven content) (are : AreAfterThese content D rows) (free : text_in rows p k ≡ None) (is_next : k ≡ run D p + 1)
-    (from : AreTakenFrom p (texts_with rows p k text) k (state interchange_taken (opening_of content) D) taken machine') where
+module _ (version : Version) (taking : Taking MachineState) (now : SetupContent) (D : List Delivery) (p k : ℕ) (text : List ℕ) (rows : Rows) (taken : List TakenContent) (machine' : MachineState)
+    (sound : KeepsSound taking) (goes_on : GoesOn taking now D (delivery p k text)) (given : IsGiven now) (are : AreRowsOf version taking now D rows) (free : text_in rows p k ≡ None) (is_next : k ≡ run D p + 1)
+    (from : AreTakenFrom p (texts_with rows p k text) k (state taking (opening_of now) D) taken machine') where
   abbrev d : Delivery
   d = delivery p k text
 
@@ -238,7 +186,7 @@ module _ (content : SetupContent) (D : List Delivery) (p k : ℕ) (text : List �
   kept = with_kept p k text rows
 
   abbrev machine : MachineState
-  machine = state interchange_taken (opening_of content) D
+  machine = state taking (opening_of now) D
 
   abbrev last : ℕ
   last = run D p + length taken
@@ -249,15 +197,15 @@ module _ (content : SetupContent) (D : List Delivery) (p k : ℕ) (text : List �
   kept_texts : (j : ℕ) → text_in kept p j ≡ texts_with rows p k text j
   kept_texts j = text_with rows p k text free p j ∙ ap (λ b. cond (b && (k == j)) (Some text) (text_in rows p j)) itself
 
-  leaves : RunLeaves p (texts_with rows p k text) (run D p) last (reply_in kept p) machine content.partners (λ q. run D q + 1) kept (with_run p k text taken rows) machine'
-  leaves = run_leaves taken p (texts_with rows p k text) (run D p) (run D p) (reply_in kept p) machine machine machine' content.partners (λ q. run D q + 1) kept
+  leaves : RunLeaves p (texts_with rows p k text) (run D p) last (reply_in kept p) machine now.partners (λ q. run D q + 1) kept (with_run p k text taken rows) machine'
+  leaves = run_leaves taken p (texts_with rows p k text) (run D p) (run D p) (reply_in kept p) machine machine machine' now.partners (λ q. run D q + 1) kept
       (takes_none interchange_taken p (texts_with rows p k text) (run D p) (reply_in kept p) machine)
       (subst (λ n. AreTakenFrom p (texts_with rows p k text) n machine taken machine') is_next from)
-      (state_sound content D given).whole
-      (record { same = are.by_key.same; placed_once = are.by_key.placed_once; listed_once = are.by_key.listed_once })
+      (state_sound taking now D sound given).whole
+      (record { same = are.terminal; placed_once = are.placed_once; listed_once = are.listed_once })
       (once_with rows p k text free are.kept_once)
       kept_texts
-      (λ j later. reply_with rows p k text p j ∙ unreplied content D rows p j are later)
+      (λ j later. reply_with rows p k text p j ∙ unreplied version taking now D rows p j are later)
       are.partners refl
 
   abbrev counts : ℕ → ℕ
@@ -284,7 +232,7 @@ module _ (content : SetupContent) (D : List Delivery) (p k : ℕ) (text : List �
       (subst (λ f. TakesTexts interchange_taken p f (run D p) last (reply_in rows p) (reply_in (with_run p k text taken rows) p) machine machine') own_texts
       (subst (λ f. TakesTexts interchange_taken p (texts_with rows p k text) (run D p) last f (reply_in (with_run p k text taken rows) p) machine machine') own_replies leaves.takes))
 
-  takes_run : TakesRun interchange_taken (held content D rows) new_held d
+  takes_run : TakesRun interchange_taken (held taking now D rows) new_held d
   takes_run = record {
     texts = texts_now;
     is_next = is_next;
@@ -294,8 +242,8 @@ module _ (content : SetupContent) (D : List Delivery) (p k : ℕ) (text : List �
     other_replies = λ q j apart. leaves.other q j apart ∙ reply_with rows p k text q j;
   }
 
-  keeps : Keeps interchange_taken (opening_of content) (D ++ d ∷ []) new_held
-  keeps = keeps_run interchange_taken (opening_of content) D d (held content D rows) new_held (held_keeps content D rows are) takes_run
+  keeps : Keeps taking (opening_of now) (D ++ d ∷ []) new_held
+  keeps = goes_on (held taking now D rows) new_held (held_keeps version taking now D rows are) takes_run
 
   nexts_at : (q : ℕ) → leaves.nexts q ≡ run (D ++ d ∷ []) q + 1
   nexts_at q = elim (cases_eq q p) [
@@ -303,14 +251,16 @@ module _ (content : SetupContent) (D : List Delivery) (p k : ℕ) (text : List �
     | inr ne ↦ leaves.other_next q ne ∙ ap (λ n. n + 1) (sym (cond-false (q == p) last (run D q) (ne_eqb q p ne)) ∙ keeps.runs q)
   ]
 
-  pub run_more : RunMore content D p k text (length taken) (with_run p k text taken rows) machine'
+  pub run_more : RunMore version taking now D p k text (length taken) (with_run p k text taken rows) machine'
   run_more = record {
     rows_are = record {
-      partners = leaves.partners ∙ (λ i. accounts_from 1 (λ q. nexts_at q i) content.partners);
+      partners = leaves.partners ∙ (λ i. accounts_from 1 (λ q. nexts_at q i) now.partners);
       texts = keeps.firsts;
       replies = keeps.replies_are;
       kept_once = leaves.once;
-      by_key = subst (λ (m : MachineState). AreRowsByKey (with_run p k text taken rows) (rows_of m.terminal)) keeps.state_is leaves.by_key;
+      terminal = leaves.by_key.same ∙ ap (λ (m : MachineState). rows_of m.terminal) keeps.state_is;
+      placed_once = leaves.by_key.placed_once;
+      listed_once = leaves.by_key.listed_once;
       settings = leaves.settings ∙ are.settings;
       blocks = leaves.blocks ∙ are.blocks;
     };
@@ -319,16 +269,16 @@ module _ (content : SetupContent) (D : List Delivery) (p k : ℕ) (text : List �
   }
 
 -- the reply to the first of the run
-pub first_reply : (content : SetupContent) (D : List Delivery) (p k : ℕ) (text : List ℕ) (rows : Rows) (first : TakenContent) (later : List TakenContent) (machine' : MachineState)
-    → IsGiven content → (are : AreAfterThese content D rows) → (free : text_in rows p k ≡ None) → (is_next : k ≡ run D p + 1)
-    → (from : AreTakenFrom p (texts_with rows p k text) k (state interchange_taken (opening_of content) D) (first ∷ later) machine')
-    → reply_of interchange_taken (opening_of content) (D ++ delivery p k text ∷ []) p k ≡ Some first.reply
-first_reply content D p k text rows first later machine' given are free is_next from =
+pub first_reply : (version : Version) (taking : Taking MachineState) (now : SetupContent) (D : List Delivery) (p k : ℕ) (text : List ℕ) (rows : Rows) (first : TakenContent) (later : List TakenContent) (machine' : MachineState)
+    → (sound : KeepsSound taking) → (goes_on : GoesOn taking now D (delivery p k text)) → IsGiven now → (are : AreRowsOf version taking now D rows) → (free : text_in rows p k ≡ None) → (is_next : k ≡ run D p + 1)
+    → (from : AreTakenFrom p (texts_with rows p k text) k (state taking (opening_of now) D) (first ∷ later) machine')
+    → reply_of taking (opening_of now) (D ++ delivery p k text ∷ []) p k ≡ Some first.reply
+first_reply version taking now D p k text rows first later machine' sound goes_on given are free is_next from =
     let taken : List TakenContent = first ∷ later in
-    let machine = state interchange_taken (opening_of content) D in
+    let machine = state taking (opening_of now) D in
     let texts = texts_with rows p k text in
-    let whole = leaves content D p k text rows taken machine' given are free is_next from in
-    let kept_all = keeps content D p k text rows taken machine' given are free is_next from in
+    let whole = leaves version taking now D p k text rows taken machine' sound goes_on given are free is_next from in
+    let kept_all = keeps version taking now D p k text rows taken machine' sound goes_on given are free is_next from in
     let low = run D p in
     let here : (p == p) && (low + 1 == k) ≡ true = ap (λ b. b && (low + 1 == k)) (eq-eqb p p refl) ∙ eq-eqb (low + 1) k (sym is_next) in
     let many : low + length taken - low ≡ suc (length later) = omega arith in
@@ -342,7 +292,7 @@ first_reply content D p k text rows first later machine' given are free is_next 
     ∙ ap (λ o. Some (interchange_taken machine p (unwrap_or o [])).1) own
     ∙ ap (λ t. Some (interchange_taken machine p t).1) given_text
     ∙ ap Some (sym from.3) in
-    let none : reply_in (with_kept p k text rows) p k ≡ None = reply_with rows p k text p k ∙ unreplied content D rows p k are (omega (arith, is_next)) in
+    let none : reply_in (with_kept p k text rows) p k ≡ None = reply_with rows p k text p k ∙ unreplied version taking now D rows p k are (omega (arith, is_next)) in
     sym (kept_all.replies_are p k)
     ∙ whole.takes.replies_are k
     ∙ ap (λ o. option_or o (reply_among interchange_taken (for_each_partner texts) (numbers_between p low (low + length taken)) machine p k)) none
@@ -353,10 +303,10 @@ first_reply content D p k text rows first later machine' given are free is_next 
 
 -- ---- answers
 
-pub answered : (content : SetupContent) (D : List Delivery) (p k : ℕ) (text : List ℕ) (rows : Rows) → AreAfterThese content D rows → 1 ≤ k
-    → answer_of interchange_taken (opening_of content) D (delivery p k text)
-    ≡ answer_by (standing_of (run D p + 1) k (text_in rows p k) text) (run D p + 1) (reply_in rows p k) (reply_of interchange_taken (opening_of content) (D ++ delivery p k text ∷ []) p k)
-answered content D p k text rows are one = answer-kept interchange_taken (opening_of content) D (delivery p k text) (held content D rows) (held_keeps content D rows are) one
+pub answered : (version : Version) (taking : Taking MachineState) (now : SetupContent) (D : List Delivery) (p k : ℕ) (text : List ℕ) (rows : Rows) → AreRowsOf version taking now D rows → 1 ≤ k
+    → answer_of taking (opening_of now) D (delivery p k text)
+    ≡ answer_by (standing_of (run D p + 1) k (text_in rows p k) text) (run D p + 1) (reply_in rows p k) (reply_of taking (opening_of now) (D ++ delivery p k text ∷ []) p k)
+answered version taking now D p k text rows are one = answer-kept taking (opening_of now) D (delivery p k text) (held taking now D rows) (held_keeps version taking now D rows are) one
 
 -- ---- what is admitted has a number
 

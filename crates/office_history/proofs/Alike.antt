@@ -1,18 +1,19 @@
 -- Set-ups that say the same take interchanges alike, whatever memory holds their codes.
-use Rattle.std.proofs.Common.{◌≡◌, ℕ, ◌+◌, List, [], ◌∷◌, map, Bool, true, false, cond, Option, None, Some, is_none, Ok, Err, refl, sym, ap, subst, ◌∙◌}
-use Rattle.std.specs.Prelude.{◌==◌, ◌&&◌, ◌||◌, not, if◌then◌else◌}
+use Rattle.std.proofs.Common.{◌≡◌, ℕ, List, [], ◌∷◌, map, Bool, true, false, cond, Option, None, Some, is_none, Ok, Err, refl, sym, ap, subst, ◌∙◌}
+use Rattle.std.specs.Prelude.{◌==◌, ◌&&◌, ◌||◌, not, nat_le, if◌then◌else◌}
 use Rattle.std.specs.Option.{option_map, option_and_then, option_map_or}
 use Rattle.std.specs.List.{find}
 use Rattle.std.specs.Str.{bytes_eq}
 use Rattle.sqlite.specs.Effect.{Database}
 use Rattle.edi_moments.specs.Moments.{CivilMoment}
 use Rattle.edi_segments.specs.Text.{Content}
-use Rattle.edi_segments.specs.Interchange.{segments_in}
+use Rattle.edi_segments.specs.Interchange.{interchange_of, segments_in}
 use Rattle.edi_syntax.specs.Envelope.{header_of, messages_of}
 use Rattle.edi_syntax.specs.Header.{preparation}
 use Rattle.edi_syntax.specs.Messages.{Message}
+use Rattle.edi_messages.specs.CodeText.{table_fault}
 use Rattle.edi_messages.specs.Codes.{code_text, table_texts, meanings, order_meant}
-use Rattle.edi_messages.specs.Faults.{beginning, is_original, is_replacement, is_list, document_name, order_kind_of, call_in, applies, message_faults}
+use Rattle.edi_messages.specs.Faults.{beginning, is_original, is_replacement, is_list, replaces_list, document_name, order_kind_of, call_in, applies, message_faults}
 use Rattle.edi_messages.specs.Types.{message_type_of}
 use Rattle.edi_messages.specs.Purposes.{purpose_with}
 use Rattle.edi_messages.specs.Message.{message_of, judged_message, reading}
@@ -26,30 +27,38 @@ use Rattle.edi_messages.specs.declared.order_kind.OrderKind.{OrderKind}
 use Rattle.edi_messages.specs.declared.order_kind.OrderKind.TheVariants as order
 use Rattle.edi_messages.specs.declared.partner_kind.PartnerKind.{PartnerKind}
 use Rattle.edi_messages.specs.declared.partner_kind.PartnerKind.TheVariants.{Gate, Line, Quay, Yard}
-use Rattle.partner_core.specs.Deliveries.{Delivery, first_text, run}
+use Rattle.partner_core.specs.ByPlace.{taken_by_place}
+use Rattle.partner_core.specs.Deliveries.{Delivery, run}
+use Rattle.partner_core.specs.Machine.{Taking}
 use Rattle.partner_core.specs.Numbered.{with_number}
 use Rattle.partner_core.specs.Order.{state, state_after, reply_of, reply_among, text_under}
 use Rattle.partner_core.specs.Order as orders
 use Rattle.terminal_core.specs.declared.source.Source.{Source}
 use Rattle.terminal_core.specs.State.{TerminalState}
 use Rattle.terminal_core.specs.Changes.{rows_of}
-use Rattle.office_admission.specs.Deliveries.{deliveries_of}
+use Rattle.terminal_core.specs.Versions.{newest}
+use Rattle.terminal_core.specs.declared.version.Version.{Version}
+use Rattle.terminal_core.specs.declared.version.Version.TheVariants.{First, Second, Third}
+use Rattle.office_admission.specs.Accounts.{content_with, content_after}
+use Rattle.office_admission.specs.Deliveries.{with_delivery, deliveries_of}
 use Rattle.std.specs.FinMap as finite_map
-use Rattle.office_admission.specs.Admission.{admission, is_for}
-use Rattle.office_replies.specs.Events.{Event}
+use Rattle.office_admission.specs.Admission.{admission, is_for, number_said}
+use Rattle.office_replies.specs.Events.{Event, delivered, migrated, added}
 use Rattle.office_replies.specs.Messages.{ReportContent}
 use Rattle.office_setup.specs.Given.{IsGiven}
-use Rattle.office_setup.specs.Setups.{SetupContent}
-use Rattle.office_taking.specs.Taking.{MachineState, verdict_on, report_on, before_message, messages_taken, codes_for, source_in, nothing_taken, reply_to, taken_at, taken_of, interchange_taken}
+use Rattle.office_setup.specs.Setups.{SetupContent, parties_in}
+use Rattle.office_taking.specs.Taking.{MachineState, verdict_on_by, report_on, before_message, messages_taken_by, codes_for, source_in, nothing_taken, reply_to, taken_at_by, taken_of_by, interchange_taken_by}
+use Rattle.office_taking.specs.Readings.{unweighed, reading_by}
 use Rattle.office_rows.specs.Rows.{Rows}
 use Rattle.office_rows.specs.Opened.{OpenedRows, Shows}
 use Rattle.office_rows.specs.Office.{IsOffice}
 use Rattle.office_rows.specs.Stored.{HasRows}
-use Rattle.office_rows.specs.Opening.{setting, settings_of, tables_version, code_names, settings_named}
+use Rattle.office_rows.specs.Opening.{setting, settings_in, version_text, code_names, settings_named}
 use Rattle.std.specs.Prelude.{codes, decimal}
-use Rattle.office_history.specs.After.{SaysSame, AreAfter, parties_in, opening_of, delivered_to, accounts_from}
+use Rattle.office_history.specs.After.{SaysSame, migration_in, taking_by, taking_in, opening_of, AreRowsOf, AreAfterBy, AreAfter}
 use Rattle.office_history.specs.Laws.{Reopens}
 use Rattle.office_history.proofs.Loads.{says_same}
+use Rattle.office_history.proofs.Places.{in_force, moved}
 
 -- ---- codes
 
@@ -110,13 +119,19 @@ module _ (t u : CodeTable) (same : SameTexts t u) (kind : PartnerKind) where
       judged_message (find (λ f. applies_same message f i) message_faults)
       (option_map_or (λ purpose. Ok (message_of purpose opened message)) (option_and_then (λ kind. purpose_with kind (call_in message)) (kind_same message i)) (Err fault.Code))
 
+  reading_by_same : (version : Version) (opened : CivilMoment) (message : Message) → reading_by version one opened message ≡ reading_by version two opened message
+  reading_by_same First opened message = λ i.
+      if replaces_list message && option_map_or is_list (kind_same message i) false then Err fault.Function else unweighed (reading_same opened message i)
+  reading_by_same Second opened message = ap unweighed (reading_same opened message)
+  reading_by_same Third opened message = reading_same opened message
+
   -- ---- an interchange
 
-  messages_same : (terminal : TerminalState) (source : Source) (opened : CivilMoment) (messages : List Message) → messages_taken terminal one source opened messages ≡ messages_taken terminal two source opened messages
-  messages_same terminal source opened [] = refl
-  messages_same terminal source opened (message ∷ messages) =
-      ap (λ read. before_message (messages_taken (verdict_on terminal source read).0 one source opened messages) (report_on message (verdict_on terminal source read).1)) (reading_same opened message)
-      ∙ ap (λ rest. before_message rest (report_on message (verdict_on terminal source (reading two opened message)).1)) (messages_same (verdict_on terminal source (reading two opened message)).0 source opened messages)
+  messages_same : (version : Version) (terminal : TerminalState) (source : Source) (opened : CivilMoment) (messages : List Message) → messages_taken_by version terminal one source opened messages ≡ messages_taken_by version terminal two source opened messages
+  messages_same version terminal source opened [] = refl
+  messages_same version terminal source opened (message ∷ messages) =
+      ap (λ read. before_message (messages_taken_by version (verdict_on_by version terminal source read).0 one source opened messages) (report_on message (verdict_on_by version terminal source read).1)) (reading_by_same version opened message)
+      ∙ ap (λ rest. before_message rest (report_on message (verdict_on_by version terminal source (reading_by version two opened message)).1)) (messages_same version (verdict_on_by version terminal source (reading_by version two opened message)).0 source opened messages)
 
 -- machines that are one but for the memory of their codes
 pub record IsLike (a b : MachineState) : Type 0 where
@@ -139,13 +154,13 @@ record TakesLike (a b : MachineState) (x y : MachineState × List ℕ) : Type 0 
 nothing_like : (a b : MachineState) → a.terminal ≡ b.terminal → TakesLike a b (nothing_taken a) (nothing_taken b)
 nothing_like a b e = record { left = e; reply = refl; own_parties = refl; own_codes = refl; own_kinds = refl; other_parties = refl; other_codes = refl; other_kinds = refl }
 
-like_at : (a b : MachineState) → IsLike a b → (partner : ℕ) (kind : PartnerKind) (segments : List Content) (opened : Option CivilMoment) → TakesLike a b (taken_at a partner kind segments opened) (taken_at b partner kind segments opened)
-like_at a b like partner kind segments None = nothing_like a b like.terminal
-like_at a b like partner kind segments (Some opened) =
-    let same : messages_taken a.terminal (codes_for a kind) (source_in partner (header_of segments)) opened (messages_of segments)
-    ≡ messages_taken b.terminal (codes_for b kind) (source_in partner (header_of segments)) opened (messages_of segments) =
-    ap (λ t. messages_taken t (codes_for a kind) (source_in partner (header_of segments)) opened (messages_of segments)) like.terminal
-    ∙ messages_same a.codes b.codes like.codes kind b.terminal (source_in partner (header_of segments)) opened (messages_of segments) in
+like_at : (version : Version) (a b : MachineState) → IsLike a b → (partner : ℕ) (kind : PartnerKind) (segments : List Content) (opened : Option CivilMoment) → TakesLike a b (taken_at_by version a partner kind segments opened) (taken_at_by version b partner kind segments opened)
+like_at version a b like partner kind segments None = nothing_like a b like.terminal
+like_at version a b like partner kind segments (Some opened) =
+    let same : messages_taken_by version a.terminal (codes_for a kind) (source_in partner (header_of segments)) opened (messages_of segments)
+    ≡ messages_taken_by version b.terminal (codes_for b kind) (source_in partner (header_of segments)) opened (messages_of segments) =
+    ap (λ t. messages_taken_by version t (codes_for a kind) (source_in partner (header_of segments)) opened (messages_of segments)) like.terminal
+    ∙ messages_same a.codes b.codes like.codes kind version b.terminal (source_in partner (header_of segments)) opened (messages_of segments) in
     record {
       left = ap (λ (m : TerminalState × List ReportContent). m.0) same;
       reply = ap (λ (m : TerminalState × List ReportContent). reply_to segments m.1) same;
@@ -157,52 +172,72 @@ like_at a b like partner kind segments (Some opened) =
       other_kinds = refl;
     }
 
-like_of : (a b : MachineState) → IsLike a b → (partner : ℕ) (segments : List Content) (kind : Option PartnerKind) → TakesLike a b (taken_of a partner segments kind) (taken_of b partner segments kind)
-like_of a b like partner segments None = nothing_like a b like.terminal
-like_of a b like partner segments (Some kind) = like_at a b like partner kind segments (preparation (header_of segments))
+like_of : (version : Version) (a b : MachineState) → IsLike a b → (partner : ℕ) (segments : List Content) (kind : Option PartnerKind) → TakesLike a b (taken_of_by version a partner segments kind) (taken_of_by version b partner segments kind)
+like_of version a b like partner segments None = nothing_like a b like.terminal
+like_of version a b like partner segments (Some kind) = like_at version a b like partner kind segments (preparation (header_of segments))
 
 like_if : (a b : MachineState) (is : Bool) (x y : MachineState × List ℕ) → a.terminal ≡ b.terminal → TakesLike a b x y → TakesLike a b (cond is x (nothing_taken a)) (cond is y (nothing_taken b))
 like_if a b true x y e h = h
 like_if a b false x y e h = nothing_like a b e
 
-takes_like : (a b : MachineState) → IsLike a b → (partner : ℕ) (text : List ℕ) → TakesLike a b (interchange_taken a partner text) (interchange_taken b partner text)
-takes_like a b like partner text =
-    let taken = like_of a b like partner (segments_in text) (with_number a.kinds partner) in
-    let same : TakesLike a b (taken_of a partner (segments_in text) (with_number a.kinds partner)) (taken_of b partner (segments_in text) (with_number b.kinds partner)) =
-    subst (λ kinds. TakesLike a b (taken_of a partner (segments_in text) (with_number a.kinds partner)) (taken_of b partner (segments_in text) (with_number kinds partner))) like.kinds taken in
-    subst (λ parties. TakesLike a b (interchange_taken a partner text) (cond (is_for partner (admission parties text)) (taken_of b partner (segments_in text) (with_number b.kinds partner)) (nothing_taken b))) like.parties
+takes_like : (version : Version) (a b : MachineState) → IsLike a b → (partner : ℕ) (text : List ℕ) → TakesLike a b (interchange_taken_by version a partner text) (interchange_taken_by version b partner text)
+takes_like version a b like partner text =
+    let taken = like_of version a b like partner (segments_in text) (with_number a.kinds partner) in
+    let same : TakesLike a b (taken_of_by version a partner (segments_in text) (with_number a.kinds partner)) (taken_of_by version b partner (segments_in text) (with_number b.kinds partner)) =
+    subst (λ kinds. TakesLike a b (taken_of_by version a partner (segments_in text) (with_number a.kinds partner)) (taken_of_by version b partner (segments_in text) (with_number kinds partner))) like.kinds taken in
+    subst (λ parties. TakesLike a b (interchange_taken_by version a partner text) (cond (is_for partner (admission parties text)) (taken_of_by version b partner (segments_in text) (with_number b.kinds partner)) (nothing_taken b))) like.parties
     (like_if a b (is_for partner (admission a.parties text)) _ _ like.terminal same)
 
-like_after : (a b : MachineState) → IsLike a b → (partner : ℕ) (text : List ℕ) → IsLike (interchange_taken a partner text).0 (interchange_taken b partner text).0
-like_after a b like partner text =
-    let taken = takes_like a b like partner text in
-    record {
-      parties = taken.own_parties ∙ like.parties ∙ sym taken.other_parties;
-      codes = ap table_texts taken.own_codes ∙ like.codes ∙ sym (ap table_texts taken.other_codes);
-      kinds = taken.own_kinds ∙ like.kinds ∙ sym taken.other_kinds;
-      terminal = taken.left;
-    }
+abbrev TakesAlike : Taking MachineState → Type 0
+TakesAlike taking = (a b : MachineState) → IsLike a b → (partner : ℕ) (text : List ℕ) → TakesLike a b (taking a partner text) (taking b partner text)
+
+either_alike : (before : List Delivery) (old new : Taking MachineState) → TakesAlike old → TakesAlike new → TakesAlike (taken_by_place number_said before old new)
+either_alike before old new one two a b like partner text = by (nat_le (number_said text) (run before partner))
+  where
+    by : (is_old : Bool) → TakesLike a b (cond is_old (old a partner text) (new a partner text)) (cond is_old (old b partner text) (new b partner text))
+    by true = one a b like partner text
+    by false = two a b like partner text
+
+takes_alike : (version : Version) (content : SetupContent) (es : List Event) → TakesAlike (taking_in version content es)
+takes_alike version content es = in_force TakesAlike takes_like either_alike version content es
 
 -- ---- a run
 
-run_like : (texts : ℕ → ℕ → List ℕ) (numbers : List (ℕ × ℕ)) (a b : MachineState) → IsLike a b → IsLike (state_after interchange_taken texts numbers a) (state_after interchange_taken texts numbers b)
-run_like texts [] a b like = like
-run_like texts (e ∷ numbers) a b like = run_like texts numbers (interchange_taken a e.0 (texts e.0 e.1)).0 (interchange_taken b e.0 (texts e.0 e.1)).0 (like_after a b like e.0 (texts e.0 e.1))
+module _ (taking : Taking MachineState) (alike : TakesAlike taking) where
+  like_after : (a b : MachineState) → IsLike a b → (partner : ℕ) (text : List ℕ) → IsLike (taking a partner text).0 (taking b partner text).0
+  like_after a b like partner text =
+      let taken = alike a b like partner text in
+      record {
+        parties = taken.own_parties ∙ like.parties ∙ sym taken.other_parties;
+        codes = ap table_texts taken.own_codes ∙ like.codes ∙ sym (ap table_texts taken.other_codes);
+        kinds = taken.own_kinds ∙ like.kinds ∙ sym taken.other_kinds;
+        terminal = taken.left;
+      }
 
-replies_like : (texts : ℕ → ℕ → List ℕ) (numbers : List (ℕ × ℕ)) (a b : MachineState) (p k : ℕ) → IsLike a b → reply_among interchange_taken texts numbers a p k ≡ reply_among interchange_taken texts numbers b p k
-replies_like texts [] a b p k like = refl
-replies_like texts (e ∷ numbers) a b p k like =
-    ap (λ r. if (e.0 == p) && (e.1 == k) then Some r else reply_among interchange_taken texts numbers (interchange_taken a e.0 (texts e.0 e.1)).0 p k) (takes_like a b like e.0 (texts e.0 e.1)).reply
-    ∙ ap (λ o. if (e.0 == p) && (e.1 == k) then Some (interchange_taken b e.0 (texts e.0 e.1)).1 else o)
-    (replies_like texts numbers (interchange_taken a e.0 (texts e.0 e.1)).0 (interchange_taken b e.0 (texts e.0 e.1)).0 p k (like_after a b like e.0 (texts e.0 e.1)))
+  run_like : (texts : ℕ → ℕ → List ℕ) (numbers : List (ℕ × ℕ)) (a b : MachineState) → IsLike a b → IsLike (state_after taking texts numbers a) (state_after taking texts numbers b)
+  run_like texts [] a b like = like
+  run_like texts (e ∷ numbers) a b like = run_like texts numbers (taking a e.0 (texts e.0 e.1)).0 (taking b e.0 (texts e.0 e.1)).0 (like_after a b like e.0 (texts e.0 e.1))
 
-pub state_like : (a b : MachineState) (D : List Delivery) → IsLike a b → (state interchange_taken a D).terminal ≡ (state interchange_taken b D).terminal
-unfolding state
-state_like a b D like = (run_like (text_under D) (orders.order D) a b like).terminal
+  replies_like : (texts : ℕ → ℕ → List ℕ) (numbers : List (ℕ × ℕ)) (a b : MachineState) (p k : ℕ) → IsLike a b → reply_among taking texts numbers a p k ≡ reply_among taking texts numbers b p k
+  replies_like texts [] a b p k like = refl
+  replies_like texts (e ∷ numbers) a b p k like =
+      ap (λ r. if (e.0 == p) && (e.1 == k) then Some r else reply_among taking texts numbers (taking a e.0 (texts e.0 e.1)).0 p k) (alike a b like e.0 (texts e.0 e.1)).reply
+      ∙ ap (λ o. if (e.0 == p) && (e.1 == k) then Some (taking b e.0 (texts e.0 e.1)).1 else o)
+      (replies_like texts numbers (taking a e.0 (texts e.0 e.1)).0 (taking b e.0 (texts e.0 e.1)).0 p k (like_after a b like e.0 (texts e.0 e.1)))
 
-pub reply_like : (a b : MachineState) (D : List Delivery) (p k : ℕ) → IsLike a b → reply_of interchange_taken a D p k ≡ reply_of interchange_taken b D p k
-unfolding reply_of
-reply_like a b D p k like = replies_like (text_under D) (orders.order D) a b p k like
+  state_like_by : (a b : MachineState) (D : List Delivery) → IsLike a b → (state taking a D).terminal ≡ (state taking b D).terminal
+  unfolding state
+  state_like_by a b D like = (run_like (text_under D) (orders.order D) a b like).terminal
+
+  reply_like_by : (a b : MachineState) (D : List Delivery) (p k : ℕ) → IsLike a b → reply_of taking a D p k ≡ reply_of taking b D p k
+  unfolding reply_of
+  reply_like_by a b D p k like = replies_like (text_under D) (orders.order D) a b p k like
+
+pub state_like : (version : Version) (content : SetupContent) (es : List Event) (a b : MachineState) (D : List Delivery) → IsLike a b → (state (taking_in version content es) a D).terminal ≡ (state (taking_in version content es) b D).terminal
+state_like version content es a b D like = state_like_by (taking_in version content es) (takes_alike version content es) a b D like
+
+pub reply_like : (version : Version) (content : SetupContent) (es : List Event) (a b : MachineState) (D : List Delivery) (p k : ℕ) → IsLike a b → reply_of (taking_in version content es) a D p k ≡ reply_of (taking_in version content es) b D p k
+reply_like version content es a b D p k like = reply_like_by (taking_in version content es) (takes_alike version content es) a b D p k like
 
 -- ---- set-ups that say the same
 
@@ -217,31 +252,104 @@ opening_like other content says = record {
   terminal = λ i. record { yard = record { plan = says.blocks i; boxes = finite_map.empty }; limit = says.limit i; visits = []; lines = finite_map.empty };
 }
 
-pub delivered_same : (other content : SetupContent) (es : List Event) → SaysSame other content → delivered_to other es ≡ delivered_to content es
-delivered_same other content es says = ap (λ P. deliveries_of P es) (parties_same other content says)
+settings_same : (version : Version) (other content : SetupContent) → SaysSame other content → settings_in version other ≡ settings_in version content
+settings_same version other content says i =
+    setting (codes "version") (version_text version) ∷ setting (codes "terminal") (says.terminal i) ∷ setting (codes "visits") (decimal (says.limit i)) ∷ settings_named code_names (says.codes i)
 
-settings_same : (other content : SetupContent) → SaysSame other content → settings_of other ≡ settings_of content
-settings_same other content says i =
-    setting (codes "version") tables_version ∷ setting (codes "terminal") (says.terminal i) ∷ setting (codes "visits") (decimal (says.limit i)) ∷ settings_named code_names (says.codes i)
+-- ---- the same with other codes
 
-pub after_same : (other content : SetupContent) (es : List Event) (rows : Rows) → SaysSame other content → AreAfter content es rows → AreAfter other es rows
-after_same other content es rows says are =
-    let D = delivered_same other content es says in
-    let like = opening_like other content says in
-    record {
-      partners = are.partners ∙ sym (λ i. accounts_from 1 (λ p. run (D i) p + 1) (says.partners i));
-      texts = λ p k. are.texts p k ∙ sym (ap (λ l. first_text l p k) D);
-      replies = λ p k. are.replies p k ∙ sym (ap (λ l. reply_of interchange_taken (opening_of content) l p k) D) ∙ sym (reply_like (opening_of other) (opening_of content) (delivered_to other es) p k like);
-      kept_once = are.kept_once;
-      terminal = are.terminal ∙ ap rows_of (sym (state_like (opening_of other) (opening_of content) (delivered_to other es) like ∙ ap (λ l. (state interchange_taken (opening_of content) l).terminal) D));
-      placed_once = are.placed_once;
-      listed_once = are.listed_once;
-      settings = are.settings ∙ sym (settings_same other content says);
-      blocks = are.blocks ∙ sym says.blocks;
-    }
+-- the set-up with codes that another memory holds
+abbrev pub with_codes : CodeTable → SetupContent → SetupContent
+with_codes table content = record content { codes = table }
+
+pub now_with_codes : (es : List Event) (content : SetupContent) (table : CodeTable) → content_after (with_codes table content) es ≡ with_codes table (content_after content es)
+now_with_codes [] content table = refl
+now_with_codes (delivered text ∷ es) content table = now_with_codes es content table
+now_with_codes (migrated version ∷ es) content table = now_with_codes es content table
+now_with_codes (added code kind ∷ es) content table = now_with_codes es (content_with content (added code kind)) table
+
+pub delivered_with_codes : (es : List Event) (content : SetupContent) (table : CodeTable) → deliveries_of (with_codes table content) es ≡ deliveries_of content es
+delivered_with_codes [] content table = refl
+delivered_with_codes (delivered text ∷ es) content table = ap (with_delivery (interchange_of text) (admission (parties_in content) (interchange_of text))) (delivered_with_codes es content table)
+delivered_with_codes (migrated version ∷ es) content table = delivered_with_codes es content table
+delivered_with_codes (added code kind ∷ es) content table = delivered_with_codes es (content_with content (added code kind)) table
+
+by_with_codes : (version : Version) (content : SetupContent) (table : CodeTable) (migration : Option (Version × List Event)) → taking_by version (with_codes table content) migration ≡ taking_by version content migration
+by_with_codes version content table None = refl
+by_with_codes version content table (Some migration) =
+    ap (λ D. taken_by_place number_said D (interchange_taken_by migration.0) (interchange_taken_by version)) (delivered_with_codes migration.1 content table)
+
+pub taking_with_codes : (version : Version) (content : SetupContent) (es : List Event) (table : CodeTable) → taking_in version (with_codes table content) es ≡ taking_in version content es
+unfolding taking_in
+taking_with_codes version content es table = by_with_codes version content table (migration_in es)
+
+-- what is set up at first stays, but for the accounts
+record StaysSetUp (now content : SetupContent) : Type 0 where
+  terminal : now.terminal ≡ content.terminal
+  codes : now.codes ≡ content.codes
+  blocks : now.blocks ≡ content.blocks
+  limit : now.visit_limit ≡ content.visit_limit
+
+stays_set_up : (es : List Event) (content : SetupContent) → StaysSetUp (content_after content es) content
+stays_set_up [] content = record { terminal = refl; codes = refl; blocks = refl; limit = refl }
+stays_set_up (delivered text ∷ es) content = stays_set_up es content
+stays_set_up (migrated version ∷ es) content = stays_set_up es content
+stays_set_up (added code kind ∷ es) content =
+    let rest = stays_set_up es (content_with content (added code kind)) in
+    record { terminal = rest.terminal; codes = rest.codes; blocks = rest.blocks; limit = rest.limit }
+
+module _ (version : Version) (content : SetupContent) (es : List Event) (rows : Rows) (table : CodeTable) (same : table_texts table ≡ table_texts (content_after content es).codes) where
+  abbrev now : SetupContent
+  now = content_after content es
+
+  abbrev D : List Delivery
+  D = deliveries_of content es
+
+  says_codes : SaysSame (with_codes table now) now
+  says_codes = record { terminal = refl; codes = same; partners = refl; blocks = refl; limit = refl }
+
+  rows_with_codes : AreAfterBy version content es rows → AreRowsOf version (taking_in version content es) (with_codes table now) D rows
+  rows_with_codes are =
+      let like = opening_like (with_codes table now) now says_codes in
+      record {
+        partners = are.partners;
+        texts = are.texts;
+        replies = λ p k. are.replies p k ∙ sym (reply_like version content es (opening_of (with_codes table now)) (opening_of now) D p k like);
+        kept_once = are.kept_once;
+        terminal = are.terminal ∙ ap rows_of (sym (state_like version content es (opening_of (with_codes table now)) (opening_of now) D like));
+        placed_once = are.placed_once;
+        listed_once = are.listed_once;
+        settings = are.settings ∙ sym (settings_same version (with_codes table now) now says_codes);
+        blocks = are.blocks;
+      }
+
+  -- the rows are those after the same events at the set-up with those codes
+  pub after_with_codes : AreAfterBy version content es rows → AreAfterBy version (with_codes table content) es rows
+  after_with_codes are =
+      moved version (taking_in version content es) (taking_in version (with_codes table content) es) (with_codes table now) (content_after (with_codes table content) es) D (deliveries_of (with_codes table content) es) rows
+      (taking_with_codes version content es table) (now_with_codes es content table) (delivered_with_codes es content table) (rows_with_codes are)
+
+given_with_codes : (content : SetupContent) (table : CodeTable) → table_texts table ≡ table_texts content.codes → IsGiven content → IsGiven (with_codes table content)
+given_with_codes content table same given = record {
+  terminal = given.terminal;
+  counted = given.counted;
+  coded = given.coded;
+  distinct = given.distinct;
+  codes = ap table_fault same ∙ given.codes;
+  plan = given.plan;
+  by_letter = given.by_letter;
+  limit = given.limit;
+}
 
 pub reopens : (content : SetupContent) (es : List Event) (rows : Rows) (db : Database) (shown : OpenedRows) (other : SetupContent) (terminal : TerminalState)
     → AreAfter content es rows → IsGiven content → HasRows rows db → Shows db shown → IsOffice shown other terminal → Reopens content es rows other
 reopens content es rows db shown other terminal are given has shows office =
     let says = says_same content es rows db shown other terminal given are has shows office in
-    record { says = says; rows_are = after_same other content es rows says are }
+    let first = stays_set_up es content in
+    record {
+      says = says;
+      given = given_with_codes content other.codes (says.codes ∙ ap table_texts first.codes) given;
+      now = now_with_codes es content other.codes
+          ∙ sym (λ i. record { terminal = says.terminal i; codes = other.codes; partners = says.partners i; blocks = says.blocks i; visit_limit = says.limit i });
+      rows_are = after_with_codes newest content es rows other.codes says.codes are;
+    }

@@ -9,7 +9,7 @@ use Rattle.edi_moments.specs.Moments.{CivilMoment}
 use Rattle.edi_messages.specs.declared.codes.Codes.{Codes}
 use Rattle.edi_messages.specs.declared.message_fault.MessageFault.{MessageFault}
 use Rattle.edi_messages.specs.declared.partner_kind.PartnerKind.{PartnerKind}
-use Rattle.edi_messages.specs.Message.{LineContent as ReadLine, ordered, refused as refused_line, MessageContent, reading}
+use Rattle.edi_messages.specs.Message.{LineContent as ReadLine, ordered, refused as refused_line, MessageContent}
 use Rattle.edi_messages.specs.Orders.{EntryContent, OrderContent, gate_in, gate_out, move, list_discharge, list_load, discharge, load}
 use Rattle.edi_messages.specs.Purposes.{CallContent}
 use Rattle.edi_segments.specs.Text.{Content}
@@ -19,6 +19,7 @@ use Rattle.edi_syntax.specs.Header.{preparation}
 use Rattle.edi_syntax.specs.Messages.{Message}
 use Rattle.partner_core.specs.Deliveries.{Delivery}
 use Rattle.partner_core.specs.Numbered.{with_number}
+use Rattle.partner_core.specs.Machine.{Taking}
 use Rattle.partner_core.specs.Order.{state, state_after, order, text_under}
 use Rattle.yard_core.specs.declared.placement.Placement.{Placement}
 use Rattle.yard_core.specs.declared.stowed.Stowed.{Stowed}
@@ -36,11 +37,30 @@ use Rattle.terminal_core.specs.declared.source.Source.{Source}
 use Rattle.terminal_core.specs.declared.way.Way.{Way}
 use Rattle.terminal_core.specs.declared.way.Way.TheVariants.{Gate, Ship}
 use Rattle.terminal_core.specs.State.{TerminalState, LineContent, line_of, is_in}
-use Rattle.terminal_core.specs.Step.{Stepped, with_refusal, step, yard_with_entry, settled_in, with_slot, is_full, after_entry, entered_at, after_departure, departed_at, departure_by, moved_at, listed_at, then_line_done_at, by_line, by_state}
-use Rattle.terminal_core.specs.Versions.{newest, spares}
+use Rattle.terminal_core.specs.Step.{Stepped, with_refusal, step_by, yard_with_entry, settled_in, with_slot, is_full, after_entry, entered_at, after_departure, departed_at, departure_by, moved_at, listed_at, then_line_done_at, by_line, by_state}
+use Rattle.terminal_core.specs.Versions.{spares}
+use Rattle.terminal_core.specs.declared.version.Version.{Version}
 use Rattle.terminal_core.proofs.Changing.{either}
 use Rattle.office_admission.specs.Admission.{admission, is_for}
-use Rattle.office_taking.specs.Taking.{MachineState, cleared, cleared_for, list_replaced, line_taken, lines_taken, verdict_on, messages_taken, codes_for, source_in, nothing_taken, taken_at, taken_of, interchange_taken}
+use Rattle.office_replies.specs.Events.{Event}
+use Rattle.office_setup.specs.Setups.{SetupContent}
+use Rattle.office_history.specs.After.{taking_in}
+use Rattle.office_history.proofs.Places.{placed, in_force}
+use Rattle.office_taking.specs.Taking.{MachineState, cleared, cleared_for, list_replaced, line_taken_by, lines_taken_by, verdict_on_by, messages_taken_by, codes_for, source_in, nothing_taken, taken_at_by, taken_of_by, interchange_taken_by}
+use Rattle.office_taking.specs.Readings.{reading_by}
+
+-- ---- plan and limit
+
+-- the new state stands on the plan and the limit of the old
+pub record OnGround (old new : TerminalState) : Type 0 where
+  pub plan : new.yard.plan ≡ old.yard.plan
+  pub limit : new.limit ≡ old.limit
+
+still : (state : TerminalState) → OnGround state state
+still state = record { plan = refl; limit = refl }
+
+on : (a b c : TerminalState) → OnGround a b → OnGround b c → OnGround a c
+on a b c one two = record { plan = two.plan ∙ one.plan; limit = two.limit ∙ one.limit }
 
 -- ---- the yard
 
@@ -68,152 +88,155 @@ first_plan : (y : YardMap) (o : Option Slot) (b : BoxNumber) (length : Length) (
 first_plan y None b length is_laden = tt
 first_plan y (Some slot) b length is_laden = refl
 
-settled_plan : (y : YardMap) (entry : EntryContent) (o : Option Slot) → IfSlot y (settled_in newest y entry o)
-settled_plan y entry (Some slot) =
-    let s = placement (length_of entry.size_type) slot in
-    let misfit = misfit_of (spares newest && entry.is_laden) y.plan y.boxes s in
-    slot_plan y slot (yard_with (spares newest) y entry.number (length_of entry.size_type) entry.is_laden slot)
-    (either (IfYard y) (is_some (finite_map.get y.boxes entry.number)) (Err present) (with_misfit misfit (yard_map y.plan (finite_map.insert y.boxes entry.number (stowed s entry.is_laden)))) tt
-    (misfit_plan y misfit (finite_map.insert y.boxes entry.number (stowed s entry.is_laden))))
-settled_plan y entry None =
-    let first = first_fit (spares newest && entry.is_laden) y.plan y.boxes (length_of entry.size_type) in
-    either (IfSlot y) (is_some (finite_map.get y.boxes entry.number)) (Err present) (with_first_slot first y entry.number (length_of entry.size_type) entry.is_laden) tt
-    (first_plan y first entry.number (length_of entry.size_type) entry.is_laden)
+module _ (version : Version) where
+  settled_plan : (y : YardMap) (entry : EntryContent) (o : Option Slot) → IfSlot y (settled_in version y entry o)
+  settled_plan y entry (Some slot) =
+      let s = placement (length_of entry.size_type) slot in
+      let misfit = misfit_of (spares version && entry.is_laden) y.plan y.boxes s in
+      slot_plan y slot (yard_with (spares version) y entry.number (length_of entry.size_type) entry.is_laden slot)
+      (either (IfYard y) (is_some (finite_map.get y.boxes entry.number)) (Err present) (with_misfit misfit (yard_map y.plan (finite_map.insert y.boxes entry.number (stowed s entry.is_laden)))) tt
+      (misfit_plan y misfit (finite_map.insert y.boxes entry.number (stowed s entry.is_laden))))
+  settled_plan y entry None =
+      let first = first_fit (spares version && entry.is_laden) y.plan y.boxes (length_of entry.size_type) in
+      either (IfSlot y) (is_some (finite_map.get y.boxes entry.number)) (Err present) (with_first_slot first y entry.number (length_of entry.size_type) entry.is_laden) tt
+      (first_plan y first entry.number (length_of entry.size_type) entry.is_laden)
 
-unburied : (y : YardMap) (o : Option BoxNumber) (r : Result (YardMap × Placement) Refusal) → IfStood y r → IfStood y (unless_buried o r)
-unburied y None r h = h
-unburied y (Some blocker) r h = tt
+  unburied : (y : YardMap) (o : Option BoxNumber) (r : Result (YardMap × Placement) Refusal) → IfStood y r → IfStood y (unless_buried o r)
+  unburied y None r h = h
+  unburied y (Some blocker) r h = tt
 
-unburied_yard : (y : YardMap) (o : Option BoxNumber) (r : Result YardMap Refusal) → IfYard y r → IfYard y (unless_buried o r)
-unburied_yard y None r h = h
-unburied_yard y (Some blocker) r h = tt
+  unburied_yard : (y : YardMap) (o : Option BoxNumber) (r : Result YardMap Refusal) → IfYard y r → IfYard y (unless_buried o r)
+  unburied_yard y None r h = h
+  unburied_yard y (Some blocker) r h = tt
 
-removed_plan : (y : YardMap) (b : BoxNumber) (o : Option Placement) → IfStood y (removed_at o y b)
-removed_plan y b None = tt
-removed_plan y b (Some s) = unburied y (blocker_of y.boxes s) (Ok (yard_map y.plan (finite_map.remove y.boxes b), s)) refl
+  removed_plan : (y : YardMap) (b : BoxNumber) (o : Option Placement) → IfStood y (removed_at o y b)
+  removed_plan y b None = tt
+  removed_plan y b (Some s) = unburied y (blocker_of y.boxes s) (Ok (yard_map y.plan (finite_map.remove y.boxes b), s)) refl
 
-shifted_plan : (y : YardMap) (b : BoxNumber) (slot : Slot) (o : Option Stowed) → IfYard y (shifted_at (spares newest) o y b slot)
-shifted_plan y b slot None = tt
-shifted_plan y b slot (Some w) =
-    let moved = placement w.placement.length slot in
-    let misfit = misfit_of (spares newest && (w.is_laden && not (is_same_slot slot w.placement.slot))) y.plan (finite_map.remove y.boxes b) moved in
-    unburied_yard y (blocker_of y.boxes w.placement) (with_misfit misfit (yard_map y.plan (finite_map.insert y.boxes b (stowed moved w.is_laden))))
-    (misfit_plan y misfit (finite_map.insert y.boxes b (stowed moved w.is_laden)))
+  shifted_plan : (y : YardMap) (b : BoxNumber) (slot : Slot) (o : Option Stowed) → IfYard y (shifted_at (spares version) o y b slot)
+  shifted_plan y b slot None = tt
+  shifted_plan y b slot (Some w) =
+      let moved = placement w.placement.length slot in
+      let misfit = misfit_of (spares version && (w.is_laden && not (is_same_slot slot w.placement.slot))) y.plan (finite_map.remove y.boxes b) moved in
+      unburied_yard y (blocker_of y.boxes w.placement) (with_misfit misfit (yard_map y.plan (finite_map.insert y.boxes b (stowed moved w.is_laden))))
+      (misfit_plan y misfit (finite_map.insert y.boxes b (stowed moved w.is_laden)))
 
--- ---- an order
+  -- ---- an order
 
--- the new state stands on the plan and the limit of the old
-pub record OnGround (old new : TerminalState) : Type 0 where
-  pub plan : new.yard.plan ≡ old.yard.plan
-  pub limit : new.limit ≡ old.limit
+  abbrev Stays : TerminalState → Stepped → Type 0
+  Stays old after = OnGround old after.state
 
-abbrev Stays : TerminalState → Stepped → Type 0
-Stays old after = OnGround old after.state
+  entered_stays : (state : TerminalState) (way : Way) (source : Source) (entry : EntryContent) (r : Result (YardMap × Slot) Refusal) → IfSlot state.yard r → Stays state (entered_at state way source entry r)
+  entered_stays state way source entry (Ok (y, slot)) h = record { plan = h; limit = refl }
+  entered_stays state way source entry (Err refusal) h = still state
 
-still : (state : TerminalState) → OnGround state state
-still state = record { plan = refl; limit = refl }
+  enters_stays : (state : TerminalState) (way : Way) (source : Source) (entry : EntryContent) → Stays state (after_entry version state way source entry)
+  enters_stays state way source entry =
+      either (Stays state) (is_full state) (with_refusal state VisitLimit) (entered_at state way source entry (yard_with_entry version state.yard entry)) (still state)
+      (entered_stays state way source entry (yard_with_entry version state.yard entry) (settled_plan state.yard entry entry.slot))
 
-entered_stays : (state : TerminalState) (way : Way) (source : Source) (entry : EntryContent) (r : Result (YardMap × Slot) Refusal) → IfSlot state.yard r → Stays state (entered_at state way source entry r)
-entered_stays state way source entry (Ok (y, slot)) h = record { plan = h; limit = refl }
-entered_stays state way source entry (Err refusal) h = still state
+  departed_stays : (state : TerminalState) (b : BoxNumber) (departure : Departure) (r : Result (YardMap × Placement) Refusal) → IfStood state.yard r → Stays state (departed_at state b departure r)
+  departed_stays state b departure (Ok (y, s)) h = record { plan = h; limit = refl }
+  departed_stays state b departure (Err refusal) h = still state
 
-enters_stays : (state : TerminalState) (way : Way) (source : Source) (entry : EntryContent) → Stays state (after_entry newest state way source entry)
-enters_stays state way source entry =
-    either (Stays state) (is_full state) (with_refusal state VisitLimit) (entered_at state way source entry (yard_with_entry newest state.yard entry)) (still state)
-    (entered_stays state way source entry (yard_with_entry newest state.yard entry) (settled_plan state.yard entry entry.slot))
+  departs_stays : (state : TerminalState) (way : Way) (source : Source) (b : BoxNumber) (moment : CivilMoment) → Stays state (after_departure state way source b moment)
+  departs_stays state way source b moment = departed_stays state b (departure_by way source moment) (yard_without state.yard b) (removed_plan state.yard b (placement_of state.yard.boxes b))
 
-departed_stays : (state : TerminalState) (b : BoxNumber) (departure : Departure) (r : Result (YardMap × Placement) Refusal) → IfStood state.yard r → Stays state (departed_at state b departure r)
-departed_stays state b departure (Ok (y, s)) h = record { plan = h; limit = refl }
-departed_stays state b departure (Err refusal) h = still state
+  moved_stays : (state : TerminalState) (b : BoxNumber) (slot : Slot) (r : Result YardMap Refusal) → IfYard state.yard r → Stays state (moved_at state b slot r)
+  moved_stays state b slot (Ok y) h = record { plan = h; limit = refl }
+  moved_stays state b slot (Err refusal) h = still state
 
-departs_stays : (state : TerminalState) (way : Way) (source : Source) (b : BoxNumber) (moment : CivilMoment) → Stays state (after_departure state way source b moment)
-departs_stays state way source b moment = departed_stays state b (departure_by way source moment) (yard_without state.yard b) (removed_plan state.yard b (placement_of state.yard.boxes b))
+  listed_stays : (state : TerminalState) (call : CallContent) (side : Side) (b : BoxNumber) (port : List ℕ) (o : Option LineContent) → Stays state (listed_at state call side b port o)
+  listed_stays state call side b port (Some line) = still state
+  listed_stays state call side b port None = record { plan = refl; limit = refl }
 
-moved_stays : (state : TerminalState) (b : BoxNumber) (slot : Slot) (r : Result YardMap Refusal) → IfYard state.yard r → Stays state (moved_at state b slot r)
-moved_stays state b slot (Ok y) h = record { plan = h; limit = refl }
-moved_stays state b slot (Err refusal) h = still state
+  then_stays : (state : TerminalState) (call : CallContent) (side : Side) (b : BoxNumber) (line : LineContent) (after : Stepped) (o : Outcome) → Stays state after → Stays state (then_line_done_at call side b line after o)
+  then_stays state call side b line after (Refused reason) h = h
+  then_stays state call side b line after (Done slot) h = record { plan = h.plan; limit = h.limit }
+  then_stays state call side b line after Gone h = record { plan = h.plan; limit = h.limit }
+  then_stays state call side b line after Listed h = record { plan = h.plan; limit = h.limit }
 
-listed_stays : (state : TerminalState) (call : CallContent) (side : Side) (b : BoxNumber) (port : List ℕ) (o : Option LineContent) → Stays state (listed_at state call side b port o)
-listed_stays state call side b port (Some line) = still state
-listed_stays state call side b port None = record { plan = refl; limit = refl }
+  state_stays : (state : TerminalState) (call : CallContent) (side : Side) (b : BoxNumber) (line : LineContent) (after : Stepped) (s : LineState) → Stays state after → Stays state (by_state state call side b line after s)
+  state_stays state call side b line after LineIsDone h = still state
+  state_stays state call side b line after Pending h = then_stays state call side b line after after.outcome h
 
-then_stays : (state : TerminalState) (call : CallContent) (side : Side) (b : BoxNumber) (line : LineContent) (after : Stepped) (o : Outcome) → Stays state after → Stays state (then_line_done_at call side b line after o)
-then_stays state call side b line after (Refused reason) h = h
-then_stays state call side b line after (Done slot) h = record { plan = h.plan; limit = h.limit }
-then_stays state call side b line after Gone h = record { plan = h.plan; limit = h.limit }
-then_stays state call side b line after Listed h = record { plan = h.plan; limit = h.limit }
+  line_stays : (state : TerminalState) (call : CallContent) (side : Side) (b : BoxNumber) (o : Option LineContent) (after : Stepped) → Stays state after → Stays state (by_line state call side b o after)
+  line_stays state call side b None after h = still state
+  line_stays state call side b (Some line) after h = state_stays state call side b line after line.state h
 
-state_stays : (state : TerminalState) (call : CallContent) (side : Side) (b : BoxNumber) (line : LineContent) (after : Stepped) (s : LineState) → Stays state after → Stays state (by_state state call side b line after s)
-state_stays state call side b line after LineIsDone h = still state
-state_stays state call side b line after Pending h = then_stays state call side b line after after.outcome h
+  step_stays : (state : TerminalState) (source : Source) (order : OrderContent) → Stays state (step_by version state source order)
+  step_stays state source (gate_in entry) = either (Stays state) (is_in state entry.number) (with_refusal state AlreadyIn) (after_entry version state Gate source entry) (still state) (enters_stays state Gate source entry)
+  step_stays state source (gate_out b moment) = departs_stays state Gate source b moment
+  step_stays state source (move b slot) = moved_stays state b slot (yard_with_move (spares version) state.yard b slot) (shifted_plan state.yard b slot (finite_map.get state.yard.boxes b))
+  step_stays state source (list_discharge call b) = listed_stays state call Discharge b [] (line_of state call Discharge b)
+  step_stays state source (list_load call b port) = listed_stays state call Load b port (line_of state call Load b)
+  step_stays state source (discharge call entry) =
+      either (Stays state) (is_in state entry.number) (with_refusal state AlreadyIn) (by_line state call Discharge entry.number (line_of state call Discharge entry.number) (after_entry version state Ship source entry)) (still state)
+      (line_stays state call Discharge entry.number (line_of state call Discharge entry.number) (after_entry version state Ship source entry) (enters_stays state Ship source entry))
+  step_stays state source (load call b moment) =
+      either (Stays state) (is_in state b) (by_line state call Load b (line_of state call Load b) (after_departure state Ship source b moment)) (with_refusal state NotIn)
+      (line_stays state call Load b (line_of state call Load b) (after_departure state Ship source b moment) (departs_stays state Ship source b moment)) (still state)
 
-line_stays : (state : TerminalState) (call : CallContent) (side : Side) (b : BoxNumber) (o : Option LineContent) (after : Stepped) → Stays state after → Stays state (by_line state call side b o after)
-line_stays state call side b None after h = still state
-line_stays state call side b (Some line) after h = state_stays state call side b line after line.state h
+  -- ---- an interchange
 
-step_stays : (state : TerminalState) (source : Source) (order : OrderContent) → Stays state (step state source order)
-step_stays state source (gate_in entry) = either (Stays state) (is_in state entry.number) (with_refusal state AlreadyIn) (after_entry newest state Gate source entry) (still state) (enters_stays state Gate source entry)
-step_stays state source (gate_out b moment) = departs_stays state Gate source b moment
-step_stays state source (move b slot) = moved_stays state b slot (yard_with_move (spares newest) state.yard b slot) (shifted_plan state.yard b slot (finite_map.get state.yard.boxes b))
-step_stays state source (list_discharge call b) = listed_stays state call Discharge b [] (line_of state call Discharge b)
-step_stays state source (list_load call b port) = listed_stays state call Load b port (line_of state call Load b)
-step_stays state source (discharge call entry) =
-    either (Stays state) (is_in state entry.number) (with_refusal state AlreadyIn) (by_line state call Discharge entry.number (line_of state call Discharge entry.number) (after_entry newest state Ship source entry)) (still state)
-    (line_stays state call Discharge entry.number (line_of state call Discharge entry.number) (after_entry newest state Ship source entry) (enters_stays state Ship source entry))
-step_stays state source (load call b moment) =
-    either (Stays state) (is_in state b) (by_line state call Load b (line_of state call Load b) (after_departure state Ship source b moment)) (with_refusal state NotIn)
-    (line_stays state call Load b (line_of state call Load b) (after_departure state Ship source b moment) (departs_stays state Ship source b moment)) (still state)
+  read_stays : (state : TerminalState) (source : Source) (line : ReadLine) → OnGround state (line_taken_by version state source line).0
+  read_stays state source (ordered order) = step_stays state source order
+  read_stays state source (refused_line fault number) = still state
 
--- ---- an interchange
+  lines_stay : (state : TerminalState) (source : Source) (lines : List ReadLine) → OnGround state (lines_taken_by version state source lines).0
+  lines_stay state source [] = still state
+  lines_stay state source (line ∷ lines) =
+      let next : TerminalState = (line_taken_by version state source line).0 in
+      on state next (lines_taken_by version next source lines).0 (read_stays state source line) (lines_stay next source lines)
 
-on : (a b c : TerminalState) → OnGround a b → OnGround b c → OnGround a c
-on a b c one two = record { plan = two.plan ∙ one.plan; limit = two.limit ∙ one.limit }
+  cleared_stays : (state : TerminalState) (list : Option (CallContent × Side)) → OnGround state (cleared state list).state
+  cleared_stays state None = still state
+  cleared_stays state (Some list) = record { plan = refl; limit = refl }
 
-read_stays : (state : TerminalState) (source : Source) (line : ReadLine) → OnGround state (line_taken state source line).0
-read_stays state source (ordered order) = step_stays state source order
-read_stays state source (refused_line fault number) = still state
+  verdict_stays : (state : TerminalState) (source : Source) (read : Result MessageContent MessageFault) → OnGround state (verdict_on_by version state source read).0
+  verdict_stays state source (Ok content) =
+      let next : TerminalState = (cleared_for state content).state in
+      on state next (lines_taken_by version next source content.lines).0 (cleared_stays state (list_replaced content)) (lines_stay next source content.lines)
+  verdict_stays state source (Err fault) = still state
 
-lines_stay : (state : TerminalState) (source : Source) (lines : List ReadLine) → OnGround state (lines_taken state source lines).0
-lines_stay state source [] = still state
-lines_stay state source (line ∷ lines) =
-    let next : TerminalState = (line_taken state source line).0 in
-    on state next (lines_taken next source lines).0 (read_stays state source line) (lines_stay next source lines)
+  messages_stay : (state : TerminalState) (codes : Codes) (source : Source) (opened : CivilMoment) (messages : List Message) → OnGround state (messages_taken_by version state codes source opened messages).0
+  messages_stay state codes source opened [] = still state
+  messages_stay state codes source opened (message ∷ messages) =
+      let next : TerminalState = (verdict_on_by version state source (reading_by version codes opened message)).0 in
+      on state next (messages_taken_by version next codes source opened messages).0 (verdict_stays state source (reading_by version codes opened message)) (messages_stay next codes source opened messages)
 
-cleared_stays : (state : TerminalState) (list : Option (CallContent × Side)) → OnGround state (cleared state list).state
-cleared_stays state None = still state
-cleared_stays state (Some list) = record { plan = refl; limit = refl }
+  at_stays : (machine : MachineState) (partner : ℕ) (kind : PartnerKind) (segments : List Content) (opened : Option CivilMoment) → OnGround machine.terminal (taken_at_by version machine partner kind segments opened).0.terminal
+  at_stays machine partner kind segments None = still machine.terminal
+  at_stays machine partner kind segments (Some opened) = messages_stay machine.terminal (codes_for machine kind) (source_in partner (header_of segments)) opened (messages_of segments)
 
-verdict_stays : (state : TerminalState) (source : Source) (read : Result MessageContent MessageFault) → OnGround state (verdict_on state source read).0
-verdict_stays state source (Ok content) =
-    let next : TerminalState = (cleared_for state content).state in
-    on state next (lines_taken next source content.lines).0 (cleared_stays state (list_replaced content)) (lines_stay next source content.lines)
-verdict_stays state source (Err fault) = still state
+  of_stays : (machine : MachineState) (partner : ℕ) (segments : List Content) (kind : Option PartnerKind) → OnGround machine.terminal (taken_of_by version machine partner segments kind).0.terminal
+  of_stays machine partner segments None = still machine.terminal
+  of_stays machine partner segments (Some kind) = at_stays machine partner kind segments (preparation (header_of segments))
 
-messages_stay : (state : TerminalState) (codes : Codes) (source : Source) (opened : CivilMoment) (messages : List Message) → OnGround state (messages_taken state codes source opened messages).0
-messages_stay state codes source opened [] = still state
-messages_stay state codes source opened (message ∷ messages) =
-    let next : TerminalState = (verdict_on state source (reading codes opened message)).0 in
-    on state next (messages_taken next codes source opened messages).0 (verdict_stays state source (reading codes opened message)) (messages_stay next codes source opened messages)
+  interchange_stays : (machine : MachineState) (partner : ℕ) (text : List ℕ) → OnGround machine.terminal (interchange_taken_by version machine partner text).0.terminal
+  interchange_stays machine partner text =
+      either (λ (taken : MachineState × List ℕ). OnGround machine.terminal taken.0.terminal) (is_for partner (admission machine.parties text)) (taken_of_by version machine partner (segments_in text) (with_number machine.kinds partner)) (nothing_taken machine)
+      (of_stays machine partner (segments_in text) (with_number machine.kinds partner)) (still machine.terminal)
 
-at_stays : (machine : MachineState) (partner : ℕ) (kind : PartnerKind) (segments : List Content) (opened : Option CivilMoment) → OnGround machine.terminal (taken_at machine partner kind segments opened).0.terminal
-at_stays machine partner kind segments None = still machine.terminal
-at_stays machine partner kind segments (Some opened) = messages_stay machine.terminal (codes_for machine kind) (source_in partner (header_of segments)) opened (messages_of segments)
+-- ---- a run
 
-of_stays : (machine : MachineState) (partner : ℕ) (segments : List Content) (kind : Option PartnerKind) → OnGround machine.terminal (taken_of machine partner segments kind).0.terminal
-of_stays machine partner segments None = still machine.terminal
-of_stays machine partner segments (Some kind) = at_stays machine partner kind segments (preparation (header_of segments))
+abbrev StaysOnGround : Taking MachineState → Type 0
+StaysOnGround taken = (machine : MachineState) (partner : ℕ) (text : List ℕ) → OnGround machine.terminal (taken machine partner text).0.terminal
 
-interchange_stays : (machine : MachineState) (partner : ℕ) (text : List ℕ) → OnGround machine.terminal (interchange_taken machine partner text).0.terminal
-interchange_stays machine partner text =
-    either (λ (taken : MachineState × List ℕ). OnGround machine.terminal taken.0.terminal) (is_for partner (admission machine.parties text)) (taken_of machine partner (segments_in text) (with_number machine.kinds partner)) (nothing_taken machine)
-    (of_stays machine partner (segments_in text) (with_number machine.kinds partner)) (still machine.terminal)
+module _ (taken : Taking MachineState) (each : StaysOnGround taken) where
+  run_stays : (texts : ℕ → ℕ → List ℕ) (numbers : List (ℕ × ℕ)) (machine : MachineState) → OnGround machine.terminal (state_after taken texts numbers machine).terminal
+  run_stays texts [] machine = still machine.terminal
+  run_stays texts (e ∷ numbers) machine =
+      let next : MachineState = (taken machine e.0 (texts e.0 e.1)).0 in
+      on machine.terminal next.terminal (state_after taken texts numbers next).terminal (each machine e.0 (texts e.0 e.1)) (run_stays texts numbers next)
 
-run_stays : (texts : ℕ → ℕ → List ℕ) (numbers : List (ℕ × ℕ)) (machine : MachineState) → OnGround machine.terminal (state_after interchange_taken texts numbers machine).terminal
-run_stays texts [] machine = still machine.terminal
-run_stays texts (e ∷ numbers) machine =
-    let next : MachineState = (interchange_taken machine e.0 (texts e.0 e.1)).0 in
-    on machine.terminal next.terminal (state_after interchange_taken texts numbers next).terminal (interchange_stays machine e.0 (texts e.0 e.1)) (run_stays texts numbers next)
+  state_stays_on : (opening : MachineState) (ds : List Delivery) → OnGround opening.terminal (state taken opening ds).terminal
+  unfolding state
+  state_stays_on opening ds = run_stays (text_under ds) (order ds) opening
 
-pub state_on_ground : (opening : MachineState) (ds : List Delivery) → OnGround opening.terminal (state interchange_taken opening ds).terminal
-unfolding state
-state_on_ground opening ds = run_stays (text_under ds) (order ds) opening
+pub state_on_ground : (version : Version) (content : SetupContent) (es : List Event) (opening : MachineState) (ds : List Delivery) → OnGround opening.terminal (state (taking_in version content es) opening ds).terminal
+state_on_ground version content es opening ds =
+    state_stays_on (taking_in version content es)
+    (in_force StaysOnGround interchange_stays
+    (λ before old new one two machine p text. placed (λ taken. OnGround machine.terminal taken.0.terminal) before old new machine p text (one machine p text) (two machine p text)) version content es)
+    opening ds

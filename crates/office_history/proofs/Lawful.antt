@@ -1,5 +1,5 @@
 -- The laws of one delivery more, of the rows after deliveries.
-use Rattle.std.proofs.Common.{Option, ◌≡◌, ℕ, ◌+◌, ◌<◌, List, [], ◌∷◌, ◌++◌, length, None, Some, Err, refl, sym, ap, subst, ◌∙◌, arith}
+use Rattle.std.proofs.Common.{Option, ◌≡◌, ℕ, ◌+◌, ◌<◌, List, [], ◌∷◌, ◌++◌, length, None, Some, Err, refl, sym, ap, ◌∙◌, arith}
 use Rattle.std.specs.Prelude.{is_some}
 use Rattle.std.specs.Cmp.Lexicographic.{slice_cmp}
 use Rattle.std.specs.Ordering.{nat_cmp}
@@ -8,6 +8,7 @@ use Rattle.std.specs.Option.{option_map}
 use Rattle.edi_messages.specs.declared.partner_kind.PartnerKind.{PartnerKind}
 use Rattle.edi_segments.specs.Interchange.{interchange_of}
 use Rattle.partner_core.specs.Deliveries.{Delivery, delivery, run}
+use Rattle.partner_core.specs.Machine.{Taking}
 use Rattle.partner_core.specs.Order.{state, order, reply_of}
 use Rattle.partner_core.proofs.Growths.{adds_nothing, adds_text, other_run-stays}
 use Rattle.partner_core.proofs.OnePartner.{run_of_none}
@@ -17,19 +18,24 @@ use Rattle.terminal_core.specs.Changes.{standing_in, rows_of}
 use Rattle.yard_core.specs.declared.placement.Placement.{Placement}
 use Rattle.terminal_core.specs.Step.{number_of_visit}
 use Rattle.terminal_core.specs.State.{open_visit}
+use Rattle.terminal_core.specs.Versions.{newest}
+use Rattle.office_admission.specs.Accounts.{content_after}
 use Rattle.office_admission.specs.Admission.{admission}
+use Rattle.office_admission.specs.Deliveries.{deliveries_of}
+use Rattle.office_admission.proofs.Adding.{content_on, given_after}
 use Rattle.office_replies.specs.Events.{Event, delivered}
 use Rattle.office_replies.specs.declared.fault.Fault.{Fault}
 use Rattle.office_rows.specs.Rows.{Rows}
 use Rattle.office_rows.specs.Effects.{with_kept}
 use Rattle.office_rows.specs.Opening.{partners_from, opening_rows}
 use Rattle.office_setup.specs.Given.{IsGiven}
-use Rattle.office_setup.specs.Setups.{SetupContent}
-use Rattle.office_taking.specs.Taking.{MachineState, interchange_taken}
-use Rattle.office_history.specs.After.{parties_in, opening_of, delivered_to, machine_after, accounts_from, AreAfter}
+use Rattle.office_setup.specs.Setups.{SetupContent, parties_in}
+use Rattle.office_taking.specs.Taking.{MachineState}
+use Rattle.office_history.specs.After.{opening_of, taking_in, machine_after, accounts_from, AreRowsOf, AreAfter}
 use Rattle.office_history.specs.Cascade.{text_in, TakenContent, texts_with, with_run, AreTakenFrom}
-use Rattle.office_history.specs.Laws.{IsFor, AddsNoRow, AddsWaiting, AddsRun}
-use Rattle.office_history.proofs.Afters.{AreAfterThese, these, those, admitted_more, refused_more, known_adds, early_keeps, run_more}
+use Rattle.office_history.specs.Laws.{IsFor, AddsNoRow, AddsWaiting, AddsRun, RefusedAddsNoRow, UsedAddsNoRow, EarlyAddsWaiting, NextAddsRun}
+use Rattle.office_history.proofs.Afters.{known_adds, early_keeps, run_more}
+use Rattle.office_history.proofs.Places.{admitted_more, refused_more, numbered_more, sound_in, goes_on, taking_delivered, moved}
 
 -- ---- nothing delivered
 
@@ -43,7 +49,7 @@ none_ordered : (content : SetupContent) → machine_after content [] ≡ opening
 unfolding state order
 none_ordered content = refl
 
-none_replied : (content : SetupContent) (p k : ℕ) → reply_of interchange_taken (opening_of content) [] p k ≡ None
+none_replied : (content : SetupContent) (p k : ℕ) → reply_of (taking_in newest content []) (opening_of content) [] p k ≡ None
 unfolding reply_of order
 none_replied content p k = refl
 
@@ -64,59 +70,82 @@ opening_after content = record {
 
 -- ---- one delivery more
 
-abbrev after_one : SetupContent → List Event → List ℕ → ℕ → ℕ → List Delivery
-after_one content es sent p k = delivered_to content es ++ delivery p k (interchange_of sent) ∷ []
+-- what was delivered adds nothing to the accounts, and leaves the rules in force
+now_same : (content : SetupContent) (es : List Event) (sent : List ℕ) → content_after content (es ++ delivered sent ∷ []) ≡ content_after content es
+now_same content es sent = content_on es (delivered sent ∷ []) content
 
-pub refused_adds : (content : SetupContent) (es : List Event) (rows : Rows) (sent : List ℕ) (fault : Fault) → AreAfter content es rows → admission (parties_in content) (interchange_of sent) ≡ Err fault
-    → AddsNoRow content es sent rows
-refused_adds content es rows sent fault are is =
-    let same = refused_more content es sent fault is in
-    record {
-      rows_are = those content (es ++ delivered sent ∷ []) rows (subst (λ D. AreAfterThese content D rows) (sym same) (these content es rows are));
-      machine = ap (state interchange_taken (opening_of content)) same;
-      runs = λ p. ap (λ D. run D p) same;
-    }
+module _ (content : SetupContent) (es : List Event) (sent : List ℕ) where
+  abbrev now : SetupContent
+  now = content_after content es
 
-pub used_adds : (content : SetupContent) (es : List Event) (rows : Rows) (sent : List ℕ) (p k : ℕ) (kept : List ℕ) → AreAfter content es rows → IsFor content sent p k
-    → text_in rows p k ≡ Some kept → AddsNoRow content es sent rows
-used_adds content es rows sent p k kept are for there =
-    let d = delivery p k (interchange_of sent) in
-    let D = delivered_to content es in
-    let same = admitted_more content es sent p k for in
-    let adds = adds_nothing interchange_taken (opening_of content) D d (ap is_some (sym (are.texts p k) ∙ there)) in
-    record {
-      rows_are = those content (es ++ delivered sent ∷ []) rows (subst (λ E. AreAfterThese content E rows) (sym same) (known_adds content D d rows kept (these content es rows are) there));
-      machine = ap (state interchange_taken (opening_of content)) same ∙ adds.state_is;
-      runs = λ q. ap (λ E. run E q) same ∙ adds.runs q;
-    }
+  abbrev D : List Delivery
+  D = deliveries_of content es
 
-pub early_adds : (content : SetupContent) (es : List Event) (rows : Rows) (sent : List ℕ) (p k : ℕ) → AreAfter content es rows → IsFor content sent p k
-    → text_in rows p k ≡ None → run (delivered_to content es) p + 1 < k → AddsWaiting content es sent (with_kept p k (interchange_of sent) rows)
-early_adds content es rows sent p k are for free early =
-    let text = interchange_of sent in
-    let d = delivery p k text in
-    let D = delivered_to content es in
-    let same = admitted_more content es sent p k for in
-    let adds = adds_text interchange_taken (opening_of content) D d (ap is_some (sym (are.texts p k) ∙ free)) early in
-    record {
-      rows_are = those content (es ++ delivered sent ∷ []) (with_kept p k text rows) (subst (λ E. AreAfterThese content E (with_kept p k text rows)) (sym same) (early_keeps content D p k text rows (these content es rows are) free early));
-      machine = ap (state interchange_taken (opening_of content)) same ∙ adds.state_is;
-      runs = λ q. ap (λ E. run E q) same ∙ adds.runs q;
-    }
+  abbrev taking : Taking MachineState
+  taking = taking_in newest content es
 
-pub next_adds : (content : SetupContent) (es : List Event) (rows : Rows) (sent : List ℕ) (p k : ℕ) (taken : List TakenContent) (machine : MachineState)
-    → IsGiven content → AreAfter content es rows → IsFor content sent p k → text_in rows p k ≡ None → k ≡ run (delivered_to content es) p + 1
-    → AreTakenFrom p (texts_with rows p k (interchange_of sent)) k (machine_after content es) taken machine
-    → AddsRun content es sent p (length taken) (with_run p k (interchange_of sent) taken rows) machine
-next_adds content es rows sent p k taken machine given are for free is from =
-    let text = interchange_of sent in
-    let D = delivered_to content es in
-    let same = admitted_more content es sent p k for in
-    let more = run_more content D p k text rows taken machine given (these content es rows are) free is from in
-    let ends = more.ends in
-    record {
-      rows_are = those content (es ++ delivered sent ∷ []) (with_run p k text taken rows) (subst (λ E. AreAfterThese content E (with_run p k text taken rows)) (sym same) more.rows_are);
-      machine_is = more.machine ∙ ap (state interchange_taken (opening_of content)) (sym same);
-      run_is = ap (λ E. run E p) same ∙ omega (arith, ends, is);
-      other_runs = λ q apart. ap (λ E. run E q) same ∙ other_run-stays D (delivery p k text) q apart;
-    }
+  abbrev text : List ℕ
+  text = interchange_of sent
+
+  abbrev more : List Event
+  more = es ++ delivered sent ∷ []
+
+  after_rows : (E : List Delivery) (rows : Rows) → deliveries_of content more ≡ E → AreRowsOf newest taking now E rows → AreAfter content more rows
+  after_rows E rows same are =
+      moved newest taking (taking_in newest content more) now (content_after content more) E (deliveries_of content more) rows (taking_delivered newest content es sent) (now_same content es sent) same are
+
+  after_machine : (E : List Delivery) → deliveries_of content more ≡ E → machine_after content more ≡ state taking (opening_of now) E
+  after_machine E same i = state (taking_delivered newest content es sent i) (opening_of (now_same content es sent i)) (same i)
+
+  adds_refused : (rows : Rows) (fault : Fault) → AreAfter content es rows → admission (parties_in now) text ≡ Err fault → AddsNoRow content es sent rows
+  adds_refused rows fault are is =
+      let same = refused_more content es sent fault is in
+      record { rows_are = after_rows D rows same are; machine = after_machine D same; runs = λ p. ap (λ E. run E p) same }
+
+  adds_used : (rows : Rows) (p k : ℕ) (kept : List ℕ) → AreAfter content es rows → IsFor content es sent p k → text_in rows p k ≡ Some kept → AddsNoRow content es sent rows
+  adds_used rows p k kept are for there =
+      let d = delivery p k text in
+      let same = admitted_more content es sent p k for in
+      let adds = adds_nothing taking (opening_of now) D d (ap is_some (sym (are.texts p k) ∙ there)) in
+      record {
+        rows_are = after_rows (D ++ d ∷ []) rows same (known_adds newest taking now D d rows kept are there);
+        machine = after_machine (D ++ d ∷ []) same ∙ adds.state_is;
+        runs = λ q. ap (λ E. run E q) same ∙ adds.runs q;
+      }
+
+  adds_early : (rows : Rows) (p k : ℕ) → AreAfter content es rows → IsFor content es sent p k → text_in rows p k ≡ None → run D p + 1 < k → AddsWaiting content es sent (with_kept p k text rows)
+  adds_early rows p k are for free early =
+      let d = delivery p k text in
+      let same = admitted_more content es sent p k for in
+      let adds = adds_text taking (opening_of now) D d (ap is_some (sym (are.texts p k) ∙ free)) early in
+      record {
+        rows_are = after_rows (D ++ d ∷ []) (with_kept p k text rows) same (early_keeps newest taking now D p k text rows are free early);
+        machine = after_machine (D ++ d ∷ []) same ∙ adds.state_is;
+        runs = λ q. ap (λ E. run E q) same ∙ adds.runs q;
+      }
+
+  adds_next : (rows : Rows) (p k : ℕ) (taken : List TakenContent) (machine : MachineState) → IsGiven content → AreAfter content es rows → IsFor content es sent p k → text_in rows p k ≡ None → k ≡ run D p + 1
+      → AreTakenFrom p (texts_with rows p k text) k (machine_after content es) taken machine → AddsRun content es sent p (length taken) (with_run p k text taken rows) machine
+  adds_next rows p k taken machine given are for free is from =
+      let d = delivery p k text in
+      let same = admitted_more content es sent p k for in
+      let left = run_more newest taking now D p k text rows taken machine (sound_in newest content es) (goes_on content now es d (numbered_more content es sent p k for)) (given_after es content given) are free is from in
+      let ends = left.ends in
+      record {
+        rows_are = after_rows (D ++ d ∷ []) (with_run p k text taken rows) same left.rows_are;
+        machine_is = left.machine ∙ sym (after_machine (D ++ d ∷ []) same);
+        run_is = ap (λ E. run E p) same ∙ omega (arith, ends, is);
+        other_runs = λ q apart. ap (λ E. run E q) same ∙ other_run-stays D d q apart;
+      }
+
+pub refused_adds : RefusedAddsNoRow
+refused_adds content es rows sent fault are is = adds_refused content es sent rows fault are is
+
+pub used_adds : UsedAddsNoRow
+used_adds content es rows sent p k kept are for there = adds_used content es sent rows p k kept are for there
+
+pub early_adds : EarlyAddsWaiting
+early_adds content es rows sent p k are for free early = adds_early content es sent rows p k are for free early
+
+pub next_adds : NextAddsRun
+next_adds content es rows sent p k taken machine given are for free is from = adds_next content es sent rows p k taken machine given are for free is from

@@ -1,6 +1,10 @@
 pub mod ByKeys
 pub mod Runs
 pub mod Afters
+pub mod Places
+pub mod Likeness
+pub mod Growing
+pub mod Migrating
 pub mod Telling
 pub mod Lawful
 pub mod Ground

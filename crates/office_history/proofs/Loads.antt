@@ -44,7 +44,7 @@ use Rattle.terminal_core.proofs.Formed.{state_of_rows}
 use Rattle.office_replies.specs.Events.{Event}
 use Rattle.office_setup.specs.Given.{IsGiven}
 use Rattle.office_setup.specs.Setups.{SetupContent}
-use Rattle.partner_core.specs.Deliveries.{run}
+use Rattle.partner_core.specs.Deliveries.{Delivery, run}
 use Rattle.std.specs.Str.{bytes_eq}
 use Rattle.office_rows.specs.Rows.{Partner, PlaceContent, ListingContent, Setting, Rows}
 use Rattle.office_rows.specs.Values.{number, kind_code, partner_values, way_code, laden_code, state_code, out_by, out_partner, out_number, out_at, visit_values, place_values, line_values, setting_values, block_values}
@@ -57,7 +57,14 @@ use Rattle.office_rows.specs.Shown.{columns_at, ShowsTable}
 use Rattle.office_rows.proofs.Listed.{unmapped}
 use Rattle.office_rows.specs.Office.{settings_by_name, AreAccounts, IsOffice}
 use Rattle.office_rows.specs.Tables.{partner, visit, place, listed, block, setting as settings_table}
-use Rattle.office_history.specs.After.{SaysSame, AreAfter, accounts_from, machine_after, delivered_to, opening_of}
+use Rattle.partner_core.specs.Machine.{Taking}
+use Rattle.terminal_core.specs.Versions.{newest}
+use Rattle.office_admission.specs.Accounts.{content_after}
+use Rattle.office_admission.specs.Deliveries.{deliveries_of}
+use Rattle.office_admission.proofs.Adding.{given_after}
+use Rattle.office_taking.specs.Taking.{MachineState}
+use Rattle.office_history.proofs.Places.{sound_in}
+use Rattle.office_history.specs.After.{SaysSame, AreAfter, accounts_from, machine_after, taking_in, opening_of}
 use Rattle.office_history.proofs.Afters.{state_sound}
 use Rattle.office_history.proofs.ByKeys.{order, keys_total, keys_apart, key_of, said, finds, same_key, line_tied, none_found}
 use Rattle.office_history.proofs.Ground.{state_on_ground}
@@ -327,14 +334,26 @@ value_one name v w e = let same : setting name v ≡ setting name w = cc in ap (
 
 module _ (content : SetupContent) (es : List Event) (rows : Rows) (db : Database) (shown : OpenedRows) (other : SetupContent) (state : TerminalState)
     (given : IsGiven content) (are : AreAfter content es rows) (has : HasRows rows db) (shows : Shows db shown) (office : IsOffice shown other state) where
+  abbrev now : SetupContent
+  now = content_after content es
+
+  abbrev D : List Delivery
+  D = deliveries_of content es
+
+  abbrev taking : Taking MachineState
+  taking = taking_in newest content es
+
+  given_now : IsGiven now
+  given_now = given_after es content given
+
   abbrev own : TerminalState
   own = (machine_after content es).terminal
 
   sound_whole : IsWhole own
-  sound_whole = (state_sound content (delivered_to content es) given).whole
+  sound_whole = (state_sound taking now D (sound_in newest content es) given_now).whole
 
   sound_formed : IsWellFormed own
-  sound_formed = (state_sound content (delivered_to content es) given).formed
+  sound_formed = (state_sound taking now D (sound_in newest content es) given_now).formed
 
   visits_are : rows.visits ≡ own.visits
   visits_are = ap (λ (r : TerminalRows). r.visits) are.terminal
@@ -374,57 +393,57 @@ module _ (content : SetupContent) (es : List Event) (rows : Rows) (db : Database
       let same : shown.lines ≡ in_order.0 = same_records (λ _. Unit {0}) line_values line_one shown.lines in_order.0 (λ _ _. tt) (λ _ _. tt) in_order.2 in
       ap lines_by same ∙ lines_same rows.lines in_order.0 are.listed_once in_order.1
 
-  blocks_same : other.blocks ≡ content.blocks
+  blocks_same : other.blocks ≡ now.blocks
   blocks_same =
       let in_order = shown_in block (0 ∷ 1 ∷ 2 ∷ 3 ∷ []) (0 ∷ []) block_values rows.blocks db (map block_values shown.blocks) (λ b. refl) has.rows_are.blocks shows.blocks in
       let same : shown.blocks ≡ in_order.0 = same_records (λ _. Unit {0}) block_values block_one shown.blocks in_order.0 (λ _ _. tt) (λ _ _. tt) in_order.2 in
-      let shuffled : IsPermutation content.blocks other.blocks = subst (IsPermutation content.blocks) (sym same ∙ office.blocks) (subst (λ l. IsPermutation l in_order.0) are.blocks in_order.1) in
-      sym (rising_same letter_key 0 content.blocks other.blocks (blocks_rise 0 content.blocks given.by_letter given.plan.apart (any_head content.blocks))
+      let shuffled : IsPermutation now.blocks other.blocks = subst (IsPermutation now.blocks) (sym same ∙ office.blocks) (subst (λ l. IsPermutation l in_order.0) are.blocks in_order.1) in
+      sym (rising_same letter_key 0 now.blocks other.blocks (blocks_rise 0 now.blocks given_now.by_letter given_now.plan.apart (any_head now.blocks))
       (blocks_rise 0 other.blocks office.given.by_letter office.given.plan.apart (any_head other.blocks)) shuffled)
 
-  settings_shuffled : IsPermutation (settings_of content) (settings_by_name other)
+  settings_shuffled : IsPermutation (settings_of now) (settings_by_name other)
   settings_shuffled =
       let in_order = shown_in settings_table (0 ∷ 1 ∷ []) (0 ∷ []) setting_values rows.settings db (map setting_values shown.settings) (λ s. refl) has.rows_are.settings shows.settings in
       let same : shown.settings ≡ in_order.0 = same_records (λ _. Unit {0}) setting_values setting_one shown.settings in_order.0 (λ _ _. tt) (λ _ _. tt) in_order.2 in
-      subst (IsPermutation (settings_of content)) (sym same ∙ office.settings) (subst (λ l. IsPermutation l in_order.0) are.settings in_order.1)
+      subst (IsPermutation (settings_of now)) (sym same ∙ office.settings) (subst (λ l. IsPermutation l in_order.0) are.settings in_order.1)
 
-  limit_same : other.visit_limit ≡ content.visit_limit
+  limit_same : other.visit_limit ≡ now.visit_limit
   limit_same =
-      let written : decimal other.visit_limit ≡ decimal content.visit_limit = value_one (codes "visits") _ _ (named_same content other (codes "visits") settings_shuffled (omega arith)) in
+      let written : decimal other.visit_limit ≡ decimal now.visit_limit = value_one (codes "visits") _ _ (named_same now other (codes "visits") settings_shuffled (omega arith)) in
       let low : other.visit_limit ≤ 999999999 = office.given.limit.1 in
-      let high : content.visit_limit ≤ 999999999 = given.limit.1 in
-      decimal_injective other.visit_limit content.visit_limit (omega arith) (omega arith) written
+      let high : now.visit_limit ≤ 999999999 = given_now.limit.1 in
+      decimal_injective other.visit_limit now.visit_limit (omega arith) (omega arith) written
 
-  terminal_same : other.terminal ≡ content.terminal
-  terminal_same = value_one (codes "terminal") _ _ (named_same content other (codes "terminal") settings_shuffled (omega arith))
+  terminal_same : other.terminal ≡ now.terminal
+  terminal_same = value_one (codes "terminal") _ _ (named_same now other (codes "terminal") settings_shuffled (omega arith))
 
-  texts_same : table_texts other.codes ≡ table_texts content.codes
+  texts_same : table_texts other.codes ≡ table_texts now.codes
   texts_same i =
-      value_one (codes "gate-in") _ _ (named_same content other (codes "gate-in") settings_shuffled (omega arith)) i
-      ∷ value_one (codes "gate-out") _ _ (named_same content other (codes "gate-out") settings_shuffled (omega arith)) i
-      ∷ value_one (codes "yard-move") _ _ (named_same content other (codes "yard-move") settings_shuffled (omega arith)) i
-      ∷ value_one (codes "discharge-list") _ _ (named_same content other (codes "discharge-list") settings_shuffled (omega arith)) i
-      ∷ value_one (codes "load-list") _ _ (named_same content other (codes "load-list") settings_shuffled (omega arith)) i
-      ∷ value_one (codes "discharge-report") _ _ (named_same content other (codes "discharge-report") settings_shuffled (omega arith)) i
-      ∷ value_one (codes "load-report") _ _ (named_same content other (codes "load-report") settings_shuffled (omega arith)) i ∷ []
+      value_one (codes "gate-in") _ _ (named_same now other (codes "gate-in") settings_shuffled (omega arith)) i
+      ∷ value_one (codes "gate-out") _ _ (named_same now other (codes "gate-out") settings_shuffled (omega arith)) i
+      ∷ value_one (codes "yard-move") _ _ (named_same now other (codes "yard-move") settings_shuffled (omega arith)) i
+      ∷ value_one (codes "discharge-list") _ _ (named_same now other (codes "discharge-list") settings_shuffled (omega arith)) i
+      ∷ value_one (codes "load-list") _ _ (named_same now other (codes "load-list") settings_shuffled (omega arith)) i
+      ∷ value_one (codes "discharge-report") _ _ (named_same now other (codes "discharge-report") settings_shuffled (omega arith)) i
+      ∷ value_one (codes "load-report") _ _ (named_same now other (codes "load-report") settings_shuffled (omega arith)) i ∷ []
 
-  partners_same : other.partners ≡ content.partners
+  partners_same : other.partners ≡ now.partners
   partners_same =
-      let next : ℕ → ℕ = λ p. run (delivered_to content es) p + 1 in
+      let next : ℕ → ℕ = λ p. run D p + 1 in
       let in_order = shown_in partner (0 ∷ 1 ∷ 2 ∷ 3 ∷ []) (0 ∷ []) partner_values rows.partners db (map partner_values shown.partners) (λ p. refl) has.rows_are.partners shows.partners in
       let same : shown.partners ≡ in_order.0 = same_records (λ _. Unit {0}) partner_values partner_one shown.partners in_order.0 (λ _ _. tt) (λ _ _. tt) in_order.2 in
-      let mine : Rises (λ (p : Partner). p.id) 0 rows.partners = subst (Rises (λ (p : Partner). p.id) 0) (sym are.partners) (accounts_rise 1 0 next content.partners refl) in
+      let mine : Rises (λ (p : Partner). p.id) 0 rows.partners = subst (Rises (λ (p : Partner). p.id) 0) (sym are.partners) (accounts_rise 1 0 next now.partners refl) in
       let theirs : Rises (λ (p : Partner). p.id) 0 shown.partners = given_rise 1 0 shown.partners other.partners refl office.accounts in
       let one : rows.partners ≡ shown.partners = rising_same (λ (p : Partner). p.id) 0 rows.partners shown.partners mine theirs (subst (IsPermutation rows.partners) (sym same) in_order.1) in
-      accounts_same 1 next content.partners other.partners (subst (λ l. AreAccounts 1 l other.partners) (sym one ∙ are.partners) office.accounts)
+      accounts_same 1 next now.partners other.partners (subst (λ l. AreAccounts 1 l other.partners) (sym one ∙ are.partners) office.accounts)
 
   pub state_given : state ≡ own
   state_given =
-      let ground = state_on_ground (opening_of content) (delivered_to content es) in
+      let ground = state_on_ground newest content es (opening_of now) D in
       state_of_rows state own office.whole sound_whole (office.plan ∙ blocks_same ∙ sym ground.plan) (office.limit ∙ limit_same ∙ sym ground.limit)
       (sym office.terminal ∙ (λ i. record { visits = visits_same i; places = standing_same i; lines = listing_same i }) ∙ are.terminal)
 
-  pub says_same : SaysSame other content
+  pub says_same : SaysSame other (content_after content es)
   says_same = record { terminal = terminal_same; codes = texts_same; partners = partners_same; blocks = blocks_same; limit = limit_same }
 
 -- ---- two offices that one database shows

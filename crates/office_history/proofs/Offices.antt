@@ -25,25 +25,37 @@ use Rattle.terminal_core.specs.State.{TerminalState}
 use Rattle.office_replies.specs.Events.{Event}
 use Rattle.office_setup.specs.Given.{IsGiven}
 use Rattle.office_setup.specs.Setups.{SetupContent}
-use Rattle.office_rows.specs.Rows.{Partner, Interchange, PlaceContent, ListingContent, Rows}
+use Rattle.office_rows.specs.Rows.{Partner, Interchange, PlaceContent, ListingContent, Setting, Rows}
 use Rattle.office_rows.specs.Values.{number, partner_values, interchange_values, visit_values, place_values, line_values, setting_values, block_values}
-use Rattle.office_rows.specs.Stored.{HasRows}
+use Rattle.office_rows.specs.Stored.{AreRows}
 use Rattle.office_rows.specs.Effects.{is_pair, stands_for, is_line}
 use Rattle.office_rows.specs.Opened.{Numbered, numbered, reply_values, OpenedRows, Shows}
 use Rattle.office_rows.specs.Office.{settings_by_name, AreAccounts, AreKept, IsOffice}
-use Rattle.office_rows.specs.Opening.{settings_of}
+use Rattle.office_rows.specs.Opening.{version_text, settings_in}
+use Rattle.office_rows.specs.Migrated.{migrated_settings}
 use Rattle.office_rows.specs.Tables.{partner, interchange, visit, place, listed, block, setting as settings_table}
-use Rattle.office_taking.specs.Taking.{interchange_taken}
-use Rattle.office_history.specs.After.{parties_in, opening_of, delivered_to, machine_after, reply_if_any, reply_in, AreAfter}
+use Rattle.office_taking.specs.Taking.{MachineState}
+use Rattle.partner_core.specs.Machine.{Taking}
+use Rattle.terminal_core.specs.Versions.{newest}
+use Rattle.terminal_core.specs.declared.version.Version.{Version}
+use Rattle.terminal_core.specs.declared.version.Version.TheVariants.{First, Second, Third}
+use Rattle.partner_core.specs.Order.{state}
+use Rattle.std.specs.Str.{bytes_eq}
+use Rattle.office_admission.specs.Accounts.{content_after}
+use Rattle.office_admission.specs.Deliveries.{deliveries_of}
+use Rattle.office_admission.proofs.Adding.{given_after}
+use Rattle.office_history.proofs.Places.{sound_in}
+use Rattle.office_history.specs.After.{opening_of, taking_in, reply_if_any, reply_in, AreAfterBy}
+use Rattle.office_history.specs.Laws.{RowsAreAnOffice, OlderRowsAreAnOffice}
 use Rattle.office_history.specs.Cascade.{text_in}
 use Rattle.office_history.proofs.Accounted.{state_accounted}
-use Rattle.office_history.proofs.Afters.{these, state_sound, unreplied}
+use Rattle.office_history.proofs.Afters.{state_sound, unreplied}
 use Rattle.office_history.proofs.Ground.{state_on_ground}
 use Rattle.office_history.proofs.Kept.{Rise, Has, IsWithinRuns, IsComplete, all_kept, accounts_are}
 use Rattle.office_history.proofs.Loads.{accounts_rise, numbered_rise, letter_key, blocks_rise, any_head, places_same, lines_same}
 use Rattle.office_history.proofs.Shown.{found_only, Rises, head_in, tail_in}
 use Rattle.office_history.proofs.Sorting.{InTurn, is_before, number_order, text_order, shows_records, by_keys}
-use Rattle.office_history.proofs.Telling.{text_within, delivered_within}
+use Rattle.office_history.proofs.Telling.{delivered_within}
 
 -- ---- numbers in order
 
@@ -152,15 +164,18 @@ silent : (reply : List ℕ) → reply_if_any reply ≡ None → not (length repl
 silent [] e = refl
 silent (byte ∷ bytes) e = cc
 
-module _ (content : SetupContent) (es : List Event) (rows : Rows) (are : AreAfter content es rows) where
+module _ (version : Version) (content : SetupContent) (es : List Event) (rows : Rows) (are : AreAfterBy version content es rows) where
+  abbrev now : SetupContent
+  now = content_after content es
+
   abbrev D : List Delivery
-  D = delivered_to content es
+  D = deliveries_of content es
 
   abbrev runs : ℕ → ℕ
   runs p = run D p
 
   abbrev count : ℕ
-  count = length content.partners
+  count = length now.partners
 
   found : (i : Interchange) → Contains rows.interchanges i → find (is_pair i.partner i.number) rows.interchanges ≡ Some i
   found i inside = found_only (is_pair i.partner i.number) rows.interchanges i (are.kept_once i.partner i.number) inside (passes_own i.partner i.number i refl refl)
@@ -179,14 +194,14 @@ module _ (content : SetupContent) (es : List Event) (rows : Rows) (are : AreAfte
 
   within_runs : (i : Interchange) → Contains rows.interchanges i → IsWithinRuns count runs (numbered i)
   within_runs i inside =
-      let range = text_within content es rows i.partner i.number i.body are (own_text i inside) in
+      let range = delivered_within content es i.partner i.number i.body (sym (are.texts i.partner i.number) ∙ own_text i inside) in
       record {
         partner_low = range.0;
         partner_high = range.1;
         low = range.2;
         high = range.3;
-        taken = λ within. replied i.reply (ap is_some (sym (own_reply i inside)) ∙ ap is_some (are.replies i.partner i.number) ∙ within_replied interchange_taken (opening_of content) D i.partner i.number range.2 within);
-        waits = λ beyond. (beyond_next i inside beyond, silent i.reply (sym (own_reply i inside) ∙ unreplied content D rows i.partner i.number (these content es rows are) (omega arith)));
+        taken = λ within. replied i.reply (ap is_some (sym (own_reply i inside)) ∙ ap is_some (are.replies i.partner i.number) ∙ within_replied (taking_in version content es) (opening_of now) D i.partner i.number range.2 within);
+        waits = λ beyond. (beyond_next i inside beyond, silent i.reply (sym (own_reply i inside) ∙ unreplied version (taking_in version content es) now D rows i.partner i.number are (omega arith)));
       }
     where
       beyond_next : (i : Interchange) → Contains rows.interchanges i → runs i.partner < i.number → runs i.partner + 1 < i.number
@@ -216,7 +231,7 @@ module _ (content : SetupContent) (es : List Event) (rows : Rows) (are : AreAfte
   numbers_kept : (zs : List Interchange) → IsPermutation rows.interchanges zs → InTurn pair_values zs → AreKept rows.partners (map numbered zs)
   numbers_kept zs same turn =
       subst (λ l. AreKept l (map numbered zs)) (sym are.partners)
-      (all_kept count runs content.partners (map numbered zs) refl (rise_of zs turn (once_in zs same))
+      (all_kept count runs now.partners (map numbered zs) refl (rise_of zs turn (once_in zs same))
       (all_numbered (IsWithinRuns count runs) zs (λ i inside. within_runs i (Contains-permutation zs rows.interchanges i (IsPermutation-sym rows.interchanges zs same) inside)))
       (complete zs same))
 
@@ -225,8 +240,27 @@ module _ (content : SetupContent) (es : List Event) (rows : Rows) (are : AreAfte
 text_after : (s t : List ℕ) → is_lt (ordering_then (slice_cmp nat_cmp s t) Equal) ≡ false → is_lt (ordering_then (value_cmp (Text s) (Text t)) Equal) ≡ false
 text_after s t after = ap (λ o. is_lt (ordering_then o Equal)) (text_order s t) ∙ after
 
-settings_in_turn : (content : SetupContent) → InTurn (is_before (0 ∷ []) setting_values) (settings_by_name content)
-settings_in_turn content = (
+-- the setting with that version for the one of the tables
+aged_setting : Version → Setting → Setting
+aged_setting version s = cond (bytes_eq s.name (codes "version")) (record s { value = version_text version }) s
+
+-- the settings by their names, as a store of that version has them
+settings_shown : Version → SetupContent → List Setting
+settings_shown version content = map (aged_setting version) (settings_by_name content)
+
+newest_shown : (content : SetupContent) → settings_shown newest content ≡ settings_by_name content
+unfolding settings_shown aged_setting
+newest_shown content = refl
+
+migrated_shown : (version : Version) (content : SetupContent) → migrated_settings (settings_shown version content) ≡ settings_by_name content
+unfolding settings_shown aged_setting
+migrated_shown First content = refl
+migrated_shown Second content = refl
+migrated_shown Third content = refl
+
+settings_in_turn : (version : Version) (content : SetupContent) → InTurn (is_before (0 ∷ []) setting_values) (settings_shown version content)
+unfolding settings_shown aged_setting
+settings_in_turn version content = (
   text_after (codes "discharge-report") (codes "discharge-list") refl,
   (
     text_after (codes "gate-in") (codes "discharge-report") refl,
@@ -256,8 +290,9 @@ settings_in_turn content = (
 )
 
 -- the settings by their names, as exchanges of two at a time give them, the last first
-settings_shuffled : (content : SetupContent) → IsPermutation (settings_of content) (settings_by_name content)
-settings_shuffled content = record {
+settings_shuffled : (version : Version) (content : SetupContent) → IsPermutation (settings_in version content) (settings_shown version content)
+unfolding settings_shown aged_setting
+settings_shuffled version content = record {
   moves = (7, 8) ∷ (6, 8) ∷ (5, 9) ∷ (4, 7) ∷ (3, 4) ∷ (2, 3) ∷ (1, 8) ∷ (0, 6) ∷ [];
   below = (omega arith, omega arith, (omega arith, omega arith, (omega arith, omega arith, (omega arith, omega arith, (omega arith, omega arith, (omega arith, omega arith, (omega arith, omega arith, (omega arith, omega arith, tt))))))));
   is = refl;
@@ -266,22 +301,34 @@ settings_shuffled content = record {
 -- ---- accounts
 
 -- no run goes past the numbers of interchanges
-run_within : (content : SetupContent) (es : List Event) (p : ℕ) → run (delivered_to content es) p ≤ 999999999
-run_within content es p = elim (cases_order (run (delivered_to content es) p) 0) [
+run_within : (content : SetupContent) (es : List Event) (p : ℕ) → run (deliveries_of content es) p ≤ 999999999
+run_within content es p = elim (cases_order (run (deliveries_of content es) p) 0) [
   | inl none ↦ omega arith
   | inr o ↦ elim o [
     | inl below ↦ absurd (omega arith)
     | inr some ↦
-        let last = some_of (first_text (delivered_to content es) p (run (delivered_to content es) p)) (used_within_run (delivered_to content es) p (run (delivered_to content es) p) (omega arith) (omega arith)) in
-        (delivered_within (parties_in content) es p (run (delivered_to content es) p) last.0 last.1).3
+        let last = some_of (first_text (deliveries_of content es) p (run (deliveries_of content es) p)) (used_within_run (deliveries_of content es) p (run (deliveries_of content es) p) (omega arith) (omega arith)) in
+        (delivered_within content es p (run (deliveries_of content es) p) last.0 last.1).3
   ]
 ]
 
 -- ---- an office
 
-module _ (content : SetupContent) (es : List Event) (rows : Rows) (db : Database) (given : IsGiven content) (are : AreAfter content es rows) (has : HasRows rows db) where
+module _ (version : Version) (content : SetupContent) (es : List Event) (rows : Rows) (db : Database) (given : IsGiven content) (are : AreAfterBy version content es rows) (has : AreRows rows db.trees) where
+  abbrev setup_now : SetupContent
+  setup_now = content_after content es
+
+  abbrev came : List Delivery
+  came = deliveries_of content es
+
+  abbrev taking : Taking MachineState
+  taking = taking_in version content es
+
+  given_now : IsGiven setup_now
+  given_now = given_after es content given
+
   abbrev own : TerminalState
-  own = (machine_after content es).terminal
+  own = (state taking (opening_of setup_now) came).terminal
 
   visits_are : rows.visits ≡ own.visits
   visits_are = ap (λ (r : TerminalRows). r.visits) are.terminal
@@ -289,17 +336,17 @@ module _ (content : SetupContent) (es : List Event) (rows : Rows) (db : Database
   partners_in_turn : InTurn (is_before (0 ∷ []) partner_values) rows.partners
   partners_in_turn =
       rising_in_turn (λ (p : Partner). p.id) (is_before (0 ∷ []) partner_values) (λ x y below. not_before y.id x.id Equal below) 0 rows.partners
-      (subst (Rises (λ (p : Partner). p.id) 0) (sym are.partners) (accounts_rise 1 0 (λ p. run (delivered_to content es) p + 1) content.partners refl))
+      (subst (Rises (λ (p : Partner). p.id) 0) (sym are.partners) (accounts_rise 1 0 (λ p. run came p + 1) setup_now.partners refl))
 
   visits_in_turn : InTurn (is_before (0 ∷ []) visit_values) rows.visits
   visits_in_turn =
       rising_in_turn (λ (v : VisitContent). v.number) (is_before (0 ∷ []) visit_values) (λ x y below. not_before y.number x.number Equal below) 0 rows.visits
-      (subst (Rises (λ (v : VisitContent). v.number) 0) (sym visits_are) (numbered_rise 1 0 own.visits refl (state_sound content (delivered_to content es) given).whole.numbered))
+      (subst (Rises (λ (v : VisitContent). v.number) 0) (sym visits_are) (numbered_rise 1 0 own.visits refl (state_sound taking setup_now came (sound_in version content es) given_now).whole.numbered))
 
   blocks_in_turn : InTurn (is_before (0 ∷ []) block_values) rows.blocks
   blocks_in_turn =
       rising_in_turn letter_key (is_before (0 ∷ []) block_values) (λ x y below. not_before_byte y.letter x.letter Equal (omega arith)) 0 rows.blocks
-      (subst (Rises letter_key 0) (sym are.blocks) (blocks_rise 0 content.blocks given.by_letter given.plan.apart (any_head content.blocks)))
+      (subst (Rises letter_key 0) (sym are.blocks) (blocks_rise 0 setup_now.blocks given_now.by_letter given_now.plan.apart (any_head setup_now.blocks)))
 
   abbrev InOrder : {A : Type 0} → (A → A → Bool) → List A → Type 0
   InOrder {A} lt records = (zs : List A) × IsPermutation records zs × InTurn lt zs
@@ -311,7 +358,7 @@ module _ (content : SetupContent) (es : List Event) (rows : Rows) (db : Database
     visits = rows.visits;
     places = places;
     lines = lines;
-    settings = settings_by_name content;
+    settings = settings_shown version setup_now;
     blocks = rows.blocks;
   }
 
@@ -322,43 +369,50 @@ module _ (content : SetupContent) (es : List Event) (rows : Rows) (db : Database
 
     shows : Shows db shown
     shows = record {
-      partners = shows_records partner (0 ∷ 1 ∷ 2 ∷ 3 ∷ []) (0 ∷ []) partner_values partner_values rows.partners rows.partners db (λ p. refl) has.rows_are.partners (IsPermutation-refl rows.partners) partners_in_turn;
+      partners = shows_records partner (0 ∷ 1 ∷ 2 ∷ 3 ∷ []) (0 ∷ []) partner_values partner_values rows.partners rows.partners db (λ p. refl) has.partners (IsPermutation-refl rows.partners) partners_in_turn;
       numbers = record {
         interchanges = interchanges.0;
-        shown = shows_records interchange (0 ∷ 1 ∷ 3 ∷ []) (0 ∷ 1 ∷ []) interchange_values reply_values rows.interchanges interchanges.0 db (λ i. refl) has.rows_are.interchanges interchanges.1 interchanges.2;
+        shown = shows_records interchange (0 ∷ 1 ∷ 3 ∷ []) (0 ∷ 1 ∷ []) interchange_values reply_values rows.interchanges interchanges.0 db (λ i. refl) has.interchanges interchanges.1 interchanges.2;
         are = refl;
       };
-      visits = shows_records visit (0 ∷ 1 ∷ 2 ∷ 3 ∷ 4 ∷ 5 ∷ 6 ∷ 7 ∷ 8 ∷ 9 ∷ 10 ∷ 11 ∷ 12 ∷ 13 ∷ 14 ∷ []) (0 ∷ []) visit_values visit_values rows.visits rows.visits db (λ v. refl) has.rows_are.visits (IsPermutation-refl rows.visits) visits_in_turn;
-      places = shows_records place (0 ∷ 1 ∷ 2 ∷ []) (0 ∷ []) place_values place_values rows.places places.0 db (λ p. refl) has.rows_are.places places.1 places.2;
-      lines = shows_records listed (0 ∷ 1 ∷ 2 ∷ 3 ∷ 4 ∷ 5 ∷ []) (0 ∷ 1 ∷ 2 ∷ 3 ∷ []) line_values line_values rows.lines lines.0 db (λ l. refl) has.rows_are.lines lines.1 lines.2;
-      settings = shows_records settings_table (0 ∷ 1 ∷ []) (0 ∷ []) setting_values setting_values rows.settings (settings_by_name content) db (λ s. refl) has.rows_are.settings
-          (subst (λ l. IsPermutation l (settings_by_name content)) (sym are.settings) (settings_shuffled content)) (settings_in_turn content);
-      blocks = shows_records block (0 ∷ 1 ∷ 2 ∷ 3 ∷ []) (0 ∷ []) block_values block_values rows.blocks rows.blocks db (λ b. refl) has.rows_are.blocks (IsPermutation-refl rows.blocks) blocks_in_turn;
+      visits = shows_records visit (0 ∷ 1 ∷ 2 ∷ 3 ∷ 4 ∷ 5 ∷ 6 ∷ 7 ∷ 8 ∷ 9 ∷ 10 ∷ 11 ∷ 12 ∷ 13 ∷ 14 ∷ []) (0 ∷ []) visit_values visit_values rows.visits rows.visits db (λ v. refl) has.visits (IsPermutation-refl rows.visits) visits_in_turn;
+      places = shows_records place (0 ∷ 1 ∷ 2 ∷ []) (0 ∷ []) place_values place_values rows.places places.0 db (λ p. refl) has.places places.1 places.2;
+      lines = shows_records listed (0 ∷ 1 ∷ 2 ∷ 3 ∷ 4 ∷ 5 ∷ []) (0 ∷ 1 ∷ 2 ∷ 3 ∷ []) line_values line_values rows.lines lines.0 db (λ l. refl) has.lines lines.1 lines.2;
+      settings = shows_records settings_table (0 ∷ 1 ∷ []) (0 ∷ []) setting_values setting_values rows.settings (settings_shown version setup_now) db (λ s. refl) has.settings
+          (subst (λ l. IsPermutation l (settings_shown version setup_now)) (sym are.settings) (settings_shuffled version setup_now)) (settings_in_turn version setup_now);
+      blocks = shows_records block (0 ∷ 1 ∷ 2 ∷ 3 ∷ []) (0 ∷ []) block_values block_values rows.blocks rows.blocks db (λ b. refl) has.blocks (IsPermutation-refl rows.blocks) blocks_in_turn;
     }
 
-    office : IsOffice shown content own
-    office =
-        let ground = state_on_ground (opening_of content) (delivered_to content es) in
-        let sound = state_sound content (delivered_to content es) given in
+    office : (settings : List Setting) → settings ≡ settings_by_name setup_now → IsOffice (record shown { settings = settings }) setup_now own
+    office settings named =
+        let ground = state_on_ground version content es (opening_of setup_now) came in
+        let sound = state_sound taking setup_now came (sound_in version content es) given_now in
         record {
-          given = given;
-          settings = refl;
+          given = given_now;
+          settings = named;
           blocks = are.blocks;
-          accounts = subst (λ l. AreAccounts 1 l content.partners) (sym are.partners) (accounts_are 1 (λ p. run (delivered_to content es) p) content.partners (λ p. run_within content es p));
-          kept = numbers_kept content es rows are interchanges.0 interchanges.1 interchanges.2;
+          accounts = subst (λ l. AreAccounts 1 l setup_now.partners) (sym are.partners) (accounts_are 1 (λ p. run came p) setup_now.partners (λ p. run_within content es p));
+          kept = numbers_kept version content es rows are interchanges.0 interchanges.1 interchanges.2;
           plan = ground.plan;
           limit = ground.limit;
           whole = sound.whole;
           formed = sound.formed;
-          accounted = state_accounted content (delivered_to content es);
+          accounted = state_accounted version content es setup_now came;
           placed_once = λ container. subst (λ n. n ≤ 1) (sym (sum_by-IsPermutation (λ p. cond (stands_for container p) 1 0) rows.places places.0 places.1)) (are.placed_once container);
           listed_once = λ call side container. subst (λ n. n ≤ 1) (sym (sum_by-IsPermutation (λ l. cond (is_line call side container l) 1 0) rows.lines lines.0 lines.1)) (are.listed_once call side container);
           terminal = (λ i. record { visits = rows.visits; places = places_same rows.places places.0 are.placed_once places.1 i; lines = lines_same rows.lines lines.0 are.listed_once lines.1 i }) ∙ are.terminal;
         }
 
-  pub rows_are : (shown : OpenedRows) × (state : TerminalState) × Shows db shown × IsOffice shown content state
-  rows_are =
+  rows_shown : (settings : List Setting → List Setting) → settings (settings_shown version setup_now) ≡ settings_by_name setup_now
+      → (shown : OpenedRows) × (state : TerminalState) × Shows db shown × IsOffice (record shown { settings = settings shown.settings }) setup_now state
+  rows_shown settings named =
       let interchanges = by_keys (0 ∷ 1 ∷ []) interchange_values rows.interchanges in
       let places = by_keys (0 ∷ []) place_values rows.places in
       let lines = by_keys (0 ∷ 1 ∷ 2 ∷ 3 ∷ []) line_values rows.lines in
-      (shown_with interchanges.0 places.0 lines.0, own, shows interchanges places lines, office interchanges places lines)
+      (shown_with interchanges.0 places.0 lines.0, own, shows interchanges places lines, office interchanges places lines (settings (settings_shown version setup_now)) named)
+
+pub rows_are : RowsAreAnOffice
+rows_are content es rows db given are has = rows_shown newest content es rows db given are has.rows_are (λ settings. settings) (newest_shown (content_after content es))
+
+pub older_rows_are : OlderRowsAreAnOffice
+older_rows_are content version es rows db given are has = rows_shown version content es rows db given are has migrated_settings (migrated_shown version (content_after content es))

@@ -1,9 +1,9 @@
 -- What the rows tell: of the numbers, and of the next answer.
 use Rattle.std.proofs.Common.{◌≡◌, ℕ, zero, suc, ◌+◌, ◌<◌, ◌≤◌, List, [], ◌∷◌, ◌++◌, length, Bool, true, false, cond, Option, None, Some, Result, Ok, Err, refl, sym, ap, subst, ◌∙◌, arith}
-use Rattle.std.specs.Prelude.{◌==◌, ◌&&◌, slice_index_or, Contains, nat_lt}
+use Rattle.std.specs.Prelude.{slice_index_or, Contains, nat_lt}
 use Rattle.std.specs.Str.{bytes_eq}
 use Rattle.std.specs.Cmp.Lexicographic.{bytes_decides}
-use Rattle.std.proofs.lemmas.Bool.{eqb-true, lt-ltb, ltb-true}
+use Rattle.std.proofs.lemmas.Bool.{lt-ltb, ltb-true}
 use Rattle.std.proofs.lemmas.List.{length-map}
 use Rattle.edi_messages.specs.declared.partner_kind.PartnerKind.{PartnerKind}
 use Rattle.edi_segments.specs.Interchange.{interchange_of, segments_in}
@@ -18,31 +18,25 @@ use Rattle.partner_core.specs.Standings.{standing_of, is_same_text}
 use Rattle.partner_core.specs.declared.standing.Standing.{Standing}
 use Rattle.partner_core.specs.declared.standing.Standing.TheVariants.{Known, Other, Early, Next}
 use Rattle.office_admission.specs.Admission.{admission, by_header, by_recipient, sender_of, number_in}
-use Rattle.office_admission.specs.Deliveries.{with_delivery, deliveries_of}
-use Rattle.office_replies.specs.Events.{Event, delivered}
+use Rattle.office_admission.specs.Accounts.{content_after}
+use Rattle.office_admission.specs.Deliveries.{deliveries_of}
+use Rattle.office_admission.proofs.Adding.{first_admitted, given_after}
+use Rattle.office_admission.proofs.Growing.{found_low}
+use Rattle.office_replies.specs.Events.{Event}
+use Rattle.terminal_core.specs.Versions.{newest}
 use Rattle.office_replies.specs.declared.fault.Fault.{Fault}
 use Rattle.office_replies.specs.declared.fault.Fault.TheVariants.{WrongRecipient}
-use Rattle.office_setup.specs.Parties.{Parties, partner_from}
-use Rattle.office_setup.specs.Setups.{SetupContent}
+use Rattle.office_setup.specs.Parties.{Parties}
+use Rattle.office_setup.specs.Setups.{SetupContent, parties_in}
 use Rattle.office_setup.specs.Given.{IsGiven}
-use Rattle.office_taking.specs.Taking.{MachineState, interchange_taken}
+use Rattle.office_taking.specs.Taking.{MachineState}
 use Rattle.office_taking.proofs.Forming.{number_within}
 use Rattle.office_rows.specs.Rows.{Partner, Rows}
-use Rattle.office_history.specs.After.{parties_in, opening_of, delivered_to, machine_after, accounts_from, reply_in, AreAfter}
+use Rattle.office_history.specs.After.{opening_of, taking_in, machine_after, accounts_from, reply_in, AreAfter}
 use Rattle.office_history.specs.Cascade.{text_in, TakenContent, texts_with, AreTakenFrom}
 use Rattle.office_history.specs.Laws.{IsFor, told_of, AnswersBy}
-use Rattle.office_history.proofs.Afters.{these, answered, first_reply}
-
--- ---- a partner that is found
-
-found_within : (number : ℕ) (code : List ℕ) (partners : List (List ℕ)) (p : ℕ) → partner_from number code partners ≡ Some p → (number ≤ p) × (p < number + length partners)
-found_within number code [] p e = cc
-found_within number code (partner ∷ partners) p e = first (bytes_eq code partner) (λ rest. found_within (number + 1) code partners p rest) e
-  where
-    first : (b : Bool) → (partner_from (number + 1) code partners ≡ Some p → (number + 1 ≤ p) × (p < number + 1 + length partners)) → cond b (Some number) (partner_from (number + 1) code partners) ≡ Some p
-        → (number ≤ p) × (p < number + length (partner ∷ partners))
-    first true rest e = let same : number ≡ p = cc in (omega arith, omega arith)
-    first false rest e = let within = rest e in (omega (arith, within.0), omega (arith, within.1))
+use Rattle.office_history.proofs.Afters.{answered, first_reply}
+use Rattle.office_history.proofs.Places.{sound_in, goes_on, numbered_more}
 
 -- ---- what is admitted
 
@@ -61,7 +55,7 @@ addressed_within P text (Some partner) is p k faultless sender to e = at is to
         let pair : (partner, number_in (header_of (segments_in text))) ≡ (p, k) = cc in
         let own : partner ≡ p = ap (λ (q : ℕ × ℕ). q.0) pair in
         let its : number_in (header_of (segments_in text)) ≡ k = ap (λ (q : ℕ × ℕ). q.1) pair in
-        let low = found_within 1 _ P.partners partner sender in
+        let low = found_low 1 _ P.partners partner sender in
         let range = number_within text faultless in
         (omega (arith, low.0, own), omega (arith, low.1, own), omega (arith, range.0, its), omega (arith, range.1, its))
     at false to =
@@ -78,36 +72,13 @@ within P text p k e = admitted_within P text (fault_of text) p k refl e
 
 -- ---- what was delivered
 
-first_of : (P : Parties) (text : List ℕ) (found : Result (ℕ × ℕ) Fault) (later : List Delivery) (p k : ℕ) (t : List ℕ) → admission P text ≡ found → first_text (with_delivery text found later) p k ≡ Some t
-    → (first_text later p k ≡ Some t → IsWithin (length P.partners) p k) → IsWithin (length P.partners) p k
-first_of P text (Err fault) later p k t is e rest = rest e
-first_of P text (Ok place) later p k t is e rest = at ((place.0 == p) && (place.1 == k)) refl
-  where
-    left : (a b : Bool) → (a && b) ≡ true → a ≡ true
-    left true b e = refl
-    left false b e = cc
+pub delivered_within : (content : SetupContent) (es : List Event) (p k : ℕ) (t : List ℕ) → first_text (deliveries_of content es) p k ≡ Some t → IsWithin (length (content_after content es).partners) p k
+delivered_within content es p k t e =
+    let now = content_after content es in
+    subst (λ n. IsWithin n p k) (length-map now.partners _) (within (parties_in now) t p k (first_admitted es content p k t e))
 
-    right : (a b : Bool) → (a && b) ≡ true → b ≡ true
-    right true b e = e
-    right false b e = cc
-
-    at : (b : Bool) → ((place.0 == p) && (place.1 == k)) ≡ b → IsWithin (length P.partners) p k
-    at true here =
-        let own = within P text place.0 place.1 is in
-        let one : place.0 ≡ p = eqb-true place.0 p (left (place.0 == p) (place.1 == k) here) in
-        let two : place.1 ≡ k = eqb-true place.1 k (right (place.0 == p) (place.1 == k) here) in
-        subst (λ q. IsWithin (length P.partners) q k) one (subst (λ n. IsWithin (length P.partners) place.0 n) two own)
-    at false here = rest (sym (ap (λ b. cond b (Some text) (first_text later p k)) here) ∙ e)
-
-pub delivered_within : (P : Parties) (es : List Event) (p k : ℕ) (t : List ℕ) → first_text (deliveries_of P es) p k ≡ Some t → IsWithin (length P.partners) p k
-delivered_within P [] p k t e = cc
-delivered_within P (delivered sent ∷ es) p k t e =
-    first_of P (interchange_of sent) (admission P (interchange_of sent)) (deliveries_of P es) p k t refl e (λ rest. delivered_within P es p k t rest)
-
-pub text_within : (content : SetupContent) (es : List Event) (rows : Rows) (p k : ℕ) (t : List ℕ) → AreAfter content es rows → text_in rows p k ≡ Some t → IsWithin (length content.partners) p k
-text_within content es rows p k t are e =
-    let found = delivered_within (parties_in content) es p k t (sym (are.texts p k) ∙ e) in
-    subst (λ n. IsWithin n p k) (length-map content.partners _) found
+pub text_within : (content : SetupContent) (es : List Event) (rows : Rows) (p k : ℕ) (t : List ℕ) → AreAfter content es rows → text_in rows p k ≡ Some t → IsWithin (length (content_after content es).partners) p k
+text_within content es rows p k t are e = delivered_within content es p k t (sym (are.texts p k) ∙ e)
 
 -- ---- accounts
 
@@ -117,11 +88,11 @@ next_in id f [] account i low e = absurd (omega arith)
 next_in id f (a ∷ accounts) account zero low e = ap (λ (p : Partner). p.next) (sym e) ∙ ap (λ (p : Partner). f p.id) e
 next_in id f (a ∷ accounts) account (suc i) low e = next_in (id + 1) f accounts account i (omega arith) e
 
-pub next_follows : (content : SetupContent) (es : List Event) (rows : Rows) (account : Partner) → AreAfter content es rows → Contains rows.partners account → account.next ≡ run (delivered_to content es) account.id + 1
+pub next_follows : (content : SetupContent) (es : List Event) (rows : Rows) (account : Partner) → AreAfter content es rows → Contains rows.partners account → account.next ≡ run (deliveries_of content es) account.id + 1
 next_follows content es rows account are there =
-    let f : ℕ → ℕ = λ p. run (delivered_to content es) p + 1 in
-    let here : Contains (accounts_from 1 f content.partners) account = subst (λ l. Contains l account) are.partners there in
-    next_in 1 f content.partners account here.0 here.1 here.2
+    let f : ℕ → ℕ = λ p. run (deliveries_of content es) p + 1 in
+    let here : Contains (accounts_from 1 f (content_after content es).partners) account = subst (λ l. Contains l account) are.partners there in
+    next_in 1 f (content_after content es).partners account here.0 here.1 here.2
 
 -- ---- answers
 
@@ -148,18 +119,18 @@ stands_next next k text is = ap (λ b. cond b Early Next) (not_less (nat_lt next
     not_less true e = absurd (omega (arith, ltb-true next k e, is))
     not_less false e = e
 
-module _ (content : SetupContent) (es : List Event) (rows : Rows) (sent : List ℕ) (p k : ℕ) (are : AreAfter content es rows) (for : IsFor content sent p k) where
+module _ (content : SetupContent) (es : List Event) (rows : Rows) (sent : List ℕ) (p k : ℕ) (are : AreAfter content es rows) (for : IsFor content es sent p k) where
   abbrev D : List Delivery
-  D = delivered_to content es
+  D = deliveries_of content es
 
   abbrev text : List ℕ
   text = interchange_of sent
 
   abbrev after : Option (List ℕ)
-  after = reply_of interchange_taken (opening_of content) (D ++ delivery p k text ∷ []) p k
+  after = reply_of (taking_in newest content es) (opening_of (content_after content es)) (D ++ delivery p k text ∷ []) p k
 
   told : told_of content es p k sent ≡ answer_by (standing_of (run D p + 1) k (text_in rows p k) text) (run D p + 1) (reply_in rows p k) after
-  told = answered content D p k text rows (these content es rows are) (within (parties_in content) text p k for).2
+  told = answered newest (taking_in newest content es) (content_after content es) D p k text rows are (within (parties_in (content_after content es)) text p k for).2
 
   by_standing : (o : Option (List ℕ)) (standing : Standing) → text_in rows p k ≡ o → standing_of (run D p + 1) k o text ≡ standing
       → told_of content es p k sent ≡ answer_by standing (run D p + 1) (reply_in rows p k) after
@@ -180,4 +151,5 @@ module _ (content : SetupContent) (es : List Event) (rows : Rows) (sent : List �
       replied : (first : TakenContent) (later : List TakenContent) (machine : MachineState) → IsGiven content → text_in rows p k ≡ None → k ≡ run D p + 1
           → AreTakenFrom p (texts_with rows p k text) k (machine_after content es) (first ∷ later) machine → after ≡ Some first.reply
       replied first later machine given is next from =
-          first_reply content D p k text rows first later machine given (these content es rows are) is next from
+          first_reply newest (taking_in newest content es) (content_after content es) D p k text rows first later machine (sound_in newest content es) (goes_on content (content_after content es) es (delivery p k text) (numbered_more content es sent p k for))
+          (given_after es content given) are is next from

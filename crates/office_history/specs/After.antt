@@ -5,28 +5,27 @@ use Rattle.std.specs.FinMap as finite_map
 use Rattle.edi_messages.specs.declared.partner_kind.PartnerKind.{PartnerKind}
 use Rattle.edi_messages.specs.Codes.{table_texts}
 use Rattle.yard_core.specs.YardMap.{YardMap}
+use Rattle.partner_core.specs.ByPlace.{taken_by_place}
 use Rattle.partner_core.specs.Deliveries.{Delivery, first_text, run}
+use Rattle.partner_core.specs.Machine.{Taking}
 use Rattle.partner_core.specs.Order.{state, reply_of}
 use Rattle.terminal_core.specs.State.{TerminalState, empty_state}
 use Rattle.terminal_core.specs.Changes.{rows_of}
-use Rattle.office_setup.specs.Parties.{Parties}
-use Rattle.office_setup.specs.Setups.{SetupContent}
-use Rattle.office_replies.specs.Events.{Event}
-use Rattle.office_admission.specs.Deliveries.{deliveries_of}
+use Rattle.terminal_core.specs.Versions.{newest}
+use Rattle.terminal_core.specs.declared.version.Version.{Version}
+pub use Rattle.office_setup.specs.Setups.{SetupContent, parties_in}
+use Rattle.office_replies.specs.Events.{Event, delivered, migrated, added}
+pub use Rattle.office_admission.specs.Accounts.{content_after}
+use Rattle.office_admission.specs.Admission.{number_said}
+pub use Rattle.office_admission.specs.Deliveries.{deliveries_of}
 use Rattle.office_rows.specs.Rows.{Partner, Interchange, Rows}
 use Rattle.office_rows.specs.Effects.{is_pair}
-use Rattle.office_rows.specs.Opening.{settings_of}
+use Rattle.office_rows.specs.Opening.{settings_in}
 use Rattle.office_rows.specs.ByKey.{terminal_rows, ArePlacedOnce, AreListedOnce}
-use Rattle.office_taking.specs.Taking.{MachineState, interchange_taken}
+use Rattle.office_taking.specs.Taking.{MachineState, interchange_taken_by}
 use Rattle.office_history.specs.Cascade.{text_in}
 
 -- ---- the machine of a set-up
-
-abbrev pub parties_in : SetupContent → Parties
-parties_in content = record {
-  terminal = content.terminal;
-  partners = map (λ (account : List ℕ × PartnerKind). account.0) content.partners;
-}
 
 abbrev pub machine_with : SetupContent → TerminalState → MachineState
 machine_with content terminal = record {
@@ -53,13 +52,34 @@ pub record SaysSame (one other : SetupContent) : Type 0 where
   pub blocks : one.blocks ≡ other.blocks
   pub limit : one.visit_limit ≡ other.visit_limit
 
--- the events, as deliveries of the partners
-abbrev pub delivered_to : SetupContent → List Event → List Delivery
-delivered_to content es = deliveries_of (parties_in content) es
+-- ---- the rules by place
+
+abbrev pub behind : Event → Option (Version × List Event) → Option (Version × List Event)
+behind event None = None
+behind event (Some migration) = Some (migration.0, event ∷ migration.1)
+
+-- the first migration: the version of the store that was brought to the newest, and the events before it
+abbrev pub migration_in : List Event → Option (Version × List Event)
+migration_in [] = None
+migration_in (migrated version ∷ later) = Some (version, [])
+migration_in (delivered text ∷ later) = behind (delivered text) (migration_in later)
+migration_in (added code kind ∷ later) = behind (added code kind) (migration_in later)
+
+abbrev pub taking_by : Version → SetupContent → Option (Version × List Event) → Taking MachineState
+taking_by version content None = interchange_taken_by version
+taking_by version content (Some migration) =
+    taken_by_place number_said (deliveries_of content migration.1) (interchange_taken_by migration.0)
+    (interchange_taken_by version)
+
+-- Take by place, in a store of that version: what became next before the migration is taken by the rules of the store
+-- that was migrated, and all else by those of the version
+unfoldable pub taking_in : Version → SetupContent → List Event → Taking MachineState
+taking_in version content es = taking_by version content (migration_in es)
 
 -- State(es)
 abbrev pub machine_after : SetupContent → List Event → MachineState
-machine_after content es = state interchange_taken (opening_of content) (delivered_to content es)
+machine_after content es =
+    state (taking_in newest content es) (opening_of (content_after content es)) (deliveries_of content es)
 
 -- ---- the rows
 
@@ -83,17 +103,26 @@ reply_in rows partner number =
 abbrev pub AreKeptOnce : List Interchange → Type 0
 AreKeptOnce interchanges = (partner number : ℕ) → count_by (is_pair partner number) interchanges ≤ 1
 
--- Rows(es): each account with the number after its run, every First with its reply within the run, visits, places and
--- lines of State, the settings and the blocks of the set-up
-pub record AreAfter (content : SetupContent) (es : List Event) (rows : Rows) : Type 0 where
-  pub partners : rows.partners ≡ accounts_from 1 (λ partner. run (delivered_to content es) partner + 1) content.partners
-  pub texts : (partner number : ℕ) → text_in rows partner number ≡ first_text (delivered_to content es) partner number
+-- the rows of a set-up and of deliveries, in a store of that version: each account with the number after its run, every
+-- First with its reply within the run, visits, places and lines of State, the settings and the blocks of the set-up
+pub record AreRowsOf (version : Version) (taking : Taking MachineState) (now : SetupContent) (ds : List Delivery)
+    (rows : Rows) : Type 0 where
+  pub partners : rows.partners ≡ accounts_from 1 (λ partner. run ds partner + 1) now.partners
+  pub texts : (partner number : ℕ) → text_in rows partner number ≡ first_text ds partner number
   pub replies : (partner number : ℕ) →
-      reply_in rows partner number
-      ≡ reply_of interchange_taken (opening_of content) (delivered_to content es) partner number
+      reply_in rows partner number ≡ reply_of taking (opening_of now) ds partner number
   pub kept_once : AreKeptOnce rows.interchanges
-  pub terminal : terminal_rows rows ≡ rows_of (machine_after content es).terminal
+  pub terminal : terminal_rows rows ≡ rows_of (state taking (opening_of now) ds).terminal
   pub placed_once : ArePlacedOnce rows.places
   pub listed_once : AreListedOnce rows.lines
-  pub settings : rows.settings ≡ settings_of content
-  pub blocks : rows.blocks ≡ content.blocks
+  pub settings : rows.settings ≡ settings_in version now
+  pub blocks : rows.blocks ≡ now.blocks
+
+-- Rows(es) in a store of that version: those of the set-up with the accounts so far, and of what was delivered
+abbrev pub AreAfterBy : Version → SetupContent → List Event → Rows → Type 0
+AreAfterBy version content es rows =
+    AreRowsOf version (taking_in version content es) (content_after content es) (deliveries_of content es) rows
+
+-- Rows(es)
+abbrev pub AreAfter : SetupContent → List Event → Rows → Type 0
+AreAfter content es rows = AreAfterBy newest content es rows

@@ -3,7 +3,7 @@
 
 ghost use Rattle.office_history.specs.Laws.{ChangesAgree, OpeningIsAfterNone, DeliveriesLeaveSound, NumbersAreWithin, NextFollowsRun};
 ghost use Rattle.office_history.specs.Laws.{RefusedAddsNoRow, UsedAddsNoRow, EarlyAddsWaiting, NextAddsRun, RowsAnswer, LoadingGivesState, LoadingGivesSetup};
-ghost use Rattle.office_history.specs.Laws.{RowsAreAnOffice};
+ghost use Rattle.office_history.specs.Laws.{RowsAreAnOffice, OlderRowsAreAnOffice, AccountAddsRow, MigrationGoesOn};
 
 /// Changes that find the rows that they need make of the tables' rows, by key, what they make of the terminal's.
 pub fn changes_agree()
@@ -50,6 +50,16 @@ pub fn next_adds_run()
     ensures { NextAddsRun }
 {}
 
+/// An account that is added adds its row, and leaves the machine as it was, with the account beside.
+pub fn account_adds_row()
+    ensures { AccountAddsRow }
+{}
+
+/// The rows of a store of an older version, with the version changed, go on from its events and the migration.
+pub fn migration_goes_on()
+    ensures { MigrationGoesOn }
+{}
+
 /// The rows tell how a delivery is answered.
 pub fn rows_answer()
     ensures { RowsAnswer }
@@ -60,12 +70,18 @@ pub fn loading_gives_state()
     ensures { LoadingGivesState }
 {}
 
-/// It gives a set-up that says the same, and its rows are those after the same events at that set-up.
+/// It gives a set-up that says the same as the opening one with the accounts so far, and the rows are those after the
+/// same events at the opening one with its codes.
 pub fn loading_gives_setup()
     ensures { LoadingGivesSetup }
 {}
 
-/// Whatever is delivered, the rows that are left are those of an office: no check finds them damaged.
+/// Whatever comes, the rows that are left are those of an office: no check finds them damaged.
 pub fn rows_are_an_office()
     ensures { RowsAreAnOffice }
+{}
+
+/// The same holds of a store of an older version, its version changed: no check of a migration finds it damaged.
+pub fn older_rows_are_an_office()
+    ensures { OlderRowsAreAnOffice }
 {}

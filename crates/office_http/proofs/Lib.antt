@@ -1,6 +1,8 @@
 pub mod Heads
 pub mod Pieces
 pub mod Bodies
+pub mod Skipping
+pub mod Asking
 pub mod Keys
 pub mod Values
 pub mod OneRequest

@@ -4,13 +4,13 @@ use Rattle.httparse.specs.Grammar.{RequestHead}
 use Rattle.httparse.proofs.GrammarLemmas.{request_unique}
 use Rattle.office_queries.specs.Keys.{Asked}
 use Rattle.office_queries.specs.declared.report_kind.ReportKind.{ReportKind}
-use Rattle.office_http.specs.Requests.{IsDelivery, IsReport, Gets, Posts, AsksAt, AsksWith, IsSameRequest, HeadsAreOne, RequestsAreOne}
+use Rattle.office_http.specs.Requests.{IsDelivery, IsAccount, IsReport, Gets, Names, Posts, PostsAccount, AsksAt, AsksWith, IsSameRequest, HeadsAreOne, RequestsAreOne}
 use Rattle.office_http.specs.declared.endpoint.Endpoint.{Endpoint}
 use Rattle.office_http.specs.declared.endpoint.Endpoint.TheVariants as endpoint
 use Rattle.office_http.specs.declared.refusal.Refusal.{Refusal}
 use Rattle.office_http.specs.declared.refusal.Refusal.TheVariants.{NotNow}
 use Rattle.office_http.specs.declared.request.Request.{Request}
-use Rattle.office_http.specs.declared.request.Request.TheVariants.{Delivery, Report, Refused}
+use Rattle.office_http.specs.declared.request.Request.TheVariants.{Delivery, Account, Report, Refused}
 
 pub heads_are_one : HeadsAreOne
 heads_are_one stream head head' rest rest' one other = request_unique stream head head' rest rest' one.reads other.reads
@@ -21,15 +21,29 @@ same_refusal refusal request request' is is' =
 
 same_delivery : (text : List ℕ) (request request' : Request) → IsDelivery text request → IsDelivery text request' → IsSameRequest request request'
 same_delivery text (Delivery body) (Delivery other) is is' = is ∙ sym is'
+same_delivery text (Delivery body) (Account key) is is' = absurd is'
 same_delivery text (Delivery body) (Report kind query) is is' = absurd is'
 same_delivery text (Delivery body) (Refused refusal) is is' = absurd is'
+same_delivery text (Account key) request' is is' = absurd is
 same_delivery text (Report kind query) request' is is' = absurd is
 same_delivery text (Refused refusal) request' is is' = absurd is
+
+same_account : (account : List ℕ × List ℕ) (request request' : Request) → IsAccount account request → IsAccount account request' →
+    IsSameRequest request request'
+same_account account (Account key) (Account other) is is' = is ∙ sym is'
+same_account account (Account key) (Delivery body) is is' = absurd is'
+same_account account (Account key) (Report kind query) is is' = absurd is'
+same_account account (Account key) (Refused refusal) is is' = absurd is'
+same_account account (Delivery body) request' is is' = absurd is
+same_account account (Report kind query) request' is is' = absurd is
+same_account account (Refused refusal) request' is is' = absurd is
 
 same_report : (kind : ReportKind) (what : Asked) (request request' : Request) → IsReport kind what request → IsReport kind what request' →
     IsSameRequest request request'
 same_report kind what (Delivery body) request' is is' = absurd is
+same_report kind what (Account key) request' is is' = absurd is
 same_report kind what (Report of query) (Delivery body) is is' = absurd is'
+same_report kind what (Report of query) (Account key) is is' = absurd is'
 same_report kind what (Report of query) (Report of' query') is is' = (is.0 ∙ sym is'.0, is.1 ∙ sym is'.1)
 same_report kind what (Report of query) (Refused refusal) is is' = absurd is'
 same_report kind what (Refused refusal) request' is is' = absurd is
@@ -47,10 +61,23 @@ same_post (Ok size) rest request request' (inl short) (inr whole) = let less = s
 same_post (Ok size) rest request request' (inr whole) (inl short) = let less = short.0 in let more = whole.0 in absurd (omega arith)
 same_post (Ok size) rest request request' (inr whole) (inr whole') = same_delivery (take size rest) request request' whole.1 whole'.1
 
+same_named : (named : Option (List ℕ × List ℕ)) (request request' : Request) → Names named request → Names named request' → IsSameRequest request request'
+same_named None request request' is is' = same_refusal _ request request' is is'
+same_named (Some account) request request' is is' = same_account account request request' is is'
+
+same_account_post : (said : Result ℕ Refusal) (rest : List ℕ) (named : Option (List ℕ × List ℕ)) (request request' : Request) →
+    PostsAccount said rest named request → PostsAccount said rest named request' → IsSameRequest request request'
+same_account_post (Err refusal) rest named request request' is is' = same_refusal refusal request request' is is'
+same_account_post (Ok size) rest named request request' (inl short) (inl short') = same_refusal _ request request' short.1 short'.1
+same_account_post (Ok size) rest named request request' (inl short) (inr whole) = let less = short.0 in let more = whole.0 in absurd (omega arith)
+same_account_post (Ok size) rest named request request' (inr whole) (inl short) = let less = short.0 in let more = whole.0 in absurd (omega arith)
+same_account_post (Ok size) rest named request request' (inr whole) (inr whole') = same_named named request request' whole.1 whole'.1
+
 same_at : (to : Result Endpoint Refusal) (head : RequestHead) (rest : List ℕ) (request request' : Request) → AsksAt to head rest request →
     AsksAt to head rest request' → IsSameRequest request request'
 same_at (Err refusal) head rest request request' is is' = same_refusal refusal request request' is is'
 same_at (Ok endpoint.Interchanges) head rest request request' is is' = same_post _ rest request request' is is'
+same_at (Ok endpoint.Accounts) head rest request request' is is' = same_account_post _ rest _ request request' is is'
 same_at (Ok (endpoint.Report kind)) head rest request request' is is' = same_get kind _ request request' is is'
 
 same_with : (head : RequestHead) (rest : List ℕ) (request request' : Request) → request ≢ Refused NotNow → request' ≢ Refused NotNow →

@@ -14,10 +14,12 @@ abbrev pub body_size : Result ℕ Refusal → ℕ
 body_size (Err refusal) = 0
 body_size (Ok size) = size
 
--- how many bytes are wanted behind a head, by where it goes to: a delivery's body
+-- how many bytes are wanted behind a head, by where it goes to: the body of a delivery, or of an
+-- account
 abbrev pub wanted_at : Result Endpoint Refusal → RequestHead → ℕ
 wanted_at (Err refusal) head = 0
 wanted_at (Ok endpoint.Interchanges) head = body_size (body_length (map name_and_value head.fields))
+wanted_at (Ok endpoint.Accounts) head = body_size (body_length (map name_and_value head.fields))
 wanted_at (Ok (endpoint.Report kind)) head = 0
 
 unfoldable pub wanted_behind : RequestHead → ℕ

@@ -3,27 +3,37 @@ use Rattle.std.specs.Prelude.{◌≡◌, ◌≢◌, ℕ, ◌<◌, ◌≤◌, ◌
 use Rattle.std.specs.Option.{option_and_then}
 use Rattle.httparse.specs.Grammar.{RequestHead}
 use Rattle.httparse.specs.Spans.{name_and_value}
+use Rattle.office_queries.specs.AccountKeys.{account_in, account_named}
 use Rattle.office_queries.specs.Keys.{Asked, query_asked, query_of}
 use Rattle.office_queries.specs.declared.report_kind.ReportKind.{ReportKind}
 use Rattle.office_http.specs.Heads.{IsHead, HasNoHead}
-use Rattle.office_http.specs.Routes.{endpoint_of, path_of, key_in}
+use Rattle.office_http.specs.Routes.{endpoint_of, path_of, key_in, account_key_in}
 use Rattle.office_http.specs.Fields.{body_length}
 use Rattle.office_http.specs.declared.endpoint.Endpoint.{Endpoint}
 use Rattle.office_http.specs.declared.endpoint.Endpoint.TheVariants as endpoint
 use Rattle.office_http.specs.declared.refusal.Refusal.{Refusal}
 use Rattle.office_http.specs.declared.refusal.Refusal.TheVariants.{BadRequest, NotFound, NotNow}
 use Rattle.office_http.specs.declared.request.Request.{Request}
-use Rattle.office_http.specs.declared.request.Request.TheVariants.{Delivery, Report, Refused}
+use Rattle.office_http.specs.declared.request.Request.TheVariants.{Delivery, Account, Report, Refused}
 
 -- it asks that the text is delivered
 abbrev pub IsDelivery : List ℕ → Request → Type 0
 IsDelivery text (Delivery body) = body.items ≡ text
+IsDelivery text (Account key) = ⊥
 IsDelivery text (Report kind query) = ⊥
 IsDelivery text (Refused refusal) = ⊥
+
+-- it asks that the account of that code and kind is added
+abbrev pub IsAccount : List ℕ × List ℕ → Request → Type 0
+IsAccount account (Delivery body) = ⊥
+IsAccount account (Account key) = account_named key ≡ account
+IsAccount account (Report kind query) = ⊥
+IsAccount account (Refused refusal) = ⊥
 
 -- it asks for that report
 abbrev pub IsReport : ReportKind → Asked → Request → Type 0
 IsReport kind what (Delivery body) = ⊥
+IsReport kind what (Account key) = ⊥
 IsReport kind what (Report of query) = (of ≡ kind) × (query_asked query ≡ what)
 IsReport kind what (Refused refusal) = ⊥
 
@@ -39,10 +49,24 @@ Posts (Ok size) rest request =
     ((length rest < size) × (request ≡ Refused BadRequest))
     ⊎ ((size ≤ length rest) × IsDelivery (take size rest) request)
 
+-- the account that a key names, or nothing is found
+abbrev pub Names : Option (List ℕ × List ℕ) → Request → Type 0
+Names None request = request ≡ Refused NotFound
+Names (Some account) request = IsAccount account request
+
+-- an account, with a body of as many bytes as are said, whatever they are, or there are fewer
+abbrev pub PostsAccount : Result ℕ Refusal → List ℕ → Option (List ℕ × List ℕ) → Request → Type 0
+PostsAccount (Err refusal) rest account request = request ≡ Refused refusal
+PostsAccount (Ok size) rest account request =
+    ((length rest < size) × (request ≡ Refused BadRequest)) ⊎ ((size ≤ length rest) × Names account request)
+
 -- by where it goes to
 abbrev pub AsksAt : Result Endpoint Refusal → RequestHead → List ℕ → Request → Type 0
 AsksAt (Err refusal) head rest request = request ≡ Refused refusal
 AsksAt (Ok endpoint.Interchanges) head rest request = Posts (body_length (map name_and_value head.fields)) rest request
+AsksAt (Ok endpoint.Accounts) head rest request =
+    PostsAccount (body_length (map name_and_value head.fields)) rest
+    (option_and_then account_in (account_key_in (path_of head.target))) request
 AsksAt (Ok (endpoint.Report kind)) head rest request =
     Gets kind (option_and_then (query_of kind) (key_in kind (path_of head.target))) request
 
@@ -63,12 +87,19 @@ Asks stream request =
 -- the same is asked for
 abbrev pub IsSameRequest : Request → Request → Type 0
 IsSameRequest (Delivery body) (Delivery other) = body.items ≡ other.items
+IsSameRequest (Delivery body) (Account key) = ⊥
 IsSameRequest (Delivery body) (Report kind query) = ⊥
 IsSameRequest (Delivery body) (Refused refusal) = ⊥
+IsSameRequest (Account key) (Delivery body) = ⊥
+IsSameRequest (Account key) (Account other) = account_named key ≡ account_named other
+IsSameRequest (Account key) (Report kind query) = ⊥
+IsSameRequest (Account key) (Refused refusal) = ⊥
 IsSameRequest (Report kind query) (Delivery body) = ⊥
+IsSameRequest (Report kind query) (Account key) = ⊥
 IsSameRequest (Report kind query) (Report of other) = (kind ≡ of) × (query_asked query ≡ query_asked other)
 IsSameRequest (Report kind query) (Refused refusal) = ⊥
 IsSameRequest (Refused refusal) (Delivery body) = ⊥
+IsSameRequest (Refused refusal) (Account key) = ⊥
 IsSameRequest (Refused refusal) (Report kind query) = ⊥
 IsSameRequest (Refused refusal) (Refused other) = refusal ≡ other
 

@@ -28,12 +28,13 @@ with_route text to rows = place_route (parse_route text) to rows
 
 unfoldable pub endpoints : RowsOf (RouteOf Endpoint)
 endpoints =
-    with_route (codes "/lists/{vessel}/{voyage}/{side}") (endpoint.Report kind.List)
+    with_route (codes "/partners/{code}/{kind}") endpoint.Accounts
+    (with_route (codes "/lists/{vessel}/{voyage}/{side}") (endpoint.Report kind.List)
     (with_route (codes "/visits/{box}") (endpoint.Report kind.Visits)
     (with_route (codes "/yard") (endpoint.Report kind.Yard)
     (with_route (codes "/tickets/{partner}/{number}") (endpoint.Report kind.Ticket)
     (with_route (codes "/replies/{partner}/{number}") (endpoint.Report kind.Reply)
-    (with_route (codes "/interchanges") endpoint.Interchanges [])))))
+    (with_route (codes "/interchanges") endpoint.Interchanges []))))))
 
 -- the target up to `?` (63)
 abbrev pub path_of : List ℕ → List ℕ
@@ -47,11 +48,13 @@ endpoint_at path = option_map (λ r. r.value) (first endpoints path)
 
 abbrev pub method_of : Endpoint → List ℕ
 method_of endpoint.Interchanges = codes "POST"
+method_of endpoint.Accounts = codes "POST"
 method_of (endpoint.Report kind) = codes "GET"
 
 -- the refusal of another method
 abbrev pub other_method : Endpoint → Refusal
 other_method endpoint.Interchanges = OnlyPost
+other_method endpoint.Accounts = OnlyPost
 other_method (endpoint.Report kind) = OnlyGet
 
 abbrev pub by_method : List ℕ → Option Endpoint → Result Endpoint Refusal
@@ -64,6 +67,10 @@ endpoint_of method path = by_method method (endpoint_at path)
 
 -- ---- keys
 
+-- what stands behind a front, if it is there
+abbrev pub behind : List ℕ → List ℕ → Option (List ℕ)
+behind front path = if starts_with nat_eq path front then Some (drop (length front) path) else None
+
 -- what stands before a key
 abbrev pub front_of : ReportKind → List ℕ
 front_of kind.Yard = codes "/yard"
@@ -75,4 +82,8 @@ front_of kind.Reply = codes "/replies/"
 
 -- the key of a report in its path: what stands behind that
 abbrev pub key_in : ReportKind → List ℕ → Option (List ℕ)
-key_in kind path = if starts_with nat_eq path (front_of kind) then Some (drop (length (front_of kind)) path) else None
+key_in kind path = behind (front_of kind) path
+
+-- the key of an account in its path
+abbrev pub account_key_in : List ℕ → Option (List ℕ)
+account_key_in path = behind (codes "/partners/") path

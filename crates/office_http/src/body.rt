@@ -1,4 +1,4 @@
-ghost use Rattle.std.specs.Prelude.{◌≡◌, ◌⊎◌, ◌≤◌, ◌+◌, ◌-◌, ◌++◌, length, true, false, IfOk, IfSome, OnOk, OnErr, Ok};
+ghost use Rattle.std.specs.Prelude.{◌≡◌, ◌⊎◌, ◌≤◌, ◌+◌, ◌-◌, ◌++◌, length, true, false, IsTrue, ◌↔◌, IfOk, IfSome, OnOk, OnErr, Ok};
 ghost use Rattle.office_http.specs.Requests.{Posts};
 ghost use Rattle.office_http.specs.declared.request.Request.TheVariants.{Refused};
 ghost use Rattle.office_http.specs.declared.refusal.Refusal.TheVariants.{NotNow};
@@ -39,4 +39,25 @@ pub(crate) fn read_delivery<R: Read>(
         };
     }
     Ok(Request::Delivery(body))
+}
+
+/// Reads past a body of that size, whose front was read already; true if it is whole. It takes no memory.
+pub(crate) fn skip_body<R: Read>(reader: &mut Port<R>, front: &[u8], size: usize) -> Result<bool>
+    ensures whole { IfOk result (λ whole. IfSome (R.remaining reader.old.inner) (λ left.
+        IsTrue whole ↔ (size ≤ length (front.now ++ left)))) }
+    ensures reads { reader.new.reads ≤ reader.old.reads + (size - length front.now) }
+    ensures in_time { reader.old.ended ≡ false → reader.new.read_behind_end ≡ reader.old.read_behind_end }
+    ensures kept { OnOk result (reader.new.failed ≡ reader.old.failed) }
+    ensures fails { OnErr result (reader.new.failed ≡ true) }
+{
+    let mut left = size.saturating_sub(front.len());
+    let mut buffer = [0; 4096];
+    'skips: while left > 0 {
+        let count = reader.read(&mut buffer)?;
+        if count == 0 {
+            return Ok(false);
+        }
+        left = left.saturating_sub(count);
+    }
+    Ok(true)
 }

@@ -9,6 +9,8 @@ use office_queries::ReportKind;
 pub(crate) enum Endpoint {
     /// Where interchanges are delivered.
     Interchanges,
+    /// Where accounts are added.
+    Accounts,
     /// A report.
     Report(ReportKind),
 }
@@ -19,7 +21,7 @@ impl Endpoint {
         ensures { result ≡ method_of self }
     {
         match self {
-            Endpoint::Interchanges => Method::POST,
+            Endpoint::Interchanges | Endpoint::Accounts => Method::POST,
             Endpoint::Report(_) => Method::GET,
         }
     }

@@ -3,24 +3,25 @@ ghost use Rattle.edi_segments.specs.Interchange.{most_bytes};
 ghost use Rattle.std.specs.Option.{option_and_then};
 ghost use Rattle.httparse.specs.Grammar.{RequestHead};
 ghost use Rattle.httparse.specs.Spans.{header_bytes, IsRequestAt, IsRequestWithin, IsSectionWithin};
+ghost use Rattle.office_queries.specs.AccountKeys.{account_in};
 ghost use Rattle.office_queries.specs.Keys.{query_of};
 ghost use Rattle.office_http.specs.Deciding.{body_size, EndsWhenDecided, wanted_behind};
 ghost use Rattle.office_http.specs.Fields.{body_length};
-ghost use Rattle.office_http.specs.Requests.{Asks, AsksWith, Gets, Posts};
-ghost use Rattle.office_http.specs.Routes.{key_in};
+ghost use Rattle.office_http.specs.Requests.{Asks, AsksWith, Gets, Names, Posts, PostsAccount};
+ghost use Rattle.office_http.specs.Routes.{account_key_in, key_in};
 ghost use Rattle.office_http.specs.declared.request.Request.TheVariants.{Refused};
 ghost use Rattle.office_http.specs.declared.refusal.Refusal.TheVariants.{NotNow};
 
-use crate::body::read_delivery;
+use crate::body::{read_delivery, skip_body};
 use crate::endpoint::Endpoint;
 use crate::fields::content_length;
 use crate::found_head::FoundHead;
 use crate::head::{FIELD_LIMIT, HEAD_LIMIT, read_head};
 use crate::refusal::Refusal;
 use crate::request::Request;
-use crate::routes::{direct, key_in, path_of};
+use crate::routes::{account_key_in, direct, key_in, path_of};
 use httparse::spans::{EMPTY_HEADER_SPAN, HeaderSpan};
-use office_queries::{ReportKind, read_query};
+use office_queries::{ReportKind, read_account_key, read_query};
 use office_stream::Port;
 use std::alloc::Global;
 use std::io::{Read, Result};
@@ -72,6 +73,7 @@ fn read_asked<R: Read>(
     let path = path_of(target);
     match direct(alloc, found.spans.method.of(read), path) {
         Ok(Endpoint::Interchanges) => read_post(alloc, reader, read, headers, found),
+        Ok(Endpoint::Accounts) => read_account(alloc, reader, read, headers, found, path),
         Ok(Endpoint::Report(kind)) => Ok(read_report(alloc, kind, path)),
         Err(refusal) => Ok(Request::Refused(refusal)),
     }
@@ -100,6 +102,52 @@ fn read_post<R: Read>(
     match content_length(read, &headers[..found.spans.headers]) {
         Ok(size) => read_delivery(alloc, reader, &read[found.spans.len..], size),
         Err(refusal) => Ok(Request::Refused(refusal)),
+    }
+}
+
+/// Reads past the body that the fields of a head tell of, and names the account of a path.
+fn read_account<R: Read>(
+    alloc: Global,
+    reader: &mut Port<R>,
+    read: &[u8],
+    headers: &[HeaderSpan],
+    found: FoundHead,
+    path: &str,
+) -> Result<Request>
+    requires { IsSectionWithin read.now headers.now found.spans.len found.spans.headers }
+    ensures posts { IfOk result (λ request. IfSome (R.remaining reader.old.inner) (λ left. (request ≡ Refused NotNow)
+        ⊎ PostsAccount (body_length (map (header_bytes read.now) (take found.spans.headers headers.now)))
+        (drop found.spans.len read.now ++ left) (option_and_then account_in (account_key_in path.now)) request)) }
+    ensures reads { reader.new.reads ≤ reader.old.reads + most_bytes }
+    ensures decided { reader.new.reads ≤ reader.old.reads
+        + (body_size (body_length (map (header_bytes read.now) (take found.spans.headers headers.now)))
+        - length (drop found.spans.len read.now)) }
+    ensures in_time { reader.old.ended ≡ false → reader.new.read_behind_end ≡ reader.old.read_behind_end }
+    ensures kept { OnOk result (reader.new.failed ≡ reader.old.failed) }
+    ensures fails { OnErr result (reader.new.failed ≡ true) }
+{
+    let size = match content_length(read, &headers[..found.spans.headers]) {
+        Ok(size) => size,
+        Err(refusal) => return Ok(Request::Refused(refusal)),
+    };
+    if skip_body(reader, &read[found.spans.len..], size)? {
+        Ok(named_account(alloc, path))
+    } else {
+        Ok(Request::Refused(Refusal::BadRequest))
+    }
+}
+
+/// The account that a path names.
+fn named_account(alloc: Global, path: &str) -> Request
+    ensures { (result ≡ Refused NotNow) ⊎ Names (option_and_then account_in (account_key_in path.now)) result }
+{
+    let Some(key) = account_key_in(path) else {
+        return Request::Refused(Refusal::NotFound);
+    };
+    match read_account_key(alloc, key) {
+        Ok(Some(account)) => Request::Account(account),
+        Ok(None) => Request::Refused(Refusal::NotFound),
+        Err(_) => Request::Refused(Refusal::NotNow),
     }
 }
 

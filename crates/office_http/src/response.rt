@@ -1,6 +1,7 @@
 ghost use Rattle.std.specs.Prelude.{◌≡◌, ℕ, List, true, OnOk, OnErr, unwrap_or, codes};
 ghost use Rattle.http.specs.StatusCode.{reason_phrase};
 ghost use Rattle.std.specs.Io.KnownBytes.{Appends};
+ghost use Rattle.office_replies.specs.AccountAnswers.{account_body, account_status};
 ghost use Rattle.office_replies.specs.Responses.{body_of, status_of};
 ghost use Rattle.office_http.specs.Responses.{allow_line, close_lines, field_line, refusal_bytes};
 ghost use Rattle.office_http.specs.Responses.{response_bytes, response_head, status_line};
@@ -9,7 +10,7 @@ ghost use Rattle.office_http.specs.declared.content_type.ContentType.TheVariants
 use crate::content_type::ContentType;
 use crate::refusal::Refusal;
 use http::{Method, StatusCode};
-use office_replies::Response;
+use office_replies::{AccountAnswer, Response};
 use office_stream::Port;
 use std::io::{Result, Write};
 
@@ -62,6 +63,29 @@ fn status_code(response: &Response) -> StatusCode
     ensures { result ≡ status_of response.now }
 {
     match StatusCode::from_u16(response.status()) {
+        Ok(status) => status,
+        Err(_) => unreachable!(),
+    }
+}
+
+/// Writes the response of an account that is to be added.
+pub(crate) fn write_account_answer<W: Write>(
+    port: &mut Port<W>,
+    answer: &AccountAnswer,
+) -> Result<()>
+    ensures bytes { OnOk result (Appends (W.contents port.old.inner) (W.contents port.new.inner)
+        (response_bytes (account_status answer.now) Json None (account_body answer.now))) }
+    ensures succeeds { OnOk result (port.new.failed ≡ port.old.failed) }
+    ensures fails { OnErr result (port.new.failed ≡ true) }
+{
+    let body = answer.body();
+    write_text(port, account_status_code(answer), ContentType::Json, body)
+}
+
+fn account_status_code(answer: &AccountAnswer) -> StatusCode
+    ensures { result ≡ account_status answer.now }
+{
+    match StatusCode::from_u16(answer.status()) {
         Ok(status) => status,
         Err(_) => unreachable!(),
     }

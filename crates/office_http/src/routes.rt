@@ -1,5 +1,5 @@
 ghost use Rattle.std.specs.Prelude.{◌≡◌, ◌⊎◌, IfOk, option_map, Err};
-ghost use Rattle.office_http.specs.Routes.{endpoint_of, endpoint_at, endpoints, front_of, key_in, other_method, path_of};
+ghost use Rattle.office_http.specs.Routes.{account_key_in, endpoint_of, endpoint_at, endpoints, front_of, key_in, other_method, path_of};
 ghost use Rattle.office_http.specs.declared.refusal.Refusal.TheVariants.{NotNow};
 
 use crate::endpoint::Endpoint;
@@ -45,6 +45,7 @@ fn router(alloc: Global) -> Result<Router<Endpoint>, InsertError>
         "/lists/{vessel}/{voyage}/{side}",
         Endpoint::Report(ReportKind::List),
     )?;
+    router.insert("/partners/{code}/{kind}", Endpoint::Accounts)?;
     Ok(router)
 }
 
@@ -62,7 +63,7 @@ fn other_method(endpoint: Endpoint) -> Refusal
     ensures { result ≡ other_method endpoint }
 {
     match endpoint {
-        Endpoint::Interchanges => Refusal::OnlyPost,
+        Endpoint::Interchanges | Endpoint::Accounts => Refusal::OnlyPost,
         Endpoint::Report(_) => Refusal::OnlyGet,
     }
 }
@@ -82,6 +83,13 @@ pub(crate) fn key_in(kind: ReportKind, path: &str) -> Option<&str>
     ensures { option_map (λ key. key.now) result ≡ key_in kind path.now }
 {
     path.strip_prefix(front_of(kind))
+}
+
+/// The key of an account in its path.
+pub(crate) fn account_key_in(path: &str) -> Option<&str>
+    ensures { option_map (λ key. key.now) result ≡ account_key_in path.now }
+{
+    path.strip_prefix("/partners/")
 }
 
 fn front_of(kind: ReportKind) -> &'static str

@@ -1,56 +1,45 @@
-ghost use Rattle.std.specs.Prelude.{◌≡◌, ◌⊎◌, ◌≤◌, ◌+◌, ℕ, List, true, false, IfErr, OnOk, OnErr, IfSome, Err};
+ghost use Rattle.std.specs.Prelude.{◌≡◌, ◌⊎◌, ◌≤◌, ◌+◌, ℕ, List, Option, Result, true, false, IfErr, OnOk, OnErr, IfSome, Err};
 ghost use Rattle.std.specs.Io.KnownBytes.{Appends};
-ghost use Rattle.office_replies.specs.Events.{Event};
+ghost use Rattle.office_queries.specs.Looking.{IsLookedAt};
+ghost use Rattle.office_queries.specs.declared.not_now.NotNow.{NotNow};
 ghost use Rattle.office_http.specs.Deciding.{EndsWhenDecided};
-ghost use Rattle.office_http.specs.Served.{AnswersTo, AtMostOne, content_of, Does, MatchFault, Refuses, RefusesOrReports, Reports, Serves};
-ghost use Rattle.office_http.specs.declared.request.Request.TheVariants.{Report};
+ghost use Rattle.office_http.specs.Served.{AtMost, content_of, Does, found_bytes, MatchFault, Serves};
 
 use crate::content_type::ContentType;
 use crate::refusal::Refusal;
 use crate::request::Request;
 use crate::requests::read_request;
-use crate::response::{write_answer, write_refusal, write_text};
+use crate::response::{write_account_answer, write_answer, write_refusal, write_text};
 use crate::serve_fault::ServeFault;
 use http::StatusCode;
 use office_queries::{NotNow, Query, Report, ReportKind};
+use office_replies::AddAccount;
 use office_stream::Port;
 use std::alloc::Global;
 use std::io::{self, Read, Write};
 
 /// Reads one request, does what it asks for, and writes its response. What a reader gives behind a request has no
 /// effect.
-pub fn serve_one<R: Read, W: Write, D: Report>(
+pub fn serve_one<R: Read, W: Write, D: Report + AddAccount>(
     alloc: Global,
     reader: &mut Port<R>,
     writer: &mut Port<W>,
     desk: &mut D,
 ) -> Result<(), ServeFault>
-    // What was asked for is done, and exactly its answer is written.
-    ensures ok { OnOk result
-        (D.clean desk.new → (opening : D.Opening) (es : List Event) → D.stands opening es desk.old
-        → IfSome (R.remaining reader.old.inner) (λ stream.
-        AnswersTo (D.stands opening) (D.answers opening) D.tells es stream desk.old desk.new
-        (W.contents writer.old.inner) (W.contents writer.new.inner))) }
-
-    // After a failed read nothing was delivered, and nothing written. After a failed write what was asked for is done.
-    ensures err { IfErr result (λ fault. MatchFault fault
-        ((reader.new.failed ≡ true) × (desk.new ≡ desk.old) × (writer.new ≡ writer.old))
-        ((writer.new.failed ≡ true) × (reader.new.failed ≡ reader.old.failed)
-        × (D.clean desk.new → (opening : D.Opening) (es : List Event) → D.stands opening es desk.old
-        → IfSome (R.remaining reader.old.inner) (λ stream. (bytes : List ℕ)
-        × Serves (D.stands opening) (D.answers opening) D.tells es stream desk.old desk.new bytes)))) }
-
-    // Whatever the reader gives, at most one text is delivered.
-    ensures steps { D.clean desk.new → (opening : D.Opening) (es : List Event) → D.stands opening es desk.old
-        → AtMostOne (D.stands opening) (D.answers opening) es desk.new }
-
-    // Whatever desk it is, a refusal leaves it as it was, and a report is what it has to tell. Exactly its bytes are
-    // written.
-    ensures asked { IfSome (R.remaining reader.old.inner) (λ stream. (result ≡ Err ServeFault.Read)
-        ⊎ RefusesOrReports D.clean D.tells stream desk.old desk.new
+    // Unless a read failed, what was asked for is done, whatever desk it is, and at Ok exactly its answer is written.
+    ensures serves { IfSome (R.remaining reader.old.inner) (λ stream. (result ≡ Err ServeFault.Read)
+        ⊎ Serves D.clean D.stands D.answers D.added D.tells D.leads D.enrols D.looks stream desk.old desk.new
         (λ bytes. OnOk result (Appends (W.contents writer.old.inner) (W.contents writer.new.inner) bytes))) }
 
-    // Nothing is said of a desk whose records have not told the truth.
+    // After a failed read nothing was delivered, and nothing written.
+    ensures err { IfErr result (λ fault. MatchFault fault
+        ((reader.new.failed ≡ true) × (desk.new ≡ desk.old) × (writer.new ≡ writer.old))
+        ((writer.new.failed ≡ true) × (reader.new.failed ≡ reader.old.failed))) }
+
+    // Whatever the reader gives, one call is made of the desk at most.
+    ensures steps { AtMost D.clean D.stands D.answers D.added D.leads D.enrols D.looks 1 desk.old desk.new }
+
+    // Nothing is said of the answers of a desk whose records have not told the truth.
     ensures stays { D.clean desk.new → D.clean desk.old }
 
     // A read for each byte of a head and of a body, at most.
@@ -80,18 +69,13 @@ pub fn serve_one<R: Read, W: Write, D: Report>(
 }
 
 /// Does what a request asks for, writes its response, and flushes it.
-fn send_answer<W: Write, D: Report>(
+fn send_answer<W: Write, D: Report + AddAccount>(
     alloc: Global,
     writer: &mut Port<W>,
     desk: &mut D,
     request: Request,
 ) -> io::Result<()>
-    ensures does { D.clean desk.new → (opening : D.Opening) (es : List Event) → D.stands opening es desk.old
-        → (bytes : List ℕ) × Does (D.stands opening) (D.answers opening) D.tells es request desk.old desk.new bytes
-        × OnOk result (Appends (W.contents writer.old.inner) (W.contents writer.new.inner) bytes) }
-    ensures refused { Refuses request desk.old desk.new
-        (λ bytes. OnOk result (Appends (W.contents writer.old.inner) (W.contents writer.new.inner) bytes)) }
-    ensures reported { D.clean desk.new → Reports D.tells request desk.old
+    ensures does { Does D.clean D.stands D.answers D.added D.tells D.leads D.enrols D.looks request desk.old desk.new
         (λ bytes. OnOk result (Appends (W.contents writer.old.inner) (W.contents writer.new.inner) bytes)) }
     ensures kept { OnOk result (writer.new.failed ≡ writer.old.failed) }
     ensures fails { OnErr result (writer.new.failed ≡ true) }
@@ -103,18 +87,13 @@ fn send_answer<W: Write, D: Report>(
 }
 
 /// Does what a request asks for, and writes its response.
-fn answer<W: Write, D: Report>(
+fn answer<W: Write, D: Report + AddAccount>(
     alloc: Global,
     writer: &mut Port<W>,
     desk: &mut D,
     request: Request,
 ) -> io::Result<()>
-    ensures does { D.clean desk.new → (opening : D.Opening) (es : List Event) → D.stands opening es desk.old
-        → (bytes : List ℕ) × Does (D.stands opening) (D.answers opening) D.tells es request desk.old desk.new bytes
-        × OnOk result (Appends (W.contents writer.old.inner) (W.contents writer.new.inner) bytes) }
-    ensures refused { Refuses request desk.old desk.new
-        (λ bytes. OnOk result (Appends (W.contents writer.old.inner) (W.contents writer.new.inner) bytes)) }
-    ensures reported { D.clean desk.new → Reports D.tells request desk.old
+    ensures does { Does D.clean D.stands D.answers D.added D.tells D.leads D.enrols D.looks request desk.old desk.new
         (λ bytes. OnOk result (Appends (W.contents writer.old.inner) (W.contents writer.new.inner) bytes)) }
     ensures kept { OnOk result (writer.new.failed ≡ writer.old.failed) }
     ensures fails { OnErr result (writer.new.failed ≡ true) }
@@ -124,6 +103,10 @@ fn answer<W: Write, D: Report>(
         Request::Delivery(body) => {
             let response = desk.deliver(alloc, body.as_slice());
             write_answer(writer, &response)
+        }
+        Request::Account(key) => {
+            let answer = desk.add_account(alloc, key.code.as_slice(), key.kind.as_slice());
+            write_account_answer(writer, &answer)
         }
         Request::Report(kind, query) => answer_report(alloc, writer, desk, kind, &query),
         Request::Refused(refusal) => write_refusal(writer, refusal),
@@ -137,12 +120,9 @@ fn answer_report<W: Write, D: Report>(
     kind: ReportKind,
     query: &Query,
 ) -> io::Result<()>
-    ensures does { D.clean desk.new → (opening : D.Opening) (es : List Event) → D.stands opening es desk.old
-        → (bytes : List ℕ)
-        × Does (D.stands opening) (D.answers opening) D.tells es (Report kind query.now) desk.old desk.new bytes
-        × OnOk result (Appends (W.contents writer.old.inner) (W.contents writer.new.inner) bytes) }
-    ensures reported { D.clean desk.new → Reports D.tells (Report kind query.now) desk.old
-        (λ bytes. OnOk result (Appends (W.contents writer.old.inner) (W.contents writer.new.inner) bytes)) }
+    ensures does { (found : Result (Option (List ℕ)) NotNow)
+        × IsLookedAt D.clean D.stands D.tells D.looks desk.old query.now found desk.new
+        × OnOk result (Appends (W.contents writer.old.inner) (W.contents writer.new.inner) (found_bytes kind found)) }
     ensures kept { OnOk result (writer.new.failed ≡ writer.old.failed) }
     ensures fails { OnErr result (writer.new.failed ≡ true) }
     ensures stays { D.clean desk.new → D.clean desk.old }

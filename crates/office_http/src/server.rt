@@ -1,6 +1,4 @@
-ghost use Rattle.std.specs.Prelude.{ℕ, List};
-ghost use Rattle.office_replies.specs.Events.{Event};
-ghost use Rattle.office_http.specs.Served.{AtMost, AtMostOne};
+ghost use Rattle.office_http.specs.Served.{AtMost};
 
 use crate::overheard::Overheard;
 use crate::seen::Seen;
@@ -9,6 +7,7 @@ use crate::timed_reader::TimedReader;
 use crate::timed_writer::TimedWriter;
 use crate::watch::Watch;
 use office_queries::Report;
+use office_replies::AddAccount;
 use office_stream::{Gathered, Port};
 use std::alloc::Global;
 use std::io::Read;
@@ -18,7 +17,7 @@ use std::rt::Clock;
 /// Accepts so many connections, one after the other, and answers one request of each. A connection that fails is passed
 /// over, and so is one whose first byte doesn't come within two seconds, whose request isn't whole within ten, or which
 /// doesn't take its response within ten. What watches is told of each connection as soon as it is answered.
-pub fn serve_on<C: Clock, D: Report, H: Watch>(
+pub fn serve_on<C: Clock, D: Report + AddAccount, H: Watch>(
     alloc: Global,
     clock: &C,
     listener: &TcpListener,
@@ -26,11 +25,10 @@ pub fn serve_on<C: Clock, D: Report, H: Watch>(
     desk: &mut D,
     watch: &mut H,
 )
-    // At most so many texts are delivered, each answered at its place.
-    ensures steps { D.clean desk.new → (opening : D.Opening) (es : List Event) → D.stands opening es desk.old
-        → AtMost (D.stands opening) (D.answers opening) es count desk.new }
+    // At most so many calls are made of the desk, each answered at its place.
+    ensures steps { AtMost D.clean D.stands D.answers D.added D.leads D.enrols D.looks count desk.old desk.new }
 
-    // Nothing is said of a desk whose records have not told the truth.
+    // Nothing is said of the answers of a desk whose records have not told the truth.
     ensures stays { D.clean desk.new → D.clean desk.old }
 {
     'connections: for _ in 0..count {
@@ -41,15 +39,14 @@ pub fn serve_on<C: Clock, D: Report, H: Watch>(
 }
 
 /// Answers one request, in one write if the response is small, and then takes leave of the peer.
-fn serve_stream<C: Clock, D: Report, H: Watch>(
+fn serve_stream<C: Clock, D: Report + AddAccount, H: Watch>(
     alloc: Global,
     clock: &C,
     stream: &TcpStream,
     desk: &mut D,
     watch: &mut H,
 )
-    ensures steps { D.clean desk.new → (opening : D.Opening) (es : List Event) → D.stands opening es desk.old
-        → AtMostOne (D.stands opening) (D.answers opening) es desk.new }
+    ensures steps { AtMost D.clean D.stands D.answers D.added D.leads D.enrols D.looks 1 desk.old desk.new }
     ensures stays { D.clean desk.new → D.clean desk.old }
 {
     let Ok(timed) = TimedReader::of_request(stream, clock) else {

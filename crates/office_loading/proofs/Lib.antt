@@ -14,3 +14,5 @@ pub mod PlaceLemmas
 pub mod LineLemmas
 pub mod OfficeLemmas
 pub mod NextLemmas
+pub mod OlderLemmas
+pub mod OlderOffice

@@ -33,7 +33,7 @@ all_from : {X : Type 0} (P : X → Type 0) (xs : List X) → ((x : X) → Has xs
 all_from P [] h = tt
 all_from P (x ∷ xs) h = (h x (inl refl), all_from P xs (λ y p. h y (inr p)))
 
-replies_same : (is js : List Interchange) → map reply_values is ≡ map reply_values js → map numbered is ≡ map numbered js
+pub replies_same : (is js : List Interchange) → map reply_values is ≡ map reply_values js → map numbered is ≡ map numbered js
 replies_same [] [] same = refl
 replies_same [] (j ∷ js) same = absurd cc
 replies_same (i ∷ is) [] same = absurd cc

@@ -18,8 +18,10 @@ use Rattle.sqlite_trees.specs.Tree.{IsAscending}
 use Rattle.sqlite_rules.specs.Lists.{Has}
 use Rattle.office_setup.specs.Setups.{SetupContent}
 use Rattle.office_setup.specs.Given.{IsGiven}
+use Rattle.terminal_core.specs.declared.version.Version.{Version}
+use Rattle.terminal_core.specs.declared.version.Version.TheVariants.{First, Second, Third}
 use Rattle.office_rows.specs.Rows.{Setting}
-use Rattle.office_rows.specs.Opening.{setting, tables_version}
+use Rattle.office_rows.specs.Opening.{version_text, setting, tables_version}
 use Rattle.office_rows.specs.Values.{setting_values}
 use Rattle.office_rows.specs.Office.{settings_by_name}
 use Rattle.office_loading.specs.Fits.{FitsSetting}
@@ -93,3 +95,8 @@ rising content = ((name_below _ _ refl, (name_below _ _ refl, (name_below _ _ re
 pub settings_tied : (content : SetupContent) (x y : Setting) → Has (settings_by_name content) x → Has (settings_by_name content) y → keys_cmp (0 ∷ []) (setting_values x) (setting_values y) ≡ Equal → setting_values x ≡ setting_values y
 settings_tied content x y p q = rising_ties (keys_cmp (0 ∷ [])) (keys_total (0 ∷ [])) (map setting_values (settings_by_name content)) (rising content) (setting_values x) (setting_values y)
     (mapped_has setting_values (settings_by_name content) x p) (mapped_has setting_values (settings_by_name content) y q)
+
+pub version_utf8 : (version : Version) → IsUtf8 (version_text version)
+version_utf8 First = utf8_from is_printable printable_small (version_text First) refl
+version_utf8 Second = utf8_from is_printable printable_small (version_text Second) refl
+version_utf8 Third = utf8_from is_printable printable_small (version_text Third) refl

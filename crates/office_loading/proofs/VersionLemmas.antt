@@ -20,15 +20,15 @@ use Rattle.office_rows.specs.Shown.{columns_at, ShowsTable}
 use Rattle.office_tables.specs.declared.table_fault.TableFault.{TableFault}
 use Rattle.office_tables.specs.declared.table_fault.TableFault.TheVariants.{Store, Damaged, Version, Memory}
 use Rattle.office_tables.specs.Faults.{IsOfStore, IsOfStoreOr}
-use Rattle.office_loading.specs.Columns.{is_text, is_version}
+use Rattle.office_loading.specs.Columns.{is_text, names_version}
 use Rattle.office_loading.specs.Fits.{FitsSetting}
 use Rattle.office_selecting.specs.Settings.{setting_in}
 use Rattle.office_loading.specs.Decoded.{DecodesAll}
-use Rattle.office_loading.specs.Tables.{HasVersion, NamesVersion, TellsVersion, FailsSettings, ReadsTable, ReadsSettings, ShowsSettings}
+use Rattle.office_loading.specs.Tables.{HasVersion, Names, NamesVersion, TellsVersion, FailsSettings, ReadsTable, ReadsSettings, ShowsSettings}
 use Rattle.office_loading.proofs.TableLemmas.{has_mapped, mapped_has}
 
-abbrev version : Setting
-version = setting_of (codes "version") tables_version
+abbrev version : List ℕ → Setting
+version text = setting_of (codes "version") text
 
 text_is : (text : List ℕ) (value : Value) → is_text text value ≡ true → value ≡ Text text
 text_is text (Text other) holds = ap Text ((bytes_eq-Decides other text).0 holds)
@@ -44,22 +44,22 @@ module _ (db : Database) (answer : List Row) (it : ShowsTable setting (0 ∷ 1 �
       let s = has_mapped (columns_of setting) (db.trees setting.tree) r stored in
       subst (λ l. columns_at (0 ∷ 1 ∷ []) l ≡ l) (sym s.2) refl
 
-  pub version_there : list_any is_version answer ≡ true → HasVersion db
-  version_there holds =
-      let one = some_has is_version answer holds in
+  pub version_there : (text : List ℕ) → list_any (names_version text) answer ≡ true → Names text (db.trees setting.tree)
+  version_there text holds =
+      let one = some_has (names_version text) answer holds in
       let r = has_mapped (columns_at (0 ∷ 1 ∷ [])) it.by_key one.0 (subst (λ l. Has l one.0) it.is one.1) in
       let tests = and_parts _ _ one.2 in
       let whole : one.0 ≡ r.0 = r.2 ∙ full r.0 r.1 in
       let first : column r.0 0 ≡ Text (codes "version") = ap (λ l. column l 0) (sym whole) ∙ text_is _ (column one.0 0) tests.0 in
-      let second : column r.0 1 ≡ Text tables_version = ap (λ l. column l 1) (sym whole) ∙ text_is _ (column one.0 1) tests.1 in
-      let is : r.0 ≡ setting_values version = sym (full r.0 r.1) ∙ ap₂ (λ a b. a ∷ b ∷ []) first second in
+      let second : column r.0 1 ≡ Text text = ap (λ l. column l 1) (sym whole) ∙ text_is _ (column one.0 1) tests.1 in
+      let is : r.0 ≡ setting_values (version text) = sym (full r.0 r.1) ∙ ap₂ (λ a b. a ∷ b ∷ []) first second in
       subst (Contains (map (columns_of setting) (db.trees setting.tree))) is (Contains-permutation _ _ r.0 (IsPermutation-sym _ _ it.same) (contains_had it.by_key r.0 r.1))
 
-  pub version_absent : list_any is_version answer ≡ false → ¬ HasVersion db
-  version_absent none = λ there.
-      let has = has_contained it.by_key (setting_values version) (Contains-permutation _ _ (setting_values version) it.same there) in
-      let shown : Has answer (setting_values version) = subst (λ l. Has l (setting_values version)) (sym it.is) (mapped_has (columns_at (0 ∷ 1 ∷ [])) it.by_key (setting_values version) has) in
-      let holds = some_from is_version answer (setting_values version) shown refl in
+  pub version_absent : (text : List ℕ) → list_any (names_version text) answer ≡ false → ¬ Names text (db.trees setting.tree)
+  version_absent text none = λ there.
+      let has = has_contained it.by_key (setting_values (version text)) (Contains-permutation _ _ (setting_values (version text)) it.same there) in
+      let shown : Has answer (setting_values (version text)) = subst (λ l. Has l (setting_values (version text))) (sym it.is) (mapped_has (columns_at (0 ∷ 1 ∷ [])) it.by_key (setting_values (version text)) has) in
+      let holds = some_from (names_version text) answer (setting_values (version text)) shown ((bytes_eq-Decides text text).1 refl) in
       absurd cc
 
 -- a failed query says nothing of the version
@@ -83,11 +83,11 @@ module _ (db : Database) (tree : ℕ) (answer : List Row) (it : ShowsTable (sett
   shows_there : ShowsTable setting (0 ∷ 1 ∷ []) (0 ∷ []) (record db { trees = λ _. db.trees tree }) answer
   shows_there = record { by_key = it.by_key; same = it.same; ordered = it.ordered; is = it.is }
 
-  pub names_version : list_any is_version answer ≡ true → NamesVersion (db.trees tree)
-  names_version = version_there (record db { trees = λ _. db.trees tree }) answer shows_there
+  pub names_this : (text : List ℕ) → list_any (names_version text) answer ≡ true → Names text (db.trees tree)
+  names_this text = version_there (record db { trees = λ _. db.trees tree }) answer shows_there text
 
-  pub names_no_version : list_any is_version answer ≡ false → ¬ NamesVersion (db.trees tree)
-  names_no_version = version_absent (record db { trees = λ _. db.trees tree }) answer shows_there
+  pub names_none : (text : List ℕ) → list_any (names_version text) answer ≡ false → ¬ Names text (db.trees tree)
+  names_none text = version_absent (record db { trees = λ _. db.trees tree }) answer shows_there text
 
 -- behind the version comes no other Version
 pub fault_tells : (X : Type 0) (rows : List Row) (fault : TableFault) → NamesVersion rows → IsOfStoreOr (Unit {0}) fault → TellsVersion {X = X} rows (Err fault)

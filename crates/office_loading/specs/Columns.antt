@@ -1,5 +1,5 @@
 -- Which columns and rows say what: what the code relies on, and no caller has to read.
-use Rattle.std.specs.Prelude.{◌≡◌, ℕ, ◌+◌, ◌<◌, Bool, false, ◌&&◌, List, [], ◌∷◌, Option, IsTrue, IsUtf8, codes}
+use Rattle.std.specs.Prelude.{◌≡◌, ℕ, ◌+◌, ◌<◌, Bool, false, ◌&&◌, ◌||◌, List, [], ◌∷◌, Option, IsTrue, IsUtf8, codes}
 use Rattle.std.specs.Str.{bytes_eq}
 use Rattle.box6346.specs.NumberText.{is_number}
 use Rattle.box6346.specs.SizeText.{is_size}
@@ -20,11 +20,13 @@ use Rattle.terminal_core.specs.Rows.{VisitContent}
 use Rattle.terminal_core.specs.State.{side_code}
 use Rattle.yard_core.specs.declared.block.Block.{Block}
 use Rattle.office_rows.specs.Rows.{Partner, Interchange, PlaceContent, ListingContent, Setting}
-use Rattle.office_rows.specs.Opening.{tables_version}
 use Rattle.office_rows.specs.Values.{number, kind_code, way_code, laden_code, state_code, out_by, out_partner, out_number, out_at, partner_values, visit_values, place_values, line_values, setting_values, block_values}
 use Rattle.office_rows.specs.Opened.{Numbered, numbered, reply_values}
 use Rattle.office_rows.specs.Shown.{columns_at}
 use Rattle.office_loading.specs.Fits.{IsSlot, IsMoment, FitsPartner, FitsNumber, FitsSource, FitsArrival, FitsExit, FitsVisit, FitsPlace, FitsLine, FitsSetting, FitsBlock}
+use Rattle.std.specs.List.{list_any}
+use Rattle.terminal_core.specs.declared.version.Version.TheVariants.{First, Second}
+use Rattle.office_rows.specs.Opening.{version_text}
 
 -- ---- columns
 
@@ -127,6 +129,11 @@ abbrev pub is_text : List ℕ → Value → Bool
 is_text text (Text other) = bytes_eq other text
 is_text text value = false
 
--- the setting that names the version of these tables
-abbrev pub is_version : Row → Bool
-is_version row = is_text (codes "version") (column row 0) && is_text tables_version (column row 1)
+-- the setting that names this version
+abbrev pub names_version : List ℕ → Row → Bool
+names_version text row = is_text (codes "version") (column row 0) && is_text text (column row 1)
+
+-- one of the rows names version 1 or 2
+abbrev pub is_older : List Row → Bool
+is_older rows =
+    list_any (names_version (version_text First)) rows || list_any (names_version (version_text Second)) rows

@@ -2,3 +2,4 @@ pub mod Decoded
 pub mod Fits
 pub mod Columns
 pub mod Tables
+pub mod Older

@@ -1,5 +1,5 @@
 -- What reading the tables answers.
-use Rattle.std.specs.Prelude.{◌<◌, ◌^◌, List, [], ◌∷◌, map, Contains, codes, Result, Ok, Err, Vec}
+use Rattle.std.specs.Prelude.{ℕ, ◌<◌, ◌^◌, List, [], ◌∷◌, map, Contains, codes, Result, Ok, Err, Vec}
 use Rattle.std.specs.List.{AllByRecursion}
 use Rattle.sqlite.specs.Order.{Row}
 use Rattle.sqlite.specs.Effect.{Database}
@@ -57,10 +57,13 @@ ReadsTable content Fits Shown (Err fault) = FailsTable Fits Shown fault
 
 -- ---- the version
 
+-- one of these rows of a table of settings names this version
+abbrev pub Names : List ℕ → List Row → Type 0
+Names text rows = Contains (map (columns_of table.setting) rows) (setting_values (setting (codes "version") text))
+
 -- one of these rows of a table of settings names the version that this office reads
 abbrev pub NamesVersion : List Row → Type 0
-NamesVersion rows = Contains (map (columns_of table.setting) rows)
-    (setting_values (setting (codes "version") tables_version))
+NamesVersion rows = Names tables_version rows
 
 -- the table of settings has the version that this office reads
 abbrev pub HasVersion : Database → Type 0

@@ -7,8 +7,11 @@ mod columns;
 mod formats;
 mod line_rows;
 mod loading;
+mod migrating;
 mod number_rows;
 mod numbering;
+mod older;
+mod older_settings;
 mod opening;
 mod partner_rows;
 mod place_rows;
@@ -21,3 +24,4 @@ mod visit_rows;
 
 pub use loading::load;
 pub use numbering::nexts;
+pub use older::{load_old, read_older_tables};

@@ -3,6 +3,8 @@ ghost use Rattle.sqlite.specs.Held.{state};
 ghost use Rattle.sqlite.specs.State.{HasCleanDisk, IsUnchanged};
 ghost use Rattle.terminal_core.specs.Rows.{visit_content};
 ghost use Rattle.office_rows.specs.Tables.{office_schema};
+ghost use Rattle.office_rows.specs.Layouts.{Layout, bare_schema, schema_in};
+ghost use Rattle.office_rows.specs.Bare.{with_weights, weighed_in};
 ghost use Rattle.office_rows.specs.Rows.{listing_content};
 ghost use Rattle.office_rows.specs.Opened.{ShowsNumbers};
 ghost use Rattle.office_checks.specs.Contents.{partner_content, number_content, place_content};
@@ -15,7 +17,8 @@ ghost use Rattle.office_loading.specs.Tables.{ReadsTable, ShowsPartners, ShowsVi
 use crate::record::read_all;
 use office_checks::{NumberRow, PartnerRow};
 use office_selecting::{
-    select_blocks, select_interchanges, select_lines, select_partners, select_places, select_visits,
+    select_bare_visits, select_blocks, select_interchanges, select_lines, select_partners,
+    select_places, select_visits,
 };
 use office_tables::TableFault;
 use sqlite::{Alter, Connection};
@@ -28,8 +31,9 @@ pub(crate) fn read_partners<S: Alter>(
     alloc: Global,
     conn: &mut Connection<S>,
 ) -> Result<Vec<PartnerRow>, TableFault>
-    ensures read { HasCleanDisk (state S.Store conn.new) → (state S.Store conn.old).now.schema ≡ office_schema →
-        ReadsTable partner_content FitsPartner (ShowsPartners (state S.Store conn.old).now) result }
+    ensures read { HasCleanDisk (state S.Store conn.new) → (layout : Layout) →
+        (state S.Store conn.old).now.schema ≡ schema_in layout →
+        ReadsTable partner_content FitsPartner (ShowsPartners (weighed_in layout (state S.Store conn.old).now)) result }
     ensures same { HasCleanDisk (state S.Store conn.new) → (state S.Store conn.old).now.schema ≡ office_schema →
         OnOk result (IsUnchanged (state S.Store conn.old) (state S.Store conn.new)) }
     ensures reads { OnlyReads (state S.Store conn.old) (state S.Store conn.new) }
@@ -47,8 +51,9 @@ pub(crate) fn read_numbers<S: Alter>(
     alloc: Global,
     conn: &mut Connection<S>,
 ) -> Result<Vec<NumberRow>, TableFault>
-    ensures read { HasCleanDisk (state S.Store conn.new) → (state S.Store conn.old).now.schema ≡ office_schema →
-        ReadsTable number_content FitsNumber (ShowsNumbers (state S.Store conn.old).now) result }
+    ensures read { HasCleanDisk (state S.Store conn.new) → (layout : Layout) →
+        (state S.Store conn.old).now.schema ≡ schema_in layout →
+        ReadsTable number_content FitsNumber (ShowsNumbers (weighed_in layout (state S.Store conn.old).now)) result }
     ensures same { HasCleanDisk (state S.Store conn.new) → (state S.Store conn.old).now.schema ≡ office_schema →
         OnOk result (IsUnchanged (state S.Store conn.old) (state S.Store conn.new)) }
     ensures reads { OnlyReads (state S.Store conn.old) (state S.Store conn.new) }
@@ -80,13 +85,31 @@ pub(crate) fn read_visits<S: Alter>(
     read_all(alloc, &rows)
 }
 
+/// All visits of a store of version 1 or 2, by their key, each with a weight of 0.
+pub(crate) fn read_bare_visits<S: Alter>(
+    alloc: Global,
+    conn: &mut Connection<S>,
+) -> Result<Vec<Visit>, TableFault>
+    ensures read { HasCleanDisk (state S.Store conn.new) → (state S.Store conn.old).now.schema ≡ bare_schema →
+        ReadsTable visit_content FitsVisit (ShowsVisits (with_weights (state S.Store conn.old).now)) result }
+    ensures reads { OnlyReads (state S.Store conn.old) (state S.Store conn.new) }
+    ensures unchanged { HasCleanDisk (state S.Store conn.new) →
+        OnOk result (IsUnchanged (state S.Store conn.old) (state S.Store conn.new)) }
+    ensures unwritten { WritesNothing (state S.Store conn.old) (state S.Store conn.new) }
+    ensures version { IfErr result (IsOfStoreOr ⊤) }
+{
+    let rows = select_bare_visits(conn)?;
+    read_all(alloc, &rows)
+}
+
 /// All containers in the yard, by their key.
 pub(crate) fn read_places<S: Alter>(
     alloc: Global,
     conn: &mut Connection<S>,
 ) -> Result<Vec<Place>, TableFault>
-    ensures read { HasCleanDisk (state S.Store conn.new) → (state S.Store conn.old).now.schema ≡ office_schema →
-        ReadsTable place_content FitsPlace (ShowsPlaces (state S.Store conn.old).now) result }
+    ensures read { HasCleanDisk (state S.Store conn.new) → (layout : Layout) →
+        (state S.Store conn.old).now.schema ≡ schema_in layout →
+        ReadsTable place_content FitsPlace (ShowsPlaces (weighed_in layout (state S.Store conn.old).now)) result }
     ensures same { HasCleanDisk (state S.Store conn.new) → (state S.Store conn.old).now.schema ≡ office_schema →
         OnOk result (IsUnchanged (state S.Store conn.old) (state S.Store conn.new)) }
     ensures reads { OnlyReads (state S.Store conn.old) (state S.Store conn.new) }
@@ -104,8 +127,9 @@ pub(crate) fn read_lines<S: Alter>(
     alloc: Global,
     conn: &mut Connection<S>,
 ) -> Result<Vec<Listing>, TableFault>
-    ensures read { HasCleanDisk (state S.Store conn.new) → (state S.Store conn.old).now.schema ≡ office_schema →
-        ReadsTable listing_content FitsLine (ShowsLines (state S.Store conn.old).now) result }
+    ensures read { HasCleanDisk (state S.Store conn.new) → (layout : Layout) →
+        (state S.Store conn.old).now.schema ≡ schema_in layout →
+        ReadsTable listing_content FitsLine (ShowsLines (weighed_in layout (state S.Store conn.old).now)) result }
     ensures same { HasCleanDisk (state S.Store conn.new) → (state S.Store conn.old).now.schema ≡ office_schema →
         OnOk result (IsUnchanged (state S.Store conn.old) (state S.Store conn.new)) }
     ensures reads { OnlyReads (state S.Store conn.old) (state S.Store conn.new) }
@@ -123,8 +147,9 @@ pub(crate) fn read_blocks<S: Alter>(
     alloc: Global,
     conn: &mut Connection<S>,
 ) -> Result<Vec<Block>, TableFault>
-    ensures read { HasCleanDisk (state S.Store conn.new) → (state S.Store conn.old).now.schema ≡ office_schema →
-        ReadsTable itself FitsBlock (ShowsBlocks (state S.Store conn.old).now) result }
+    ensures read { HasCleanDisk (state S.Store conn.new) → (layout : Layout) →
+        (state S.Store conn.old).now.schema ≡ schema_in layout →
+        ReadsTable itself FitsBlock (ShowsBlocks (weighed_in layout (state S.Store conn.old).now)) result }
     ensures same { HasCleanDisk (state S.Store conn.new) → (state S.Store conn.old).now.schema ≡ office_schema →
         OnOk result (IsUnchanged (state S.Store conn.old) (state S.Store conn.new)) }
     ensures reads { OnlyReads (state S.Store conn.old) (state S.Store conn.new) }

@@ -5,7 +5,7 @@ ghost use Rattle.sqlite.specs.Order.{column};
 ghost use Rattle.sqlite.specs.State.{HasCleanDisk, IsUnchanged};
 ghost use Rattle.office_rows.specs.Tables.{office_schema};
 ghost use Rattle.office_checks.specs.Contents.{setting_content};
-ghost use Rattle.office_loading.specs.Columns.{is_text, is_version};
+ghost use Rattle.office_loading.specs.Columns.{is_text, names_version};
 ghost use Rattle.office_selecting.specs.Reads.{OnlyReads, WritesNothing};
 ghost use Rattle.office_selecting.specs.Settings.{HasNoSettings, HasSettings};
 ghost use Rattle.office_tables.specs.Faults.{IsOfStore};
@@ -39,24 +39,24 @@ pub(crate) fn read_settings<S: Alter>(
         TellsVersion ((state S.Store conn.old).now.trees tree) result }
 {
     let rows = select_settings(conn)?;
-    if !has_version(&rows) {
+    if !has_version(&rows, b"3") {
         return Err(TableFault::Version);
     }
     read_all(alloc, &rows)
 }
 
 /// Whether one of the rows names this version.
-fn has_version(rows: &[Row]) -> bool
-    ensures { result ≡ list_any is_version rows.now }
+pub(crate) fn has_version(rows: &[Row], version: &[u8]) -> bool
+    ensures { result ≡ list_any (names_version version.now) rows.now }
 {
-    rows.iter().any(|row| is_version(row))
+    rows.iter().any(|row| names_version(row, version))
 }
 
 /// Whether a row names this version.
-fn is_version(row: &Row) -> bool
-    ensures { result ≡ is_version row.now }
+fn names_version(row: &Row, version: &[u8]) -> bool
+    ensures { result ≡ names_version version.now row.now }
 {
-    is_text(row, 0, b"version") && is_text(row, 1, b"3")
+    is_text(row, 0, b"version") && is_text(row, 1, version)
 }
 
 /// Whether a column is this text.

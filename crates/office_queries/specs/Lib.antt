@@ -1,2 +1,4 @@
 pub mod Escapes
 pub mod Keys
+pub mod AccountKeys
+pub mod Looking

@@ -1,6 +1,8 @@
-//! What can be asked of the office besides deliveries, and the keys by which it is asked.
+//! What can be asked of the office besides deliveries, and the keys by which it is asked, accounts that are to be
+//! added among them.
 #![tactic(auto)]
 
+mod account_key;
 mod escapes;
 mod not_now;
 mod parts;
@@ -10,6 +12,7 @@ mod report;
 mod report_kind;
 mod values;
 
+pub use account_key::{AccountKey, read_account_key};
 pub use not_now::NotNow;
 pub use query::Query;
 pub use reading::read_query;

@@ -6,6 +6,9 @@ use Rattle.edi_segments.specs.declared.syntax_fault.SyntaxFault.TheVariants as s
 use Rattle.office_replies.specs.declared.fault.Fault.{Fault}
 use Rattle.office_replies.specs.declared.fault.Fault.TheVariants as fault
 use Rattle.office_replies.specs.declared.response.Response.TheVariants.{Refused, NotNow}
+use Rattle.office_replies.specs.declared.account_fault.AccountFault.{AccountFault}
+use Rattle.office_replies.specs.declared.account_fault.AccountFault.TheVariants as account
+use Rattle.office_replies.specs.AccountAnswers.{account_refusal_text, account_refusal_data}
 use Rattle.office_replies.specs.Bodies.{not_now_data}
 use Rattle.office_replies.specs.Refusals.{refusal_text, refusal_data}
 use Rattle.office_replies.specs.Responses.{body_of}
@@ -33,6 +36,12 @@ refusal_text-data fault.WrongRecipient = refl
 
 pub refused_body-data : (fault : Fault) → body_of (Refused fault) ≡ compact_text (refusal_data fault)
 refused_body-data fault = refusal_text-data fault
+
+pub account_refusal-data : (fault : AccountFault) → account_refusal_text fault ≡ compact_text (account_refusal_data fault)
+unfolding serde_json_on_literals
+account_refusal-data account.Partner = refl
+account_refusal-data account.Kind = refl
+account_refusal-data account.Accounts = refl
 
 pub not_now_body-data : body_of NotNow ≡ compact_text not_now_data
 unfolding serde_json_on_literals

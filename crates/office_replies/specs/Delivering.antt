@@ -1,5 +1,5 @@
 -- Deliveries one after the other.
-use Rattle.std.specs.Prelude.{ℕ, List, [], ◌∷◌, ◌++◌}
+use Rattle.std.specs.Prelude.{◌≡◌, ℕ, List, [], ◌∷◌, ◌++◌}
 use Rattle.office_replies.specs.Events.{Event, delivered}
 use Rattle.office_replies.specs.declared.response.Response.{Response}
 use Rattle.office_replies.specs.declared.response.Response.TheVariants.{NotNow}
@@ -27,3 +27,12 @@ abbrev pub events_behind : List Event → List (List ℕ) → List Response → 
 events_behind es [] responses = es
 events_behind es (text ∷ texts) [] = es
 events_behind es (text ∷ texts) (response ∷ responses) = events_behind (with_answered es text response) texts responses
+
+-- those texts, one behind the other and each with its response, lead from what it was to what it is
+abbrev pub LeadsOn : {D : Type 0} → (leads : D → List ℕ → Response → D → Type 0) → D → List (List ℕ) → List Response → D →
+    Type 0
+LeadsOn leads old [] [] new = new ≡ old
+LeadsOn leads old [] (response ∷ responses) new = ⊥
+LeadsOn leads old (text ∷ texts) [] new = ⊥
+LeadsOn {D} leads old (text ∷ texts) (response ∷ responses) new =
+    (next : D) × leads old text response next × LeadsOn leads next texts responses new

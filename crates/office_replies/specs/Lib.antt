@@ -9,3 +9,6 @@ pub mod Kinds
 pub mod Contents
 pub mod Events
 pub mod Delivering
+pub mod AccountAnswers
+pub mod Adding
+pub mod Calls

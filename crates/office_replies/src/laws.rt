@@ -7,7 +7,10 @@
 ghost use Rattle.std.specs.Prelude.{◌≡◌, ◌≢◌, ℕ, List, []};
 ghost use Rattle.serde_json.specs.Written.{compact_text};
 ghost use Rattle.office_replies.specs.declared.fault.Fault.{Fault};
-ghost use Rattle.office_replies.specs.declared.response.Response.TheVariants.{Refused, NotNow};
+ghost use Rattle.office_replies.specs.declared.response.Response.TheVariants as response;
+ghost use Rattle.office_replies.specs.declared.account_answer.AccountAnswer.TheVariants as account;
+ghost use Rattle.office_replies.specs.declared.account_fault.AccountFault.{AccountFault};
+ghost use Rattle.office_replies.specs.AccountAnswers.{account_body, account_refusal_data};
 ghost use Rattle.office_replies.specs.Bodies.{not_now_data};
 ghost use Rattle.office_replies.specs.Messages.{ReportContent, reply_content_text};
 ghost use Rattle.office_replies.specs.Refusals.{refusal_text, refusal_data};
@@ -17,12 +20,17 @@ ghost use Rattle.office_replies.specs.Responses.{body_of};
 /// name.
 pub fn refusal_is_json()
     ensures text { (fault : Fault) → refusal_text fault ≡ compact_text (refusal_data fault) }
-    ensures body { (fault : Fault) → body_of (Refused fault) ≡ compact_text (refusal_data fault) }
+    ensures body { (fault : Fault) → body_of (response.Refused fault) ≡ compact_text (refusal_data fault) }
+{}
+
+/// A refused account is told by an object too, of the same form.
+pub fn account_refusal_is_json()
+    ensures { (fault : AccountFault) → account_body (account.Refused fault) ≡ compact_text (account_refusal_data fault) }
 {}
 
 /// NotNow is an object: its `answer` is "not now".
 pub fn not_now_is_json()
-    ensures { body_of NotNow ≡ compact_text not_now_data }
+    ensures { body_of response.NotNow ≡ compact_text not_now_data }
 {}
 
 /// A reply that is kept is never empty, so an empty one can stand for an interchange that waits.

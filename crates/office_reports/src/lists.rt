@@ -116,7 +116,8 @@ fn done_count(list: &BTreeMap<BoxNumber, ListedLine>) -> usize
     done
 }
 
-fn list_name(side: Side) -> &'static str
+/// `LOAD` or `DISCHARGE`.
+pub fn list_name(side: Side) -> &'static str
     ensures { result.now ≡ list_name side }
 {
     match side {

@@ -180,8 +180,8 @@ fn departure_text(
     phrase(alloc, &[passage.as_str(), "DAYS", days.as_str()])
 }
 
-/// By which way, by whose word, and when.
-fn passage_text(
+/// `GATE PARTNER NUMBER MOMENT`: by which way, by whose word, and when.
+pub fn passage_text(
     alloc: Global,
     setup: &Setup,
     way: Way,

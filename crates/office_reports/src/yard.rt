@@ -1,3 +1,5 @@
+//! The containers in the yard.
+
 ghost use Rattle.std.specs.Prelude.{◌≡◌, ◌++◌, IfOk, OnOk, string_bytes};
 ghost use Rattle.std.specs.List.{flat_map};
 ghost use Rattle.std.specs.Map.{values_of};
@@ -58,7 +60,7 @@ fn push_standing(alloc: Global, text: &mut String, standing: &Standing) -> Resul
 }
 
 /// The containers in the yard, by the texts of their slots.
-pub(crate) fn standings(
+pub fn standings(
     alloc: Global,
     terminal: &Terminal,
 ) -> Result<BTreeMap<[u8; 7], Standing>, AllocError>

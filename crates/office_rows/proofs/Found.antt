@@ -10,13 +10,16 @@ use Rattle.sqlite_sql.specs.declared.ops.BinaryOp.TheVariants.{Compare}
 use Rattle.sqlite_sql.specs.declared.ops.CompareOp.TheVariants.{Eq}
 use Rattle.sqlite.specs.Command.TheVariants.{Select}
 use Rattle.sqlite.specs.State.{State, Shown}
-use Rattle.sqlite.proofs.Callers.{reads_as}
+use Rattle.sqlite.specs.Listing.{understood, reads_listing}
+use Rattle.sqlite.proofs.Callers.{IsPlain, command_of, reads_as}
 use Rattle.office_rows.specs.Tables.{partner, interchange, office_schema}
-use Rattle.office_rows.specs.Rows.{Rows}
+use Rattle.office_rows.specs.Rows.{Interchange, Rows}
 use Rattle.office_rows.specs.Values.{number, partner_values, interchange_values, kept_values, next_values}
-use Rattle.office_rows.specs.Stored.{HasRows}
+use Rattle.office_rows.specs.Stored.{Holds, HasRows}
+use Rattle.office_rows.specs.Layouts.{Layout, bare, weighed, schema_in}
 use Rattle.office_rows.specs.Effects.{is_pair}
 use Rattle.office_rows.proofs.Reading as texts
+use Rattle.office_rows.proofs.BareReading as bare_texts
 use Rattle.office_rows.proofs.WriteLemmas.{equal_numbers, rows_of, answer_is}
 use Rattle.office_rows.proofs.HoldLemmas.{holds_read}
 
@@ -27,15 +30,27 @@ and_true false = refl
 abbrev equals : Row → ℕ → ℕ → Bool
 equals c at n = is_true (binary (Compare Eq Binary) (column c at) (number n))
 
+kept_is : (layout : Layout) → (command_of (understood (schema_in layout) texts.select_kept) ≡ Select (record { lets = []; body = rows_of 2 texts.select_kept_tests texts.select_kept_shown }) texts.select_kept_names) × (reads_listing (schema_in layout) texts.select_kept ≡ false)
+kept_is bare = bare_texts.select_kept_is
+kept_is weighed = texts.select_kept_is
+
+pub kept_plain : (layout : Layout) → IsPlain (understood (schema_in layout) texts.select_kept)
+kept_plain bare = bare_texts.select_kept_plain
+kept_plain weighed = texts.select_kept_plain
+
+-- where the tables are those of some version, the interchanges of a pair are found
+pub finds_pair : (old new : State) (answer : List Row) (layout : Layout) → old.now.schema ≡ schema_in layout → (interchanges : List Interchange) → Holds interchange interchange_values interchanges (old.now.trees 2) → (p n : ℕ) → Shown texts.select_kept (number p ∷ number n ∷ []) old new answer → IsPermutation (map kept_values (filter (is_pair p n) interchanges)) answer
+finds_pair old new answer layout is interchanges held p n h =
+    let params = number p ∷ number n ∷ [] in
+    let read = reads_as texts.select_kept params old new (schema_in layout) is (Select (record { lets = []; body = rows_of 2 texts.select_kept_tests texts.select_kept_shown }) texts.select_kept_names) (kept_is layout).0 (kept_plain layout) (kept_is layout).1 answer h in
+    IsPermutation-trans _ _ _ (holds_read interchange interchange_values interchanges (old.now.trees 2) held params texts.select_kept_tests texts.select_kept_shown
+    (λ c. equals c 0 p && (equals c 1 n && true)) (λ c. column c 2 ∷ column c 3 ∷ []) (is_pair p n) kept_values
+    (λ r. refl) (λ r. refl) (λ i. ap₂ ◌&&◌ (equal_numbers i.partner p) (and_true _ ∙ equal_numbers i.number n)) (λ i. refl))
+    (answer_is params texts.select_kept_tests 2 texts.select_kept_shown old.now.trees answer refl (read.answer Null))
+
 module _ (old new : State) (rows : Rows) (answer : List Row) (has : HasRows rows old.now) where
   pub finds_kept : (p n : ℕ) → Shown texts.select_kept (number p ∷ number n ∷ []) old new answer → IsPermutation (map kept_values (filter (is_pair p n) rows.interchanges)) answer
-  finds_kept p n h =
-      let params = number p ∷ number n ∷ [] in
-      let read = reads_as texts.select_kept params old new office_schema has.schema (Select (record { lets = []; body = rows_of 2 texts.select_kept_tests texts.select_kept_shown }) texts.select_kept_names) texts.select_kept_is.0 texts.select_kept_plain texts.select_kept_is.1 answer h in
-      IsPermutation-trans _ _ _ (holds_read interchange interchange_values rows.interchanges (old.now.trees 2) has.rows_are.interchanges params texts.select_kept_tests texts.select_kept_shown
-      (λ c. equals c 0 p && (equals c 1 n && true)) (λ c. column c 2 ∷ column c 3 ∷ []) (is_pair p n) kept_values
-      (λ r. refl) (λ r. refl) (λ i. ap₂ ◌&&◌ (equal_numbers i.partner p) (and_true _ ∙ equal_numbers i.number n)) (λ i. refl))
-      (answer_is params texts.select_kept_tests 2 texts.select_kept_shown old.now.trees answer refl (read.answer Null))
+  finds_kept p n h = finds_pair old new answer weighed has.schema rows.interchanges has.rows_are.interchanges p n h
 
   pub finds_next : (id : ℕ) → Shown texts.select_next (number id ∷ []) old new answer → IsPermutation (map next_values (filter (λ p. p.id == id) rows.partners)) answer
   finds_next id h =

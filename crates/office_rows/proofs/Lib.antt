@@ -7,6 +7,7 @@ pub mod TableLemmas
 pub mod Creating
 pub mod Writing
 pub mod Reading
+pub mod BareReading
 pub mod Written
 pub mod Created
 pub mod OpeningLemmas

@@ -1,7 +1,7 @@
 -- What each query of all rows of a table shows.
-use Rattle.std.proofs.Common.{◌≡◌, ℕ, zero, suc, ◌+◌, ◌<◌, List, [], ◌∷◌, Bool, false, map, filter, length, set, slice_index_or, refl, sym, ap, subst, ◌∙◌, arith}
+use Rattle.std.proofs.Common.{◌≡◌, ℕ, zero, suc, ◌+◌, ◌<◌, IsSorted, List, [], ◌∷◌, Bool, false, map, filter, length, set, slice_index_or, refl, sym, ap, subst, ◌∙◌, arith}
 use Rattle.std.specs.List.{swap}
-use Rattle.std.specs.Ordering.{is_lt}
+use Rattle.std.specs.Ordering.{is_lt, on}
 use Rattle.std.specs.List.Sorted.{IsPermutation, IsSortedBy}
 use Rattle.std.proofs.lemmas.List.{length-map, map-set}
 use Rattle.std.proofs.lemmas.List.Sorted.{IsPermutation-refl, IsPermutation-trans, IsPermutation-map, IsPermutation-swap, IsPermutation-keeps}
@@ -13,6 +13,7 @@ use Rattle.sqlite.specs.Term.{Term, eval_all}
 use Rattle.sqlite.specs.Query.{Output, key_cmp}
 use Rattle.sqlite.specs.Program.{overlay}
 use Rattle.sqlite.specs.Tree.{Trees}
+use Rattle.sqlite.specs.Effect.{Database}
 use Rattle.sqlite.specs.Command.TheVariants.{Select}
 use Rattle.sqlite.specs.Listing.{understood, reads_listing}
 use Rattle.sqlite.specs.State.{State, Shown}
@@ -21,9 +22,13 @@ use Rattle.sqlite_trees.proofs.ListLemmas.{map-map, filter_all, all_of}
 use Rattle.sqlite_value.specs.Keys.{ascending}
 use Rattle.sqlite_value.specs.declared.keys.Key.{Key}
 use Rattle.office_rows.specs.Tables.{partner, interchange, visit, place, listed, setting, block, office_schema}
+use Rattle.office_rows.specs.Layouts.{Layout, bare, weighed, bare_schema, schema_in}
+use Rattle.office_rows.specs.Bare.{weighed_row, with_weights, weighed_in}
 use Rattle.office_rows.specs.Stored.{columns_of}
 use Rattle.office_rows.specs.Shown.{columns_at, ShowsTable}
 use Rattle.office_rows.proofs.Reading as texts
+use Rattle.office_rows.proofs.BareReading as bare_texts
+use Rattle.sqlite.specs.Schema.{Schema}
 use Rattle.office_rows.proofs.WriteLemmas.{rows_of, passes, answer_in_order}
 
 -- ---- lists
@@ -66,51 +71,98 @@ sorted_as f h lt less alike (z ∷ zs) sorted = λ k d low high.
 
 -- ---- queries
 
-module _ (old new : State) (has : old.now.schema ≡ office_schema) (answer : List Row) where
-  lists : (table : Table) (sql : List ℕ) (shown : List Term) (order : List (Term × Key)) (names : List (List ℕ)) (columns key : List ℕ)
-      → (command_of (understood office_schema sql) ≡ Select (record { lets = []; body = record (rows_of table.tree [] shown) { order = order } }) names) × (reads_listing office_schema sql ≡ false)
-      → IsPlain (understood office_schema sql) → ((trees : Trees) → overlay trees [] table.tree ≡ trees table.tree)
-      → ((r : Row) → eval_all shown ([] ∷ r ∷ []) ≡ columns_at columns (columns_of table r))
-      → ((r : Row) → eval_all (map (λ (k : Term × Key). k.0) order) ([] ∷ r ∷ []) ≡ columns_at key (columns_of table r))
+-- the rows of a tree show these columns of what each says, by those of the key from the least up
+record ByKey (tree : ℕ) (columns_in : Row → Row) (shown key : List ℕ) (db : Database) (answer : List Row) : Type 0 where
+  by_key : List Row
+  same : IsPermutation (map columns_in (db.trees tree)) by_key
+  ordered : IsSorted (on (columns_at key) (key_cmp 0 (map (λ _. ascending Binary) key))) by_key
+  is : answer ≡ map (columns_at shown) by_key
+
+module _ (schema : Schema) (old new : State) (has : old.now.schema ≡ schema) (answer : List Row) where
+  rows_shown : (tree : ℕ) (columns_in : Row → Row) (sql : List ℕ) (shown : List Term) (order : List (Term × Key)) (names : List (List ℕ)) (columns key : List ℕ)
+      → (command_of (understood schema sql) ≡ Select (record { lets = []; body = record (rows_of tree [] shown) { order = order } }) names) × (reads_listing schema sql ≡ false)
+      → IsPlain (understood schema sql) → ((trees : Trees) → overlay trees [] tree ≡ trees tree)
+      → ((r : Row) → eval_all shown ([] ∷ r ∷ []) ≡ columns_at columns (columns_in r))
+      → ((r : Row) → eval_all (map (λ (k : Term × Key). k.0) order) ([] ∷ r ∷ []) ≡ columns_at key (columns_in r))
       → map (λ (k : Term × Key). k.1) order ≡ map (λ (n : ℕ). ascending Binary) key
-      → Shown sql [] old new answer → ShowsTable table columns key old.now answer
-  lists table sql shown order names columns key is plain seen shows keys ascends h =
-      let q = record (rows_of table.tree [] shown) { order = order } in
-      let read = reads_as sql [] old new office_schema has (Select (record { lets = []; body = q }) names) is.0 plain is.1 answer h in
-      let stored = old.now.trees table.tree in
+      → Shown sql [] old new answer → ByKey tree columns_in columns key old.now answer
+  rows_shown tree columns_in sql shown order names columns key is plain seen shows keys ascends h =
+      let q = record (rows_of tree [] shown) { order = order } in
+      let read = reads_as sql [] old new schema has (Select (record { lets = []; body = q }) names) is.0 plain is.1 answer h in
+      let stored = old.now.trees tree in
       let keyed : Row → Output = λ r. (eval_all (map (λ (k : Term × Key). k.0) order) ([] ∷ r ∷ []), eval_all shown ([] ∷ r ∷ [])) in
-      let given = answer_in_order [] [] table.tree shown order old.now.trees answer (seen old.now.trees) (read.answer Null) in
+      let given = answer_in_order [] [] tree shown order old.now.trees answer (seen old.now.trees) (read.answer Null) in
       let all : filter (passes [] []) stored ≡ stored = filter_all _ stored (all_of _ (λ r. refl) stored) in
       let placed = unmapped keyed stored (read.answer Null).ordered (subst (λ l. IsPermutation (map keyed l) (read.answer Null).ordered) all given.0) in
       let compare = key_cmp 0 (map (λ (k : Term × Key). k.1) order) in
       let lt : Output → Output → Bool = λ x y. is_lt (compare x.0 y.0) in
       let less : Row → Row → Bool = λ x y. is_lt (key_cmp 0 (map (λ (n : ℕ). ascending Binary) key) (columns_at key x) (columns_at key y)) in
-      let alike : (x y : Row) → less (columns_of table x) (columns_of table y) ≡ lt (keyed x) (keyed y) = λ x y. rw (← keys x, ← keys y, ← ascends) refl in
+      let alike : (x y : Row) → less (columns_in x) (columns_in y) ≡ lt (keyed x) (keyed y) = λ x y. rw (← keys x, ← keys y, ← ascends) refl in
       let sorted : IsSortedBy lt (map keyed placed.0) = subst (IsSortedBy lt) placed.2 given.1 in
       record {
-        by_key = map (columns_of table) placed.0;
-        same = IsPermutation-map (columns_of table) _ _ placed.1;
-        ordered = sorted_as keyed (columns_of table) lt less alike placed.0 sorted;
-        is = given.2 ∙ ap (map (λ (o : Output). o.1)) placed.2 ∙ map-map (λ (o : Output). o.1) keyed placed.0 ∙ (λ i. map (λ r. shows r i) placed.0) ∙ sym (map-map (columns_at columns) (columns_of table) placed.0);
+        by_key = map columns_in placed.0;
+        same = IsPermutation-map columns_in _ _ placed.1;
+        ordered = sorted_as keyed columns_in lt less alike placed.0 sorted;
+        is = given.2 ∙ ap (map (λ (o : Output). o.1)) placed.2 ∙ map-map (λ (o : Output). o.1) keyed placed.0 ∙ (λ i. map (λ r. shows r i) placed.0) ∙ sym (map-map (columns_at columns) columns_in placed.0);
       }
 
-  pub lists_partner : Shown texts.select_partner [] old new answer → ShowsTable partner (0 ∷ 1 ∷ 2 ∷ 3 ∷ []) (0 ∷ []) old.now answer
-  lists_partner h = lists partner texts.select_partner texts.select_partner_shown texts.select_partner_order texts.select_partner_names (0 ∷ 1 ∷ 2 ∷ 3 ∷ []) (0 ∷ []) texts.select_partner_is texts.select_partner_plain (λ trees. refl) (λ r. refl) (λ r. refl) refl h
+  lists : (table : Table) (sql : List ℕ) (shown : List Term) (order : List (Term × Key)) (names : List (List ℕ)) (columns key : List ℕ)
+      → (command_of (understood schema sql) ≡ Select (record { lets = []; body = record (rows_of table.tree [] shown) { order = order } }) names) × (reads_listing schema sql ≡ false)
+      → IsPlain (understood schema sql) → ((trees : Trees) → overlay trees [] table.tree ≡ trees table.tree)
+      → ((r : Row) → eval_all shown ([] ∷ r ∷ []) ≡ columns_at columns (columns_of table r))
+      → ((r : Row) → eval_all (map (λ (k : Term × Key). k.0) order) ([] ∷ r ∷ []) ≡ columns_at key (columns_of table r))
+      → map (λ (k : Term × Key). k.1) order ≡ map (λ (n : ℕ). ascending Binary) key
+      → Shown sql [] old new answer → ShowsTable table columns key old.now answer
+  lists table sql shown order names columns key is plain seen shows keys ascends h =
+      let s = rows_shown table.tree (columns_of table) sql shown order names columns key is plain seen shows keys ascends h in
+      record { by_key = s.by_key; same = s.same; ordered = s.ordered; is = s.is }
 
-  pub lists_interchange : Shown texts.select_interchange [] old new answer → ShowsTable interchange (0 ∷ 1 ∷ 3 ∷ []) (0 ∷ 1 ∷ []) old.now answer
-  lists_interchange h = lists interchange texts.select_interchange texts.select_interchange_shown texts.select_interchange_order texts.select_interchange_names (0 ∷ 1 ∷ 3 ∷ []) (0 ∷ 1 ∷ []) texts.select_interchange_is texts.select_interchange_plain (λ trees. refl) (λ r. refl) (λ r. refl) refl h
+module _ (old new : State) (answer : List Row) where
+  pub lists_partner : (layout : Layout) → old.now.schema ≡ schema_in layout → Shown texts.select_partner [] old new answer → ShowsTable partner (0 ∷ 1 ∷ 2 ∷ 3 ∷ []) (0 ∷ []) (weighed_in layout old.now) answer
+  lists_partner bare has h =
+      let s = lists bare_schema old new has answer partner texts.select_partner texts.select_partner_shown texts.select_partner_order texts.select_partner_names (0 ∷ 1 ∷ 2 ∷ 3 ∷ []) (0 ∷ []) bare_texts.select_partner_is bare_texts.select_partner_plain (λ trees. refl) (λ r. refl) (λ r. refl) refl h in
+      record { by_key = s.by_key; same = s.same; ordered = s.ordered; is = s.is }
+  lists_partner weighed has h = lists office_schema old new has answer partner texts.select_partner texts.select_partner_shown texts.select_partner_order texts.select_partner_names (0 ∷ 1 ∷ 2 ∷ 3 ∷ []) (0 ∷ []) texts.select_partner_is texts.select_partner_plain (λ trees. refl) (λ r. refl) (λ r. refl) refl h
 
-  pub lists_visit : Shown texts.select_visit [] old new answer → ShowsTable visit (0 ∷ 1 ∷ 2 ∷ 3 ∷ 4 ∷ 5 ∷ 6 ∷ 7 ∷ 8 ∷ 9 ∷ 10 ∷ 11 ∷ 12 ∷ 13 ∷ 14 ∷ []) (0 ∷ []) old.now answer
-  lists_visit h = lists visit texts.select_visit texts.select_visit_shown texts.select_visit_order texts.select_visit_names (0 ∷ 1 ∷ 2 ∷ 3 ∷ 4 ∷ 5 ∷ 6 ∷ 7 ∷ 8 ∷ 9 ∷ 10 ∷ 11 ∷ 12 ∷ 13 ∷ 14 ∷ []) (0 ∷ []) texts.select_visit_is texts.select_visit_plain (λ trees. refl) (λ r. refl) (λ r. refl) refl h
+  pub lists_interchange : (layout : Layout) → old.now.schema ≡ schema_in layout → Shown texts.select_interchange [] old new answer → ShowsTable interchange (0 ∷ 1 ∷ 3 ∷ []) (0 ∷ 1 ∷ []) (weighed_in layout old.now) answer
+  lists_interchange bare has h =
+      let s = lists bare_schema old new has answer interchange texts.select_interchange texts.select_interchange_shown texts.select_interchange_order texts.select_interchange_names (0 ∷ 1 ∷ 3 ∷ []) (0 ∷ 1 ∷ []) bare_texts.select_interchange_is bare_texts.select_interchange_plain (λ trees. refl) (λ r. refl) (λ r. refl) refl h in
+      record { by_key = s.by_key; same = s.same; ordered = s.ordered; is = s.is }
+  lists_interchange weighed has h = lists office_schema old new has answer interchange texts.select_interchange texts.select_interchange_shown texts.select_interchange_order texts.select_interchange_names (0 ∷ 1 ∷ 3 ∷ []) (0 ∷ 1 ∷ []) texts.select_interchange_is texts.select_interchange_plain (λ trees. refl) (λ r. refl) (λ r. refl) refl h
 
-  pub lists_place : Shown texts.select_place [] old new answer → ShowsTable place (0 ∷ 1 ∷ 2 ∷ []) (0 ∷ []) old.now answer
-  lists_place h = lists place texts.select_place texts.select_place_shown texts.select_place_order texts.select_place_names (0 ∷ 1 ∷ 2 ∷ []) (0 ∷ []) texts.select_place_is texts.select_place_plain (λ trees. refl) (λ r. refl) (λ r. refl) refl h
+  pub lists_place : (layout : Layout) → old.now.schema ≡ schema_in layout → Shown texts.select_place [] old new answer → ShowsTable place (0 ∷ 1 ∷ 2 ∷ []) (0 ∷ []) (weighed_in layout old.now) answer
+  lists_place bare has h =
+      let s = lists bare_schema old new has answer place texts.select_place texts.select_place_shown texts.select_place_order texts.select_place_names (0 ∷ 1 ∷ 2 ∷ []) (0 ∷ []) bare_texts.select_place_is bare_texts.select_place_plain (λ trees. refl) (λ r. refl) (λ r. refl) refl h in
+      record { by_key = s.by_key; same = s.same; ordered = s.ordered; is = s.is }
+  lists_place weighed has h = lists office_schema old new has answer place texts.select_place texts.select_place_shown texts.select_place_order texts.select_place_names (0 ∷ 1 ∷ 2 ∷ []) (0 ∷ []) texts.select_place_is texts.select_place_plain (λ trees. refl) (λ r. refl) (λ r. refl) refl h
 
-  pub lists_listed : Shown texts.select_listed [] old new answer → ShowsTable listed (0 ∷ 1 ∷ 2 ∷ 3 ∷ 4 ∷ 5 ∷ []) (0 ∷ 1 ∷ 2 ∷ 3 ∷ []) old.now answer
-  lists_listed h = lists listed texts.select_listed texts.select_listed_shown texts.select_listed_order texts.select_listed_names (0 ∷ 1 ∷ 2 ∷ 3 ∷ 4 ∷ 5 ∷ []) (0 ∷ 1 ∷ 2 ∷ 3 ∷ []) texts.select_listed_is texts.select_listed_plain (λ trees. refl) (λ r. refl) (λ r. refl) refl h
+  pub lists_listed : (layout : Layout) → old.now.schema ≡ schema_in layout → Shown texts.select_listed [] old new answer → ShowsTable listed (0 ∷ 1 ∷ 2 ∷ 3 ∷ 4 ∷ 5 ∷ []) (0 ∷ 1 ∷ 2 ∷ 3 ∷ []) (weighed_in layout old.now) answer
+  lists_listed bare has h =
+      let s = lists bare_schema old new has answer listed texts.select_listed texts.select_listed_shown texts.select_listed_order texts.select_listed_names (0 ∷ 1 ∷ 2 ∷ 3 ∷ 4 ∷ 5 ∷ []) (0 ∷ 1 ∷ 2 ∷ 3 ∷ []) bare_texts.select_listed_is bare_texts.select_listed_plain (λ trees. refl) (λ r. refl) (λ r. refl) refl h in
+      record { by_key = s.by_key; same = s.same; ordered = s.ordered; is = s.is }
+  lists_listed weighed has h = lists office_schema old new has answer listed texts.select_listed texts.select_listed_shown texts.select_listed_order texts.select_listed_names (0 ∷ 1 ∷ 2 ∷ 3 ∷ 4 ∷ 5 ∷ []) (0 ∷ 1 ∷ 2 ∷ 3 ∷ []) texts.select_listed_is texts.select_listed_plain (λ trees. refl) (λ r. refl) (λ r. refl) refl h
 
-  pub lists_setting : Shown texts.select_setting [] old new answer → ShowsTable setting (0 ∷ 1 ∷ []) (0 ∷ []) old.now answer
-  lists_setting h = lists setting texts.select_setting texts.select_setting_shown texts.select_setting_order texts.select_setting_names (0 ∷ 1 ∷ []) (0 ∷ []) texts.select_setting_is texts.select_setting_plain (λ trees. refl) (λ r. refl) (λ r. refl) refl h
+  pub lists_setting : (layout : Layout) → old.now.schema ≡ schema_in layout → Shown texts.select_setting [] old new answer → ShowsTable setting (0 ∷ 1 ∷ []) (0 ∷ []) old.now answer
+  lists_setting bare has h = lists bare_schema old new has answer setting texts.select_setting texts.select_setting_shown texts.select_setting_order texts.select_setting_names (0 ∷ 1 ∷ []) (0 ∷ []) bare_texts.select_setting_is bare_texts.select_setting_plain (λ trees. refl) (λ r. refl) (λ r. refl) refl h
+  lists_setting weighed has h = lists office_schema old new has answer setting texts.select_setting texts.select_setting_shown texts.select_setting_order texts.select_setting_names (0 ∷ 1 ∷ []) (0 ∷ []) texts.select_setting_is texts.select_setting_plain (λ trees. refl) (λ r. refl) (λ r. refl) refl h
 
-  pub lists_block : Shown texts.select_block [] old new answer → ShowsTable block (0 ∷ 1 ∷ 2 ∷ 3 ∷ []) (0 ∷ []) old.now answer
-  lists_block h = lists block texts.select_block texts.select_block_shown texts.select_block_order texts.select_block_names (0 ∷ 1 ∷ 2 ∷ 3 ∷ []) (0 ∷ []) texts.select_block_is texts.select_block_plain (λ trees. refl) (λ r. refl) (λ r. refl) refl h
+  pub lists_block : (layout : Layout) → old.now.schema ≡ schema_in layout → Shown texts.select_block [] old new answer → ShowsTable block (0 ∷ 1 ∷ 2 ∷ 3 ∷ []) (0 ∷ []) (weighed_in layout old.now) answer
+  lists_block bare has h =
+      let s = lists bare_schema old new has answer block texts.select_block texts.select_block_shown texts.select_block_order texts.select_block_names (0 ∷ 1 ∷ 2 ∷ 3 ∷ []) (0 ∷ []) bare_texts.select_block_is bare_texts.select_block_plain (λ trees. refl) (λ r. refl) (λ r. refl) refl h in
+      record { by_key = s.by_key; same = s.same; ordered = s.ordered; is = s.is }
+  lists_block weighed has h = lists office_schema old new has answer block texts.select_block texts.select_block_shown texts.select_block_order texts.select_block_names (0 ∷ 1 ∷ 2 ∷ 3 ∷ []) (0 ∷ []) texts.select_block_is texts.select_block_plain (λ trees. refl) (λ r. refl) (λ r. refl) refl h
+
+  pub lists_visit : old.now.schema ≡ office_schema → Shown texts.select_visit [] old new answer → ShowsTable visit (0 ∷ 1 ∷ 2 ∷ 3 ∷ 4 ∷ 5 ∷ 6 ∷ 7 ∷ 8 ∷ 9 ∷ 10 ∷ 11 ∷ 12 ∷ 13 ∷ 14 ∷ []) (0 ∷ []) old.now answer
+  lists_visit has h = lists office_schema old new has answer visit texts.select_visit texts.select_visit_shown texts.select_visit_order texts.select_visit_names (0 ∷ 1 ∷ 2 ∷ 3 ∷ 4 ∷ 5 ∷ 6 ∷ 7 ∷ 8 ∷ 9 ∷ 10 ∷ 11 ∷ 12 ∷ 13 ∷ 14 ∷ []) (0 ∷ []) texts.select_visit_is texts.select_visit_plain (λ trees. refl) (λ r. refl) (λ r. refl) refl h
+
+  pub lists_bare_visit : old.now.schema ≡ bare_schema → Shown bare_texts.select_visit [] old new answer → ShowsTable visit (0 ∷ 1 ∷ 2 ∷ 3 ∷ 4 ∷ 5 ∷ 6 ∷ 7 ∷ 8 ∷ 9 ∷ 10 ∷ 11 ∷ 12 ∷ 13 ∷ 14 ∷ []) (0 ∷ []) (with_weights old.now) answer
+  lists_bare_visit has h =
+      let columns_in : Row → Row = λ row. columns_of visit (weighed_row row) in
+      let s = rows_shown bare_schema old new has answer 4 columns_in bare_texts.select_visit bare_texts.select_visit_shown texts.select_visit_order texts.select_visit_names (0 ∷ 1 ∷ 2 ∷ 3 ∷ 4 ∷ 5 ∷ 6 ∷ 7 ∷ 8 ∷ 9 ∷ 10 ∷ 11 ∷ 12 ∷ 13 ∷ 14 ∷ []) (0 ∷ []) bare_texts.select_visit_is bare_texts.select_visit_plain (λ trees. refl) (λ r. refl) (λ r. refl) refl h in
+      let stored = old.now.trees 4 in
+      record {
+        by_key = s.by_key;
+        same = subst (λ l. IsPermutation l s.by_key) (sym (map-map (columns_of visit) weighed_row stored)) s.same;
+        ordered = s.ordered;
+        is = s.is;
+      }

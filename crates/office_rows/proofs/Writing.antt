@@ -44,6 +44,20 @@ pub insert_interchange_plain : IsPlain (understood office_schema insert_intercha
 unfolding understood everything
 insert_interchange_plain = (refl, refl)
 
+abbrev pub insert_whole : List ℕ
+insert_whole = codes "INSERT INTO interchange (partner, number, body, reply) VALUES (?1, ?2, ?3, ?4)"
+
+abbrev pub insert_whole_terms : List Term
+insert_whole_terms = lit Null ∷ col 0 0 ∷ col 0 1 ∷ col 0 2 ∷ col 0 3 ∷ []
+
+pub insert_whole_is : command_of (understood office_schema insert_whole) ≡ Insert 1 (Values insert_whole_terms 5)
+unfolding understood everything
+insert_whole_is = refl
+
+pub insert_whole_plain : IsPlain (understood office_schema insert_whole)
+unfolding understood everything
+insert_whole_plain = (refl, refl)
+
 abbrev pub insert_visit : List ℕ
 insert_visit = codes "INSERT INTO visit (visit, box, size, laden, booking, in_by, in_partner, in_number, in_at, in_slot, out_by, out_partner, out_number, out_at, kilos) VALUES (?1, ?2, ?3, ?4, ?5, ?6, ?7, ?8, ?9, ?10, ?11, ?12, ?13, ?14, ?15)"
 

@@ -69,6 +69,16 @@ module _ (old new : State) (rows : Rows) (count : ℕ) (has : HasRows rows old.n
       only_interchanges rows old.now new.now has [] Chosen 0 (source ∷ []) (rows.interchanges ++ a ∷ []) it.edits
       (holds_inserted interchange interchange_values rows.interchanges old.now new.now has.rows_are.interchanges source a (simp (cast_null, cast_int)) it)
 
+  pub inserted_whole : (a : Interchange) → Executes texts.insert_whole (interchange_values a) old new (Ok count) → HasRows (record rows { interchanges = rows.interchanges ++ a ∷ [] }) new.now
+  inserted_whole a h =
+      let params = interchange_values a in
+      let source = Null ∷ interchange_values a in
+      let text = statement_of texts.insert_whole (understood office_schema texts.insert_whole) in
+      let w = runs_as texts.insert_whole params old new office_schema has.schema (Insert 1 (Values texts.insert_whole_terms 5)) texts.insert_whole_is texts.insert_whole_plain count h in
+      let it = inserts old new has.schema 1 interchange refl refl params text count texts.insert_whole_terms 5 w in
+      only_interchanges rows old.now new.now has [] Chosen 0 (source ∷ []) (rows.interchanges ++ a ∷ []) it.edits
+      (holds_inserted interchange interchange_values rows.interchanges old.now new.now has.rows_are.interchanges source a (simp (cast_null, cast_int)) it)
+
   pub inserted_visit : (a : VisitContent) → Executes texts.insert_visit (visit_values a) old new (Ok count) → HasRows (record rows { visits = rows.visits ++ a ∷ [] }) new.now
   inserted_visit a h =
       let params = visit_values a in

@@ -1,6 +1,7 @@
 pub mod Tables
 pub mod Rows
 pub mod Values
+pub mod Layouts
 pub mod Stored
 pub mod Effects
 pub mod Opening
@@ -8,4 +9,6 @@ pub mod Steps
 pub mod Shown
 pub mod ByKey
 pub mod Opened
+pub mod Bare
+pub mod Migrated
 pub mod Office

@@ -3,9 +3,17 @@ use Rattle.std.specs.Prelude.{ℕ, ◌+◌, List, [], ◌∷◌, ◌++◌, codes
 use Rattle.edi_messages.specs.declared.partner_kind.PartnerKind.{PartnerKind}
 use Rattle.edi_messages.specs.declared.code_table.CodeTable.{CodeTable}
 use Rattle.edi_messages.specs.Codes.{table_texts}
+use Rattle.edi_messages.specs.Purposes.{CallContent}
+use Rattle.box6346.specs.declared.box_number.BoxNumber.{BoxNumber}
+use Rattle.terminal_core.specs.declared.line_state.LineState.{LineState}
+use Rattle.terminal_core.specs.declared.side.Side.{Side}
 use Rattle.yard_core.specs.declared.block.Block.{Block}
+use Rattle.terminal_core.specs.declared.version.Version.{Version}
+use Rattle.terminal_core.specs.declared.version.Version.TheVariants.{First, Second, Third}
+use Rattle.terminal_core.specs.Versions.{newest}
+use Rattle.terminal_core.specs.Rows.{VisitContent}
 use Rattle.office_setup.specs.Setups.{SetupContent}
-use Rattle.office_rows.specs.Rows.{Partner, Setting, Rows, no_rows}
+use Rattle.office_rows.specs.Rows.{Partner, Interchange, PlaceContent, ListingContent, Setting, Rows, no_rows}
 
 -- the accounts by id, from this one on; each waits for its partner's first interchange
 abbrev pub partners_from : ℕ → List (List ℕ × PartnerKind) → List Partner
@@ -22,6 +30,13 @@ code_names =
 abbrev pub setting : List ℕ → List ℕ → Setting
 setting name value = record { name = name; value = value }
 
+abbrev pub interchange : ℕ → ℕ → List ℕ → List ℕ → Interchange
+interchange partner number body reply = record { partner = partner; number = number; body = body; reply = reply }
+
+abbrev pub listing : CallContent → Side → BoxNumber → List ℕ → LineState → ListingContent
+listing call side container port state =
+    record { call = call; side = side; container = container; port = port; state = state }
+
 -- each value under its name
 abbrev pub settings_named : List (List ℕ) → List (List ℕ) → List Setting
 settings_named [] values = []
@@ -31,15 +46,25 @@ settings_named (name ∷ names) (value ∷ values) = setting name value ∷ sett
 abbrev pub code_settings : CodeTable → List Setting
 code_settings table = settings_named code_names (table_texts table)
 
+-- a version as the setting of that name has it
+abbrev pub version_text : Version → List ℕ
+version_text First = codes "1"
+version_text Second = codes "2"
+version_text Third = codes "3"
+
 -- the version of these tables
 abbrev pub tables_version : List ℕ
-tables_version = codes "3"
+tables_version = version_text newest
 
 -- the version of the tables, the terminal's code, the limit of visits, and the codes of document names
-abbrev pub settings_of : SetupContent → List Setting
-settings_of content =
-    setting (codes "version") tables_version ∷ setting (codes "terminal") content.terminal
+abbrev pub settings_in : Version → SetupContent → List Setting
+settings_in version content =
+    setting (codes "version") (version_text version) ∷ setting (codes "terminal") content.terminal
     ∷ setting (codes "visits") (decimal content.visit_limit) ∷ code_settings content.codes
+
+-- the settings of this version
+abbrev pub settings_of : SetupContent → List Setting
+settings_of content = settings_in newest content
 
 -- ---- rows that are added
 
@@ -51,6 +76,18 @@ with_settings settings rows = record rows { settings = rows.settings ++ settings
 
 abbrev pub with_blocks : List Block → Rows → Rows
 with_blocks blocks rows = record rows { blocks = rows.blocks ++ blocks }
+
+abbrev pub with_interchanges : List Interchange → Rows → Rows
+with_interchanges interchanges rows = record rows { interchanges = rows.interchanges ++ interchanges }
+
+abbrev pub with_visits : List VisitContent → Rows → Rows
+with_visits visits rows = record rows { visits = rows.visits ++ visits }
+
+abbrev pub with_places : List PlaceContent → Rows → Rows
+with_places places rows = record rows { places = rows.places ++ places }
+
+abbrev pub with_lines : List ListingContent → Rows → Rows
+with_lines lines rows = record rows { lines = rows.lines ++ lines }
 
 -- ---- all of them
 

@@ -4,6 +4,6 @@
 mod selecting;
 
 pub use selecting::{
-    select_blocks, select_interchanges, select_lines, select_partners, select_places,
-    select_settings, select_visits,
+    select_bare_visits, select_blocks, select_interchange, select_interchanges, select_lines,
+    select_partners, select_places, select_settings, select_visits,
 };

@@ -1,15 +1,22 @@
-ghost use Rattle.std.specs.Prelude.{◌≡◌, ℕ, IfOk, IfErr, OnOk, false, [], ◌∷◌};
+ghost use Rattle.std.specs.Prelude.{◌≡◌, ℕ, IfOk, IfErr, OnOk, false, [], ◌∷◌, List, map, filter};
 ghost use Rattle.sqlite.specs.Held.{state};
 ghost use Rattle.sqlite.specs.Given.{IsPlain};
 ghost use Rattle.sqlite.specs.Listing.{understood};
 ghost use Rattle.sqlite.specs.State.{HasCleanDisk, IsUnchanged, Shown};
 ghost use Rattle.office_rows.specs.Tables.{partner, interchange, visit, place, listed, setting, block, office_schema};
+ghost use Rattle.std.specs.List.Sorted.{IsPermutation};
+ghost use Rattle.office_rows.specs.Layouts.{Layout, IsOfficeSchema, bare_schema, schema_in};
+ghost use Rattle.office_rows.specs.Rows.{Interchange};
+ghost use Rattle.office_rows.specs.Values.{interchange_values, kept_values};
+ghost use Rattle.office_rows.specs.Effects.{is_pair};
+ghost use Rattle.office_rows.specs.Stored.{Holds};
+ghost use Rattle.office_rows.specs.Bare.{with_weights, weighed_in};
 ghost use Rattle.office_rows.specs.Shown.{ShowsTable};
 ghost use Rattle.office_selecting.specs.Reads.{OnlyReads, OnlyShows, WritesNothing};
 ghost use Rattle.office_selecting.specs.Settings.{HasNoSettings, HasSettings, setting_in};
 ghost use Rattle.office_tables.specs.Faults.{IsOfStore};
 
-use office_tables::TableFault;
+use office_tables::{TableFault, integer};
 use sqlite::{Alter, Connection, Row};
 
 /// The rows that a query shows.
@@ -31,9 +38,10 @@ fn select<S: Alter>(conn: &mut Connection<S>, query: &str) -> Result<Vec<Row>, T
 
 /// The rows of all accounts, by their ids.
 pub fn select_partners<S: Alter>(conn: &mut Connection<S>) -> Result<Vec<Row>, TableFault>
-    ensures shown { HasCleanDisk (state S.Store conn.new) → (state S.Store conn.old).now.schema ≡ office_schema
-        → IfOk result (λ answer.
-        ShowsTable partner (0 ∷ 1 ∷ 2 ∷ 3 ∷ []) (0 ∷ []) (state S.Store conn.old).now answer.items) }
+    ensures shown { HasCleanDisk (state S.Store conn.new) → (layout : Layout) →
+        (state S.Store conn.old).now.schema ≡ schema_in layout → IfOk result (λ answer.
+        ShowsTable partner (0 ∷ 1 ∷ 2 ∷ 3 ∷ []) (0 ∷ []) (weighed_in layout (state S.Store conn.old).now)
+        answer.items) }
     ensures same { HasCleanDisk (state S.Store conn.new) → (state S.Store conn.old).now.schema ≡ office_schema →
         OnOk result (IsUnchanged (state S.Store conn.old) (state S.Store conn.new)) }
     ensures reads { OnlyReads (state S.Store conn.old) (state S.Store conn.new) }
@@ -47,9 +55,10 @@ pub fn select_partners<S: Alter>(conn: &mut Connection<S>) -> Result<Vec<Row>, T
 
 /// The rows of all interchanges that are kept, without their bodies, by partner and number.
 pub fn select_interchanges<S: Alter>(conn: &mut Connection<S>) -> Result<Vec<Row>, TableFault>
-    ensures shown { HasCleanDisk (state S.Store conn.new) → (state S.Store conn.old).now.schema ≡ office_schema
-        → IfOk result (λ answer.
-        ShowsTable interchange (0 ∷ 1 ∷ 3 ∷ []) (0 ∷ 1 ∷ []) (state S.Store conn.old).now answer.items) }
+    ensures shown { HasCleanDisk (state S.Store conn.new) → (layout : Layout) →
+        (state S.Store conn.old).now.schema ≡ schema_in layout → IfOk result (λ answer.
+        ShowsTable interchange (0 ∷ 1 ∷ 3 ∷ []) (0 ∷ 1 ∷ []) (weighed_in layout (state S.Store conn.old).now)
+        answer.items) }
     ensures same { HasCleanDisk (state S.Store conn.new) → (state S.Store conn.old).now.schema ≡ office_schema →
         OnOk result (IsUnchanged (state S.Store conn.old) (state S.Store conn.new)) }
     ensures reads { OnlyReads (state S.Store conn.old) (state S.Store conn.new) }
@@ -62,6 +71,28 @@ pub fn select_interchanges<S: Alter>(conn: &mut Connection<S>) -> Result<Vec<Row
         conn,
         "SELECT partner, number, reply FROM interchange ORDER BY partner, number",
     )
+}
+
+/// The body and the reply of the interchange of this partner and number.
+pub fn select_interchange<S: Alter>(
+    conn: &mut Connection<S>,
+    partner: u32,
+    number: u32,
+) -> Result<Vec<Row>, TableFault>
+    ensures shown { HasCleanDisk (state S.Store conn.new) → IsOfficeSchema (state S.Store conn.old).now.schema
+        → IfOk result (λ answer. (interchanges : List Interchange) →
+        Holds interchange interchange_values interchanges ((state S.Store conn.old).now.trees 2) →
+        IsPermutation (map kept_values (filter (is_pair partner number) interchanges)) answer.items) }
+    ensures mode { conn.old.in_transaction ≡ false → conn.new.in_transaction ≡ false }
+    ensures unchanged { HasCleanDisk (state S.Store conn.new) →
+        OnOk result (IsUnchanged (state S.Store conn.old) (state S.Store conn.new)) }
+    ensures unwritten { WritesNothing (state S.Store conn.old) (state S.Store conn.new) }
+    ensures fault { IfErr result IsOfStore }
+{
+    Ok(conn.query_all(
+        "SELECT body, reply FROM interchange WHERE partner = ?1 AND number = ?2",
+        &[integer(partner), integer(number)],
+    )?)
 }
 
 /// The rows of all visits, by their numbers.
@@ -84,10 +115,29 @@ pub fn select_visits<S: Alter>(conn: &mut Connection<S>) -> Result<Vec<Row>, Tab
     )
 }
 
+/// The rows of all visits of a store of version 1 or 2, by their numbers, each with a weight of 0.
+pub fn select_bare_visits<S: Alter>(conn: &mut Connection<S>) -> Result<Vec<Row>, TableFault>
+    ensures shown { HasCleanDisk (state S.Store conn.new) → (state S.Store conn.old).now.schema ≡ bare_schema
+        → IfOk result (λ answer. ShowsTable visit
+        (0 ∷ 1 ∷ 2 ∷ 3 ∷ 4 ∷ 5 ∷ 6 ∷ 7 ∷ 8 ∷ 9 ∷ 10 ∷ 11 ∷ 12 ∷ 13 ∷ 14 ∷ []) (0 ∷ [])
+        (with_weights (state S.Store conn.old).now) answer.items) }
+    ensures reads { OnlyReads (state S.Store conn.old) (state S.Store conn.new) }
+    ensures unchanged { HasCleanDisk (state S.Store conn.new) →
+        OnOk result (IsUnchanged (state S.Store conn.old) (state S.Store conn.new)) }
+    ensures unwritten { WritesNothing (state S.Store conn.old) (state S.Store conn.new) }
+    ensures fault { IfErr result IsOfStore }
+{
+    select(
+        conn,
+        "SELECT visit, box, size, laden, booking, in_by, in_partner, in_number, in_at, in_slot, out_by, out_partner, out_number, out_at, 0 AS kilos FROM visit ORDER BY visit",
+    )
+}
+
 /// The rows of all containers in the yard, by their numbers.
 pub fn select_places<S: Alter>(conn: &mut Connection<S>) -> Result<Vec<Row>, TableFault>
-    ensures shown { HasCleanDisk (state S.Store conn.new) → (state S.Store conn.old).now.schema ≡ office_schema
-        → IfOk result (λ answer. ShowsTable place (0 ∷ 1 ∷ 2 ∷ []) (0 ∷ []) (state S.Store conn.old).now answer.items) }
+    ensures shown { HasCleanDisk (state S.Store conn.new) → (layout : Layout) →
+        (state S.Store conn.old).now.schema ≡ schema_in layout → IfOk result (λ answer. ShowsTable place (0 ∷ 1 ∷ 2 ∷ []) (0 ∷ []) (weighed_in layout (state S.Store conn.old).now)
+        answer.items) }
     ensures same { HasCleanDisk (state S.Store conn.new) → (state S.Store conn.old).now.schema ≡ office_schema →
         OnOk result (IsUnchanged (state S.Store conn.old) (state S.Store conn.new)) }
     ensures reads { OnlyReads (state S.Store conn.old) (state S.Store conn.new) }
@@ -101,10 +151,10 @@ pub fn select_places<S: Alter>(conn: &mut Connection<S>) -> Result<Vec<Row>, Tab
 
 /// The rows of all lines of vessels' lists, by call, side and container.
 pub fn select_lines<S: Alter>(conn: &mut Connection<S>) -> Result<Vec<Row>, TableFault>
-    ensures shown { HasCleanDisk (state S.Store conn.new) → (state S.Store conn.old).now.schema ≡ office_schema
-        → IfOk result (λ answer.
-        ShowsTable listed (0 ∷ 1 ∷ 2 ∷ 3 ∷ 4 ∷ 5 ∷ []) (0 ∷ 1 ∷ 2 ∷ 3 ∷ [])
-        (state S.Store conn.old).now answer.items) }
+    ensures shown { HasCleanDisk (state S.Store conn.new) → (layout : Layout) →
+        (state S.Store conn.old).now.schema ≡ schema_in layout → IfOk result (λ answer.
+        ShowsTable listed (0 ∷ 1 ∷ 2 ∷ 3 ∷ 4 ∷ 5 ∷ []) (0 ∷ 1 ∷ 2 ∷ 3 ∷ []) (weighed_in layout (state S.Store conn.old).now)
+        answer.items) }
     ensures same { HasCleanDisk (state S.Store conn.new) → (state S.Store conn.old).now.schema ≡ office_schema →
         OnOk result (IsUnchanged (state S.Store conn.old) (state S.Store conn.new)) }
     ensures reads { OnlyReads (state S.Store conn.old) (state S.Store conn.new) }
@@ -121,8 +171,8 @@ pub fn select_lines<S: Alter>(conn: &mut Connection<S>) -> Result<Vec<Row>, Tabl
 
 /// The rows of all settings, by their names.
 pub fn select_settings<S: Alter>(conn: &mut Connection<S>) -> Result<Vec<Row>, TableFault>
-    ensures shown { HasCleanDisk (state S.Store conn.new) → (state S.Store conn.old).now.schema ≡ office_schema
-        → IfOk result (λ answer. ShowsTable setting (0 ∷ 1 ∷ []) (0 ∷ []) (state S.Store conn.old).now answer.items) }
+    ensures shown { HasCleanDisk (state S.Store conn.new) → (layout : Layout) →
+        (state S.Store conn.old).now.schema ≡ schema_in layout → IfOk result (λ answer. ShowsTable setting (0 ∷ 1 ∷ []) (0 ∷ []) (state S.Store conn.old).now answer.items) }
     ensures missing { HasCleanDisk (state S.Store conn.new) → HasNoSettings (state S.Store conn.old).now.schema →
         IfOk result (λ _. ⊥) }
     ensures there { HasCleanDisk (state S.Store conn.new) → (tree : ℕ) →
@@ -141,9 +191,10 @@ pub fn select_settings<S: Alter>(conn: &mut Connection<S>) -> Result<Vec<Row>, T
 
 /// The rows of all blocks of the yard, by their letters.
 pub fn select_blocks<S: Alter>(conn: &mut Connection<S>) -> Result<Vec<Row>, TableFault>
-    ensures shown { HasCleanDisk (state S.Store conn.new) → (state S.Store conn.old).now.schema ≡ office_schema
-        → IfOk result (λ answer.
-        ShowsTable block (0 ∷ 1 ∷ 2 ∷ 3 ∷ []) (0 ∷ []) (state S.Store conn.old).now answer.items) }
+    ensures shown { HasCleanDisk (state S.Store conn.new) → (layout : Layout) →
+        (state S.Store conn.old).now.schema ≡ schema_in layout → IfOk result (λ answer.
+        ShowsTable block (0 ∷ 1 ∷ 2 ∷ 3 ∷ []) (0 ∷ []) (weighed_in layout (state S.Store conn.old).now)
+        answer.items) }
     ensures same { HasCleanDisk (state S.Store conn.new) → (state S.Store conn.old).now.schema ≡ office_schema →
         OnOk result (IsUnchanged (state S.Store conn.old) (state S.Store conn.new)) }
     ensures reads { OnlyReads (state S.Store conn.old) (state S.Store conn.new) }

@@ -1,3 +1,4 @@
+pub mod Kinds
 pub mod Parties
 pub mod PartyCodes
 pub mod Accounts

@@ -1,9 +1,10 @@
 -- What a set-up says, whatever memory holds it.
-use Rattle.std.specs.Prelude.{ℕ, List, string_bytes}
+use Rattle.std.specs.Prelude.{ℕ, List, [], ◌∷◌, ◌++◌, map, string_bytes}
 use Rattle.edi_messages.specs.declared.code_table.CodeTable.{CodeTable}
 use Rattle.edi_messages.specs.declared.partner_kind.PartnerKind.{PartnerKind}
 use Rattle.yard_core.specs.declared.block.Block.{Block}
 pub use Rattle.office_setup.specs.Accounts.{account_contents}
+use Rattle.office_setup.specs.Parties.{Parties}
 use Rattle.office_setup.specs.declared.setup.Setup.{Setup}
 
 -- the terminal's code, the codes of document names, the partners, the blocks, and how many visits may be recorded
@@ -22,3 +23,14 @@ setup_content setup = record {
   blocks = setup.blocks.items;
   visit_limit = setup.visit_limit;
 }
+
+-- the terminal and the partners that it names
+abbrev pub parties_in : SetupContent → Parties
+parties_in content = record {
+  terminal = content.terminal;
+  partners = map (λ (account : List ℕ × PartnerKind). account.0) content.partners;
+}
+
+-- the set-up with an account more, the last of its accounts
+abbrev pub setup_with_account : SetupContent → List ℕ → PartnerKind → SetupContent
+setup_with_account content code kind = record content { partners = content.partners ++ (code, kind) ∷ [] }

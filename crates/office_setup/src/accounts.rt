@@ -1,11 +1,13 @@
-ghost use Rattle.std.specs.Prelude.{◌≡◌, ◌+◌, ◌<◌, length, IfOk, IfSome, MatchOption};
+ghost use Rattle.std.specs.Prelude.{◌≡◌, ◌+◌, ◌<◌, [], ◌∷◌, ◌++◌, length, IfOk, IfSome, IsTrue, MatchOption};
 ghost use Rattle.std.specs.Option.{option_map};
 ghost use Rattle.arrayvec.specs.ArrayVec.{array_vec_len};
 ghost use Rattle.edi_segments.specs.Segment.{value};
 ghost use Rattle.office_setup.specs.Accounts.{account_contents, partner_from, partner_codes, AreCoded, AreIndexed};
+ghost use Rattle.office_setup.specs.PartyCodes.{is_party_code};
 
 use crate::account::Account;
 use arrayvec::ArrayVec;
+use edi_messages::PartnerKind;
 use edi_segments::Component;
 use std::alloc::{AllocError, Global};
 use std::collections::HashMap;
@@ -48,6 +50,23 @@ impl Accounts {
         ensures { IfOk result (λ copy. account_contents copy.items ≡ account_contents self.now.items) }
     {
         let list = copies(alloc, &self.list)?;
+        Accounts::of(alloc, list)
+    }
+
+    /// Equal accounts, with one more at the end.
+    pub(crate) fn with(
+        &self,
+        alloc: Global,
+        code: &str,
+        kind: PartnerKind,
+    ) -> Result<Accounts, AllocError>
+        requires { IsTrue (is_party_code code.now) }
+        ensures { IfOk result (λ grown.
+            account_contents grown.items ≡ account_contents self.now.items ++ (code.now, kind) ∷ []) }
+    {
+        let mut list = copies(alloc, &self.list)?;
+        let code = String::from_str(alloc, code)?;
+        list.push(Account { code, kind })?;
         Accounts::of(alloc, list)
     }
 

@@ -3,12 +3,14 @@
 
 mod account;
 mod accounts;
+mod kinds;
 mod limits;
 mod party_codes;
 mod setup;
 
 pub use account::Account;
 pub use accounts::Accounts;
+pub use kinds::kind_named;
 pub use limits::{MOST_PARTNERS, MOST_VISITS};
-pub use party_codes::is_party_code;
+pub use party_codes::{is_party_code, party_code};
 pub use setup::Setup;

@@ -1,4 +1,4 @@
-ghost use Rattle.std.specs.Prelude.{◌≡◌};
+ghost use Rattle.std.specs.Prelude.{◌≡◌, false, IsTrue, MatchOption};
 ghost use Rattle.std.specs.List.{list_all};
 ghost use Rattle.office_setup.specs.Given.{is_party_byte, is_party_code};
 
@@ -8,6 +8,21 @@ pub fn is_party_code(text: &str) -> bool
 {
     let bytes = text.as_bytes();
     1 <= bytes.len() && bytes.len() <= 35 && are_party_bytes(bytes)
+}
+
+/// The text of these bytes, if it is the code of a terminal or of a partner.
+pub fn party_code(bytes: &[u8]) -> Option<&str>
+    ensures { MatchOption result (is_party_code bytes.now ≡ false)
+        (λ code. (code.now ≡ bytes.now) × IsTrue (is_party_code code.now)) }
+{
+    let Ok(text) = str::from_utf8(bytes) else {
+        return None;
+    };
+    if is_party_code(text) {
+        Some(text)
+    } else {
+        None
+    }
 }
 
 fn are_party_bytes(bytes: &[u8]) -> bool

@@ -1,10 +1,10 @@
-ghost use Rattle.std.specs.Prelude.{◌≡◌, ◌<◌, ◌≤◌, ◌+◌, IfOk, IfSome, length};
+ghost use Rattle.std.specs.Prelude.{◌≡◌, ◌<◌, ◌≤◌, ◌+◌, IfOk, IfSome, IsTrue, length};
 ghost use Rattle.std.specs.Option.{option_map};
 ghost use Rattle.edi_segments.specs.Segment.{value};
 ghost use Rattle.office_setup.specs.Parties.{partner_from, partner_codes};
 
 use crate::accounts::Accounts;
-use edi_messages::CodeTable;
+use edi_messages::{CodeTable, PartnerKind};
 use edi_segments::Component;
 use std::alloc::{AllocError, Global};
 use yard_core::Block;
@@ -25,14 +25,42 @@ pub struct Setup {
 }
 
 impl Setup {
-    ghost use Rattle.office_setup.specs.Setups.{setup_content};
+    ghost use Rattle.office_setup.specs.PartyCodes.{is_party_code};
+    ghost use Rattle.office_setup.specs.Setups.{account_contents, setup_content, setup_with_account};
 
     /// An equal set-up.
     pub fn copy(&self, alloc: Global) -> Result<Setup, AllocError>
         ensures { IfOk result (λ copy. setup_content copy ≡ setup_content self.now) }
     {
-        let terminal = String::from_str(alloc, self.terminal.as_str())?;
         let partners = self.partners.copy(alloc)?;
+        self.with_partners(alloc, partners)
+    }
+
+    /// An equal set-up with an account more, which is the last of its accounts. The codes of two accounts differ if this
+    /// one's is new.
+    pub fn with_account(
+        &self,
+        alloc: Global,
+        code: &str,
+        kind: PartnerKind,
+    ) -> Result<Setup, AllocError>
+        requires code { IsTrue (is_party_code code.now) }
+        requires room { length self.now.partners.items < 999 }
+        ensures content { IfOk result (λ grown.
+            setup_content grown ≡ setup_with_account (setup_content self.now) code.now kind) }
+        ensures few { IfOk result (λ grown. length grown.partners.items ≤ 999) }
+    {
+        let grown = self.partners.with(alloc, code, kind)?;
+        self.with_partners(alloc, grown)
+    }
+
+    /// An equal set-up, but for its partners.
+    fn with_partners(&self, alloc: Global, partners: Accounts) -> Result<Setup, AllocError>
+        ensures content { IfOk result (λ setup.
+            setup_content setup ≡ record (setup_content self.now) { partners = account_contents partners.items }) }
+        ensures partners { IfOk result (λ setup. setup.partners ≡ partners) }
+    {
+        let terminal = String::from_str(alloc, self.terminal.as_str())?;
         let blocks = self.blocks.as_slice().to_vec(alloc)?;
         Ok(Setup {
             terminal,

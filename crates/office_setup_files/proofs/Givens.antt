@@ -20,16 +20,17 @@ use Rattle.yard_core.specs.declared.plan_fault.PlanFault.{PlanFault}
 use Rattle.yard_core.specs.declared.plan_fault.PlanFault.TheVariants.{Blocks, Letter, Twice, Size}
 use Rattle.yard_core.specs.Plan.{IsPlan, IsFaulty, AreApart, IsSized}
 use Rattle.office_setup.specs.Given.{IsGiven, AreDistinct, is_party_code}
+use Rattle.office_setup.specs.Kinds.{kind_named}
 use Rattle.office_setup.specs.Setups.{SetupContent}
 use Rattle.office_setup_files.specs.Entries.{section, is_number}
 use Rattle.office_setup_files.proofs.Numerals.{parsed}
-use Rattle.office_setup_files.specs.Said.{SaysSetup, are_apart, names_of, partner_said, kind_said, terminal_said, limit_said, limit_in}
+use Rattle.office_setup_files.specs.Said.{SaysSetup, are_apart, names_of, partner_said, terminal_said, limit_said, limit_in}
 
 -- ---- partners
 
 -- each of several has what each answer has
 each_partner : (entry : List ℕ × List ℕ) (partner : List ℕ × PartnerKind) → partner_said entry ≡ Some partner → (is_party_code partner.0 ≡ true) × (entry.0 ≡ partner.0)
-each_partner entry partner said = by_code (is_party_code entry.0) (kind_said entry.1) refl said where
+each_partner entry partner said = by_code (is_party_code entry.0) (kind_named entry.1) refl said where
   by_code : (b : Bool) (kind : Option PartnerKind) → is_party_code entry.0 ≡ b → cond b (option_map (λ (k : PartnerKind). (entry.0, k)) kind) None ≡ Some partner → (is_party_code partner.0 ≡ true) × (entry.0 ≡ partner.0)
   by_code false kind is e = absurd (cc)
   by_code true None is e = absurd (cc)

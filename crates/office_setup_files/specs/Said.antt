@@ -7,10 +7,10 @@ use Rattle.std.specs.Str.{bytes_eq}
 use Rattle.edi_messages.specs.CodeText.{table_fault}
 use Rattle.edi_messages.specs.Codes.{table_texts}
 use Rattle.edi_messages.specs.declared.partner_kind.PartnerKind.{PartnerKind}
-use Rattle.edi_messages.specs.declared.partner_kind.PartnerKind.TheVariants.{Gate, Line, Quay, Yard}
 use Rattle.yard_core.specs.declared.block.Block.{Block}
 use Rattle.yard_core.specs.Plan.{IsPlan}
 use Rattle.office_setup.specs.Given.{is_party_code}
+use Rattle.office_setup.specs.Kinds.{kind_named}
 use Rattle.office_setup.specs.Setups.{SetupContent}
 use Rattle.office_setup_files.specs.Entries.{Text, Record, Named, AreFiles, AreRows, field, section, number_said, count_said}
 use Rattle.office_setup_files.specs.declared.setup_fault.SetupFault.{SetupFault}
@@ -33,16 +33,9 @@ terminal_said (entry ∷ second ∷ others) = None
 
 -- ---- the partners: 1 to 999, each with a code of its own and a kind
 
-abbrev pub kind_said : Text → Option PartnerKind
-kind_said word =
-    if bytes_eq word (codes "gate") then Some Gate
-    else if bytes_eq word (codes "line") then Some Line
-    else if bytes_eq word (codes "quay") then Some Quay else if bytes_eq word (codes "yard") then Some Yard
-    else None
-
 abbrev pub partner_said : Named → Option (Text × PartnerKind)
 partner_said entry =
-    if is_party_code entry.0 then option_map (λ (kind : PartnerKind). (entry.0, kind)) (kind_said entry.1)
+    if is_party_code entry.0 then option_map (λ (kind : PartnerKind). (entry.0, kind)) (kind_named entry.1)
     else None
 
 pub record ArePartners (entries : List Named) (partners : List (Text × PartnerKind)) : Type 0 where

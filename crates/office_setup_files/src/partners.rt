@@ -5,12 +5,12 @@ ghost use Rattle.std.specs.Str.{bytes_eq};
 ghost use Rattle.edi_messages.specs.declared.partner_kind.PartnerKind.{PartnerKind};
 ghost use Rattle.office_setup.specs.Setups.{account_contents};
 ghost use Rattle.office_setup_files.specs.Entries.{entry_content};
-ghost use Rattle.office_setup_files.specs.Said.{are_apart, names_of, kind_said, partner_said, ArePartners, AreNoPartners};
+ghost use Rattle.office_setup_files.specs.Said.{are_apart, names_of, partner_said, ArePartners, AreNoPartners};
 
 use crate::entry::Entry;
 use crate::texts::are_same;
 use edi_messages::PartnerKind;
-use office_setup::{Account, MOST_PARTNERS, is_party_code};
+use office_setup::{Account, MOST_PARTNERS, is_party_code, kind_named};
 use std::alloc::{AllocError, Global};
 
 /// The accounts of the partners. `None`: they aren't 1 to 999, each with a code of its own and a kind.
@@ -81,23 +81,7 @@ fn kind_in(entry: Entry<'_>) -> Option<PartnerKind>
     ensures { option_map (λ kind. (entry.entry.name.now, kind)) result ≡ partner_said (entry_content entry.entry) }
 {
     if is_party_code(entry.name) {
-        kind_of(entry.value)
-    } else {
-        None
-    }
-}
-
-fn kind_of(word: &str) -> Option<PartnerKind>
-    ensures { result ≡ kind_said word.now }
-{
-    if are_same(word, "gate") {
-        Some(PartnerKind::Gate)
-    } else if are_same(word, "line") {
-        Some(PartnerKind::Line)
-    } else if are_same(word, "quay") {
-        Some(PartnerKind::Quay)
-    } else if are_same(word, "yard") {
-        Some(PartnerKind::Yard)
+        kind_named(entry.value.as_bytes())
     } else {
         None
     }

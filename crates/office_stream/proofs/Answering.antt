@@ -4,49 +4,59 @@ use Rattle.office_replies.specs.declared.response.Response.{Response}
 use Rattle.office_replies.specs.declared.worst.Worst.{Worst}
 use Rattle.office_replies.specs.declared.worst.Worst.TheVariants.{Fine, Refused, NotNow}
 use Rattle.office_replies.specs.Responses.{worst_of, worse_of}
-use Rattle.office_replies.specs.Delivering.{Delivers, with_answered, AnswersEach, events_behind}
+use Rattle.office_replies.specs.Delivering.{LeadsOn, with_answered}
 use Rattle.office_replies.specs.Events.{Event}
 use Rattle.office_stream.specs.Lines.{worst_of_all}
-use Rattle.office_stream.specs.Streams.{Answered}
+use Rattle.office_replies.specs.Calls.{IsDelivered}
+use Rattle.office_stream.specs.Streams.{Answered, AreDelivered}
 
-module _ {D : Type 0} (stands : List Event → D → Type 0) (answers : List Event → List ℕ → Response → Type 0) where
-  one_more : (es : List Event) (texts : List (List ℕ)) (responses : List Response) (text : List ℕ) (response : Response) → AnswersEach answers es texts responses →
-      answers (events_behind es texts responses) text response →
-      AnswersEach answers es (texts ++ text ∷ []) (responses ++ response ∷ [])
-      × (events_behind es (texts ++ text ∷ []) (responses ++ response ∷ []) ≡ with_answered (events_behind es texts responses) text response)
-  one_more es [] [] text response each next = ((next, tt), refl)
-  one_more es [] (other ∷ responses) text response each next = absurd each
-  one_more es (other ∷ texts) [] text response each next = absurd each
-  one_more es (first ∷ texts) (answer ∷ responses) text response each next =
-      let behind = one_more (with_answered es first answer) texts responses text response each.1 next in
-      ((each.0, behind.0), behind.1)
+module _ {D : Type 0} (Call : D → List ℕ → Response → D → Type 0) where
+  pub leads_both : (old mid new : D) (texts more : List (List ℕ)) (responses others : List Response) → LeadsOn Call old texts responses mid →
+      LeadsOn Call mid more others new → LeadsOn Call old (texts ++ more) (responses ++ others) new
+  leads_both old mid new [] more [] others same then = subst (λ d. LeadsOn Call d more others new) same then
+  leads_both old mid new [] more (response ∷ responses) others none then = absurd none
+  leads_both old mid new (text ∷ texts) more [] others none then = absurd none
+  leads_both old mid new (text ∷ texts) more (response ∷ responses) others (next, call, rest) then =
+      (next, call, leads_both next mid new texts more responses others rest then)
 
-  pub answered_more : (es : List Event) (texts : List (List ℕ)) (responses : List Response) (old new : D) (text : List ℕ) (response : Response) →
-      Answered stands answers es texts responses old → Delivers stands answers (events_behind es texts responses) text response new →
-      Answered stands answers es (texts ++ text ∷ []) (responses ++ response ∷ []) new
-  answered_more es texts responses old new text response before delivers =
-      let both = one_more es texts responses text response before.each delivers.0 in
-      record {
-        each = both.0;
-        stands_now = subst (λ others. stands others new) (sym both.1) delivers.1;
-      }
+  pub leads_more : (old mid new : D) (texts : List (List ℕ)) (responses : List Response) (text : List ℕ) (response : Response) →
+      LeadsOn Call old texts responses mid → Call mid text response new → LeadsOn Call old (texts ++ text ∷ []) (responses ++ response ∷ []) new
+  leads_more old mid new texts responses text response before call = leads_both old mid new texts (text ∷ []) responses (response ∷ []) before (new, call, refl)
 
-  both_each : (es : List Event) (texts more : List (List ℕ)) (responses others : List Response) → AnswersEach answers es texts responses →
-      AnswersEach answers (events_behind es texts responses) more others →
-      AnswersEach answers es (texts ++ more) (responses ++ others)
-      × (events_behind es (texts ++ more) (responses ++ others) ≡ events_behind (events_behind es texts responses) more others)
-  both_each es [] more [] others each then = (then, refl)
-  both_each es [] more (response ∷ responses) others each then = absurd each
-  both_each es (text ∷ texts) more [] others each then = absurd each
-  both_each es (text ∷ texts) more (response ∷ responses) others each then =
-      let behind = both_each (with_answered es text response) texts more responses others each.1 then in
-      ((each.0, behind.0), behind.1)
+pub leads_as : {D : Type 0} (Call Other : D → List ℕ → Response → D → Type 0) → ((old : D) (text : List ℕ) (response : Response) (new : D) → Call old text response new → Other old text response new) →
+    (old new : D) (texts : List (List ℕ)) (responses : List Response) → LeadsOn Call old texts responses new → LeadsOn Other old texts responses new
+leads_as Call Other on old new [] [] same = same
+leads_as Call Other on old new [] (response ∷ responses) none = absurd none
+leads_as Call Other on old new (text ∷ texts) [] none = absurd none
+leads_as Call Other on old new (text ∷ texts) (response ∷ responses) (next, call, rest) =
+    (next, on old text response next call, leads_as Call Other on next new texts responses rest)
 
-  pub answered_both : (es : List Event) (texts more : List (List ℕ)) (responses others : List Response) (old new : D) → Answered stands answers es texts responses old →
-      Answered stands answers (events_behind es texts responses) more others new → Answered stands answers es (texts ++ more) (responses ++ others) new
-  answered_both es texts more responses others old new before then =
-      let both = both_each es texts more responses others before.each then.each in
-      record { each = both.0; stands_now = subst (λ at. stands at new) (sym both.1) then.stands_now }
+-- ---- what the calls did
+
+module _ {D Opening : Type 0} (clean : D → Type 0) (stands : Opening → List Event → D → Type 0)
+    (answers : Opening → List Event → List ℕ → Response → Type 0) (leads : D → List ℕ → Response → D → Type 0) where
+  stays_all : (old new : D) (texts : List (List ℕ)) (responses : List Response) → LeadsOn (IsDelivered clean stands answers leads) old texts responses new → clean new → clean old
+  stays_all old new [] [] same sound = subst clean same sound
+  stays_all old new [] (response ∷ responses) none sound = absurd none
+  stays_all old new (text ∷ texts) [] none sound = absurd none
+  stays_all old new (text ∷ texts) (response ∷ responses) (next, call, rest) sound = call.stays (stays_all next new texts responses rest sound)
+
+  answered_all : (opening : Opening) (es : List Event) (old new : D) (texts : List (List ℕ)) (responses : List Response) → LeadsOn (IsDelivered clean stands answers leads) old texts responses new →
+      clean new → stands opening es old → Answered (stands opening) (answers opening) es new texts responses
+  answered_all opening es old new [] [] same sound at = record { each = tt; stands_now = subst (stands opening es) (sym same) at }
+  answered_all opening es old new [] (response ∷ responses) none sound at = absurd none
+  answered_all opening es old new (text ∷ texts) [] none sound at = absurd none
+  answered_all opening es old new (text ∷ texts) (response ∷ responses) (next, call, rest) sound at =
+      let one = call.delivers (stays_all next new texts responses rest sound) opening es at in
+      let others = answered_all opening (with_answered es text response) next new texts responses rest sound one.1 in
+      record { each = (one.0, others.each); stands_now = others.stands_now }
+
+  pub are_delivered : (old new : D) (texts : List (List ℕ)) (responses : List Response) → LeadsOn (IsDelivered clean stands answers leads) old texts responses new →
+      AreDelivered clean stands answers leads old new texts responses
+  are_delivered old new texts responses calls = record {
+    led = leads_as (IsDelivered clean stands answers leads) leads (λ old text response new call. call.led) old new texts responses calls;
+    answered = λ sound opening es at. answered_all opening es old new texts responses calls sound at;
+  }
 
 -- ---- the worst of the answers
 

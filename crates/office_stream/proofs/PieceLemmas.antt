@@ -1,5 +1,5 @@
 -- A piece of a stream, one interchange after the other.
-use Rattle.std.proofs.Common.{◌≡◌, ℕ, List, [], ◌∷◌, ◌++◌, take, drop, Option, None, Some, Result, Ok, Err, IfErr, true, false, refl, sym, ap, subst, ◌∙◌}
+use Rattle.std.proofs.Common.{◌≡◌, ℕ, List, [], ◌∷◌, ◌++◌, take, drop, Option, None, Some, true, false, refl, sym, ap, subst, ◌∙◌}
 use Rattle.std.specs.Io.KnownBytes.{Appends}
 use Rattle.std.proofs.KnownBytes.{Appends-trans, Appends-nil}
 use Rattle.std.proofs.lemmas.Grind.{flat_map-append}
@@ -11,14 +11,13 @@ use Rattle.edi_cutter.specs.declared.cut_fault.CutFault.TheVariants.{TooLong, Se
 use Rattle.office_replies.specs.declared.response.Response.{Response}
 use Rattle.office_replies.specs.declared.worst.Worst.{Worst}
 use Rattle.office_replies.specs.Responses.{body_of, worst_of, worse_of}
-use Rattle.office_replies.specs.Delivering.{events_behind}
-use Rattle.office_replies.specs.Events.{Event}
+use Rattle.office_replies.specs.Delivering.{LeadsOn}
 use Rattle.office_stream.specs.Lines.{line, response_lines, worst_of_all}
 use Rattle.edi_cutter.specs.Streams.{CutsFrom}
 use Rattle.office_stream.specs.Streams.{IsCutBy, GoesOnAnyhow, LineCutShort}
 use Rattle.office_stream.specs.Pieces.{AnsweredOne, DeliveredOne, EndsPiece, PieceAnswered}
 use Rattle.office_stream.proofs.Writing.{in_two}
-use Rattle.office_stream.proofs.Answering.{answered_more, worse_of-Fine, worse_of-assoc, worst_of_more}
+use Rattle.office_stream.proofs.Answering.{leads_more, worse_of-Fine, worse_of-assoc, worst_of_more}
 use Rattle.office_stream.proofs.Cutting.{cuts_more, cuts_weaker, some_bytes, some_faulty, stripped_more}
 
 -- these bytes are left, behind these that are pending
@@ -35,10 +34,6 @@ worst_more before worst one responses response is one_is =
     ap (λ w. worse_of w one) is ∙ worse_of-assoc before (worst_of_all responses) one
     ∙ ap (λ w. worse_of before (worse_of (worst_of_all responses) w)) one_is ∙ ap (worse_of before) (sym (worst_of_more responses response))
 
-pub whatever_error : {T E : Type 0} (r : Result T E) (P : E → Type 0) → ((e : E) → P e) → IfErr r P
-whatever_error (Ok value) P h = tt
-whatever_error (Err e) P h = h e
-
 -- what a call of the cutter used of a piece
 pub record Used (q rest : List ℕ) (n : ℕ) (text : List ℕ) : Type 0 where
   pub is : IsInterchange text
@@ -53,64 +48,57 @@ used_cuts P q rest n text used then stream left = (
   then,
 )
 
-module _ {D : Type 0} (stands : List Event → D → Type 0) (answers : List Event → List ℕ → Response → Type 0) where
+module _ {D : Type 0} (Call : D → List ℕ → Response → D → Type 0) (first : D) where
   -- before the first interchange
-  pub nothing_done : (es : List Event) (q piece : List ℕ) (desk : D) (before : Worst) (a : Option (List ℕ)) → stands es desk →
-      PieceAnswered stands answers es (IsLeft q piece) (q ++ piece) desk before before a a
-  nothing_done es q piece desk before a at = record {
+  pub nothing_done : (q piece : List ℕ) (before : Worst) (a : Option (List ℕ)) → PieceAnswered Call first (IsLeft q piece) (q ++ piece) first before before a a
+  nothing_done q piece before a = record {
     texts = [];
     responses = [];
     cuts = refl;
-    answered = record { each = tt; stands_now = at };
+    calls = refl;
     is_worst = sym (worse_of-Fine before);
     writes = Appends-nil a;
   }
 
-  pub piece_more : (es : List Event) (stream q rest text q' rest' : List ℕ) (n : ℕ) (old new : D) (before worst one : Worst) (a b c : Option (List ℕ)) →
-      PieceAnswered stands answers es (IsLeft q rest) stream old before worst a b → Used q rest n text →
-      ((others : List Event) → stands others old → AnsweredOne stands answers others text new one b c) →
-      [] ≡ q' → drop n rest ≡ rest' → PieceAnswered stands answers es (IsLeft q' rest') stream new before (worse_of worst one) a c
-  piece_more es stream q rest text q' rest' n old new before worst one a b c done used next none behind =
-      let ans = next (events_behind es done.texts done.responses) done.answered.stands_now in
+  pub piece_more : (stream q rest text q' rest' : List ℕ) (n : ℕ) (old new : D) (before worst one : Worst) (a b c : Option (List ℕ)) →
+      PieceAnswered Call first (IsLeft q rest) stream old before worst a b → Used q rest n text → AnsweredOne Call old text new one b c →
+      [] ≡ q' → drop n rest ≡ rest' → PieceAnswered Call first (IsLeft q' rest') stream new before (worse_of worst one) a c
+  piece_more stream q rest text q' rest' n old new before worst one a b c done used next none behind =
       let left : IsLeft q' rest' (without_breaks (drop n rest)) =
       subst (λ p. without_breaks (drop n rest) ≡ without_breaks (p ++ rest')) none (ap without_breaks behind) in
       record {
         texts = done.texts ++ text ∷ [];
-        responses = done.responses ++ ans.response ∷ [];
+        responses = done.responses ++ next.response ∷ [];
         cuts = cuts_more (IsLeft q rest) (IsLeft q' rest') (text ∷ []) (used_cuts (IsLeft q' rest') q rest n text used left) stream done.texts done.cuts;
-        answered = answered_more stands answers es done.texts done.responses old new text ans.response done.answered ans.delivers;
-        is_worst = worst_more before worst one done.responses ans.response done.is_worst ans.is_worst;
-        writes = subst (Appends a c) (sym (lines_more done.responses ans.response)) (Appends-trans a b c (response_lines done.responses) (line (body_of ans.response)) done.writes ans.writes);
+        calls = leads_more Call first old new done.texts done.responses text next.response done.calls next.call;
+        is_worst = worst_more before worst one done.responses next.response done.is_worst next.is_worst;
+        writes = subst (Appends a c) (sym (lines_more done.responses next.response)) (Appends-trans a b c (response_lines done.responses) (line (body_of next.response)) done.writes next.writes);
       }
 
   -- a write that failed
-  pub piece_cut_short : (es : List Event) (stream q rest text : List ℕ) (n : ℕ) (old new : D) (before worst : Worst) (a b c : Option (List ℕ)) →
-      PieceAnswered stands answers es (IsLeft q rest) stream old before worst a b → Used q rest n text →
-      ((others : List Event) → stands others old → DeliveredOne stands answers others text new b c) →
-      LineCutShort stands answers es stream a c new
-  piece_cut_short es stream q rest text n old new before worst a b c done used next =
-      let ans = next (events_behind es done.texts done.responses) done.answered.stands_now in
-      record {
-        texts = done.texts;
-        last = text;
-        responses = done.responses;
-        response = ans.response;
-        part = ans.writes.0;
-        cuts = cuts_more (IsLeft q rest) GoesOnAnyhow (text ∷ []) (used_cuts GoesOnAnyhow q rest n text used tt) stream done.texts done.cuts;
-        answered = answered_more stands answers es done.texts done.responses old new text ans.response done.answered ans.delivers;
-        front = ans.writes.1;
-        writes = Appends-trans a b c (response_lines done.responses) ans.writes.0 done.writes ans.writes.2;
-      }
+  pub piece_cut_short : (stream q rest text : List ℕ) (n : ℕ) (old new : D) (before worst : Worst) (a b c : Option (List ℕ)) →
+      PieceAnswered Call first (IsLeft q rest) stream old before worst a b → Used q rest n text → DeliveredOne Call old text new b c →
+      LineCutShort (λ texts responses. LeadsOn Call first texts responses new) stream a c
+  piece_cut_short stream q rest text n old new before worst a b c done used next = record {
+    texts = done.texts;
+    last = text;
+    responses = done.responses;
+    response = next.response;
+    part = next.writes.0;
+    cuts = cuts_more (IsLeft q rest) GoesOnAnyhow (text ∷ []) (used_cuts GoesOnAnyhow q rest n text used tt) stream done.texts done.cuts;
+    done = leads_more Call first old new done.texts done.responses text next.response done.calls next.call;
+    front = next.writes.1;
+    writes = Appends-trans a b c (response_lines done.responses) next.writes.0 done.writes next.writes.2;
+  }
 
   -- another end
-  pub piece_ends : (es : List Event) (P Q : List ℕ → Type 0) (stream : List ℕ) (new : D) (before worst : Worst) (a b : Option (List ℕ)) →
-      ((rest : List ℕ) → P rest → Q rest) →
-      PieceAnswered stands answers es P stream new before worst a b → PieceAnswered stands answers es Q stream new before worst a b
-  piece_ends es P Q stream new before worst a b on done = record {
+  pub piece_ends : (P Q : List ℕ → Type 0) (stream : List ℕ) (new : D) (before worst : Worst) (a b : Option (List ℕ)) → ((rest : List ℕ) → P rest → Q rest) →
+      PieceAnswered Call first P stream new before worst a b → PieceAnswered Call first Q stream new before worst a b
+  piece_ends P Q stream new before worst a b on done = record {
     texts = done.texts;
     responses = done.responses;
     cuts = cuts_weaker P Q on stream done.texts done.cuts;
-    answered = done.answered;
+    calls = done.calls;
     is_worst = done.is_worst;
     writes = done.writes;
   }

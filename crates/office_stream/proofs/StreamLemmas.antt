@@ -11,36 +11,34 @@ use Rattle.office_replies.specs.declared.response.Response.{Response}
 use Rattle.office_replies.specs.declared.worst.Worst.{Worst}
 use Rattle.office_replies.specs.declared.worst.Worst.TheVariants.{Fine}
 use Rattle.office_replies.specs.Responses.{worse_of}
-use Rattle.office_replies.specs.Delivering.{events_behind}
-use Rattle.office_replies.specs.Events.{Event}
+use Rattle.office_replies.specs.Delivering.{LeadsOn}
 use Rattle.office_stream.specs.Fronts.{AppendsFront}
 use Rattle.office_stream.specs.Lines.{response_lines, worst_of_all, end_text, end_worst}
 use Rattle.edi_cutter.specs.Streams.{CutsFrom}
-use Rattle.office_stream.specs.Streams.{EndsAs, ReadsTo, GoesOnAnyhow, Answered, Streamed, Began, LineCutShort, Delivered, port_bytes}
+use Rattle.office_stream.specs.Streams.{EndsAs, ReadsTo, GoesOnAnyhow, PortBytes, Streamed, Began, LineCutShort, EndCutShort, Delivered, Streams, port_bytes}
 use Rattle.office_stream.specs.Pieces.{EndsPiece, LeavesOver, PieceAnswered}
-use Rattle.office_stream.specs.Faults.{MatchFault}
 use Rattle.office_stream.specs.declared.stream_fault.StreamFault.{StreamFault}
-use Rattle.office_stream.specs.declared.stream_fault.StreamFault.TheVariants.{Write}
+use Rattle.office_stream.specs.declared.stream_fault.StreamFault.TheVariants.{Read, Write, Turns}
 use Rattle.office_stream.specs.declared.stream_end.StreamEnd.{StreamEnd}
 use Rattle.office_stream.specs.declared.stream_end.StreamEnd.TheVariants.{Whole, Open, Cut}
-use Rattle.office_stream.proofs.Answering.{answered_both, worst_of_both}
+use Rattle.office_stream.proofs.Answering.{leads_both, worst_of_both}
 use Rattle.office_stream.proofs.PieceLemmas.{piece_ends}
 use Rattle.office_stream.proofs.Cutting.{cuts_join, cuts_weaker, nothing_pending}
 
 -- The interchanges of what was read were answered by their lines, and less than one is pending.
-pub record Sofar {D : Type 0} (stands : List Event → D → Type 0) (answers : List Event → List ℕ → Response → Type 0)
-    (es : List Event) (left left' : Option (List ℕ)) (pending : List ℕ) (desk : D) (worst : Worst) (written written' : Option (List ℕ)) : Type 0 where
+pub record Sofar {D : Type 0} (Call : D → List ℕ → Response → D → Type 0) (old : D)
+    (left left' : Option (List ℕ)) (pending : List ℕ) (new : D) (worst : Worst) (written written' : Option (List ℕ)) : Type 0 where
   pub bytes : List ℕ
   pub reads : Consumes left left' bytes
-  pub piece : PieceAnswered stands answers es (LeavesOver pending) bytes desk Fine worst written written'
+  pub piece : PieceAnswered Call old (LeavesOver pending) bytes new Fine worst written written'
 
 -- They are all that is to be answered: nothing but the cut line is to be written.
-pub record AtEnd {D : Type 0} (stands : List Event → D → Type 0) (answers : List Event → List ℕ → Response → Type 0)
-    (es : List Event) (left left' : Option (List ℕ)) (end : StreamEnd) (desk : D) (worst : Worst) (written written' : Option (List ℕ)) : Type 0 where
+pub record AtEnd {D : Type 0} (Call : D → List ℕ → Response → D → Type 0) (old : D)
+    (left left' : Option (List ℕ)) (end : StreamEnd) (new : D) (worst : Worst) (written written' : Option (List ℕ)) : Type 0 where
   pub bytes : List ℕ
   pub reads : Consumes left left' bytes
   pub ended : ReadsTo end left'
-  pub piece : PieceAnswered stands answers es (EndsAs end) bytes desk Fine worst written written'
+  pub piece : PieceAnswered Call old (EndsAs end) bytes new Fine worst written written'
 
 same_bytes : (a b c : Option (List ℕ)) (bytes : List ℕ) → Consumes a b bytes → Consumes b c [] → Consumes a c bytes
 same_bytes a b c bytes reads more = subst (Consumes a c) (append-nil bytes) (Consumes-trans a b c bytes [] reads more)
@@ -59,72 +57,71 @@ not_both b holds fails = cc
 pub nil_is_not : (q : List ℕ) → is_nil q ≡ false → q ≢ []
 nil_is_not q e none = not_both (is_nil q) (ap is_nil none) e
 
-module _ {D : Type 0} (stands : List Event → D → Type 0) (answers : List Event → List ℕ → Response → Type 0) where
+module _ {D : Type 0} (Call : D → List ℕ → Response → D → Type 0) (first : D) where
+  -- by these calls the desk came to be so
+  abbrev pub Calls : D → List (List ℕ) → List Response → Type 0
+  Calls new texts responses = LeadsOn Call first texts responses new
+
   -- a piece behind what was read before
-  pieces_join : (P : List ℕ → Type 0) (es : List Event) (bytes q piece : List ℕ) (old new : D) (worst worst' : Worst) (a b c : Option (List ℕ)) →
-      (before : PieceAnswered stands answers es (LeavesOver q) bytes old Fine worst a b) →
-      PieceAnswered stands answers (events_behind es before.texts before.responses) P (q ++ piece) new worst worst' b c →
-      PieceAnswered stands answers es P (bytes ++ piece) new Fine worst' a c
-  pieces_join P es bytes q piece old new worst worst' a b c before then = record {
+  pieces_join : (P : List ℕ → Type 0) (bytes q piece : List ℕ) (old new : D) (worst worst' : Worst) (a b c : Option (List ℕ)) →
+      PieceAnswered Call first (LeavesOver q) bytes old Fine worst a b → PieceAnswered Call old P (q ++ piece) new worst worst' b c →
+      PieceAnswered Call first P (bytes ++ piece) new Fine worst' a c
+  pieces_join P bytes q piece old new worst worst' a b c before then = record {
     texts = before.texts ++ then.texts;
     responses = before.responses ++ then.responses;
     cuts = cuts_join P q piece bytes before.texts then.texts before.cuts then.cuts;
-    answered = answered_both stands answers es before.texts then.texts before.responses then.responses old new before.answered then.answered;
+    calls = leads_both Call first old new before.texts then.texts before.responses then.responses before.calls then.calls;
     is_worst = then.is_worst ∙ ap (λ w. worse_of w (worst_of_all then.responses)) before.is_worst ∙ sym (worst_of_both before.responses then.responses);
     writes = subst (Appends a c) (sym (flat_map-append _ before.responses then.responses)) (Appends-trans a b c (response_lines before.responses) (response_lines then.responses) before.writes then.writes);
   }
 
-  pub sofar_more : (es : List Event) (left mid left' : Option (List ℕ)) (q q' piece : List ℕ) (old new : D) (worst worst' : Worst) (a b c : Option (List ℕ)) →
-      Sofar stands answers es left mid q old worst a b → Consumes mid left' piece →
-      ((others : List Event) → stands others old → PieceAnswered stands answers others (EndsPiece None q') (q ++ piece) new worst worst' b c) →
-      Sofar stands answers es left left' q' new worst' a c
-  sofar_more es left mid left' q q' piece old new worst worst' a b c before reads next = record {
+  pub sofar_more : (left mid left' : Option (List ℕ)) (q q' piece : List ℕ) (old new : D) (worst worst' : Worst) (a b c : Option (List ℕ)) →
+      Sofar Call first left mid q old worst a b → Consumes mid left' piece → PieceAnswered Call old (EndsPiece None q') (q ++ piece) new worst worst' b c →
+      Sofar Call first left left' q' new worst' a c
+  sofar_more left mid left' q q' piece old new worst worst' a b c before reads next = record {
     bytes = before.bytes ++ piece;
     reads = Consumes-trans left mid left' before.bytes piece before.reads reads;
-    piece = pieces_join (EndsPiece None q') es before.bytes q piece old new worst worst' a b c before.piece
-        (next (events_behind es before.piece.texts before.piece.responses) before.piece.answered.stands_now);
+    piece = pieces_join (EndsPiece None q') before.bytes q piece old new worst worst' a b c before.piece next;
   }
 
   -- before the first read
-  pub nothing_read : (es : List Event) (left : Option (List ℕ)) (q : List ℕ) (desk : D) (a : Option (List ℕ)) → q ≡ [] → stands es desk → Sofar stands answers es left left q desk Fine a a
-  nothing_read es left q desk a none at = record {
+  pub nothing_read : (left : Option (List ℕ)) (q : List ℕ) (a : Option (List ℕ)) → q ≡ [] → Sofar Call first left left q first Fine a a
+  nothing_read left q a none = record {
     bytes = [];
     reads = Consumes-nil left;
     piece = record {
       texts = [];
       responses = [];
       cuts = (sym none, subst IsPending (sym none) nothing_pending);
-      answered = record { each = tt; stands_now = at };
+      calls = refl;
       is_worst = refl;
       writes = Appends-nil a;
     };
   }
 
   -- a read that failed
-  pub began : (es : List Event) (left mid left' : Option (List ℕ)) (q : List ℕ) (desk : D) (worst : Worst) (a b : Option (List ℕ)) →
-      Sofar stands answers es left mid q desk worst a b → Keeps mid left' → Began stands answers es (port_bytes left left' a b) desk
-  began es left mid left' q desk worst a b before same = record {
+  pub began : (left mid left' : Option (List ℕ)) (q : List ℕ) (new : D) (worst : Worst) (a b : Option (List ℕ)) →
+      Sofar Call first left mid q new worst a b → Keeps mid left' → Began (Calls new) (port_bytes left left' a b)
+  began left mid left' q new worst a b before same = record {
     bytes = before.bytes;
     texts = before.piece.texts;
     responses = before.piece.responses;
     reads = Consumes-kept left mid left' before.bytes before.reads same;
     cuts = cuts_weaker (LeavesOver q) IsPending (λ rest at. subst IsPending (sym at.0) at.1) before.bytes before.piece.texts before.piece.cuts;
-    answered = before.piece.answered;
+    done = before.piece.calls;
     writes = before.piece.writes;
   }
 
   -- too many reads
-  pub began_now : (es : List Event) (left left' : Option (List ℕ)) (q : List ℕ) (desk : D) (worst : Worst) (a b : Option (List ℕ)) →
-      Sofar stands answers es left left' q desk worst a b → Began stands answers es (port_bytes left left' a b) desk
-  began_now es left left' q desk worst a b before = began es left left' left' q desk worst a b before (Keeps-refl left')
+  pub began_now : (left left' : Option (List ℕ)) (q : List ℕ) (new : D) (worst : Worst) (a b : Option (List ℕ)) →
+      Sofar Call first left left' q new worst a b → Began (Calls new) (port_bytes left left' a b)
+  began_now left left' q new worst a b before = began left left' left' q new worst a b before (Keeps-refl left')
 
   -- a write that failed, in the middle of a piece
-  pub cut_short : (es : List Event) (left mid left' : Option (List ℕ)) (q piece : List ℕ) (old new : D) (worst : Worst) (a b c : Option (List ℕ)) →
-      Sofar stands answers es left mid q old worst a b → Consumes mid left' piece →
-      ((others : List Event) → stands others old → LineCutShort stands answers others (q ++ piece) b c new) →
-      Delivered stands answers es (port_bytes left left' a c) new
-  cut_short es left mid left' q piece old new worst a b c before reads next =
-      let then = next (events_behind es before.piece.texts before.piece.responses) before.piece.answered.stands_now in
+  pub cut_short : (left mid left' : Option (List ℕ)) (q piece : List ℕ) (old new : D) (worst : Worst) (a b c : Option (List ℕ)) →
+      Sofar Call first left mid q old worst a b → Consumes mid left' piece →
+      LineCutShort (λ texts responses. LeadsOn Call old texts responses new) (q ++ piece) b c → Delivered (Calls new) (port_bytes left left' a c)
+  cut_short left mid left' q piece old new worst a b c before reads then =
       let texts = before.piece.texts ++ (then.texts ++ then.last ∷ []) in
       let texts_are : texts ≡ (before.piece.texts ++ then.texts) ++ then.last ∷ [] = sym (append_assoc before.piece.texts then.texts (then.last ∷ [])) in
       let responses_are : before.piece.responses ++ (then.responses ++ then.response ∷ []) ≡ (before.piece.responses ++ then.responses) ++ then.response ∷ [] =
@@ -140,9 +137,9 @@ module _ {D : Type 0} (stands : List Event → D → Type 0) (answers : List Eve
           part = then.part;
           cuts = subst (CutsFrom GoesOnAnyhow (before.bytes ++ piece)) texts_are
               (cuts_join GoesOnAnyhow q piece before.bytes before.piece.texts (then.texts ++ then.last ∷ []) before.piece.cuts then.cuts);
-          answered = subst (λ all. Answered stands answers es all ((before.piece.responses ++ then.responses) ++ then.response ∷ []) new) texts_are
-              (subst (λ all. Answered stands answers es texts all new) responses_are
-              (answered_both stands answers es before.piece.texts (then.texts ++ then.last ∷ []) before.piece.responses (then.responses ++ then.response ∷ []) old new before.piece.answered then.answered));
+          done = subst (λ all. LeadsOn Call first all ((before.piece.responses ++ then.responses) ++ then.response ∷ []) new) texts_are
+              (subst (λ all. LeadsOn Call first texts all new) responses_are
+              (leads_both Call first old new before.piece.texts (then.texts ++ then.last ∷ []) before.piece.responses (then.responses ++ then.response ∷ []) before.piece.calls then.done));
           front = then.front;
           writes = subst (Appends a c) (lines_both before.piece.responses then.responses then.part)
               (Appends-trans a b c (response_lines before.piece.responses) (response_lines then.responses ++ then.part) before.piece.writes then.writes);
@@ -150,45 +147,43 @@ module _ {D : Type 0} (stands : List Event → D → Type 0) (answers : List Eve
       }
 
   -- the end of the input
-  pub input_ends : (es : List Event) (left mid left' : Option (List ℕ)) (q : List ℕ) (end : StreamEnd) (desk : D) (worst : Worst) (a b : Option (List ℕ)) →
-      Sofar stands answers es left mid q desk worst a b → Consumes mid left' [] → IsAtEnd left' →
-      ((end ≡ Whole) × (q ≡ [])) ⊎ ((end ≡ Open) × (q ≢ [])) → AtEnd stands answers es left left' end desk worst a b
-  input_ends es left mid left' q end desk worst a b before reads ended how =
+  pub input_ends : (left mid left' : Option (List ℕ)) (q : List ℕ) (end : StreamEnd) (new : D) (worst : Worst) (a b : Option (List ℕ)) →
+      Sofar Call first left mid q new worst a b → Consumes mid left' [] → IsAtEnd left' →
+      ((end ≡ Whole) × (q ≡ [])) ⊎ ((end ≡ Open) × (q ≢ [])) → AtEnd Call first left left' end new worst a b
+  input_ends left mid left' q end new worst a b before reads ended how =
       let all = same_bytes left mid left' before.bytes before.reads reads in
       elim how [
-        | inl whole ↦ subst (λ e. AtEnd stands answers es left left' e desk worst a b) (sym whole.0) (record {
+        | inl whole ↦ subst (λ e. AtEnd Call first left left' e new worst a b) (sym whole.0) (record {
           bytes = before.bytes;
           reads = all;
           ended = ended;
-          piece = piece_ends stands answers es (LeavesOver q) (EndsAs Whole) before.bytes desk Fine worst a b (λ rest at. at.0 ∙ whole.1) before.piece;
+          piece = piece_ends Call first (LeavesOver q) (EndsAs Whole) before.bytes new Fine worst a b (λ rest at. at.0 ∙ whole.1) before.piece;
         })
-        | inr less ↦ subst (λ e. AtEnd stands answers es left left' e desk worst a b) (sym less.0) (record {
+        | inr less ↦ subst (λ e. AtEnd Call first left left' e new worst a b) (sym less.0) (record {
           bytes = before.bytes;
           reads = all;
           ended = ended;
-          piece = piece_ends stands answers es (LeavesOver q) (EndsAs Open) before.bytes desk Fine worst a b
+          piece = piece_ends Call first (LeavesOver q) (EndsAs Open) before.bytes new Fine worst a b
               (λ rest at. (subst IsPending (sym at.0) at.1, λ none. less.1 (sym at.0 ∙ none))) before.piece;
         })
       ]
 
   -- a stream that can't be cut further
-  pub stream_cut : (es : List Event) (left mid left' : Option (List ℕ)) (q q' piece : List ℕ) (fault : CutFault) (old new : D) (worst worst' : Worst) (a b c : Option (List ℕ)) →
-      Sofar stands answers es left mid q old worst a b → Consumes mid left' piece →
-      ((others : List Event) → stands others old → PieceAnswered stands answers others (EndsPiece (Some fault) q') (q ++ piece) new worst worst' b c) →
-      AtEnd stands answers es left left' (Cut fault) new worst' a c
-  stream_cut es left mid left' q q' piece fault old new worst worst' a b c before reads next = record {
+  pub stream_cut : (left mid left' : Option (List ℕ)) (q q' piece : List ℕ) (fault : CutFault) (old new : D) (worst worst' : Worst) (a b c : Option (List ℕ)) →
+      Sofar Call first left mid q old worst a b → Consumes mid left' piece → PieceAnswered Call old (EndsPiece (Some fault) q') (q ++ piece) new worst worst' b c →
+      AtEnd Call first left left' (Cut fault) new worst' a c
+  stream_cut left mid left' q q' piece fault old new worst worst' a b c before reads next = record {
     bytes = before.bytes ++ piece;
     reads = Consumes-trans left mid left' before.bytes piece before.reads reads;
     ended = tt;
-    piece = pieces_join (EndsPiece (Some fault) q') es before.bytes q piece old new worst worst' a b c before.piece
-        (next (events_behind es before.piece.texts before.piece.responses) before.piece.answered.stands_now);
+    piece = pieces_join (EndsPiece (Some fault) q') before.bytes q piece old new worst worst' a b c before.piece next;
   }
 
   -- the last line
-  pub streamed : (es : List Event) (left left' : Option (List ℕ)) (end : StreamEnd) (desk : D) (worst all : Worst) (a b c : Option (List ℕ)) →
-      AtEnd stands answers es left left' end desk worst a b → Appends b c (end_text end) → all ≡ worse_of worst (end_worst end) →
-      Streamed stands answers es (port_bytes left left' a c) desk all
-  streamed es left left' end desk worst all a b c at writes is = record {
+  streamed : (left left' : Option (List ℕ)) (end : StreamEnd) (new : D) (worst all : Worst) (a b c : Option (List ℕ)) →
+      AtEnd Call first left left' end new worst a b → Appends b c (end_text end) → all ≡ worse_of worst (end_worst end) →
+      Streamed (Calls new) (port_bytes left left' a c) all
+  streamed left left' end new worst all a b c at writes is = record {
     bytes = at.bytes;
     texts = at.piece.texts;
     responses = at.piece.responses;
@@ -196,15 +191,15 @@ module _ {D : Type 0} (stands : List Event → D → Type 0) (answers : List Eve
     reads = at.reads;
     ended = at.ended;
     cuts = at.piece.cuts;
-    answered = at.piece.answered;
+    done = at.piece.calls;
     writes = Appends-trans a b c (response_lines at.piece.responses) (end_text end) at.piece.writes writes;
     is_worst = is ∙ ap (λ w. worse_of w (end_worst end)) at.piece.is_worst;
   }
 
   -- a write of it that failed
-  pub end_cut_short : (es : List Event) (left left' : Option (List ℕ)) (end : StreamEnd) (desk : D) (worst : Worst) (a b c : Option (List ℕ)) →
-      AtEnd stands answers es left left' end desk worst a b → AppendsFront b c (end_text end) → Delivered stands answers es (port_bytes left left' a c) desk
-  end_cut_short es left left' end desk worst a b c at (part, front, writes) = record {
+  end_cut_short : (left left' : Option (List ℕ)) (end : StreamEnd) (new : D) (worst : Worst) (a b c : Option (List ℕ)) →
+      AtEnd Call first left left' end new worst a b → AppendsFront b c (end_text end) → Delivered (Calls new) (port_bytes left left' a c)
+  end_cut_short left left' end new worst a b c at (part, front, writes) = record {
     bytes = at.bytes;
     reads = at.reads;
     cut_short = inr (record {
@@ -214,25 +209,98 @@ module _ {D : Type 0} (stands : List Event → D → Type 0) (answers : List Eve
       part = part;
       ended = at.ended;
       cuts = at.piece.cuts;
-      answered = at.piece.answered;
+      done = at.piece.calls;
       front = front;
       writes = Appends-trans a b c (response_lines at.piece.responses) part at.piece.writes writes;
     });
   }
 
-  pub piece_at : (es : List Event) (cut cut' : Option CutFault) (q' stream : List ℕ) (desk : D) (before worst : Worst) (a b : Option (List ℕ)) → cut ≡ cut' →
-      PieceAnswered stands answers es (EndsPiece cut q') stream desk before worst a b → PieceAnswered stands answers es (EndsPiece cut' q') stream desk before worst a b
-  piece_at es cut cut' q' stream desk before worst a b is done =
-      subst (λ c. PieceAnswered stands answers es (EndsPiece c q') stream desk before worst a b) is done
+  at_write : (ports : PortBytes) (new : D) (fault : StreamFault) → fault ≡ Write → Delivered (Calls new) ports → Streams (Calls new) ports (Err fault)
+  at_write ports new fault is done = subst (λ f. Streams (Calls new) ports (Err f)) (sym is) done
+
+  -- the last line, written or not
+  pub finished : (left left' : Option (List ℕ)) (end : StreamEnd) (new : D) (worst : Worst) (a b c : Option (List ℕ)) (r : Result Worst StreamFault) (Failed : Type 0) →
+      AtEnd Call first left left' end new worst a b → IfOk r (λ all. all ≡ worse_of worst (end_worst end)) → OnOk r (Appends b c (end_text end)) →
+      IfErr r (λ fault. (fault ≡ Write) × Failed × AppendsFront b c (end_text end)) → Streams (Calls new) (port_bytes left left' a c) r
+  finished left left' end new worst a b c (Ok all) Failed at is writes short = streamed left left' end new worst all a b c at writes is
+  finished left left' end new worst a b c (Err fault) Failed at is writes short =
+      at_write (port_bytes left left' a c) new fault short.0 (end_cut_short left left' end new worst a b c at short.2)
+
+  -- a fault that is passed on
+  pub passed_on : (ports : PortBytes) (new : D) (r : Result Worst StreamFault) (fault : StreamFault) → fault ≡ Write → IsErrAnd r (λ e. e ≡ fault) →
+      Delivered (Calls new) ports → Streams (Calls new) ports r
+  passed_on ports new (Ok worst) fault is none done = absurd none
+  passed_on ports new (Err e) fault is same done = at_write ports new e (same ∙ is) done
+
+pub piece_at : {D : Type 0} (Call : D → List ℕ → Response → D → Type 0) (old : D) (cut cut' : Option CutFault) (q' stream : List ℕ) (new : D) (before worst : Worst)
+    (a b : Option (List ℕ)) → cut ≡ cut' → PieceAnswered Call old (EndsPiece cut q') stream new before worst a b → PieceAnswered Call old (EndsPiece cut' q') stream new before worst a b
+piece_at Call old cut cut' q' stream new before worst a b is done = subst (λ c. PieceAnswered Call old (EndsPiece c q') stream new before worst a b) is done
+
+-- ---- what was done, in other words
+
+module _ (Done Other : List (List ℕ) → List Response → Type 0) (on : (texts : List (List ℕ)) (responses : List Response) → Done texts responses → Other texts responses) where
+  began_as : (ports : PortBytes) → Began Done ports → Began Other ports
+  began_as ports before = record {
+    bytes = before.bytes;
+    texts = before.texts;
+    responses = before.responses;
+    reads = before.reads;
+    cuts = before.cuts;
+    done = on before.texts before.responses before.done;
+    writes = before.writes;
+  }
+
+  line_as : (stream : List ℕ) (written written' : Option (List ℕ)) → LineCutShort Done stream written written' → LineCutShort Other stream written written'
+  line_as stream written written' short = record {
+    texts = short.texts;
+    last = short.last;
+    responses = short.responses;
+    response = short.response;
+    part = short.part;
+    cuts = short.cuts;
+    done = on (short.texts ++ short.last ∷ []) (short.responses ++ short.response ∷ []) short.done;
+    front = short.front;
+    writes = short.writes;
+  }
+
+  end_as : (stream : List ℕ) (ports : PortBytes) → EndCutShort Done stream ports → EndCutShort Other stream ports
+  end_as stream ports short = record {
+    texts = short.texts;
+    responses = short.responses;
+    end = short.end;
+    part = short.part;
+    ended = short.ended;
+    cuts = short.cuts;
+    done = on short.texts short.responses short.done;
+    front = short.front;
+    writes = short.writes;
+  }
+
+  pub streams_as : (ports : PortBytes) (r : Result Worst StreamFault) → Streams Done ports r → Streams Other ports r
+  streams_as ports (Ok worst) all = record {
+    bytes = all.bytes;
+    texts = all.texts;
+    responses = all.responses;
+    end = all.end;
+    reads = all.reads;
+    ended = all.ended;
+    cuts = all.cuts;
+    done = on all.texts all.responses all.done;
+    writes = all.writes;
+    is_worst = all.is_worst;
+  }
+  streams_as ports (Err Read) before = began_as ports before
+  streams_as ports (Err Turns) before = began_as ports before
+  streams_as ports (Err Write) delivered = record {
+    bytes = delivered.bytes;
+    reads = delivered.reads;
+    cut_short = elim delivered.cut_short [
+      | inl short ↦ inl (line_as delivered.bytes ports.written_before ports.written_after short)
+      | inr short ↦ inr (end_as delivered.bytes ports short)
+    ];
+  }
 
 -- ---- faults
-
-pub at_write : (fault : StreamFault) (A B C : Type 0) → fault ≡ Write → B → MatchFault fault A B C
-at_write fault A B C is holds = subst (λ f. MatchFault f A B C) (sym is) holds
-
-pub ok_with : {T E : Type 0} (r : Result T E) (P : T → Type 0) (X : Type 0) (Q : T → Type 0) → ((value : T) → P value → X → Q value) → IfOk r P → OnOk r X → IfOk r Q
-ok_with (Ok value) P X Q on holds more = on value holds more
-ok_with (Err e) P X Q on holds more = tt
 
 pub err_weaker : {T E : Type 0} (r : Result T E) (P Q : E → Type 0) → ((e : E) → P e → Q e) → IfErr r P → IfErr r Q
 err_weaker (Ok value) P Q on holds = tt

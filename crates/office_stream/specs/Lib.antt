@@ -4,3 +4,4 @@ pub mod Streams
 pub mod Pieces
 pub mod Faults
 pub mod Gathering
+pub mod Accounts

@@ -7,28 +7,25 @@ use Rattle.office_replies.specs.declared.response.Response.{Response}
 use Rattle.office_replies.specs.declared.worst.Worst.{Worst}
 use Rattle.office_replies.specs.Responses.{body_of, worst_of, worse_of}
 use Rattle.office_stream.specs.declared.stream_end.StreamEnd.TheVariants.{Cut}
-use Rattle.office_replies.specs.Delivering.{Delivers}
-use Rattle.office_replies.specs.Events.{Event}
+use Rattle.office_replies.specs.Delivering.{LeadsOn}
 use Rattle.office_stream.specs.Fronts.{AppendsFront}
 use Rattle.office_stream.specs.Lines.{line, response_lines, worst_of_all}
 use Rattle.edi_cutter.specs.Streams.{CutsFrom}
-use Rattle.office_stream.specs.Streams.{EndsAs, Answered}
+use Rattle.office_stream.specs.Streams.{EndsAs}
 
 -- one interchange was delivered, and its line written
-pub record AnsweredOne {D : Type 0} (stands : List Event → D → Type 0)
-    (answers : List Event → List ℕ → Response → Type 0)
-    (es : List Event) (text : List ℕ) (desk : D) (worst : Worst) (written written' : Option (List ℕ)) : Type 0 where
+pub record AnsweredOne {D : Type 0} (Call : D → List ℕ → Response → D → Type 0) (old : D) (text : List ℕ) (new : D)
+    (worst : Worst) (written written' : Option (List ℕ)) : Type 0 where
   pub response : Response
-  pub delivers : Delivers stands answers es text response desk
+  pub call : Call old text response new
   pub is_worst : worst ≡ worst_of response
   pub writes : Appends written written' (line (body_of response))
 
 -- one interchange was delivered, and a front of its line written
-pub record DeliveredOne {D : Type 0} (stands : List Event → D → Type 0)
-    (answers : List Event → List ℕ → Response → Type 0)
-    (es : List Event) (text : List ℕ) (desk : D) (written written' : Option (List ℕ)) : Type 0 where
+pub record DeliveredOne {D : Type 0} (Call : D → List ℕ → Response → D → Type 0) (old : D) (text : List ℕ) (new : D)
+    (written written' : Option (List ℕ)) : Type 0 where
   pub response : Response
-  pub delivers : Delivers stands answers es text response desk
+  pub call : Call old text response new
   pub writes : AppendsFront written written' (line (body_of response))
 
 -- these bytes, which are less than an interchange
@@ -41,13 +38,11 @@ EndsPiece None pending rest = LeavesOver pending rest
 EndsPiece (Some fault) pending rest = EndsAs (Cut fault) rest
 
 -- Each of the interchanges with which a stream begins was delivered, and its line written. What is left over ends so.
-pub record PieceAnswered {D : Type 0} (stands : List Event → D → Type 0)
-    (answers : List Event → List ℕ → Response → Type 0)
-    (es : List Event) (Ends : List ℕ → Type 0) (stream : List ℕ) (desk : D) (before worst : Worst)
-    (written written' : Option (List ℕ)) : Type 0 where
+pub record PieceAnswered {D : Type 0} (Call : D → List ℕ → Response → D → Type 0) (old : D) (Ends : List ℕ → Type 0)
+    (stream : List ℕ) (new : D) (before worst : Worst) (written written' : Option (List ℕ)) : Type 0 where
   pub texts : List (List ℕ)
   pub responses : List Response
   pub cuts : CutsFrom Ends stream texts
-  pub answered : Answered stands answers es texts responses desk
+  pub calls : LeadsOn Call old texts responses new
   pub is_worst : worst ≡ worse_of before (worst_of_all responses)
   pub writes : Appends written written' (response_lines responses)

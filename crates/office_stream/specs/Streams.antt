@@ -1,5 +1,5 @@
 -- A stream as the interchanges that are cut out of it, and what is done with them.
-use Rattle.std.specs.Prelude.{◌≡◌, ◌≢◌, ◌⊎◌, ℕ, List, [], ◌∷◌, ◌++◌, Option}
+use Rattle.std.specs.Prelude.{◌≡◌, ◌≢◌, ◌⊎◌, ℕ, List, [], ◌∷◌, ◌++◌, Option, Result, Ok, Err}
 use Rattle.std.specs.Io.KnownBytes.{Consumes, Appends, IsAtEnd}
 use Rattle.edi_cutter.specs.Cuts.{IsPending, Faults, HasNoFault}
 use Rattle.edi_cutter.specs.Streams.{CutsFrom}
@@ -8,12 +8,14 @@ use Rattle.edi_cutter.specs.declared.cut_fault.CutFault.TheVariants.{TooLong, Se
 use Rattle.office_replies.specs.declared.response.Response.{Response}
 use Rattle.office_replies.specs.declared.worst.Worst.{Worst}
 use Rattle.office_replies.specs.Responses.{body_of, worse_of}
-use Rattle.office_replies.specs.Delivering.{AnswersEach, events_behind}
+use Rattle.office_replies.specs.Delivering.{AnswersEach, LeadsOn, events_behind}
 use Rattle.office_replies.specs.Events.{Event}
 use Rattle.office_stream.specs.Fronts.{IsFront}
 use Rattle.office_stream.specs.Lines.{line, end_text, end_worst, response_lines, worst_of_all}
 use Rattle.office_stream.specs.declared.stream_end.StreamEnd.{StreamEnd}
 use Rattle.office_stream.specs.declared.stream_end.StreamEnd.TheVariants.{Whole, Open, Cut}
+use Rattle.office_stream.specs.declared.stream_fault.StreamFault.{StreamFault}
+use Rattle.office_stream.specs.declared.stream_fault.StreamFault.TheVariants.{Read, Write, Turns}
 
 -- ---- cutting
 
@@ -64,17 +66,24 @@ abbrev pub port_bytes : (left left' written written' : Option (List ℕ)) → Po
 port_bytes left left' written written' =
     record { left_before = left; left_after = left'; written_before = written; written_after = written' }
 
--- Each interchange was delivered and answered at its place.
+-- Behind those events each interchange was answered at its place, and this is the desk then.
 pub record Answered {D : Type 0} (stands : List Event → D → Type 0)
     (answers : List Event → List ℕ → Response → Type 0)
-    (es : List Event) (texts : List (List ℕ)) (responses : List Response) (desk : D) : Type 0 where
+    (es : List Event) (desk : D) (texts : List (List ℕ)) (responses : List Response) : Type 0 where
   pub each : AnswersEach answers es texts responses
   pub stands_now : stands (events_behind es texts responses) desk
 
+module _ {D Opening : Type 0} (clean : D → Type 0) (stands : Opening → List Event → D → Type 0)
+    (answers : Opening → List Event → List ℕ → Response → Type 0) (leads : D → List ℕ → Response → D → Type 0) where
+  -- These texts were delivered, with these responses. Whatever desk it is, they led from what it was to what it is. And
+  -- if its records have told the truth, each was answered at its place, from whatever events it stood at.
+  pub record AreDelivered (old new : D) (texts : List (List ℕ)) (responses : List Response) : Type 0 where
+    pub led : LeadsOn leads old texts responses new
+    pub answered : clean new → (opening : Opening) (es : List Event) → stands opening es old →
+        Answered (stands opening) (answers opening) es new texts responses
+
 -- The bytes that were read are cut to their end, each interchange answered by its line, and the end by the cut line.
-pub record Streamed {D : Type 0} (stands : List Event → D → Type 0)
-    (answers : List Event → List ℕ → Response → Type 0)
-    (es : List Event) (ports : PortBytes) (desk : D) (worst : Worst) : Type 0 where
+pub record Streamed (Done : List (List ℕ) → List Response → Type 0) (ports : PortBytes) (worst : Worst) : Type 0 where
   pub bytes : List ℕ
   pub texts : List (List ℕ)
   pub responses : List Response
@@ -82,60 +91,62 @@ pub record Streamed {D : Type 0} (stands : List Event → D → Type 0)
   pub reads : Consumes ports.left_before ports.left_after bytes
   pub ended : ReadsTo end ports.left_after
   pub cuts : Cuts bytes texts end
-  pub answered : Answered stands answers es texts responses desk
+  pub done : Done texts responses
   pub writes : Appends ports.written_before ports.written_after (response_lines responses ++ end_text end)
   pub is_worst : worst ≡ worse_of (worst_of_all responses) (end_worst end)
 
 -- All interchanges of the bytes that were read were answered by their lines, and less than one is left over.
-pub record Began {D : Type 0} (stands : List Event → D → Type 0)
-    (answers : List Event → List ℕ → Response → Type 0)
-    (es : List Event) (ports : PortBytes) (desk : D) : Type 0 where
+pub record Began (Done : List (List ℕ) → List Response → Type 0) (ports : PortBytes) : Type 0 where
   pub bytes : List ℕ
   pub texts : List (List ℕ)
   pub responses : List Response
   pub reads : Consumes ports.left_before ports.left_after bytes
   pub cuts : CutsFrom IsPending bytes texts
-  pub answered : Answered stands answers es texts responses desk
+  pub done : Done texts responses
   pub writes : Appends ports.written_before ports.written_after (response_lines responses)
 
 -- ---- a write that failed
 
 -- A stream begins with these interchanges, and each of them was answered. A front of the last one's line was written,
 -- behind the lines of those before.
-pub record LineCutShort {D : Type 0} (stands : List Event → D → Type 0)
-    (answers : List Event → List ℕ → Response → Type 0)
-    (es : List Event) (stream : List ℕ) (written written' : Option (List ℕ)) (desk : D) : Type 0 where
+pub record LineCutShort (Done : List (List ℕ) → List Response → Type 0) (stream : List ℕ)
+    (written written' : Option (List ℕ)) : Type 0 where
   pub texts : List (List ℕ)
   pub last : List ℕ
   pub responses : List Response
   pub response : Response
   pub part : List ℕ
   pub cuts : CutsFrom GoesOnAnyhow stream (texts ++ last ∷ [])
-  pub answered : Answered stands answers es (texts ++ last ∷ []) (responses ++ response ∷ []) desk
+  pub done : Done (texts ++ last ∷ []) (responses ++ response ∷ [])
   pub front : IsFront part (line (body_of response))
   pub writes : Appends written written' (response_lines responses ++ part)
 
 -- A stream is cut to its end, and each interchange answered by its line. A front of the cut line was written behind
 -- them.
-pub record EndCutShort {D : Type 0} (stands : List Event → D → Type 0)
-    (answers : List Event → List ℕ → Response → Type 0)
-    (es : List Event) (stream : List ℕ) (ports : PortBytes) (desk : D) : Type 0 where
+pub record EndCutShort (Done : List (List ℕ) → List Response → Type 0) (stream : List ℕ) (ports : PortBytes)
+    : Type 0 where
   pub texts : List (List ℕ)
   pub responses : List Response
   pub end : StreamEnd
   pub part : List ℕ
   pub ended : ReadsTo end ports.left_after
   pub cuts : Cuts stream texts end
-  pub answered : Answered stands answers es texts responses desk
+  pub done : Done texts responses
   pub front : IsFront part (end_text end)
   pub writes : Appends ports.written_before ports.written_after (response_lines responses ++ part)
 
 -- A write failed. The line of an interchange of what was read was cut short, or the cut line, and nothing was done
 -- behind it.
-pub record Delivered {D : Type 0} (stands : List Event → D → Type 0)
-    (answers : List Event → List ℕ → Response → Type 0)
-    (es : List Event) (ports : PortBytes) (desk : D) : Type 0 where
+pub record Delivered (Done : List (List ℕ) → List Response → Type 0) (ports : PortBytes) : Type 0 where
   pub bytes : List ℕ
   pub reads : Consumes ports.left_before ports.left_after bytes
-  pub cut_short : LineCutShort stands answers es bytes ports.written_before ports.written_after desk
-      ⊎ EndCutShort stands answers es bytes ports desk
+  pub cut_short : LineCutShort Done bytes ports.written_before ports.written_after ⊎ EndCutShort Done bytes ports
+
+-- ---- however it came out
+
+-- That was done with each interchange of what was read, and its line written, as far as the stream came.
+abbrev pub Streams : (Done : List (List ℕ) → List Response → Type 0) → PortBytes → Result Worst StreamFault → Type 0
+Streams Done ports (Ok worst) = Streamed Done ports worst
+Streams Done ports (Err Read) = Began Done ports
+Streams Done ports (Err Write) = Delivered Done ports
+Streams Done ports (Err Turns) = Began Done ports

@@ -1,8 +1,9 @@
-ghost use Rattle.std.specs.Prelude.{◌≡◌, ◌++◌, ℕ, List, [], ◌∷◌, Option, None, Some, true, IfOk, IfErr, OnOk, OnErr};
+ghost use Rattle.std.specs.Prelude.{◌≡◌, ◌++◌, None, true, IfOk, IfErr, OnOk, OnErr};
 ghost use Rattle.std.specs.Io.KnownBytes.{Appends};
 ghost use Rattle.edi_cutter.specs.Cuts.{pending};
-ghost use Rattle.office_replies.specs.Responses.{body_of, worst_of};
-ghost use Rattle.office_replies.specs.Events.{Event};
+ghost use Rattle.office_replies.specs.Calls.{IsDelivered};
+ghost use Rattle.office_replies.specs.Delivering.{LeadsOn};
+ghost use Rattle.office_replies.specs.Responses.{body_of};
 ghost use Rattle.office_stream.specs.Fronts.{AppendsFront};
 ghost use Rattle.office_stream.specs.Lines.{line};
 ghost use Rattle.office_stream.specs.Pieces.{AnsweredOne, DeliveredOne, EndsPiece, PieceAnswered};
@@ -40,17 +41,15 @@ fn answer_one<W: Write, D: Deliver>(
     desk: &mut D,
 ) -> Result<Worst, StreamFault>
     ensures ok { IfOk result
-        (λ worst. D.clean desk.new → (opening : D.Opening) (es : List Event) → D.stands opening es desk.old
-        → AnsweredOne (D.stands opening) (D.answers opening) es text.now desk.new worst
+        (λ worst. AnsweredOne (IsDelivered D.clean D.stands D.answers D.leads) desk.old text.now desk.new worst
         (W.contents writer.old.inner) (W.contents writer.new.inner)) }
     ensures kept { OnOk result (writer.new.failed ≡ writer.old.failed) }
     ensures flushed { OnOk result (writer.new.flushed ≡ true) }
     ensures err { IfErr result
         (λ fault. (fault ≡ StreamFault.Write) × (writer.new.failed ≡ true)) }
     ensures stays { D.clean desk.new → D.clean desk.old }
-    ensures delivered { IfErr result
-        (λ fault. D.clean desk.new → (opening : D.Opening) (es : List Event) → D.stands opening es desk.old
-        → DeliveredOne (D.stands opening) (D.answers opening) es text.now desk.new
+    ensures delivered { OnErr result
+        (DeliveredOne (IsDelivered D.clean D.stands D.answers D.leads) desk.old text.now desk.new
         (W.contents writer.old.inner) (W.contents writer.new.inner)) }
 {
     let response = desk.deliver(alloc, text);
@@ -72,8 +71,7 @@ pub(crate) fn answer_piece<W: Write, D: Deliver>(
 ) -> Result<(Worst, Option<CutFault>), StreamFault>
     requires { cutter.old.fault ≡ None }
     ensures ok { IfOk result
-        (λ done. D.clean desk.new → (opening : D.Opening) (es : List Event) → D.stands opening es desk.old
-        → PieceAnswered (D.stands opening) (D.answers opening) es
+        (λ done. PieceAnswered (IsDelivered D.clean D.stands D.answers D.leads) desk.old
         (EndsPiece done.1 (pending cutter.new)) (pending cutter.old ++ piece.now) desk.new before done.0
         (W.contents writer.old.inner) (W.contents writer.new.inner)) }
     ensures running { IfOk result (λ done. done.1 ≡ None → cutter.new.fault ≡ None) }
@@ -82,10 +80,10 @@ pub(crate) fn answer_piece<W: Write, D: Deliver>(
     ensures err { IfErr result
         (λ fault. (fault ≡ StreamFault.Write) × (writer.new.failed ≡ true)) }
     ensures stays { D.clean desk.new → D.clean desk.old }
-    ensures cut_short { IfErr result
-        (λ fault. D.clean desk.new → (opening : D.Opening) (es : List Event) → D.stands opening es desk.old
-        → LineCutShort (D.stands opening) (D.answers opening) es (pending cutter.old ++ piece.now)
-        (W.contents writer.old.inner) (W.contents writer.new.inner) desk.new) }
+    ensures cut_short { OnErr result
+        (LineCutShort (λ texts responses.
+        LeadsOn (IsDelivered D.clean D.stands D.answers D.leads) desk.old texts responses desk.new)
+        (pending cutter.old ++ piece.now) (W.contents writer.old.inner) (W.contents writer.new.inner)) }
 {
     let mut worst = before;
     let mut rest = piece;

@@ -1,7 +1,8 @@
 //! Streams of interchanges: they are cut out of what a reader gives, in whatever pieces it comes, delivered one after
-//! the other, and answered by a line each.
+//! the other, and answered by a line each. And an account that is asked for, with the line that answers it.
 #![tactic(auto)]
 
+mod account;
 mod answer;
 mod gathered;
 pub mod laws;
@@ -11,6 +12,7 @@ mod stream;
 mod stream_end;
 mod stream_fault;
 
+pub use account::answer_account;
 pub use gathered::Gathered;
 pub use port::Port;
 pub use stream::run_stream;

@@ -1,11 +1,10 @@
-ghost use Rattle.std.specs.Prelude.{◌≡◌, ◌≢◌, ℕ, ◌+◌, ◌-◌, ◌^◌, ◌≤◌, ◌<◌, min, List, true, false};
+ghost use Rattle.std.specs.Prelude.{◌≡◌, ◌≢◌, ◌+◌, ◌-◌, ◌^◌, ◌≤◌, ◌<◌, min, true, false};
 ghost use Rattle.std.specs.Prelude.{IfOk, IfErr, OnOk, OnErr};
 ghost use Rattle.std.specs.Io.KnownBytes.{Appends};
 ghost use Rattle.office_replies.specs.Responses.{worse_of};
-ghost use Rattle.office_replies.specs.Events.{Event};
 ghost use Rattle.office_stream.specs.Fronts.{AppendsFront};
 ghost use Rattle.office_stream.specs.Lines.{end_text, end_worst};
-ghost use Rattle.office_stream.specs.Streams.{Streamed, Began, Delivered, port_bytes};
+ghost use Rattle.office_stream.specs.Streams.{AreDelivered, Streams, port_bytes};
 ghost use Rattle.office_stream.specs.Faults.{MatchFault};
 
 use crate::answer::answer_piece;
@@ -29,29 +28,14 @@ pub fn run_stream<R: Read, W: Write, D: Deliver>(
     desk: &mut D,
     turns: u64,
 ) -> Result<Worst, StreamFault>
-    ensures ok { IfOk result
-        (λ worst. D.clean desk.new → (opening : D.Opening) (es : List Event) → D.stands opening es desk.old
-        → Streamed (D.stands opening) (D.answers opening) es
+    // What was read is cut into interchanges, each was delivered and is answered by its line, in order. After a failed
+    // read, or too many reads, all interchanges of what was read are answered by their lines. After a failed write the
+    // lines end where it failed, and nothing was delivered behind it.
+    ensures streams { Streams (AreDelivered D.clean D.stands D.answers D.leads desk.old desk.new)
         (port_bytes (R.remaining reader.old.inner) (R.remaining reader.new.inner)
-        (W.contents writer.old.inner) (W.contents writer.new.inner)) desk.new worst) }
+        (W.contents writer.old.inner) (W.contents writer.new.inner)) result }
 
-    // What was delivered before a fault stands. After a failed read, or too many reads, all interchanges of what was
-    // read are answered by their lines. After a failed write the lines end where it failed, and nothing was delivered
-    // behind it.
-    ensures err { IfErr result
-        (λ fault. D.clean desk.new → (opening : D.Opening) (es : List Event) → D.stands opening es desk.old →
-        MatchFault fault
-        (Began (D.stands opening) (D.answers opening) es
-        (port_bytes (R.remaining reader.old.inner) (R.remaining reader.new.inner)
-        (W.contents writer.old.inner) (W.contents writer.new.inner)) desk.new)
-        (Delivered (D.stands opening) (D.answers opening) es
-        (port_bytes (R.remaining reader.old.inner) (R.remaining reader.new.inner)
-        (W.contents writer.old.inner) (W.contents writer.new.inner)) desk.new)
-        (Began (D.stands opening) (D.answers opening) es
-        (port_bytes (R.remaining reader.old.inner) (R.remaining reader.new.inner)
-        (W.contents writer.old.inner) (W.contents writer.new.inner)) desk.new)) }
-
-    // Nothing is said of a desk whose records have not told the truth.
+    // Nothing is said of the answers of a desk whose records have not told the truth.
     ensures stays { D.clean desk.new → D.clean desk.old }
 
     // No read is made behind one that found the end.

@@ -10,8 +10,8 @@ use crate::values::{characters, integer};
 use sqlite::{Alter, Transaction};
 use yard_core::Block;
 
-/// The blocks of a yard.
-pub(crate) fn insert_blocks<S: Alter>(
+/// Writes the rows of the blocks of a yard.
+pub fn insert_blocks<S: Alter>(
     tx: &mut Transaction<'_, S>,
     blocks: &[Block],
 ) -> Result<(), TableFault>

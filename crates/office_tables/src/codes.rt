@@ -1,9 +1,9 @@
 ghost use Rattle.std.specs.Prelude.{◌≡◌};
 ghost use Rattle.terminal_core.specs.State.{side_code};
-ghost use Rattle.office_rows.specs.Values.{kind_code, way_code, laden_code};
+ghost use Rattle.office_rows.specs.Values.{kind_code, way_code, laden_code, state_code};
 
 use edi_messages::PartnerKind;
-use terminal_core::{Side, Way};
+use terminal_core::{LineState, Side, Way};
 
 /// What a partner is, as its account keeps it.
 pub(crate) fn kind_code(kind: PartnerKind) -> u32
@@ -41,5 +41,15 @@ pub(crate) fn side_code(side: Side) -> u32
     match side {
         Side::Load => 1,
         Side::Discharge => 2,
+    }
+}
+
+/// How far a line is, as its row keeps it.
+pub(crate) fn state_code(state: LineState) -> u32
+    ensures { result ≡ state_code state }
+{
+    match state {
+        LineState::Pending => 0,
+        LineState::Done => 1,
     }
 }

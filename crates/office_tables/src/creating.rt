@@ -11,8 +11,8 @@ ghost use Rattle.office_tables.specs.Opened.{MakesTables};
 use crate::table_fault::TableFault;
 use sqlite::{Alter, Transaction};
 
-/// Makes the tables of an empty database.
-pub(crate) fn create_tables<S: Alter>(tx: &mut Transaction<'_, S>) -> Result<(), TableFault>
+/// Makes the tables of an empty database. It fails where anything has the name of one of them.
+pub fn create_tables<S: Alter>(tx: &mut Transaction<'_, S>) -> Result<(), TableFault>
     ensures same_reference { tx.new.conn.ghost_name ≡ tx.old.conn.ghost_name }
     ensures made { HasCleanDisk (state S.Store tx.new.conn.now) → IsTrue (state S.Store tx.old.conn.now).in_transaction
         → OnOk result (Turns (HasEmpty (take 0 office_tables)) (HasRows no_rows) (state S.Store tx.old.conn.now)

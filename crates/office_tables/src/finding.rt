@@ -90,7 +90,8 @@ fn column_fault(error: Error) -> TableFault
     }
 }
 
-fn read_kept(row: &Row) -> Result<Kept, Error>
+/// The body and the reply of an interchange, as the query of one shows them.
+pub fn read_kept(row: &Row) -> Result<Kept, Error>
     ensures ok { IfOk result
         (λ kept. (column row.now 0 ≡ Blob kept.text.items)
         × ((reply : _) × (column row.now 1 ≡ Text reply) × RepliesAs kept.reply reply)) }

@@ -1,7 +1,8 @@
-ghost use Rattle.std.specs.Prelude.{◌≡◌, OnOk, IfErr, IsTrue};
+ghost use Rattle.std.specs.Prelude.{◌≡◌, [], ◌∷◌, OnOk, IfErr, IsTrue};
 ghost use Rattle.sqlite.specs.Held.{state};
 ghost use Rattle.sqlite.specs.State.{HasCleanDisk, Survives, KeepsCommit};
 ghost use Rattle.office_rows.specs.Effects.{with_kept, with_reply};
+ghost use Rattle.office_rows.specs.Opening.{interchange, with_interchanges};
 ghost use Rattle.office_rows.specs.Steps.{Steps};
 ghost use Rattle.office_tables.specs.Faults.{IsOfStore};
 
@@ -32,6 +33,35 @@ pub fn keep<S: Alter>(
             integer(u32::from(partner)),
             integer(number),
             ValueRef::Blob(body),
+        ],
+    )?;
+    Ok(())
+}
+
+/// Keeps an interchange with its reply; one that waits has an empty one.
+pub fn insert_interchange<'a, S: Alter>(
+    tx: &mut Transaction<'_, S>,
+    partner: u32,
+    number: u32,
+    body: &'a [u8],
+    reply: &'a str,
+) -> Result<(), TableFault>
+    ensures same_reference { tx.new.conn.ghost_name ≡ tx.old.conn.ghost_name }
+    ensures steps { HasCleanDisk (state S.Store tx.new.conn.now) → IsTrue (state S.Store tx.old.conn.now).in_transaction
+        → OnOk result (Steps (with_interchanges (interchange partner number body.now reply.now ∷ []))
+        (state S.Store tx.old.conn.now) (state S.Store tx.new.conn.now)) }
+    ensures keeps { HasCleanDisk (state S.Store tx.new.conn.now) → IsTrue (state S.Store tx.old.conn.now).in_transaction
+        → KeepsCommit (state S.Store tx.old.conn.now) (state S.Store tx.new.conn.now) }
+    ensures survives { Survives (state S.Store tx.old.conn.now) (state S.Store tx.new.conn.now) (λ _. ⊥) }
+    ensures fault { IfErr result IsOfStore }
+{
+    tx.execute(
+        "INSERT INTO interchange (partner, number, body, reply) VALUES (?1, ?2, ?3, ?4)",
+        &[
+            integer(partner),
+            integer(number),
+            ValueRef::Blob(body),
+            characters(reply.as_bytes()),
         ],
     )?;
     Ok(())

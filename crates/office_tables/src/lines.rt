@@ -1,19 +1,20 @@
-ghost use Rattle.std.specs.Prelude.{◌≡◌, OnOk, IfErr, IsTrue};
+ghost use Rattle.std.specs.Prelude.{◌≡◌, [], ◌∷◌, OnOk, IfErr, IsTrue};
 ghost use Rattle.sqlite.specs.Held.{state};
 ghost use Rattle.sqlite.specs.State.{HasCleanDisk, Survives, KeepsCommit};
 ghost use Rattle.edi_messages.specs.Owned.{call_content};
 ghost use Rattle.terminal_core.specs.Rows.{listed_on, line_done, unlisted};
 ghost use Rattle.office_rows.specs.Effects.{with_change};
+ghost use Rattle.office_rows.specs.Opening.{listing, with_lines};
 ghost use Rattle.office_rows.specs.Steps.{Steps};
 ghost use Rattle.office_tables.specs.Faults.{IsOfStore};
 
-use crate::codes::side_code;
+use crate::codes::{side_code, state_code};
 use crate::table_fault::TableFault;
 use crate::values::{characters, integer};
 use box6346::BoxNumber;
 use edi_messages::Call;
 use sqlite::{Alter, Transaction};
-use terminal_core::Side;
+use terminal_core::{LineState, Side};
 
 /// Writes the row of a line that was opened, as one that is not done.
 pub fn insert_line<'a, S: Alter>(
@@ -32,6 +33,27 @@ pub fn insert_line<'a, S: Alter>(
     ensures survives { Survives (state S.Store tx.old.conn.now) (state S.Store tx.new.conn.now) (λ _. ⊥) }
     ensures fault { IfErr result IsOfStore }
 {
+    insert_listing(tx, call, side, container, port, LineState::Pending)
+}
+
+/// Writes the row of a line in this state.
+pub fn insert_listing<'a, S: Alter>(
+    tx: &mut Transaction<'_, S>,
+    call: &'a Call,
+    side: Side,
+    container: BoxNumber,
+    port: &'a str,
+    line_state: LineState,
+) -> Result<(), TableFault>
+    ensures same_reference { tx.new.conn.ghost_name ≡ tx.old.conn.ghost_name }
+    ensures steps { HasCleanDisk (state S.Store tx.new.conn.now) → IsTrue (state S.Store tx.old.conn.now).in_transaction
+        → OnOk result (Steps (with_lines (listing (call_content call.now) side container port.now line_state ∷ []))
+        (state S.Store tx.old.conn.now) (state S.Store tx.new.conn.now)) }
+    ensures keeps { HasCleanDisk (state S.Store tx.new.conn.now) → IsTrue (state S.Store tx.old.conn.now).in_transaction
+        → KeepsCommit (state S.Store tx.old.conn.now) (state S.Store tx.new.conn.now) }
+    ensures survives { Survives (state S.Store tx.old.conn.now) (state S.Store tx.new.conn.now) (λ _. ⊥) }
+    ensures fault { IfErr result IsOfStore }
+{
     let container = container.text();
     tx.execute(
         "INSERT INTO listed (vessel, voyage, side, box, port, done) VALUES (?1, ?2, ?3, ?4, ?5, ?6)",
@@ -41,7 +63,7 @@ pub fn insert_line<'a, S: Alter>(
             integer(side_code(side)),
             characters(&container),
             characters(port.as_bytes()),
-            integer(0),
+            integer(state_code(line_state)),
         ],
     )?;
     Ok(())

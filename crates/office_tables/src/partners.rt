@@ -1,4 +1,4 @@
-ghost use Rattle.std.specs.Prelude.{◌≡◌, ◌≤◌, length, OnOk, IfErr, IsTrue};
+ghost use Rattle.std.specs.Prelude.{◌≡◌, ◌≤◌, [], ◌∷◌, length, OnOk, IfErr, IsTrue};
 ghost use Rattle.sqlite.specs.Held.{state};
 ghost use Rattle.sqlite.specs.State.{HasCleanDisk, Survives, KeepsCommit};
 ghost use Rattle.office_rows.specs.Effects.{with_next, with_partner};
@@ -33,14 +33,14 @@ pub(crate) fn insert_partners<S: Alter>(
 {
     let mut id = 1;
     for account in accounts {
-        insert_partner(tx, id, account.code.as_str(), account.kind)?;
+        add_partner(tx, id, account.code.as_str(), account.kind)?;
         id += 1;
     }
     Ok(())
 }
 
-/// An account whose partner has sent nothing yet.
-pub(crate) fn insert_partner<S: Alter>(
+/// Adds an account, whose partner has sent nothing yet; the caller gives the next id and a code of no account.
+pub fn add_partner<S: Alter>(
     tx: &mut Transaction<'_, S>,
     id: u16,
     code: &str,
@@ -55,13 +55,33 @@ pub(crate) fn insert_partner<S: Alter>(
     ensures survives { Survives (state S.Store tx.old.conn.now) (state S.Store tx.new.conn.now) (λ _. ⊥) }
     ensures fault { IfErr result IsOfStore }
 {
+    insert_account(tx, u32::from(id), code, kind, 1)
+}
+
+/// Adds an account with the number that its partner's next interchange has.
+pub fn insert_account<S: Alter>(
+    tx: &mut Transaction<'_, S>,
+    id: u32,
+    code: &str,
+    kind: PartnerKind,
+    next: u32,
+) -> Result<(), TableFault>
+    ensures same_reference { tx.new.conn.ghost_name ≡ tx.old.conn.ghost_name }
+    ensures steps { HasCleanDisk (state S.Store tx.new.conn.now) → IsTrue (state S.Store tx.old.conn.now).in_transaction
+        → OnOk result (Steps (with_partners (record { id = id; code = code.now; kind = kind; next = next } ∷ []))
+        (state S.Store tx.old.conn.now) (state S.Store tx.new.conn.now)) }
+    ensures keeps { HasCleanDisk (state S.Store tx.new.conn.now) → IsTrue (state S.Store tx.old.conn.now).in_transaction
+        → KeepsCommit (state S.Store tx.old.conn.now) (state S.Store tx.new.conn.now) }
+    ensures survives { Survives (state S.Store tx.old.conn.now) (state S.Store tx.new.conn.now) (λ _. ⊥) }
+    ensures fault { IfErr result IsOfStore }
+{
     tx.execute(
         "INSERT INTO partner (id, code, kind, next) VALUES (?1, ?2, ?3, ?4)",
         &[
-            integer(u32::from(id)),
+            integer(id),
             characters(code.as_bytes()),
             integer(kind_code(kind)),
-            integer(1),
+            integer(next),
         ],
     )?;
     Ok(())

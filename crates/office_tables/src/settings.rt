@@ -69,7 +69,8 @@ fn code_name(place: usize) -> &'static str
     }
 }
 
-fn insert_setting<'a, S: Alter>(
+/// Writes the row of a setting.
+pub fn insert_setting<'a, S: Alter>(
     tx: &mut Transaction<'_, S>,
     name: &'a str,
     value: &'a [u8],

@@ -5,7 +5,7 @@ ghost use Rattle.sqlite_value.specs.Value.{owned};
 use sqlite::types::ValueRef;
 
 /// A number as SQL has it.
-pub(crate) fn integer<'a>(number: u32) -> ValueRef<'a>
+pub fn integer<'a>(number: u32) -> ValueRef<'a>
     ensures { owned result ≡ Int (pos number) }
 {
     ValueRef::Int(i64::from(number))

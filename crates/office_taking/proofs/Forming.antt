@@ -14,14 +14,14 @@ use Rattle.edi_syntax.specs.Header.{control_reference, control_number, preparati
 use Rattle.edi_syntax.specs.Messages.{Message}
 use Rattle.edi_syntax.specs.Numbers.{number_of, as_control_number}
 use Rattle.edi_segments.specs.declared.syntax_fault.SyntaxFault.{SyntaxFault}
-use Rattle.edi_segments.specs.declared.syntax_fault.SyntaxFault.TheVariants.{TooLong, Service, Segment, NoEnvelope, Group, Version, Number}
+use Rattle.edi_segments.specs.declared.syntax_fault.SyntaxFault.TheVariants as syntax
 use Rattle.edi_messages.specs.Forms.{OrdersWell}
-use Rattle.edi_messages.specs.Message.{LineContent, ordered, refused, MessageContent, reading}
+use Rattle.edi_messages.specs.Message.{LineContent, ordered, refused, MessageContent}
 use Rattle.edi_messages.specs.Purposes.{CallContent}
 use Rattle.edi_messages.specs.declared.codes.Codes.{Codes}
 use Rattle.edi_messages.specs.declared.message_fault.MessageFault.{MessageFault}
 use Rattle.edi_messages.specs.declared.partner_kind.PartnerKind.{PartnerKind}
-use Rattle.edi_messages.proofs.OrderForms.{IfThere, IsCivil, text_civil, if_civil, orders_are_formed}
+use Rattle.edi_messages.proofs.OrderForms.{IfThere, IsCivil, text_civil, if_civil}
 use Rattle.partner_core.specs.Numbered.{with_number}
 use Rattle.terminal_core.specs.Versions.{newest}
 use Rattle.terminal_core.specs.declared.side.Side.{Side}
@@ -32,7 +32,10 @@ use Rattle.terminal_core.proofs.Forming.{formed_step}
 use Rattle.terminal_core.proofs.Dropping.{drop_formed}
 use Rattle.office_setup.specs.Parties.{Parties}
 use Rattle.office_admission.specs.Admission.{admission, by_header, is_for}
-use Rattle.office_taking.specs.Taking.{MachineState, cleared, cleared_for, list_replaced, line_taken, lines_taken, verdict_on, messages_taken, codes_for, source_in, nothing_taken, taken_at, taken_of, interchange_taken}
+use Rattle.terminal_core.specs.declared.version.Version.{Version}
+use Rattle.office_taking.specs.Readings.{reading_by}
+use Rattle.office_taking.specs.Taking.{MachineState, cleared, cleared_for, list_replaced, line_taken_by, lines_taken_by, verdict_on_by, messages_taken_by, codes_for, source_in, nothing_taken, taken_at_by, taken_of_by, interchange_taken_by, interchange_taken}
+use Rattle.office_taking.proofs.Read.{orders_formed_by}
 use Rattle.office_taking.proofs.Turning.{line_leads, clearing_leads, verdict_leads}
 
 -- ---- the header
@@ -67,13 +70,13 @@ past_first false fault o e = (refl, e)
 -- a text without fault has a number
 has_number : (text : List ℕ) → fault_of text ≡ None → is_none (control_number (header_of (segments_in text))) ≡ false
 has_number text none =
-    let one = past_first (applies text TooLong) TooLong _ none in
-    let two = past_first (applies text Service) Service _ one.1 in
-    let three = past_first (applies text Segment) Segment _ two.1 in
-    let four = past_first (applies text NoEnvelope) NoEnvelope _ three.1 in
-    let five = past_first (applies text Group) Group _ four.1 in
-    let six = past_first (applies text Version) Version _ five.1 in
-    (past_first (applies text Number) Number _ six.1).0
+    let one = past_first (applies text syntax.TooLong) syntax.TooLong _ none in
+    let two = past_first (applies text syntax.Service) syntax.Service _ one.1 in
+    let three = past_first (applies text syntax.Segment) syntax.Segment _ two.1 in
+    let four = past_first (applies text syntax.NoEnvelope) syntax.NoEnvelope _ three.1 in
+    let five = past_first (applies text syntax.Group) syntax.Group _ four.1 in
+    let six = past_first (applies text syntax.Version) syntax.Version _ five.1 in
+    (past_first (applies text syntax.Number) syntax.Number _ six.1).0
 
 -- which is one of an interchange
 pub number_within : (text : List ℕ) → fault_of text ≡ None → (1 ≤ unwrap_or (control_number (header_of (segments_in text))) 0) × (unwrap_or (control_number (header_of (segments_in text))) 0 ≤ 999999999)
@@ -92,58 +95,61 @@ partner_in kinds (suc i) kind e = let within : i < length kinds = slice_get_with
 
 -- ---- lines and messages
 
-line_formed : (state : TerminalState) (source : Source) (line : LineContent) → IsWhole state → IsWellFormed state → IsSource source → OrdersWell line → IsWellFormed (line_taken state source line).0
-line_formed state source (ordered order) whole formed from its = formed_step newest state source order whole formed from its
-line_formed state source (refused fault number) whole formed from its = formed
+line_formed : (version : Version) (state : TerminalState) (source : Source) (line : LineContent) → IsWhole state → IsWellFormed state → IsSource source → OrdersWell line → IsWellFormed (line_taken_by version state source line).0
+line_formed version state source (ordered order) whole formed from its = formed_step version state source order whole formed from its
+line_formed version state source (refused fault number) whole formed from its = formed
 
-lines_formed : (state : TerminalState) (source : Source) (lines : List LineContent) → IsWhole state → IsWellFormed state → IsSource source → All OrdersWell lines → IsWellFormed (lines_taken state source lines).0
-lines_formed state source [] whole formed from its = formed
-lines_formed state source (line ∷ lines) whole formed from its =
-    lines_formed (line_taken state source line).0 source lines (line_leads state source line whole).whole (line_formed state source line whole formed from (All-head OrdersWell line lines its)) from
+lines_formed : (version : Version) (state : TerminalState) (source : Source) (lines : List LineContent) → IsWhole state → IsWellFormed state → IsSource source → All OrdersWell lines → IsWellFormed (lines_taken_by version state source lines).0
+lines_formed version state source [] whole formed from its = formed
+lines_formed version state source (line ∷ lines) whole formed from its =
+    lines_formed version (line_taken_by version state source line).0 source lines (line_leads version state source line whole).whole (line_formed version state source line whole formed from (All-head OrdersWell line lines its)) from
     (All-tail OrdersWell line lines its)
 
 cleared_formed : (state : TerminalState) (list : Option (CallContent × Side)) → IsWellFormed state → IsWellFormed (cleared state list).state
 cleared_formed state None formed = formed
 cleared_formed state (Some list) formed = drop_formed state list.0 list.1 formed
 
-verdict_formed : (state : TerminalState) (codes : Codes) (source : Source) (opened : CivilMoment) (message : Message) (read : Result MessageContent MessageFault) → reading codes opened message ≡ read → IsWhole state → IsWellFormed state → IsSource source
-    → IsCivil opened → IsWellFormed (verdict_on state source read).0
-verdict_formed state codes source opened message (Ok content) e whole formed from civil =
-    lines_formed (cleared_for state content).state source content.lines (clearing_leads state content whole).whole (cleared_formed state (list_replaced content) formed) from (orders_are_formed codes opened message content civil e)
-verdict_formed state codes source opened message (Err fault) e whole formed from civil = formed
+verdict_formed : (version : Version) (state : TerminalState) (codes : Codes) (source : Source) (opened : CivilMoment) (message : Message) (read : Result MessageContent MessageFault) → reading_by version codes opened message ≡ read → IsWhole state → IsWellFormed state → IsSource source
+    → IsCivil opened → IsWellFormed (verdict_on_by version state source read).0
+verdict_formed version state codes source opened message (Ok content) e whole formed from civil =
+    lines_formed version (cleared_for state content).state source content.lines (clearing_leads state content whole).whole (cleared_formed state (list_replaced content) formed) from (orders_formed_by version codes opened message content civil e)
+verdict_formed version state codes source opened message (Err fault) e whole formed from civil = formed
 
-messages_formed : (state : TerminalState) (codes : Codes) (source : Source) (opened : CivilMoment) (messages : List Message) → IsWhole state → IsWellFormed state → IsSource source → IsCivil opened
-    → IsWellFormed (messages_taken state codes source opened messages).0
-messages_formed state codes source opened [] whole formed from civil = formed
-messages_formed state codes source opened (message ∷ messages) whole formed from civil =
-    messages_formed (verdict_on state source (reading codes opened message)).0 codes source opened messages (verdict_leads state source (reading codes opened message) whole).whole
-    (verdict_formed state codes source opened message (reading codes opened message) refl whole formed from civil) from civil
+messages_formed : (version : Version) (state : TerminalState) (codes : Codes) (source : Source) (opened : CivilMoment) (messages : List Message) → IsWhole state → IsWellFormed state → IsSource source → IsCivil opened
+    → IsWellFormed (messages_taken_by version state codes source opened messages).0
+messages_formed version state codes source opened [] whole formed from civil = formed
+messages_formed version state codes source opened (message ∷ messages) whole formed from civil =
+    messages_formed version (verdict_on_by version state source (reading_by version codes opened message)).0 codes source opened messages (verdict_leads version state source (reading_by version codes opened message) whole).whole
+    (verdict_formed version state codes source opened message (reading_by version codes opened message) refl whole formed from civil) from civil
 
 -- ---- an interchange
 
-formed_at : (machine : MachineState) (partner : ℕ) (kind : PartnerKind) (segments : List Content) (opened : Option CivilMoment) → IfThere IsCivil opened → IsWhole machine.terminal → IsWellFormed machine.terminal
-    → IsSource (source_in partner (header_of segments)) → IsWellFormed (taken_at machine partner kind segments opened).0.terminal
-formed_at machine partner kind segments None civil whole formed from = formed
-formed_at machine partner kind segments (Some opened) civil whole formed from =
-    messages_formed machine.terminal (codes_for machine kind) (source_in partner (header_of segments)) opened (messages_of segments) whole formed from civil
+formed_at : (version : Version) (machine : MachineState) (partner : ℕ) (kind : PartnerKind) (segments : List Content) (opened : Option CivilMoment) → IfThere IsCivil opened → IsWhole machine.terminal → IsWellFormed machine.terminal
+    → IsSource (source_in partner (header_of segments)) → IsWellFormed (taken_at_by version machine partner kind segments opened).0.terminal
+formed_at version machine partner kind segments None civil whole formed from = formed
+formed_at version machine partner kind segments (Some opened) civil whole formed from =
+    messages_formed version machine.terminal (codes_for machine kind) (source_in partner (header_of segments)) opened (messages_of segments) whole formed from civil
 
-formed_of : (machine : MachineState) (partner : ℕ) (text : List ℕ) (kind : Option PartnerKind) → length machine.kinds ≤ 999 → IsWhole machine.terminal → IsWellFormed machine.terminal → fault_of text ≡ None
-    → with_number machine.kinds partner ≡ kind → IsWellFormed (taken_of machine partner (segments_in text) kind).0.terminal
-formed_of machine partner text None few whole formed none e = formed
-formed_of machine partner text (Some kind) few whole formed none e =
+formed_of : (version : Version) (machine : MachineState) (partner : ℕ) (text : List ℕ) (kind : Option PartnerKind) → length machine.kinds ≤ 999 → IsWhole machine.terminal → IsWellFormed machine.terminal → fault_of text ≡ None
+    → with_number machine.kinds partner ≡ kind → IsWellFormed (taken_of_by version machine partner (segments_in text) kind).0.terminal
+formed_of version machine partner text None few whole formed none e = formed
+formed_of version machine partner text (Some kind) few whole formed none e =
     let header : Content = header_of (segments_in text) in
     let number : IsControl (unwrap_or (control_number header) 0) = number_within text none in
     let within = partner_in machine.kinds partner kind e in
     let low : 1 ≤ partner = within.0 in
     let high : partner ≤ length machine.kinds = within.1 in
-    formed_at machine partner kind (segments_in text) (preparation header) (preparation_civil header) whole formed
+    formed_at version machine partner kind (segments_in text) (preparation header) (preparation_civil header) whole formed
     (record { partner_low = low; partner_high = omega arith; number_low = number.0; number_high = number.1 })
 
 formed_if : (machine : MachineState) (is : Bool) (taken : MachineState × List ℕ) → IsWellFormed machine.terminal → (is ≡ true → IsWellFormed taken.0.terminal) → IsWellFormed (cond is taken (nothing_taken machine)).0.terminal
 formed_if machine true taken formed then = then refl
 formed_if machine false taken formed then = formed
 
+pub interchange_formed_by : (version : Version) (machine : MachineState) (partner : ℕ) (text : List ℕ) → length machine.kinds ≤ 999 → IsWhole machine.terminal → IsWellFormed machine.terminal → IsWellFormed (interchange_taken_by version machine partner text).0.terminal
+interchange_formed_by version machine partner text few whole formed =
+    formed_if machine (is_for partner (admission machine.parties text)) (taken_of_by version machine partner (segments_in text) (with_number machine.kinds partner)) formed
+    (λ is. formed_of version machine partner text (with_number machine.kinds partner) few whole formed (faultless machine.parties (header_of (segments_in text)) (fault_of text) partner is) refl)
+
 pub interchange_formed : (machine : MachineState) (partner : ℕ) (text : List ℕ) → length machine.kinds ≤ 999 → IsWhole machine.terminal → IsWellFormed machine.terminal → IsWellFormed (interchange_taken machine partner text).0.terminal
-interchange_formed machine partner text few whole formed =
-    formed_if machine (is_for partner (admission machine.parties text)) (taken_of machine partner (segments_in text) (with_number machine.kinds partner)) formed
-    (λ is. formed_of machine partner text (with_number machine.kinds partner) few whole formed (faultless machine.parties (header_of (segments_in text)) (fault_of text) partner is) refl)
+interchange_formed = interchange_formed_by newest

@@ -29,7 +29,8 @@ use Rattle.office_admission.specs.Outcomes.{IsAdmitted}
 use Rattle.office_admission.specs.declared.admitted.Admitted.{Admitted}
 use Rattle.edi_syntax.specs.Envelopes.{envelope_segments}
 use Rattle.terminal_core.specs.Rows.{ChangeContent}
-use Rattle.office_taking.specs.Taking.{MachineState, machine_of, rejected_by, verdict_on, messages_taken, verdict_changes, messages_changes, verdicts_of, with_messages, nothing_taken, reply_to, codes_for, source_in, taken_at, taken_of, changes_at, changes_of, interchange_taken, interchange_changes}
+use Rattle.terminal_core.specs.Versions.{newest}
+use Rattle.office_taking.specs.Taking.{MachineState, machine_of, rejected_by, verdict_on, messages_taken, verdict_changes, messages_changes, verdicts_of, with_messages, nothing_taken, reply_to, codes_for, source_in, taken_at, taken_of, changes_at_by, changes_of_by, interchange_taken, interchange_changes}
 
 -- ---- a machine and its set-up
 
@@ -116,10 +117,10 @@ changes_are setup terminal text admitted codes opened is same_kind same_table pr
     let partner = admitted.partner in
     let segments = envelope_segments admitted.envelope in
     let same_codes : codes_for machine admitted.kind ≡ codes = sym (ap (λ k. record { kind = k; table = codes.table }) same_kind ∙ ap (λ t. record { kind = admitted.kind; table = t }) same_table) in
-    ap (λ b. cond b (changes_of machine partner (segments_in text) (with_number machine.kinds partner)) []) (for_itself setup text admitted is)
-    ∙ ap (changes_of machine partner (segments_in text)) is.kind
-    ∙ ap (λ (others : List Content). changes_at machine partner admitted.kind others (preparation (header_of others))) (sym is.segments)
-    ∙ ap (changes_at machine partner admitted.kind segments) prepared
+    ap (λ b. cond b (changes_of_by newest machine partner (segments_in text) (with_number machine.kinds partner)) []) (for_itself setup text admitted is)
+    ∙ ap (changes_of_by newest machine partner (segments_in text)) is.kind
+    ∙ ap (λ (others : List Content). changes_at_by newest machine partner admitted.kind others (preparation (header_of others))) (sym is.segments)
+    ∙ ap (changes_at_by newest machine partner admitted.kind segments) prepared
     ∙ ap (λ others. messages_changes terminal others (source_in partner (header_of segments)) opened (messages_of segments)) same_codes
 
 -- The machine as it is left, and the reply.

@@ -6,7 +6,7 @@ use Rattle.edi_segments.specs.Interchange.{segments_in}
 use Rattle.edi_syntax.specs.Envelope.{header_of, messages_of}
 use Rattle.edi_syntax.specs.Header.{preparation}
 use Rattle.edi_syntax.specs.Messages.{Message}
-use Rattle.edi_messages.specs.Message.{LineContent, ordered, refused, MessageContent, reading}
+use Rattle.edi_messages.specs.Message.{LineContent, ordered, refused, MessageContent}
 use Rattle.edi_messages.specs.Purposes.{CallContent}
 use Rattle.edi_messages.specs.declared.codes.Codes.{Codes}
 use Rattle.edi_messages.specs.declared.message_fault.MessageFault.{MessageFault}
@@ -23,7 +23,9 @@ use Rattle.terminal_core.proofs.Dropping.{drop_turned, drop_applicable, drop_who
 use Rattle.terminal_core.proofs.Keeping.{whole_step}
 use Rattle.terminal_core.specs.Versions.{newest}
 use Rattle.office_admission.specs.Admission.{admission, is_for}
-use Rattle.office_taking.specs.Taking.{MachineState, cleared, cleared_for, list_replaced, line_taken, line_changes, lines_taken, lines_changes, verdict_on, verdict_changes, messages_taken, messages_changes, codes_for, source_in, nothing_taken, taken_at, taken_of, interchange_taken, changes_at, changes_of, interchange_changes}
+use Rattle.terminal_core.specs.declared.version.Version.{Version}
+use Rattle.office_taking.specs.Readings.{reading_by}
+use Rattle.office_taking.specs.Taking.{MachineState, cleared, cleared_for, list_replaced, line_taken_by, line_changes_by, lines_taken_by, lines_changes_by, verdict_on_by, verdict_changes_by, messages_taken_by, messages_changes_by, codes_for, source_in, nothing_taken, taken_at_by, taken_of_by, interchange_taken_by, changes_at_by, changes_of_by, interchange_changes_by, interchange_taken, interchange_changes}
 
 -- the terminal that is left is whole, and the changes lead to it, each finding its row
 pub record Leads (before : TerminalState) (changes : List ChangeContent) (after : TerminalState) : Type 0 where
@@ -43,16 +45,16 @@ leads_on a b c first second one two = record {
 
 -- ---- a line, a message
 
-pub line_leads : (state : TerminalState) (source : Source) (line : LineContent) → IsWhole state → Leads state (line_changes state source line) (line_taken state source line).0
-line_leads state source (ordered order) whole = record { whole = whole_step newest state source order whole; turned = turned_step newest state source order whole; applicable = applicable_step newest state source order whole }
-line_leads state source (refused fault number) whole = stays state whole
+pub line_leads : (version : Version) (state : TerminalState) (source : Source) (line : LineContent) → IsWhole state → Leads state (line_changes_by version state source line) (line_taken_by version state source line).0
+line_leads version state source (ordered order) whole = record { whole = whole_step version state source order whole; turned = turned_step version state source order whole; applicable = applicable_step version state source order whole }
+line_leads version state source (refused fault number) whole = stays state whole
 
-lines_lead : (state : TerminalState) (source : Source) (lines : List LineContent) → IsWhole state → Leads state (lines_changes state source lines) (lines_taken state source lines).0
-lines_lead state source [] whole = stays state whole
-lines_lead state source (line ∷ lines) whole =
-    let next : TerminalState = (line_taken state source line).0 in
-    let one = line_leads state source line whole in
-    leads_on state next (lines_taken next source lines).0 (line_changes state source line) (lines_changes next source lines) one (lines_lead next source lines one.whole)
+lines_lead : (version : Version) (state : TerminalState) (source : Source) (lines : List LineContent) → IsWhole state → Leads state (lines_changes_by version state source lines) (lines_taken_by version state source lines).0
+lines_lead version state source [] whole = stays state whole
+lines_lead version state source (line ∷ lines) whole =
+    let next : TerminalState = (line_taken_by version state source line).0 in
+    let one = line_leads version state source line whole in
+    leads_on state next (lines_taken_by version next source lines).0 (line_changes_by version state source line) (lines_changes_by version next source lines) one (lines_lead version next source lines one.whole)
 
 cleared_leads : (state : TerminalState) (list : Option (CallContent × Side)) → IsWhole state → Leads state (cleared state list).changes (cleared state list).state
 cleared_leads state None whole = stays state whole
@@ -61,44 +63,47 @@ cleared_leads state (Some list) whole = record { whole = drop_whole state list.0
 pub clearing_leads : (state : TerminalState) (content : MessageContent) → IsWhole state → Leads state (cleared_for state content).changes (cleared_for state content).state
 clearing_leads state content whole = cleared_leads state (list_replaced content) whole
 
-pub verdict_leads : (state : TerminalState) (source : Source) (read : Result MessageContent MessageFault) → IsWhole state → Leads state (verdict_changes state source read) (verdict_on state source read).0
-verdict_leads state source (Ok content) whole =
+pub verdict_leads : (version : Version) (state : TerminalState) (source : Source) (read : Result MessageContent MessageFault) → IsWhole state → Leads state (verdict_changes_by version state source read) (verdict_on_by version state source read).0
+verdict_leads version state source (Ok content) whole =
     let next : TerminalState = (cleared_for state content).state in
     let one = clearing_leads state content whole in
-    leads_on state next (lines_taken next source content.lines).0 (cleared_for state content).changes (lines_changes next source content.lines) one (lines_lead next source content.lines one.whole)
-verdict_leads state source (Err fault) whole = stays state whole
+    leads_on state next (lines_taken_by version next source content.lines).0 (cleared_for state content).changes (lines_changes_by version next source content.lines) one (lines_lead version next source content.lines one.whole)
+verdict_leads version state source (Err fault) whole = stays state whole
 
 -- ---- an interchange
 
-messages_lead : (state : TerminalState) (codes : Codes) (source : Source) (opened : CivilMoment) (messages : List Message) → IsWhole state
-    → Leads state (messages_changes state codes source opened messages) (messages_taken state codes source opened messages).0
-messages_lead state codes source opened [] whole = stays state whole
-messages_lead state codes source opened (message ∷ messages) whole =
-    let next : TerminalState = (verdict_on state source (reading codes opened message)).0 in
-    let one = verdict_leads state source (reading codes opened message) whole in
-    leads_on state next (messages_taken next codes source opened messages).0 (verdict_changes state source (reading codes opened message)) (messages_changes next codes source opened messages) one
-    (messages_lead next codes source opened messages one.whole)
+messages_lead : (version : Version) (state : TerminalState) (codes : Codes) (source : Source) (opened : CivilMoment) (messages : List Message) → IsWhole state
+    → Leads state (messages_changes_by version state codes source opened messages) (messages_taken_by version state codes source opened messages).0
+messages_lead version state codes source opened [] whole = stays state whole
+messages_lead version state codes source opened (message ∷ messages) whole =
+    let next : TerminalState = (verdict_on_by version state source (reading_by version codes opened message)).0 in
+    let one = verdict_leads version state source (reading_by version codes opened message) whole in
+    leads_on state next (messages_taken_by version next codes source opened messages).0 (verdict_changes_by version state source (reading_by version codes opened message)) (messages_changes_by version next codes source opened messages) one
+    (messages_lead version next codes source opened messages one.whole)
 
 abbrev LeadsTo : MachineState → List ChangeContent → MachineState × List ℕ → Type 0
 LeadsTo machine changes taken = Leads machine.terminal changes taken.0.terminal
 
-leads_at : (machine : MachineState) (partner : ℕ) (kind : PartnerKind) (segments : List Content) (opened : Option CivilMoment) → IsWhole machine.terminal
-    → LeadsTo machine (changes_at machine partner kind segments opened) (taken_at machine partner kind segments opened)
-leads_at machine partner kind segments None whole = stays machine.terminal whole
-leads_at machine partner kind segments (Some opened) whole =
-    messages_lead machine.terminal (codes_for machine kind) (source_in partner (header_of segments)) opened (messages_of segments) whole
+leads_at : (version : Version) (machine : MachineState) (partner : ℕ) (kind : PartnerKind) (segments : List Content) (opened : Option CivilMoment) → IsWhole machine.terminal
+    → LeadsTo machine (changes_at_by version machine partner kind segments opened) (taken_at_by version machine partner kind segments opened)
+leads_at version machine partner kind segments None whole = stays machine.terminal whole
+leads_at version machine partner kind segments (Some opened) whole =
+    messages_lead version machine.terminal (codes_for machine kind) (source_in partner (header_of segments)) opened (messages_of segments) whole
 
-leads_of : (machine : MachineState) (partner : ℕ) (segments : List Content) (kind : Option PartnerKind) → IsWhole machine.terminal
-    → LeadsTo machine (changes_of machine partner segments kind) (taken_of machine partner segments kind)
-leads_of machine partner segments None whole = stays machine.terminal whole
-leads_of machine partner segments (Some kind) whole = leads_at machine partner kind segments (preparation (header_of segments)) whole
+leads_of : (version : Version) (machine : MachineState) (partner : ℕ) (segments : List Content) (kind : Option PartnerKind) → IsWhole machine.terminal
+    → LeadsTo machine (changes_of_by version machine partner segments kind) (taken_of_by version machine partner segments kind)
+leads_of version machine partner segments None whole = stays machine.terminal whole
+leads_of version machine partner segments (Some kind) whole = leads_at version machine partner kind segments (preparation (header_of segments)) whole
 
 leads_if : (machine : MachineState) (is : Bool) (changes : List ChangeContent) (taken : MachineState × List ℕ) → IsWhole machine.terminal → LeadsTo machine changes taken
     → LeadsTo machine (cond is changes []) (cond is taken (nothing_taken machine))
 leads_if machine true changes taken whole leads = leads
 leads_if machine false changes taken whole leads = stays machine.terminal whole
 
+pub interchange_leads_by : (version : Version) (machine : MachineState) (partner : ℕ) (text : List ℕ) → IsWhole machine.terminal → LeadsTo machine (interchange_changes_by version machine partner text) (interchange_taken_by version machine partner text)
+interchange_leads_by version machine partner text whole =
+    leads_if machine (is_for partner (admission machine.parties text)) (changes_of_by version machine partner (segments_in text) (with_number machine.kinds partner))
+    (taken_of_by version machine partner (segments_in text) (with_number machine.kinds partner)) whole (leads_of version machine partner (segments_in text) (with_number machine.kinds partner) whole)
+
 pub interchange_leads : (machine : MachineState) (partner : ℕ) (text : List ℕ) → IsWhole machine.terminal → LeadsTo machine (interchange_changes machine partner text) (interchange_taken machine partner text)
-interchange_leads machine partner text whole =
-    leads_if machine (is_for partner (admission machine.parties text)) (changes_of machine partner (segments_in text) (with_number machine.kinds partner))
-    (taken_of machine partner (segments_in text) (with_number machine.kinds partner)) whole (leads_of machine partner (segments_in text) (with_number machine.kinds partner) whole)
+interchange_leads = interchange_leads_by newest

@@ -4,42 +4,73 @@ use Rattle.std.specs.Prelude.{◌≡◌, ℕ, ◌≤◌, List, [], ◌∷◌, �
 use Rattle.std.specs.FinMap as finite_map
 use Rattle.yard_core.specs.Plan.{IsPlan}
 use Rattle.yard_core.specs.YardMap.{YardMap}
+use Rattle.partner_core.specs.ByPlace.{taken_by_place}
 use Rattle.partner_core.specs.Deliveries.{Delivery}
+use Rattle.partner_core.specs.Machine.{Taking}
 use Rattle.partner_core.specs.Order.{state_after, state}
 use Rattle.terminal_core.specs.Rows.{ChangeContent}
 use Rattle.terminal_core.specs.State.{empty_state, IsWhole}
 use Rattle.terminal_core.specs.Forms.{IsWellFormed}
 use Rattle.terminal_core.specs.Changes.{rows_of, all_changed, AreApplicable}
+use Rattle.terminal_core.specs.declared.version.Version.{Version}
 use Rattle.office_setup.specs.declared.setup.Setup.{Setup}
-use Rattle.office_taking.specs.Taking.{MachineState, machine_of, interchange_taken, interchange_changes}
+use Rattle.office_taking.specs.Taking.{MachineState, machine_of, interchange_taken_by, interchange_changes_by, interchange_taken, interchange_changes}
 
--- ---- an interchange
+-- ---- an interchange, by the rules of any version
 
 -- what an interchange leaves of a whole terminal is whole
 abbrev pub InterchangesKeepWhole : Type 0
 InterchangesKeepWhole =
-    (machine : MachineState) (partner : ℕ) (text : List ℕ) → IsWhole machine.terminal →
-    IsWhole (interchange_taken machine partner text).0.terminal
+    (version : Version) (machine : MachineState) (partner : ℕ) (text : List ℕ) → IsWhole machine.terminal →
+    IsWhole (interchange_taken_by version machine partner text).0.terminal
 
 -- its changes turn the rows of the old terminal into those of the new
 abbrev pub InterchangeChangesTurnRows : Type 0
 InterchangeChangesTurnRows =
-    (machine : MachineState) (partner : ℕ) (text : List ℕ) → IsWhole machine.terminal
-    → all_changed (rows_of machine.terminal) (interchange_changes machine partner text)
-    ≡ rows_of (interchange_taken machine partner text).0.terminal
+    (version : Version) (machine : MachineState) (partner : ℕ) (text : List ℕ) → IsWhole machine.terminal
+    → all_changed (rows_of machine.terminal) (interchange_changes_by version machine partner text)
+    ≡ rows_of (interchange_taken_by version machine partner text).0.terminal
 
 -- each of its changes adds, alters or removes one row
 abbrev pub InterchangeChangesAreApplicable : Type 0
 InterchangeChangesAreApplicable =
-    (machine : MachineState) (partner : ℕ) (text : List ℕ) → IsWhole machine.terminal
-    → AreApplicable (rows_of machine.terminal) (interchange_changes machine partner text)
+    (version : Version) (machine : MachineState) (partner : ℕ) (text : List ℕ) → IsWhole machine.terminal
+    → AreApplicable (rows_of machine.terminal) (interchange_changes_by version machine partner text)
 
 -- what an interchange of one of at most 999 partners leaves of a whole and well-formed terminal is well formed
 abbrev pub InterchangesKeepForms : Type 0
 InterchangesKeepForms =
-    (machine : MachineState) (partner : ℕ) (text : List ℕ) → length machine.kinds ≤ 999 → IsWhole machine.terminal →
+    (version : Version) (machine : MachineState) (partner : ℕ) (text : List ℕ) → length machine.kinds ≤ 999 →
+    IsWhole machine.terminal →
     IsWellFormed machine.terminal
-    → IsWellFormed (interchange_taken machine partner text).0.terminal
+    → IsWellFormed (interchange_taken_by version machine partner text).0.terminal
+
+-- there are at most 999 partners, and the terminal is whole and well formed
+pub record IsSoundMachine (machine : MachineState) : Type 0 where
+  pub few : length machine.kinds ≤ 999
+  pub whole : IsWhole machine.terminal
+  pub formed : IsWellFormed machine.terminal
+
+-- whatever text is taken, a machine that was sound stays so
+abbrev pub KeepsSound : Taking MachineState → Type 0
+KeepsSound taken =
+    (machine : MachineState) (partner : ℕ) (text : List ℕ) → IsSoundMachine machine →
+    IsSoundMachine (taken machine partner text).0
+
+-- whatever text is taken, what a machine is set up with stays as it is: its parties, codes, kinds, blocks and how many
+-- visits it may record
+abbrev pub ChangesTerminalAlone : Taking MachineState → Type 0
+ChangesTerminalAlone taken =
+    (machine : MachineState) (partner : ℕ) (text : List ℕ)
+    → (taken machine partner text).0 ≡ record machine { terminal = (taken machine partner text).0.terminal }
+
+-- the rules of any version keep a machine sound
+abbrev pub InterchangesKeepSound : Type 0
+InterchangesKeepSound = (version : Version) → KeepsSound (interchange_taken_by version)
+
+-- and change nothing but its terminal
+abbrev pub InterchangesChangeTerminalAlone : Type 0
+InterchangesChangeTerminalAlone = (version : Version) → ChangesTerminalAlone (interchange_taken_by version)
 
 -- ---- cascades
 
@@ -65,20 +96,32 @@ CascadeChangesAreApplicable =
 
 -- ---- runs
 
--- there are at most 999 partners, and the terminal is whole and well formed
-pub record IsSoundMachine (machine : MachineState) : Type 0 where
-  pub few : length machine.kinds ≤ 999
-  pub whole : IsWhole machine.terminal
-  pub formed : IsWellFormed machine.terminal
-
--- so is a machine of a set-up with at most 999 partners over a terminal with nothing in it
+-- a machine of a set-up with at most 999 partners over a terminal with nothing in it is sound
 abbrev pub OpeningsAreSound : Type 0
 OpeningsAreSound =
     (setup : Setup) (yard : YardMap) → length setup.partners.items ≤ 999 → IsPlan yard.plan →
     yard.boxes ≡ finite_map.empty → IsSoundMachine (machine_of setup (empty_state yard setup.visit_limit))
 
--- whatever texts are delivered, a machine that was sound stays so
+-- rules that change at a place of the list keep a machine sound where both do
+abbrev pub ByPlaceKeepsSound : Type 0
+ByPlaceKeepsSound =
+    (number_of : List ℕ → ℕ) (before : List Delivery) (old new : Taking MachineState) → KeepsSound old →
+    KeepsSound new → KeepsSound (taken_by_place number_of before old new)
+
+-- and change nothing but its terminal where neither does
+abbrev pub ByPlaceChangesTerminalAlone : Type 0
+ByPlaceChangesTerminalAlone =
+    (number_of : List ℕ → ℕ) (before : List Delivery) (old new : Taking MachineState) → ChangesTerminalAlone old →
+    ChangesTerminalAlone new → ChangesTerminalAlone (taken_by_place number_of before old new)
+
+-- whatever texts are delivered, a machine that was sound stays so, by any rules each of whose steps keeps it so
 abbrev pub DeliveriesKeepSound : Type 0
 DeliveriesKeepSound =
-    (opening : MachineState) (ds : List Delivery) → IsSoundMachine opening →
-    IsSoundMachine (state interchange_taken opening ds)
+    (taken : Taking MachineState) (opening : MachineState) (ds : List Delivery) → KeepsSound taken →
+    IsSoundMachine opening → IsSoundMachine (state taken opening ds)
+
+-- and what it is set up with stays, by any rules that change nothing but the terminal
+abbrev pub DeliveriesChangeTerminalAlone : Type 0
+DeliveriesChangeTerminalAlone =
+    (taken : Taking MachineState) (opening : MachineState) (ds : List Delivery) → ChangesTerminalAlone taken
+    → state taken opening ds ≡ record opening { terminal = (state taken opening ds).terminal }

@@ -1,3 +1,5 @@
+pub mod Readings
 pub mod Taking
+pub mod Growth
 pub mod States
 pub mod Laws

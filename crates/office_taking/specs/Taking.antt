@@ -1,4 +1,5 @@
--- What taking an interchange does to the terminal, and what is replied.
+-- What taking an interchange does to the terminal, and what is replied, by the rules of a version of the office. The
+-- words without a version are by the rules in force, those of the newest.
 use Rattle.std.specs.Prelude.{◌≡◌, ℕ, List, [], ◌∷◌, ◌++◌, map, Option, None, Some, Result, Ok, Err, encode_utf8_all, if◌then◌else◌}
 use Rattle.std.specs.Option.{unwrap_or}
 use Rattle.box6346.specs.declared.box_number.BoxNumber.{BoxNumber}
@@ -10,7 +11,7 @@ use Rattle.edi_syntax.specs.Header.{control_number, preparation}
 use Rattle.edi_syntax.specs.Messages.{Message, message_reference}
 use Rattle.edi_messages.specs.Contrl.{contrl_text}
 use Rattle.edi_messages.specs.ErrorCodes.{message_error}
-use Rattle.edi_messages.specs.Message.{LineContent, ordered, refused, MessageContent, reading}
+use Rattle.edi_messages.specs.Message.{LineContent, ordered, refused, MessageContent}
 use Rattle.edi_messages.specs.Purposes.{CallContent}
 use Rattle.edi_messages.specs.Orders.{OrderContent, gate_in, gate_out, move, list_discharge, list_load, discharge, load}
 use Rattle.edi_messages.specs.declared.code_table.CodeTable.{CodeTable}
@@ -26,7 +27,8 @@ use Rattle.edi_messages.specs.declared.verdict.Verdict.TheVariants.{Accepted, Re
 use Rattle.partner_core.specs.Numbered.{with_number}
 use Rattle.terminal_core.specs.State.{TerminalState}
 use Rattle.terminal_core.specs.Rows.{ChangeContent}
-use Rattle.terminal_core.specs.Step.{step}
+use Rattle.terminal_core.specs.Step.{step_by}
+use Rattle.terminal_core.specs.Versions.{newest}
 use Rattle.terminal_core.specs.Drop.{drop}
 use Rattle.terminal_core.specs.declared.outcome.Outcome.TheVariants.{Refused}
 use Rattle.terminal_core.specs.declared.reason.Reason.{Reason}
@@ -34,11 +36,13 @@ use Rattle.terminal_core.specs.declared.reason.Reason.TheVariants.{Form, CheckDi
 use Rattle.terminal_core.specs.declared.side.Side.{Side}
 use Rattle.terminal_core.specs.declared.side.Side.TheVariants.{Load, Discharge}
 use Rattle.terminal_core.specs.declared.source.Source.{Source}
+use Rattle.terminal_core.specs.declared.version.Version.{Version}
 use Rattle.yard_core.specs.declared.block.Block.{Block}
 use Rattle.office_replies.specs.declared.line_report.LineReport.{LineReport}
 use Rattle.office_setup.specs.Parties.{Parties, partner_kinds, parties_of}
 use Rattle.office_setup.specs.declared.setup.Setup.{Setup}
 use Rattle.office_admission.specs.Admission.{admission, is_for}
+use Rattle.office_taking.specs.Readings.{reading_by}
 use Rattle.office_replies.specs.Messages.{VerdictContent, accepted, rejected, ReportContent, reply_content_text}
 
 -- what a terminal is set up with, and the terminal: who it and its partners are, the codes of document names, what each
@@ -83,18 +87,18 @@ reason_of line.SlotText = SlotText
 
 -- what the line leaves of the terminal, and what is reported of it: an order is carried out, any other line changes
 -- nothing
-abbrev pub line_taken : TerminalState → Source → LineContent → TerminalState × LineReport
-line_taken state source (ordered order) = (
-  (step state source order).state,
-  record { number = Some (number_ordered order); outcome = (step state source order).outcome },
+abbrev pub line_taken_by : Version → TerminalState → Source → LineContent → TerminalState × LineReport
+line_taken_by version state source (ordered order) = (
+  (step_by version state source order).state,
+  record { number = Some (number_ordered order); outcome = (step_by version state source order).outcome },
 )
-line_taken state source (refused fault number) =
+line_taken_by version state source (refused fault number) =
     (state, record { number = number; outcome = Refused (reason_of fault) })
 
 -- its changes of the terminal's rows
-abbrev pub line_changes : TerminalState → Source → LineContent → List ChangeContent
-line_changes state source (ordered order) = (step state source order).changes
-line_changes state source (refused fault number) = []
+abbrev pub line_changes_by : Version → TerminalState → Source → LineContent → List ChangeContent
+line_changes_by version state source (ordered order) = (step_by version state source order).changes
+line_changes_by version state source (refused fault number) = []
 
 -- ---- a message
 
@@ -102,15 +106,17 @@ abbrev pub before_report : TerminalState × List LineReport → LineReport → T
 before_report later report = (later.0, report ∷ later.1)
 
 -- the lines, one after the other
-abbrev pub lines_taken : TerminalState → Source → List LineContent → TerminalState × List LineReport
-lines_taken state source [] = (state, [])
-lines_taken state source (line ∷ lines) =
-    before_report (lines_taken (line_taken state source line).0 source lines) (line_taken state source line).1
+abbrev pub lines_taken_by : Version → TerminalState → Source → List LineContent → TerminalState × List LineReport
+lines_taken_by version state source [] = (state, [])
+lines_taken_by version state source (line ∷ lines) =
+    before_report (lines_taken_by version (line_taken_by version state source line).0 source lines)
+    (line_taken_by version state source line).1
 
-abbrev pub lines_changes : TerminalState → Source → List LineContent → List ChangeContent
-lines_changes state source [] = []
-lines_changes state source (line ∷ lines) =
-    line_changes state source line ++ lines_changes (line_taken state source line).0 source lines
+abbrev pub lines_changes_by : Version → TerminalState → Source → List LineContent → List ChangeContent
+lines_changes_by version state source [] = []
+lines_changes_by version state source (line ∷ lines) =
+    line_changes_by version state source line
+    ++ lines_changes_by version (line_taken_by version state source line).0 source lines
 
 -- what a vessel does with the containers of a list
 abbrev pub side_listed : OrderKind → Option Side
@@ -152,18 +158,21 @@ rejected_by fault None = accepted None []
 
 -- A message that replaces a list drops it, and then its lines are taken. One that is rejected drops nothing and gives no
 -- orders.
-abbrev pub verdict_on : TerminalState → Source → Result MessageContent MessageFault → TerminalState × VerdictContent
-verdict_on state source (Ok content) = (
-  (lines_taken (cleared_for state content).state source content.lines).0,
+abbrev pub verdict_on_by : Version → TerminalState → Source → Result MessageContent MessageFault →
+    TerminalState × VerdictContent
+verdict_on_by version state source (Ok content) = (
+  (lines_taken_by version (cleared_for state content).state source content.lines).0,
   accepted (cleared_for state content).dropped
-      (lines_taken (cleared_for state content).state source content.lines).1,
+      (lines_taken_by version (cleared_for state content).state source content.lines).1,
 )
-verdict_on state source (Err fault) = (state, rejected_by fault (message_error fault))
+verdict_on_by version state source (Err fault) = (state, rejected_by fault (message_error fault))
 
-abbrev pub verdict_changes : TerminalState → Source → Result MessageContent MessageFault → List ChangeContent
-verdict_changes state source (Ok content) =
-    (cleared_for state content).changes ++ lines_changes (cleared_for state content).state source content.lines
-verdict_changes state source (Err fault) = []
+abbrev pub verdict_changes_by : Version → TerminalState → Source → Result MessageContent MessageFault →
+    List ChangeContent
+verdict_changes_by version state source (Ok content) =
+    (cleared_for state content).changes
+    ++ lines_changes_by version (cleared_for state content).state source content.lines
+verdict_changes_by version state source (Err fault) = []
 
 abbrev pub report_on : Message → VerdictContent → ReportContent
 report_on message verdict = record { reference = encode_utf8_all (message_reference message); verdict = verdict }
@@ -174,19 +183,21 @@ abbrev pub before_message : TerminalState × List ReportContent → ReportConten
 before_message later report = (later.0, report ∷ later.1)
 
 -- the messages of a partner with these codes, one after the other
-abbrev pub messages_taken : TerminalState → Codes → Source → CivilMoment → List Message →
+abbrev pub messages_taken_by : Version → TerminalState → Codes → Source → CivilMoment → List Message →
     TerminalState × List ReportContent
-messages_taken state codes source opened [] = (state, [])
-messages_taken state codes source opened (message ∷ messages) =
-    before_message (messages_taken
-    (verdict_on state source (reading codes opened message)).0 codes source opened messages)
-    (report_on message (verdict_on state source (reading codes opened message)).1)
+messages_taken_by version state codes source opened [] = (state, [])
+messages_taken_by version state codes source opened (message ∷ messages) =
+    before_message (messages_taken_by version
+    (verdict_on_by version state source (reading_by version codes opened message)).0 codes source opened messages)
+    (report_on message (verdict_on_by version state source (reading_by version codes opened message)).1)
 
-abbrev pub messages_changes : TerminalState → Codes → Source → CivilMoment → List Message → List ChangeContent
-messages_changes state codes source opened [] = []
-messages_changes state codes source opened (message ∷ messages) =
-    verdict_changes state source (reading codes opened message)
-    ++ messages_changes (verdict_on state source (reading codes opened message)).0 codes source opened messages
+abbrev pub messages_changes_by : Version → TerminalState → Codes → Source → CivilMoment → List Message →
+    List ChangeContent
+messages_changes_by version state codes source opened [] = []
+messages_changes_by version state codes source opened (message ∷ messages) =
+    verdict_changes_by version state source (reading_by version codes opened message)
+    ++ messages_changes_by version
+    (verdict_on_by version state source (reading_by version codes opened message)).0 codes source opened messages
 
 -- what the CONTRL says of a message
 abbrev pub verdict_of : VerdictContent → Verdict
@@ -215,44 +226,85 @@ abbrev pub source_in : ℕ → Content → Source
 source_in partner header = record { partner = partner; number = unwrap_or (control_number header) 0 }
 
 -- if the header has a moment
-abbrev pub taken_at : MachineState → ℕ → PartnerKind → List Content → Option CivilMoment → MachineState × List ℕ
-taken_at machine partner kind segments None = nothing_taken machine
-taken_at machine partner kind segments (Some opened) =
+abbrev pub taken_at_by : Version → MachineState → ℕ → PartnerKind → List Content → Option CivilMoment →
+    MachineState × List ℕ
+taken_at_by version machine partner kind segments None = nothing_taken machine
+taken_at_by version machine partner kind segments (Some opened) =
     with_messages machine segments
-    (messages_taken machine.terminal (codes_for machine kind) (source_in partner (header_of segments)) opened
+    (messages_taken_by version machine.terminal (codes_for machine kind) (source_in partner (header_of segments)) opened
     (messages_of segments))
 
-abbrev pub taken_of : MachineState → ℕ → List Content → Option PartnerKind → MachineState × List ℕ
-taken_of machine partner segments None = nothing_taken machine
-taken_of machine partner segments (Some kind) =
-    taken_at machine partner kind segments (preparation (header_of segments))
+abbrev pub taken_of_by : Version → MachineState → ℕ → List Content → Option PartnerKind → MachineState × List ℕ
+taken_of_by version machine partner segments None = nothing_taken machine
+taken_of_by version machine partner segments (Some kind) =
+    taken_at_by version machine partner kind segments (preparation (header_of segments))
 
 -- Take: the interchange of a partner, counted from 1. A text that is not admitted for that partner changes nothing.
-abbrev pub interchange_taken : MachineState → ℕ → List ℕ → MachineState × List ℕ
-interchange_taken machine partner text =
+abbrev pub interchange_taken_by : Version → MachineState → ℕ → List ℕ → MachineState × List ℕ
+interchange_taken_by version machine partner text =
     if is_for partner (admission machine.parties text)
-    then taken_of machine partner (segments_in text) (with_number machine.kinds partner)
+    then taken_of_by version machine partner (segments_in text) (with_number machine.kinds partner)
     else nothing_taken machine
 
 -- ---- its changes
 
-abbrev pub changes_at : MachineState → ℕ → PartnerKind → List Content → Option CivilMoment → List ChangeContent
-changes_at machine partner kind segments None = []
-changes_at machine partner kind segments (Some opened) =
-    messages_changes machine.terminal (codes_for machine kind) (source_in partner (header_of segments)) opened
-    (messages_of segments)
+abbrev pub changes_at_by : Version → MachineState → ℕ → PartnerKind → List Content → Option CivilMoment →
+    List ChangeContent
+changes_at_by version machine partner kind segments None = []
+changes_at_by version machine partner kind segments (Some opened) =
+    messages_changes_by version machine.terminal (codes_for machine kind) (source_in partner (header_of segments))
+    opened (messages_of segments)
 
-abbrev pub changes_of : MachineState → ℕ → List Content → Option PartnerKind → List ChangeContent
-changes_of machine partner segments None = []
-changes_of machine partner segments (Some kind) =
-    changes_at machine partner kind segments (preparation (header_of segments))
+abbrev pub changes_of_by : Version → MachineState → ℕ → List Content → Option PartnerKind → List ChangeContent
+changes_of_by version machine partner segments None = []
+changes_of_by version machine partner segments (Some kind) =
+    changes_at_by version machine partner kind segments (preparation (header_of segments))
 
 -- what taking the interchange changes of the terminal's rows, order by order
-abbrev pub interchange_changes : MachineState → ℕ → List ℕ → List ChangeContent
-interchange_changes machine partner text =
+abbrev pub interchange_changes_by : Version → MachineState → ℕ → List ℕ → List ChangeContent
+interchange_changes_by version machine partner text =
     if is_for partner (admission machine.parties text)
-    then changes_of machine partner (segments_in text) (with_number machine.kinds partner)
+    then changes_of_by version machine partner (segments_in text) (with_number machine.kinds partner)
     else []
+
+-- ---- by the rules in force
+
+abbrev pub line_taken : TerminalState → Source → LineContent → TerminalState × LineReport
+line_taken = line_taken_by newest
+
+abbrev pub line_changes : TerminalState → Source → LineContent → List ChangeContent
+line_changes = line_changes_by newest
+
+abbrev pub lines_taken : TerminalState → Source → List LineContent → TerminalState × List LineReport
+lines_taken = lines_taken_by newest
+
+abbrev pub lines_changes : TerminalState → Source → List LineContent → List ChangeContent
+lines_changes = lines_changes_by newest
+
+abbrev pub verdict_on : TerminalState → Source → Result MessageContent MessageFault → TerminalState × VerdictContent
+verdict_on = verdict_on_by newest
+
+abbrev pub verdict_changes : TerminalState → Source → Result MessageContent MessageFault → List ChangeContent
+verdict_changes = verdict_changes_by newest
+
+abbrev pub messages_taken : TerminalState → Codes → Source → CivilMoment → List Message →
+    TerminalState × List ReportContent
+messages_taken = messages_taken_by newest
+
+abbrev pub messages_changes : TerminalState → Codes → Source → CivilMoment → List Message → List ChangeContent
+messages_changes = messages_changes_by newest
+
+abbrev pub taken_at : MachineState → ℕ → PartnerKind → List Content → Option CivilMoment → MachineState × List ℕ
+taken_at = taken_at_by newest
+
+abbrev pub taken_of : MachineState → ℕ → List Content → Option PartnerKind → MachineState × List ℕ
+taken_of = taken_of_by newest
+
+abbrev pub interchange_taken : MachineState → ℕ → List ℕ → MachineState × List ℕ
+interchange_taken = interchange_taken_by newest
+
+abbrev pub interchange_changes : MachineState → ℕ → List ℕ → List ChangeContent
+interchange_changes = interchange_changes_by newest
 
 -- ---- what a call clears
 

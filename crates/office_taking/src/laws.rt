@@ -1,13 +1,22 @@
 //! What follows of whole interchanges, and of runs of them, from what is known of one order.
 
-ghost use Rattle.office_taking.specs.Laws.{InterchangesKeepWhole, InterchangeChangesTurnRows, InterchangeChangesAreApplicable, InterchangesKeepForms, CascadeChangesTurnRows, CascadeChangesAreApplicable, OpeningsAreSound, DeliveriesKeepSound};
+ghost use Rattle.office_taking.specs.Growth.{TakenWithAccount};
+ghost use Rattle.office_taking.specs.Laws.{InterchangesKeepWhole, InterchangeChangesTurnRows, InterchangeChangesAreApplicable, InterchangesKeepForms, InterchangesKeepSound, InterchangesChangeTerminalAlone, CascadeChangesTurnRows, CascadeChangesAreApplicable, OpeningsAreSound, ByPlaceKeepsSound, ByPlaceChangesTerminalAlone, DeliveriesKeepSound, DeliveriesChangeTerminalAlone};
+ghost use Rattle.office_taking.specs.Readings.{FirstVersionRejectsByItsFaults};
 
-/// What an interchange leaves of a whole terminal is whole.
+/// By the rules of the first version a message is rejected for the lowest fault that applies, where only an original
+/// has a function that is known.
+pub fn first_version_rejects_by_its_faults()
+    ensures { FirstVersionRejectsByItsFaults }
+{}
+
+/// What an interchange leaves of a whole terminal is whole, by the rules of any version.
 pub fn interchanges_keep_whole()
     ensures { InterchangesKeepWhole }
 {}
 
-/// The changes of an interchange turn the visits, places and lines of the old terminal into those of the new.
+/// The changes of an interchange turn the visits, places and lines of the old terminal into those of the new, by the
+/// rules of any version.
 pub fn interchange_changes_turn_rows()
     ensures { InterchangeChangesTurnRows }
 {}
@@ -17,9 +26,26 @@ pub fn interchange_changes_are_applicable()
     ensures { InterchangeChangesAreApplicable }
 {}
 
-/// What an interchange leaves of a whole and well-formed terminal is well formed: each value has its form and range.
+/// What an interchange leaves of a whole and well-formed terminal is well formed, by the rules of any version: each
+/// value has its form and range.
 pub fn interchanges_keep_forms()
     ensures { InterchangesKeepForms }
+{}
+
+/// An interchange leaves a sound machine sound, by the rules of any version.
+pub fn interchanges_keep_sound()
+    ensures { InterchangesKeepSound }
+{}
+
+/// An interchange changes nothing of a machine but its terminal, by the rules of any version.
+pub fn interchanges_change_terminal_alone()
+    ensures { InterchangesChangeTerminalAlone }
+{}
+
+/// With an account more, an interchange that was admitted is taken as before, by the rules of any version: the same
+/// reply, and the same machine with the account beside.
+pub fn taken_with_account()
+    ensures { TakenWithAccount }
 {}
 
 /// The changes of interchanges that are taken in turn lead from the rows of the old terminal to those of the new.
@@ -38,7 +64,24 @@ pub fn openings_are_sound()
     ensures { OpeningsAreSound }
 {}
 
-/// Whatever texts are delivered, and however they come, a machine that was sound stays so.
+/// Rules that change at a place of the list keep a machine sound, if the old ones and the new ones do.
+pub fn by_place_keeps_sound()
+    ensures { ByPlaceKeepsSound }
+{}
+
+/// Rules that change at a place of the list change nothing but the terminal, if neither the old ones nor the new ones
+/// do more.
+pub fn by_place_changes_terminal_alone()
+    ensures { ByPlaceChangesTerminalAlone }
+{}
+
+/// Whatever texts are delivered, and however they come, a machine that was sound stays so, by any rules each of whose
+/// steps keeps it so.
 pub fn deliveries_keep_sound()
     ensures { DeliveriesKeepSound }
+{}
+
+/// Whatever texts are delivered, what the machine is set up with stays, by any rules that change the terminal alone.
+pub fn deliveries_change_terminal_alone()
+    ensures { DeliveriesChangeTerminalAlone }
 {}

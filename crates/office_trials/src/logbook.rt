@@ -4,7 +4,7 @@ ghost use Rattle.office_replies.specs.Delivering.{Delivers};
 ghost use Rattle.office_replies.specs.Events.{Event};
 ghost use Rattle.office_replies.specs.declared.fault.Fault.TheVariants.{UnknownSender};
 ghost use Rattle.office_replies.specs.declared.response.Response.TheVariants.{Refused};
-ghost use Rattle.office_trials.specs.Books.{texts_in};
+ghost use Rattle.office_trials.specs.Books.{Enters, texts_in};
 
 use office_replies::{Deliver, Fault, Response};
 use office_stream::Port;
@@ -45,6 +45,12 @@ impl<W: Write + Drop> Deliver for Logbook<W> {
     ghost stands = { λ opening es book. Appends opening (W.contents book.pages.inner) (texts_in es) };
 
     ghost answers = { λ opening es text response. response ≡ Refused UnknownSender };
+
+    // it has no accounts
+    ghost added = { λ opening es code kind answer. ⊥ };
+
+    ghost leads = { λ old text response new.
+        Enters (W.contents old.pages.inner) text response (W.contents new.pages.inner) };
 
     fn deliver(&mut self, _alloc: Global, delivered: &[u8]) -> Response {
         match self.pages.write_all(delivered) {

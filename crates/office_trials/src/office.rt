@@ -1,5 +1,6 @@
 //! Streams and runs, by the bytes that come in and those that are answered.
 
+mod accounts;
 mod books;
 pub(crate) mod failing_reader;
 pub(crate) mod failing_writer;

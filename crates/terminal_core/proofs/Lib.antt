@@ -26,3 +26,4 @@ pub mod Removed
 pub mod Dropping
 pub mod Rising
 pub mod OpenRows
+pub mod Opened

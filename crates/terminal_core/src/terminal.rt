@@ -1,10 +1,11 @@
 ghost use Rattle.std.specs.Prelude.{◌≡◌, ◌+◌, ◌≤◌, [], ◌∷◌, ◌++◌, map, Some, IfOk, IfErr, OnErr, vec_len, vec_capacity};
 ghost use Rattle.std.specs.FinMap as finite_map;
 ghost use Rattle.std.specs.Option.{option_map};
+ghost use Rattle.yard_core.specs.Decisions.{blocker_on};
 ghost use Rattle.yard_core.specs.YardMap.{placement_of};
 ghost use Rattle.edi_messages.specs.Owned.{call_content, entry_content, order_content};
 ghost use Rattle.terminal_core.specs.Rows.{visit_content, change_content, line_done};
-ghost use Rattle.terminal_core.specs.State.{LineContent, TerminalState, empty_state, is_in, line_of, IsWhole};
+ghost use Rattle.terminal_core.specs.State.{LineContent, TerminalState, empty_state, is_in, line_of, open_visit, IsWhole};
 ghost use Rattle.terminal_core.specs.Versions.{newest};
 ghost use Rattle.terminal_core.specs.Step.{after_entry, after_departure, after_move, after_listing, step, step_gate_in, step_discharge, step_load, with_line};
 ghost use Rattle.terminal_core.specs.Drop.{drop, Drops};
@@ -34,7 +35,7 @@ use edi_messages::{Call, Entry, Order};
 use edi_moments::Moment;
 use std::alloc::{AllocError, Global};
 use std::marker::Model;
-use yard_core::{Plan, Yard};
+use yard_core::{Block, Plan, Yard};
 
 /// The containers at the terminal with every visit, and the vessels' lists. It is always whole.
 #[derive(Drop)]
@@ -111,6 +112,30 @@ impl Terminal {
         ensures whole { IsWhole self.now }
     {
         self.yard.slot_of(container)
+    }
+
+    /// The blocks of the yard.
+    pub fn blocks(&self) -> &[Block]
+        ensures told { result.now ≡ self.now.yard.plan }
+        ensures whole { IsWhole self.now }
+    {
+        self.yard.blocks()
+    }
+
+    /// The container that stands on one, if that one is in the yard and one stands on it.
+    pub fn blocker_on(&self, container: BoxNumber) -> Option<BoxNumber>
+        ensures told { result ≡ blocker_on self.now.yard.boxes (placement_of self.now.yard.boxes container) }
+        ensures whole { IsWhole self.now }
+    {
+        self.yard.blocker_on(container)
+    }
+
+    /// The visit of a container that is in the yard, found by its number.
+    pub fn open_visit(&self, container: BoxNumber) -> Option<&Visit>
+        ensures told { option_map (λ visit. visit_content visit.now) result ≡ open_visit self.now container }
+        ensures whole { IsWhole self.now }
+    {
+        self.visits.open_visit(container)
     }
 
     /// Every visit, as they were opened.

@@ -1,4 +1,5 @@
 ghost use Rattle.std.specs.Prelude.{◌≡◌, ◌++◌, ◌∷◌, [], ◌≤◌, ◌-◌, map, find, filter, length, is_some, IfOk, OnOk, OnErr, None, true, false, string_bytes, vec_len, vec_capacity};
+ghost use Rattle.std.specs.Option.{option_map};
 ghost use Rattle.box6346.specs.declared.box_number.BoxNumber.{BoxNumber};
 ghost use Rattle.edi_messages.specs.Owned.{entry_content};
 ghost use Rattle.terminal_core.specs.Rows.{visit_content, change_content, visit_closed};
@@ -87,6 +88,24 @@ impl Visits {
         ensures { result ≡ length self.now.visits }
     {
         self.rows.len()
+    }
+
+    /// The container's visit that is open.
+    pub(crate) fn open_visit(&self, container: BoxNumber) -> Option<&Visit>
+        ensures { option_map (λ visit. visit_content visit.now) result
+            ≡ find (is_open_visit container) self.now.visits }
+    {
+        let Some(row_index) = self.open_indexes.get(&container.text()) else {
+            return None;
+        };
+        let Some(visit) = self.rows.get(*row_index) else {
+            return None;
+        };
+        if is_open(visit, container) {
+            Some(visit)
+        } else {
+            None
+        }
     }
 
     /// Makes room for one more.

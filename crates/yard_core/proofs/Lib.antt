@@ -15,3 +15,4 @@ pub mod Fitting
 pub mod FirstSlots
 pub mod Exact
 pub mod Puts
+pub mod Blockers

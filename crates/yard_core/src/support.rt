@@ -4,6 +4,7 @@ ghost use Rattle.yard_core.specs.Plan.{IsSized};
 ghost use Rattle.yard_core.specs.YardMap.{Boxes, placement_of, placed, yard_map};
 ghost use Rattle.yard_core.specs.FitsAndFree.{MisfitsBy, RestsOnEmpty};
 ghost use Rattle.yard_core.specs.Calls.{RefusesRemove};
+ghost use Rattle.yard_core.specs.Decisions.{blocker_on};
 ghost use Rattle.yard_core.specs.Columns.{AgreeOn, IsKept, IsLifted, IsReady, level, stowed_at, bears, is_twenty, is_forty_in, is_empty};
 
 use crate::columns::Columns;
@@ -161,6 +162,23 @@ pub(crate) fn lift(
     }
     columns.lower(site.near, site.far);
     Ok((stowed, site))
+}
+
+/// The box that stands on another, if that one is in the yard and one stands on it.
+pub(crate) fn blocker_on(
+    plan: &Plan,
+    columns: &Columns,
+    placements: &Placements,
+    number: BoxNumber,
+) -> Option<BoxNumber>
+    requires { IsKept plan.now columns.now (placement_of placements.now) }
+    ensures { result ≡ blocker_on placements.now (placement_of placements.now number) }
+{
+    let Some(stowed) = placements.get(number) else {
+        return None;
+    };
+    let site = site_of(plan, stowed.placement);
+    blocker(columns, site)
 }
 
 /// The box that stands on one of the ends.

@@ -10,7 +10,7 @@ use crate::placements::Placements;
 use crate::plan::Plan;
 use crate::site::site_of;
 use crate::stowed::Stowed;
-use crate::support::{is_wary, lift, misfit};
+use crate::support::{blocker_on, is_wary, lift, misfit};
 use crate::yard_fault::YardFault;
 use box6346::{BoxNumber, Length, Slot};
 use std::alloc::{AllocError, Global};
@@ -50,6 +50,7 @@ impl Yard {
     ghost use Rattle.yard_core.specs.SoundYard.{IsSound};
     ghost use Rattle.yard_core.specs.Search.{IsInBlock, IsOpenTo, NoneOpen};
     ghost use Rattle.yard_core.specs.FitsAndFree.{IsFree, IsOpen, MisfitsBy, RestsOnEmpty};
+    ghost use Rattle.yard_core.specs.Decisions.{blocker_on};
     ghost use Rattle.yard_core.specs.Calls.{Places, PutsBack, PlacesFirst, Removes, Shifts, RefusesPlace, RefusesPutBack, RefusesFirst, RefusesRemove, RefusesShift};
 
     /// A yard with no containers.
@@ -75,6 +76,21 @@ impl Yard {
             Some(stowed) => Some(stowed.placement.slot),
             None => None,
         }
+    }
+
+    /// The blocks of its plan.
+    pub fn blocks(&self) -> &[Block]
+        ensures told { result.now ≡ self.now.plan }
+        ensures plan { IsPlan self.now.plan }
+    {
+        self.plan.blocks()
+    }
+
+    /// The container that stands on one, if that one is in the yard and one stands on it.
+    pub fn blocker_on(&self, number: BoxNumber) -> Option<BoxNumber>
+        ensures { result ≡ blocker_on self.now.boxes (placement_of self.now.boxes number) }
+    {
+        blocker_on(&self.plan, &self.columns, &self.placements, number)
     }
 
     /// Puts a container that is not in the yard into a slot if it fits: Present, NoSlot, SlotKind, Taken,

@@ -17,7 +17,7 @@ const A: Block = Block {
 };
 
 /// TERM1, where HAULA is partner 1.
-fn setup(rt: &impl Abort, alloc: Global) -> Result<Setup, Fail> {
+pub(crate) fn setup(rt: &impl Abort, alloc: Global) -> Result<Setup, Fail> {
     let codes = CodeTable::new([b"34", b"36", b"YMV", b"43", b"45", b"44", b"46"]);
     let haulier = Account {
         code: String::from_str(alloc, "HAULA")?,

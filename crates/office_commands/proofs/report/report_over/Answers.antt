@@ -1,5 +1,4 @@
 use Rattle.sqlite.specs.Files.{over_files}
-use Rattle.office_setup.specs.Setups.{setup_content}
 use Rattle.office_desk.specs.Reports.{DeskTells, TellsAfter}
 use Rattle.office_commands.specs.Reporting.{TellsOver}
 use Rattle.office_commands.proofs.ReportLemmas.{key_also, after_alike, told_over}
@@ -22,7 +21,7 @@ returns-clause-ok g c =
             after = λ content es begins.
                 let at = c.in_ok-desk.ensures.opens was content es begins.0 begins.1 in
                 key_also (DeskTells over_files desk) (TellsAfter content es) kind key ends.found
-                (λ asked tells. after_alike (setup_content desk.setup) content at.says es asked ends.found (tells.after es at.stands.holds)) told;
+                (λ asked tells. after_alike at.opening content at.opening_says es asked ends.found (tells.after at.opening es at.stands)) told;
             office = λ db held.
                 key_also (DeskTells over_files desk) (TellsOver db) kind key ends.found
                 (λ asked tells. told_over db desk asked ends.found (c.in_ok-desk.ensures.office was db held) tells) told;

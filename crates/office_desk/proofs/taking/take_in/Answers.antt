@@ -11,7 +11,7 @@ use Rattle.office_tables.specs.Faults.{IsOfStoreOr}
 use Rattle.office_delivery.specs.Reading.{IsSame}
 use Rattle.office_delivery.proofs.ReadLemmas.{no_text, text_kept}
 use Rattle.office_desk.specs.Beside.{IsAt}
-use Rattle.office_desk.proofs.HoldLemmas.{used_answers, next_is, numbered}
+use Rattle.office_desk.proofs.HoldLemmas.{held_with, used_answers, next_is, numbered}
 use Rattle.office_desk.proofs.DeliverLemmas.{is_now}
 use Rattle.office_desk.proofs.KeptLemmas.{failed_stays, used_by_kept}
 use Rattle.office_desk.proofs.OfficeLemmas.{office_with}
@@ -19,9 +19,8 @@ use Rattle.office_desk.proofs.CrashLemmas.{committed_leaves, either_of, on_err, 
 use Rattle.office_desk.proofs.taking.take_in.Goals as goal
 
 pub returns-in_ok-answer_used-in-Some-clause-ok : goal.returns-in_ok-answer_used-in-Some-clause-ok
-returns-in_ok-answer_used-in-Some-clause-ok g c clean is_open es sent holds comes =
+returns-in_ok-answer_used-in-Some-clause-ok g c clean is_open content es sent holds comes =
     let a = c.args in
-    let content = setup_content a.setup.now in
     let old = state g.S.Store a.conn.now in
     let mid = state g.S.Store c.look.new.conn in
     let settled : old.now ≡ old.committed = c.is_autocommit-is_idle.ensures.settled (c.is_autocommit-is_idle.ensures.value ∙ ap not c.requires.idle) (c.look.ensures.reads.was_open clean is_open) in
@@ -30,34 +29,32 @@ returns-in_ok-answer_used-in-Some-clause-ok g c clean is_open es sent holds come
     let found = c.in_ok-kept.field-0 in
     let kept_is : found.kept ≡ Some c.in-Some.kept = let e = c.in_ok-kept.kept-is in let is = c.in-Some.is in cc in
     let kept : IsKept a.admitted.now.partner a.number holds.rows (Some c.in-Some.kept) = subst (IsKept a.admitted.now.partner a.number holds.rows) kept_is (c.in_ok-kept.ensures.kept clean holds.rows has) in
-    let at : IsAt content es found.there = c.in_ok-kept.ensures.beside clean content es holds.rows c.requires.given has holds.after holds.beside in
-    used_answers content es holds.rows sent a.text.now a.admitted.now.partner a.number found.next a.code.now c.in-Some.kept c.in_ok-answer_used-in-Some.field-0 old.now mid.committed (Some found.there)
-    holds.after has (settled ∙ sym same.committed) at comes kept (next_is content es found.there a.admitted.now.partner found.next at c.in_ok-kept.ensures.next) c.in_ok-answer_used-in-Some.ensures
+    let at : IsAt content es found.there = c.in_ok-kept.ensures.beside clean content es holds.rows holds.given has holds.after holds.beside in
+    used_answers content es sent a.text.now a.admitted.now.partner a.number found.next a.code.now c.in-Some.kept c.in_ok-answer_used-in-Some.field-0 (setup_content a.setup.now) old.now mid.committed (Some found.there)
+    (held_with holds old.now (Some found.there) has at) (settled ∙ sym same.committed) comes kept (next_is content es found.there a.admitted.now.partner found.next at c.in_ok-kept.ensures.next) c.in_ok-answer_used-in-Some.ensures
 
 pub returns-in-None-clause-ok : goal.returns-in-None-clause-ok
 returns-in-None-clause-ok g c clean is_open =
     let a = c.args in
-    let content = setup_content a.setup.now in
     let old = state g.S.Store a.conn.now in
     let mid = state g.S.Store c.look.new.conn in
     let before = c.take_new.ensures.clean clean in
     let settled : old.now ≡ old.committed = c.is_autocommit-is_idle.ensures.settled (c.is_autocommit-is_idle.ensures.value ∙ ap not c.requires.idle) (c.look.ensures.reads.was_open before (c.take_new.ensures.was_open clean is_open)) in
-    if_ok c.take_new.result (λ response told. λ es sent holds comes.
+    if_ok c.take_new.result (λ response told. λ content es sent holds comes.
     let has : HasRows holds.rows old.now = subst (HasRows holds.rows) (sym settled) holds.has in
     let same : IsSame old mid = c.in_ok-kept.ensures.same before has.schema in
     let found = c.in_ok-kept.field-0 in
     let kept_is : found.kept ≡ None = let e = c.in_ok-kept.kept-is in let is = c.in-None.is in cc in
     let kept : IsKept a.admitted.now.partner a.number holds.rows None = subst (IsKept a.admitted.now.partner a.number holds.rows) kept_is (c.in_ok-kept.ensures.kept before holds.rows has) in
     let none = no_text a.admitted.now.partner a.number holds.rows kept in
-    let at : IsAt content es found.there = c.in_ok-kept.ensures.beside before content es holds.rows c.requires.given has holds.after holds.beside in
-    told es sent holds.rows (subst (HasRows holds.rows) (sym same.now) has) (same.now ∙ settled ∙ sym same.committed) holds.after at none
+    let at : IsAt content es found.there = c.in_ok-kept.ensures.beside before content es holds.rows holds.given has holds.after holds.beside in
+    told content es sent (held_with holds mid.now (Some found.there) (subst (HasRows holds.rows) (sym same.now) has) at) (same.now ∙ settled ∙ sym same.committed) none
     (next_is content es found.there a.admitted.now.partner found.next at c.in_ok-kept.ensures.next) comes)
     (c.take_new.ensures.ok clean is_open)
 
 pub returns-in_ok-answer_used-in-Some-clause-leaves : goal.returns-in_ok-answer_used-in-Some-clause-leaves
-returns-in_ok-answer_used-in-Some-clause-leaves g c clean was_open es sent holds leaves comes =
+returns-in_ok-answer_used-in-Some-clause-leaves g c clean was_open content es sent holds leaves comes =
     let a = c.args in
-    let content = setup_content a.setup.now in
     let old = state g.S.Store a.conn.now in
     let mid = state g.S.Store c.look.new.conn in
     let settled : old.now ≡ old.committed = c.is_autocommit-is_idle.ensures.settled (c.is_autocommit-is_idle.ensures.value ∙ ap not c.requires.idle) was_open in
@@ -71,65 +68,62 @@ returns-in_ok-answer_used-in-Some-clause-leaves g c clean was_open es sent holds
 pub returns-in-None-clause-leaves : goal.returns-in-None-clause-leaves
 returns-in-None-clause-leaves g c clean was_open =
     let a = c.args in
-    let content = setup_content a.setup.now in
     let old = state g.S.Store a.conn.now in
     let mid = state g.S.Store c.look.new.conn in
     let new = state g.S.Store c.take_new.new.conn in
     let before = c.take_new.ensures.clean clean in
     let settled : old.now ≡ old.committed = c.is_autocommit-is_idle.ensures.settled (c.is_autocommit-is_idle.ensures.value ∙ ap not c.requires.idle) was_open in
-    on_told c.take_new.result (c.take_new.ensures.commits clean) (c.take_new.ensures.ok clean) (λ committed response told. λ es sent holds leaves comes.
+    on_told c.take_new.result (c.take_new.ensures.commits clean) (c.take_new.ensures.ok clean) (λ committed response told. λ content es sent holds leaves comes.
     let has : HasRows holds.rows old.now = subst (HasRows holds.rows) (sym settled) holds.has in
     let same : IsSame old mid = c.in_ok-kept.ensures.same before has.schema in
     let found = c.in_ok-kept.field-0 in
     let kept_is : found.kept ≡ None = let e = c.in_ok-kept.kept-is in let is = c.in-None.is in cc in
     let kept : IsKept a.admitted.now.partner a.number holds.rows None = subst (IsKept a.admitted.now.partner a.number holds.rows) kept_is (c.in_ok-kept.ensures.kept before holds.rows has) in
     let none = no_text a.admitted.now.partner a.number holds.rows kept in
-    let at : IsAt content es found.there = c.in_ok-kept.ensures.beside before content es holds.rows c.requires.given has holds.after holds.beside in
+    let at : IsAt content es found.there = c.in_ok-kept.ensures.beside before content es holds.rows holds.given has holds.after holds.beside in
     let there : HasRows holds.rows mid.now = subst (HasRows holds.rows) (sym same.now) has in
     let still : mid.now ≡ mid.committed = same.now ∙ settled ∙ sym same.committed in
     let done = committed holds.rows there still (numbered content es holds.rows a.admitted.now.partner holds.after) in
-    let after = (told done.is_open es sent holds.rows there still holds.after at none
+    let after = (told done.is_open content es sent (held_with holds mid.now (Some found.there) there at) still none
     (next_is content es found.there a.admitted.now.partner found.next at c.in_ok-kept.ensures.next) comes).holds in
     committed_leaves content (es ++ delivered sent ∷ []) new after.rows done after.has after.after)
 
 pub returns-in-None-clause-crash : goal.returns-in-None-clause-crash
 returns-in-None-clause-crash g c clean was_open =
     let a = c.args in
-    let content = setup_content a.setup.now in
     let old = state g.S.Store a.conn.now in
     let mid = state g.S.Store c.look.new.conn in
     let before = c.take_new.ensures.clean clean in
     let settled : old.now ≡ old.committed = c.is_autocommit-is_idle.ensures.settled (c.is_autocommit-is_idle.ensures.value ∙ ap not c.requires.idle) was_open in
-    on_err_then c.take_new.result (λ told. λ es sent holds leaves comes db left.
+    on_err_then c.take_new.result (λ told. λ content es sent holds leaves comes db left.
     let has : HasRows holds.rows old.now = subst (HasRows holds.rows) (sym settled) holds.has in
     let same : IsSame old mid = c.in_ok-kept.ensures.same before has.schema in
     let found = c.in_ok-kept.field-0 in
     let kept_is : found.kept ≡ None = let e = c.in_ok-kept.kept-is in let is = c.in-None.is in cc in
     let kept : IsKept a.admitted.now.partner a.number holds.rows None = subst (IsKept a.admitted.now.partner a.number holds.rows) kept_is (c.in_ok-kept.ensures.kept before holds.rows has) in
     let none = no_text a.admitted.now.partner a.number holds.rows kept in
-    let at : IsAt content es found.there = c.in_ok-kept.ensures.beside before content es holds.rows c.requires.given has holds.after holds.beside in
+    let at : IsAt content es found.there = c.in_ok-kept.ensures.beside before content es holds.rows holds.given has holds.after holds.beside in
     either_of (λ first. leaves db (reads_less old mid before has.schema c.look.ensures.reads db first)) (λ after. after)
-    (told es sent holds.rows (subst (HasRows holds.rows) (sym same.now) has) (same.now ∙ settled ∙ sym same.committed) holds.after at none
+    (told content es sent (held_with holds mid.now (Some found.there) (subst (HasRows holds.rows) (sym same.now) has) at) (same.now ∙ settled ∙ sym same.committed) none
     (next_is content es found.there a.admitted.now.partner found.next at c.in_ok-kept.ensures.next) comes db left))
     (c.take_new.ensures.crash clean)
 
 pub returns-in-None-clause-err : goal.returns-in-None-clause-err
 returns-in-None-clause-err g c clean is_open =
     let a = c.args in
-    let content = setup_content a.setup.now in
     let old = state g.S.Store a.conn.now in
     let mid = state g.S.Store c.look.new.conn in
     let before = c.take_new.ensures.clean clean in
     let settled : old.now ≡ old.committed = c.is_autocommit-is_idle.ensures.settled (c.is_autocommit-is_idle.ensures.value ∙ ap not c.requires.idle) (c.look.ensures.reads.was_open before (c.take_new.ensures.was_open clean is_open)) in
-    on_err_then c.take_new.result (λ told. λ es holds.
+    on_err_then c.take_new.result (λ told. λ content es holds.
     let has : HasRows holds.rows old.now = subst (HasRows holds.rows) (sym settled) holds.has in
     let same : IsSame old mid = c.in_ok-kept.ensures.same before has.schema in
-    told es holds.rows (subst (HasRows holds.rows) (sym same.now) has) (same.now ∙ settled ∙ sym same.committed) holds.after
-    (c.in_ok-kept.ensures.beside before content es holds.rows c.requires.given has holds.after holds.beside))
+    told content es (held_with holds mid.now (Some c.in_ok-kept.field-0.there) (subst (HasRows holds.rows) (sym same.now) has) (c.in_ok-kept.ensures.beside before content es holds.rows holds.given has holds.after holds.beside))
+    (same.now ∙ settled ∙ sym same.committed))
     (c.take_new.ensures.err clean is_open)
 
 pub returns-in_err-answer_used-in-Some-clause-crash : goal.returns-in_err-answer_used-in-Some-clause-crash
-returns-in_err-answer_used-in-Some-clause-crash g c clean was_open = on_err c.from_residual-in_err-answer_used-in-Some.result (λ es sent holds leaves comes db left.
+returns-in_err-answer_used-in-Some-clause-crash g c clean was_open = on_err c.from_residual-in_err-answer_used-in-Some.result (λ content es sent holds leaves comes db left.
     let a = c.args in
     let old = state g.S.Store a.conn.now in
     let mid = state g.S.Store c.look.new.conn in
@@ -138,21 +132,23 @@ returns-in_err-answer_used-in-Some-clause-crash g c clean was_open = on_err c.fr
     inl (leaves db (reads_less old mid clean has.schema c.look.ensures.reads db left)))
 
 pub returns-in_err-kept-clause-err : goal.returns-in_err-kept-clause-err
-returns-in_err-kept-clause-err g c clean is_open = on_err c.from_residual.result (λ es holds.
+returns-in_err-kept-clause-err g c clean is_open = on_err c.from_residual.result (λ content es holds.
     let a = c.args in
     let old = state g.S.Store a.conn.now in
     let mid = state g.S.Store c.look.new.conn in
     let settled : old.now ≡ old.committed = c.is_autocommit-is_idle.ensures.settled (c.is_autocommit-is_idle.ensures.value ∙ ap not c.requires.idle) (c.look.ensures.reads.was_open clean is_open) in
     let has : HasRows holds.rows old.now = subst (HasRows holds.rows) (sym settled) holds.has in
     record {
+      given = holds.given;
+      now_is = holds.now_is;
       rows = holds.rows;
       has = subst (HasRows holds.rows) (sym ((c.look.ensures.reads.keeps clean has.schema).committed is_open)) holds.has;
       after = holds.after;
-      beside = c.in_err-kept.ensures.err clean (setup_content a.setup.now) es holds.rows c.requires.given has holds.after holds.beside;
+      beside = c.in_err-kept.ensures.err clean content es holds.rows holds.given has holds.after holds.beside;
     })
 
 pub returns-in_err-kept-clause-crash : goal.returns-in_err-kept-clause-crash
-returns-in_err-kept-clause-crash g c clean was_open = on_err c.from_residual.result (λ es sent holds leaves comes db left.
+returns-in_err-kept-clause-crash g c clean was_open = on_err c.from_residual.result (λ content es sent holds leaves comes db left.
     let old = state g.S.Store c.args.conn.now in
     let mid = state g.S.Store c.look.new.conn in
     let settled : old.now ≡ old.committed = c.is_autocommit-is_idle.ensures.settled (c.is_autocommit-is_idle.ensures.value ∙ ap not c.requires.idle) was_open in
@@ -160,19 +156,20 @@ returns-in_err-kept-clause-crash g c clean was_open = on_err c.from_residual.res
     inl (leaves db (reads_less old mid clean has.schema c.look.ensures.reads db left)))
 
 pub returns-in_err-answer_used-in-Some-clause-err : goal.returns-in_err-answer_used-in-Some-clause-err
-returns-in_err-answer_used-in-Some-clause-err g c clean is_open = on_err c.from_residual-in_err-answer_used-in-Some.result (λ es holds.
+returns-in_err-answer_used-in-Some-clause-err g c clean is_open = on_err c.from_residual-in_err-answer_used-in-Some.result (λ content es holds.
     let a = c.args in
-    let content = setup_content a.setup.now in
     let old = state g.S.Store a.conn.now in
     let mid = state g.S.Store c.look.new.conn in
     let settled : old.now ≡ old.committed = c.is_autocommit-is_idle.ensures.settled (c.is_autocommit-is_idle.ensures.value ∙ ap not c.requires.idle) (c.look.ensures.reads.was_open clean is_open) in
     let has : HasRows holds.rows old.now = subst (HasRows holds.rows) (sym settled) holds.has in
     let same : IsSame old mid = c.in_ok-kept.ensures.same clean has.schema in
     record {
+      given = holds.given;
+      now_is = holds.now_is;
       rows = holds.rows;
       has = subst (HasRows holds.rows) (sym same.committed) holds.has;
       after = holds.after;
-      beside = c.in_ok-kept.ensures.beside clean content es holds.rows c.requires.given has holds.after holds.beside;
+      beside = c.in_ok-kept.ensures.beside clean content es holds.rows holds.given has holds.after holds.beside;
     })
 
 -- ---- over any office

@@ -6,6 +6,7 @@ use Rattle.sqlite.specs.Held.{state}
 use Rattle.office_setup.specs.Setups.{setup_content}
 use Rattle.partner_core.specs.Deliveries.{delivery}
 use Rattle.office_desk.specs.Beside.{IsOrNone}
+use Rattle.office_history.specs.After.{machine_with}
 use Rattle.office_desk.specs.Telling.{IsRunDone}
 use Rattle.office_desk.proofs.KeptLemmas.{early_or_stays, failed_stays, next_answers_so}
 use Rattle.office_tables.specs.Faults.{IsOfStore}
@@ -22,11 +23,10 @@ use Rattle.office_desk.proofs.taking.take_new.Goals as goal
 pub returns-then-next-number-clause-ok : goal.returns-then-next-number-clause-ok
 returns-then-next-number-clause-ok g c clean is_open =
     let a = c.args in
-    let content = setup_content a.setup.now in
     let old = state g.S.Store a.conn.now in
     let new = state g.S.Store c.take_early.new.conn in
-    if_on c.take_early.result (λ response told wrote. λ es sent rows has settled after beside free is comes.
-    early_answers content es rows sent a.text.now a.admitted.now.partner a.number a.next a.code.now response old new (Some a.there) after has settled beside comes free is c.if-next-number.true told wrote)
+    if_on c.take_early.result (λ response told wrote. λ content es sent holds settled free is comes.
+    early_answers content es sent a.text.now a.admitted.now.partner a.number a.next a.code.now response (setup_content a.setup.now) old new (Some a.there) holds settled comes free is c.if-next-number.true told wrote)
     c.take_early.ensures.told (c.take_early.ensures.ok clean)
 
 pub returns-then-next-number-clause-now : goal.returns-then-next-number-clause-now
@@ -34,18 +34,18 @@ returns-then-next-number-clause-now g c = if_ok c.take_early.result (λ response
 
 pub returns-then-next-number-clause-err : goal.returns-then-next-number-clause-err
 returns-then-next-number-clause-err g c clean is_open =
-    on_err_then c.take_early.result (λ same. λ es rows has settled after beside.
-    record { rows = rows; has = subst (HasRows rows) (sym same) (subst (HasRows rows) settled has); after = after; beside = beside })
+    on_err_then c.take_early.result (λ same. λ content es holds settled.
+    record { given = holds.given; now_is = holds.now_is; rows = holds.rows; has = subst (HasRows holds.rows) (sym same) (subst (HasRows holds.rows) settled holds.has); after = holds.after; beside = holds.beside })
     (c.take_early.ensures.err clean is_open)
 
 pub returns-clause-ok : goal.returns-clause-ok
-returns-clause-ok g c clean is_open es sent rows has settled after beside free is comes =
+returns-clause-ok g c clean is_open content es sent holds settled free is comes =
     let a = c.args in
-    let content = setup_content a.setup.now in
+    let old = state g.S.Store a.conn.now in
     let new = state g.S.Store c.take_next.new.conn in
-    let takes = c.in_ok-answer.ensures.ok clean rows has settled (numbered content es rows a.admitted.now.partner after) in
+    let takes = c.in_ok-answer.ensures.ok clean holds.rows holds.has settled (numbered content es holds.rows a.admitted.now.partner holds.after) in
     let same : a.number ≡ a.next = omega (arith, c.if-number-next.false, c.if-next-number.false) in
-    next_answers a.setup.now es rows sent a.text.now a.admitted.now.partner a.number a.next a.code.now c.in_ok-answer.answer a.there c.in_ok-answer.now new c.requires.given after beside comes free c.requires.admitted.from_one is same takes
+    next_answers a.setup.now content es sent a.text.now a.admitted.now.partner a.number a.next a.code.now c.in_ok-answer.answer a.there c.in_ok-answer.now old.now new holds comes free c.requires.admitted.from_one is same takes
 
 pub returns-then-next-number-clause-commits : goal.returns-then-next-number-clause-commits
 returns-then-next-number-clause-commits g c clean =
@@ -54,9 +54,9 @@ returns-then-next-number-clause-commits g c clean =
 pub returns-then-next-number-clause-crash : goal.returns-then-next-number-clause-crash
 returns-then-next-number-clause-crash g c clean =
     let a = c.args in
-    on_err c.take_early.result (λ es sent rows has settled after beside free is comes db left.
+    on_err c.take_early.result (λ content es sent holds settled free is comes db left.
     either_of (λ before. before)
-    (λ whole. early_after (setup_content a.setup.now) es sent rows a.text.now a.admitted.now.partner a.number a.next db after comes free is c.if-next-number.true (whole rows (subst (HasRows rows) settled has)))
+    (λ whole. early_after content es sent holds.rows a.text.now a.admitted.now.partner a.number a.next db holds.after comes free is c.if-next-number.true (whole holds.rows (subst (HasRows holds.rows) settled holds.has)))
     (c.take_early.ensures.crash.crash clean db left))
 
 pub returns-clause-commits : goal.returns-clause-commits
@@ -65,14 +65,14 @@ returns-clause-commits g c clean rows has settled numbers =
     record { is_open = takes.is_open; alone = takes.alone }
 
 pub returns-in_err-answer-clause-crash : goal.returns-in_err-answer-clause-crash
-returns-in_err-answer-clause-crash g c clean = on_err c.from_residual.result (λ es sent rows has settled after beside free is comes db left.
+returns-in_err-answer-clause-crash g c clean = on_err c.from_residual.result (λ content es sent holds settled free is comes db left.
     let a = c.args in
-    let content = setup_content a.setup.now in
+    let rows = holds.rows in
     let same : a.number ≡ a.next = omega (arith, c.if-number-next.false, c.if-next-number.false) in
     either_of (λ before. before)
-    (λ done. run_after content es sent rows a.text.now a.admitted.now.partner a.number a.next a.there db c.requires.given after beside comes free is same
-    (subst (λ m. IsRunDone rows a.admitted.now.partner a.number a.text.now m db) (machine_same a.setup.now a.there.terminal) done))
-    (c.in_err-answer.ensures.crash clean rows has settled (numbered content es rows a.admitted.now.partner after) db left))
+    (λ done. run_after content es sent rows a.text.now a.admitted.now.partner a.number a.next a.there db holds.given holds.after holds.beside comes free is same
+    (subst (λ m. IsRunDone rows a.admitted.now.partner a.number a.text.now m db) (machine_same a.setup.now a.there.terminal ∙ ap (λ k. machine_with k a.there.terminal) (sym holds.now_is)) done))
+    (c.in_err-answer.ensures.crash clean rows holds.has settled (numbered content es rows a.admitted.now.partner holds.after) db left))
 
 -- ---- over any office
 

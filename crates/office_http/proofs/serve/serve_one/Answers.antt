@@ -1,24 +1,38 @@
 use Rattle.std.proofs.Common.{inr}
 use Rattle.std.proofs.lemmas.Option.{IfSome_then}
-use Rattle.office_http.proofs.Serving.{refuses_so, reports_so}
+use Rattle.office_http.proofs.Serving.{none_yet, one_at_most, does_at, does_so}
 use Rattle.office_http.proofs.serve.serve_one.Goals as goal
 
--- a write that failed, behind what was asked for
-pub returns-in-Err-send_answer-clause-err : goal.returns-in-Err-send_answer-clause-err
-returns-in-Err-send_answer-clause-err g c = (
-  c.in-Err-send_answer.ensures.fails,
-  c.in-Ok.ensures.kept,
-  λ clean opening es at.
-      let done = c.send_answer.ensures.does clean opening es at in
-      IfSome_then (g.R.Read.remaining c.args.reader.now.inner) c.in-Ok.ensures.asks (λ stream asks.
-      (done.0, record { request = c.in-Ok.request; asks = asks; does = done.1 })),
-)
+-- a read that failed
+pub returns-in-Err-clause-steps : goal.returns-in-Err-clause-steps
+returns-in-Err-clause-steps g c =
+    none_yet g.D.Deliver.clean g.D.Deliver.stands g.D.Deliver.answers g.D.Deliver.added g.D.Deliver.leads g.D.AddAccount.enrols g.D.Report.looks 1 c.args.desk.now
 
-pub returns-in-Err-send_answer-clause-asked : goal.returns-in-Err-send_answer-clause-asked
-returns-in-Err-send_answer-clause-asked g c =
+pub returns-in-Ok-send_answer-clause-serves : goal.returns-in-Ok-send_answer-clause-serves
+returns-in-Ok-send_answer-clause-serves g c =
     IfSome_then (g.R.Read.remaining c.args.reader.now.inner) c.in-Ok.ensures.asks (λ stream asks. inr (record {
       request = c.in-Ok.request;
       asks = asks;
-      refused = refuses_so c.in-Ok.request _ _ _ _ (λ bytes written. tt) c.send_answer.ensures.refused;
-      reported = λ clean. reports_so _ c.in-Ok.request _ _ _ (λ bytes written. tt) (c.send_answer.ensures.reported clean);
+      does = does_at g.D.Deliver.clean g.D.Deliver.stands g.D.Deliver.answers g.D.Deliver.added g.D.Deliver.leads g.D.AddAccount.enrols g.D.Report.looks g.D.Report.tells
+          c.in-Ok.request c.args.desk.now _ c.send_answer.result _ _ c.in-Ok-send_answer.is c.send_answer.ensures.does;
     }))
+
+-- a write that failed, behind what was asked for
+pub returns-in-Err-send_answer-clause-serves : goal.returns-in-Err-send_answer-clause-serves
+returns-in-Err-send_answer-clause-serves g c =
+    IfSome_then (g.R.Read.remaining c.args.reader.now.inner) c.in-Ok.ensures.asks (λ stream asks. inr (record {
+      request = c.in-Ok.request;
+      asks = asks;
+      does = does_so g.D.Deliver.clean g.D.Deliver.stands g.D.Deliver.answers g.D.Deliver.added g.D.Deliver.leads g.D.AddAccount.enrols g.D.Report.looks g.D.Report.tells
+          c.in-Ok.request c.args.desk.now _ _ _ (λ bytes written. tt) c.send_answer.ensures.does;
+    }))
+
+pub returns-in-Ok-send_answer-clause-steps : goal.returns-in-Ok-send_answer-clause-steps
+returns-in-Ok-send_answer-clause-steps g c =
+    one_at_most g.D.Deliver.clean g.D.Deliver.stands g.D.Deliver.answers g.D.Deliver.added g.D.Deliver.leads g.D.AddAccount.enrols g.D.Report.looks g.D.Report.tells
+    c.in-Ok.request c.args.desk.now _ _ c.send_answer.ensures.does
+
+pub returns-in-Err-send_answer-clause-steps : goal.returns-in-Err-send_answer-clause-steps
+returns-in-Err-send_answer-clause-steps g c =
+    one_at_most g.D.Deliver.clean g.D.Deliver.stands g.D.Deliver.answers g.D.Deliver.added g.D.Deliver.leads g.D.AddAccount.enrols g.D.Report.looks g.D.Report.tells
+    c.in-Ok.request c.args.desk.now _ _ c.send_answer.ensures.does

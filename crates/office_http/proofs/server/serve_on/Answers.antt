@@ -1,4 +1,4 @@
-use Rattle.std.proofs.Common.{◌+◌, subst, sym, inl}
+use Rattle.std.proofs.Common.{◌+◌, subst, sym}
 use Rattle.office_http.specs.Served.{AtMost}
 use Rattle.office_http.proofs.Serving.{none_yet, one_more}
 use Rattle.office_http.proofs.server.serve_on.Goals as goal
@@ -8,33 +8,24 @@ use Rattle.office_http.proofs.server.serve_on.Goals.{in-Ok, in_default}
 pub connections-init : goal.connections-init
 connections-init g c = record {
   stays = λ clean. clean;
-  few = λ clean opening es is. none_yet (g.D.Deliver.stands opening) (g.D.Deliver.answers opening) es c.args.desk.now is;
+  few = none_yet g.D.Deliver.clean g.D.Deliver.stands g.D.Deliver.answers g.D.Deliver.added g.D.Deliver.leads g.D.AddAccount.enrols g.D.Report.looks 0 c.args.desk.now;
 }
 
 -- one connection more, or none that could be had
 pub connections-preserved : goal.connections-preserved
-connections-preserved g c = elim c.match-accept.branch [
-  | in-Ok w ↦
-      let stayed = λ (clean : g.D.Deliver.clean c.match-accept.desk). w.serve_stream.ensures.stays (subst g.D.Deliver.clean w.desk-is clean) in
-      record {
-        stays = λ clean. c.connections.invariant.stays (stayed clean);
-        few = λ clean opening es is.
-            let stands = g.D.Deliver.stands opening in
-            let answers = g.D.Deliver.answers opening in
-            subst (λ desk. AtMost stands answers es (c.connections.counter + 1) desk) (sym w.desk-is)
-            (one_more stands answers es c.connections.counter c.connections.desk _
-            (c.connections.invariant.few (stayed clean) opening es is)
-            (λ more now. w.serve_stream.ensures.steps (subst g.D.Deliver.clean w.desk-is clean) opening more now));
+connections-preserved g c =
+    let most = AtMost g.D.Deliver.clean g.D.Deliver.stands g.D.Deliver.answers g.D.Deliver.added g.D.Deliver.leads g.D.AddAccount.enrols g.D.Report.looks in
+    let more = one_more g.D.Deliver.clean g.D.Deliver.stands g.D.Deliver.answers g.D.Deliver.added g.D.Deliver.leads g.D.AddAccount.enrols g.D.Report.looks c.connections.counter c.args.desk.now c.connections.desk in
+    elim c.match-accept.branch [
+      | in-Ok w ↦ record {
+        stays = λ clean. c.connections.invariant.stays (w.serve_stream.ensures.stays (subst g.D.Deliver.clean w.desk-is clean));
+        few = subst (most (c.connections.counter + 1) c.args.desk.now) (sym w.desk-is)
+            (more _ w.serve_stream.ensures.stays c.connections.invariant.few w.serve_stream.ensures.steps);
       }
-  | in_default w ↦
-      let same = λ (clean : g.D.Deliver.clean c.match-accept.desk). subst g.D.Deliver.clean w.desk-is clean in
-      record {
-        stays = λ clean. c.connections.invariant.stays (same clean);
-        few = λ clean opening es is.
-            let stands = g.D.Deliver.stands opening in
-            let answers = g.D.Deliver.answers opening in
-            subst (λ desk. AtMost stands answers es (c.connections.counter + 1) desk) (sym w.desk-is)
-            (one_more stands answers es c.connections.counter c.connections.desk c.connections.desk
-            (c.connections.invariant.few (same clean) opening es is) (λ more now. inl now));
+      | in_default w ↦ record {
+        stays = λ clean. c.connections.invariant.stays (subst g.D.Deliver.clean w.desk-is clean);
+        few = subst (most (c.connections.counter + 1) c.args.desk.now) (sym w.desk-is)
+            (more _ (λ clean. clean) c.connections.invariant.few
+            (none_yet g.D.Deliver.clean g.D.Deliver.stands g.D.Deliver.answers g.D.Deliver.added g.D.Deliver.leads g.D.AddAccount.enrols g.D.Report.looks 1 c.connections.desk));
       }
-]
+    ]

@@ -1,12 +1,9 @@
-use Rattle.std.proofs.Common.{List}
-use Rattle.office_replies.specs.Events.{Event}
 use Rattle.office_http.specs.Served.{AtMost}
 use Rattle.office_http.proofs.server.serve_on.Given as goal
 
--- at most as many events so far as connections
+-- at most as many calls so far as connections
 abbrev pub invariant-connections : goal.invariant-connections
 invariant-connections g l = record {
   stays : g.D.Deliver.clean l.desk → g.D.Deliver.clean l.fn.desk;
-  few : g.D.Deliver.clean l.desk → (opening : g.D.Deliver.Opening) (es : List Event) → g.D.Deliver.stands opening es l.fn.desk →
-      AtMost (g.D.Deliver.stands opening) (g.D.Deliver.answers opening) es l.counter l.desk;
+  few : AtMost g.D.Deliver.clean g.D.Deliver.stands g.D.Deliver.answers g.D.Deliver.added g.D.Deliver.leads g.D.AddAccount.enrols g.D.Report.looks l.counter l.fn.desk l.desk;
 }

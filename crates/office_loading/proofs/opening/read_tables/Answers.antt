@@ -6,6 +6,7 @@ use Rattle.sqlite.specs.Held.{state}
 use Rattle.terminal_core.specs.Rows.{visit_content}
 use Rattle.office_rows.specs.Rows.{listing_content}
 use Rattle.office_rows.specs.Opened.{OpenedRows, ShowsNumbers}
+use Rattle.office_rows.specs.Layouts.{weighed}
 use Rattle.office_checks.specs.declared.opened_tables.OpenedTables.{OpenedTables}
 use Rattle.office_checks.specs.Contents.{partner_content, number_content, place_content}
 use Rattle.office_loading.specs.Decoded.{itself}
@@ -38,7 +39,7 @@ returns-in_err-partners-clause-read g c clean is =
     let clean2 = clean in
     let clean1 = clean_before s1 s2 c.read_partners.ensures.reads clean2 in
     let fault = c.in_err-partners.field-0.0 in
-    let fails = from_first (λ (db : Database). FailsTable FitsPartner (ShowsPartners db) fault) s0 s1 s2 a1 c.read_partners.ensures.reads c.in_err-partners.ensures.read clean2 is in
+    let fails = from_first (λ (db : Database). FailsTable FitsPartner (ShowsPartners db) fault) s0 s1 s2 a1 c.read_partners.ensures.reads (λ k i. c.in_err-partners.ensures.read k weighed i) clean2 is in
     let p = err_from_is_err_and c.from_residual-in_err-partners.result c.from_residual-in_err-partners.ensures.1 in
     rw (p.1, p.2) (one_fails FitsPartner (ShowsPartners s0.now) (λ (rows : OpenedRows). rows.partners) s0.now (λ rows shown. shown.partners) (λ rows fit. fit.partners) fault (c.in_ok-settings.ensures.read clean1 is).0 fails)
 
@@ -67,7 +68,7 @@ returns-in_err-numbers-clause-read g c clean is =
     let clean2 = clean_before s2 s3 c.read_numbers.ensures.reads clean3 in
     let clean1 = clean_before s1 s2 c.read_partners.ensures.reads clean2 in
     let fault = c.in_err-numbers.field-0.0 in
-    let fails = from_first (λ (db : Database). FailsTable FitsNumber (ShowsNumbers db) fault) s0 s2 s3 a2 c.read_numbers.ensures.reads c.in_err-numbers.ensures.read clean3 is in
+    let fails = from_first (λ (db : Database). FailsTable FitsNumber (ShowsNumbers db) fault) s0 s2 s3 a2 c.read_numbers.ensures.reads (λ k i. c.in_err-numbers.ensures.read k weighed i) clean3 is in
     let p = err_from_is_err_and c.from_residual-in_err-numbers.result c.from_residual-in_err-numbers.ensures.1 in
     rw (p.1, p.2) (one_fails FitsNumber (ShowsNumbers s0.now) (λ (rows : OpenedRows). rows.numbers) s0.now (λ rows shown. shown.numbers) (λ rows fit. fit.numbers) fault (c.in_ok-settings.ensures.read clean1 is).0 fails)
 
@@ -146,7 +147,7 @@ returns-in_err-places-clause-read g c clean is =
     let clean2 = clean_before s2 s3 c.read_numbers.ensures.reads clean3 in
     let clean1 = clean_before s1 s2 c.read_partners.ensures.reads clean2 in
     let fault = c.in_err-places.field-0.0 in
-    let fails = from_first (λ (db : Database). FailsTable FitsPlace (ShowsPlaces db) fault) s0 s4 s5 a4 c.read_places.ensures.reads c.in_err-places.ensures.read clean5 is in
+    let fails = from_first (λ (db : Database). FailsTable FitsPlace (ShowsPlaces db) fault) s0 s4 s5 a4 c.read_places.ensures.reads (λ k i. c.in_err-places.ensures.read k weighed i) clean5 is in
     let p = err_from_is_err_and c.from_residual-in_err-places.result c.from_residual-in_err-places.ensures.1 in
     rw (p.1, p.2) (one_fails FitsPlace (ShowsPlaces s0.now) (λ (rows : OpenedRows). rows.places) s0.now (λ rows shown. shown.places) (λ rows fit. fit.places) fault (c.in_ok-settings.ensures.read clean1 is).0 fails)
 
@@ -196,7 +197,7 @@ returns-in_err-lines-clause-read g c clean is =
     let clean2 = clean_before s2 s3 c.read_numbers.ensures.reads clean3 in
     let clean1 = clean_before s1 s2 c.read_partners.ensures.reads clean2 in
     let fault = c.in_err-lines.field-0.0 in
-    let fails = from_first (λ (db : Database). FailsTable FitsLine (ShowsLines db) fault) s0 s5 s6 a5 c.read_lines.ensures.reads c.in_err-lines.ensures.read clean6 is in
+    let fails = from_first (λ (db : Database). FailsTable FitsLine (ShowsLines db) fault) s0 s5 s6 a5 c.read_lines.ensures.reads (λ k i. c.in_err-lines.ensures.read k weighed i) clean6 is in
     let p = err_from_is_err_and c.from_residual-in_err-lines.result c.from_residual-in_err-lines.ensures.1 in
     rw (p.1, p.2) (one_fails FitsLine (ShowsLines s0.now) (λ (rows : OpenedRows). rows.lines) s0.now (λ rows shown. shown.lines) (λ rows fit. fit.lines) fault (c.in_ok-settings.ensures.read clean1 is).0 fails)
 
@@ -253,7 +254,7 @@ returns-in_err-blocks-clause-read g c clean is =
     let clean2 = clean_before s2 s3 c.read_numbers.ensures.reads clean3 in
     let clean1 = clean_before s1 s2 c.read_partners.ensures.reads clean2 in
     let fault = c.in_err-blocks.field-0.0 in
-    let fails = from_first (λ (db : Database). FailsTable FitsBlock (ShowsBlocks db) fault) s0 s6 s7 a6 c.read_blocks.ensures.reads c.in_err-blocks.ensures.read clean7 is in
+    let fails = from_first (λ (db : Database). FailsTable FitsBlock (ShowsBlocks db) fault) s0 s6 s7 a6 c.read_blocks.ensures.reads (λ k i. c.in_err-blocks.ensures.read k weighed i) clean7 is in
     let p = err_from_is_err_and c.from_residual-in_err-blocks.result c.from_residual-in_err-blocks.ensures.1 in
     rw (p.1, p.2) (one_fails FitsBlock (ShowsBlocks s0.now) (λ (rows : OpenedRows). rows.blocks) s0.now (λ rows shown. shown.blocks) (λ rows fit. fit.blocks) fault (c.in_ok-settings.ensures.read clean1 is).0 fails)
 
@@ -312,12 +313,12 @@ returns-clause-read g c clean is =
     let clean3 = clean_before s3 s4 c.read_visits.ensures.reads clean4 in
     let clean2 = clean_before s2 s3 c.read_numbers.ensures.reads clean3 in
     let clean1 = clean_before s1 s2 c.read_partners.ensures.reads clean2 in
-    let r1 = from_first (λ (db : Database). ReadsTable partner_content FitsPartner (ShowsPartners db) (Ok c.in_ok-partners.partners)) s0 s1 s2 a1 c.read_partners.ensures.reads c.in_ok-partners.ensures.read clean2 is in
-    let r2 = from_first (λ (db : Database). ReadsTable number_content FitsNumber (ShowsNumbers db) (Ok c.in_ok-numbers.numbers)) s0 s2 s3 a2 c.read_numbers.ensures.reads c.in_ok-numbers.ensures.read clean3 is in
+    let r1 = from_first (λ (db : Database). ReadsTable partner_content FitsPartner (ShowsPartners db) (Ok c.in_ok-partners.partners)) s0 s1 s2 a1 c.read_partners.ensures.reads (λ k i. c.in_ok-partners.ensures.read k weighed i) clean2 is in
+    let r2 = from_first (λ (db : Database). ReadsTable number_content FitsNumber (ShowsNumbers db) (Ok c.in_ok-numbers.numbers)) s0 s2 s3 a2 c.read_numbers.ensures.reads (λ k i. c.in_ok-numbers.ensures.read k weighed i) clean3 is in
     let r3 = from_first (λ (db : Database). ReadsTable visit_content FitsVisit (ShowsVisits db) (Ok c.in_ok-visits.visits)) s0 s3 s4 a3 c.read_visits.ensures.reads c.in_ok-visits.ensures.read clean4 is in
-    let r4 = from_first (λ (db : Database). ReadsTable place_content FitsPlace (ShowsPlaces db) (Ok c.in_ok-places.places)) s0 s4 s5 a4 c.read_places.ensures.reads c.in_ok-places.ensures.read clean5 is in
-    let r5 = from_first (λ (db : Database). ReadsTable listing_content FitsLine (ShowsLines db) (Ok c.in_ok-lines.lines)) s0 s5 s6 a5 c.read_lines.ensures.reads c.in_ok-lines.ensures.read clean6 is in
-    let r6 = from_first (λ (db : Database). ReadsTable itself FitsBlock (ShowsBlocks db) (Ok c.in_ok-blocks.blocks)) s0 s6 s7 a6 c.read_blocks.ensures.reads c.in_ok-blocks.ensures.read clean7 is in
+    let r4 = from_first (λ (db : Database). ReadsTable place_content FitsPlace (ShowsPlaces db) (Ok c.in_ok-places.places)) s0 s4 s5 a4 c.read_places.ensures.reads (λ k i. c.in_ok-places.ensures.read k weighed i) clean5 is in
+    let r5 = from_first (λ (db : Database). ReadsTable listing_content FitsLine (ShowsLines db) (Ok c.in_ok-lines.lines)) s0 s5 s6 a5 c.read_lines.ensures.reads (λ k i. c.in_ok-lines.ensures.read k weighed i) clean6 is in
+    let r6 = from_first (λ (db : Database). ReadsTable itself FitsBlock (ShowsBlocks db) (Ok c.in_ok-blocks.blocks)) s0 s6 s7 a6 c.read_blocks.ensures.reads (λ k i. c.in_ok-blocks.ensures.read k weighed i) clean7 is in
     let said = c.in_ok-settings.ensures.read clean1 is in
     let blocks = same_items c.in_ok-blocks.blocks.items in (
       said.0,

@@ -1,3 +1,4 @@
+use Rattle.office_rows.specs.Bare.{weighed_in}
 use Rattle.std.proofs.Common.{[], ◌∷◌, refl}
 use Rattle.sqlite.specs.Held.{state}
 use Rattle.office_checks.specs.Contents.{place_content}
@@ -8,7 +9,7 @@ use Rattle.office_loading.proofs.TableLemmas.{reads_table}
 use Rattle.office_loading.proofs.reading.read_places.Goals as goal
 
 pub returns-clause-read : goal.returns-clause-read
-returns-clause-read g c clean is =
+returns-clause-read g c clean layout is =
     let old = state g.S.Store c.args.conn.now in
-    reads_table (0 ∷ 1 ∷ 2 ∷ []) (0 ∷ 1 ∷ 2 ∷ []) (λ r. refl) place (0 ∷ []) (λ r. refl) old.now c.in_ok-rows.rows.items (c.in_ok-rows.ensures.shown clean is) _ place_content place_values FitsPlace
+    reads_table (0 ∷ 1 ∷ 2 ∷ []) (0 ∷ 1 ∷ 2 ∷ []) (λ r. refl) place (0 ∷ []) (λ r. refl) (weighed_in layout old.now) c.in_ok-rows.rows.items (c.in_ok-rows.ensures.shown clean layout is) _ place_content place_values FitsPlace
     c.deref.result.now c.deref.ensures.value c.read_all.result c.read_all.ensures

@@ -9,7 +9,7 @@ pub select-requires : goal.select-requires
 select-requires g c = record { plain = select_place_plain; shows = place_shows }
 
 pub returns-clause-shown : goal.returns-clause-shown
-returns-clause-shown g c clean is =
+returns-clause-shown g c clean layout is =
     let old = state g.S.Store c.args.conn.now in
     let new = state g.S.Store c.select.new.conn in
-    if_ok c.select.result (λ answer shown. lists_place old new is answer.items shown) (c.select.ensures.shown clean)
+    if_ok c.select.result (λ answer shown. lists_place old new answer.items layout is shown) (c.select.ensures.shown clean)

@@ -12,4 +12,4 @@ pub returns-clause-shown : goal.returns-clause-shown
 returns-clause-shown g c clean is =
     let old = state g.S.Store c.args.conn.now in
     let new = state g.S.Store c.select.new.conn in
-    if_ok c.select.result (λ answer shown. lists_visit old new is answer.items shown) (c.select.ensures.shown clean)
+    if_ok c.select.result (λ answer shown. lists_visit old new answer.items is shown) (c.select.ensures.shown clean)

@@ -1,7 +1,9 @@
 use Rattle.std.proofs.Common.{None, Some, refl, sym, subst, ◌∙◌}
 use Rattle.std.proofs.lemmas.List.{take_rest}
 use Rattle.edi_cutter.specs.Cuts.{Answers, pending}
-use Rattle.office_stream.proofs.PieceLemmas.{Used, whatever_error, nothing_done, piece_more, piece_cut_short, piece_ends, used_some, ends_used_up, ends_cut}
+use Rattle.office_replies.specs.Calls.{IsDelivered}
+use Rattle.office_stream.proofs.PieceLemmas.{Used, nothing_done, piece_more, piece_cut_short, piece_ends, used_some, ends_used_up, ends_cut}
+use Rattle.office_stream.proofs.Writing.{on_err}
 use Rattle.office_stream.proofs.answer.answer_piece.Goals as goal
 
 pub pieces-init : goal.pieces-init
@@ -10,11 +12,12 @@ pieces-init g c = record {
   kept = refl;
   flushed = λ all. all;
   stays = λ clean. clean;
-  done = λ clean opening es at. nothing_done (g.D.Deliver.stands opening) (g.D.Deliver.answers opening) es (pending c.args.cutter.now) c.args.piece.now _ _ _ at;
+  done = nothing_done (IsDelivered g.D.Deliver.clean g.D.Deliver.stands g.D.Deliver.answers g.D.Deliver.leads) c.args.desk.now (pending c.args.cutter.now) c.args.piece.now _ _;
 }
 
 pub pieces-preserved : goal.pieces-preserved
 pieces-preserved g c =
+    let call = IsDelivered g.D.Deliver.clean g.D.Deliver.stands g.D.Deliver.answers g.D.Deliver.leads in
     let q = pending c.pieces.cutter in
     let rest = c.pieces.rest.now in
     let n = c.in-Ok-Some.used in
@@ -27,38 +30,38 @@ pieces-preserved g c =
       kept = one.kept ∙ c.pieces.invariant.kept;
       flushed = λ all. one.flushed;
       stays = λ clean. c.pieces.invariant.stays (one.stays clean);
-      done = λ clean opening es at.
-          rw c.or-worst.ensures
-          (piece_more (g.D.Deliver.stands opening) (g.D.Deliver.answers opening) es _ q rest c.interchange.result.now _ _ n c.pieces.desk c.answer_one.new.desk _ c.pieces.worst _ _ _ _
-          (c.pieces.invariant.done (one.stays clean) opening es at) used (λ others. one.ok clean opening others) (sym some.1) (sym (take_rest rest n)));
+      done = rw c.or-worst.ensures
+          (piece_more call c.args.desk.now _ q rest c.interchange.result.now _ _ n c.pieces.desk c.answer_one.new.desk _ c.pieces.worst _ _ _ _
+          c.pieces.invariant.done used one.ok (sym some.1) (sym (take_rest rest n)));
     }
 
 pub returns-in_err-answer_one-in-Ok-Some-clause-cut_short : goal.returns-in_err-answer_one-in-Ok-Some-clause-cut_short
 returns-in_err-answer_one-in-Ok-Some-clause-cut_short g c =
+    let call = IsDelivered g.D.Deliver.clean g.D.Deliver.stands g.D.Deliver.answers g.D.Deliver.leads in
     let q = pending c.pieces.cutter in
     let rest = c.pieces.rest.now in
     let n = c.in-Ok-Some.used in
     let answer : Answers q rest c.feed.new.self (Some n) = rw c.in-Ok-Some.field-0-is at (c.in-Ok-Some.ensures.ok c.pieces.invariant.running) in
     let some = used_some q rest c.feed.new.self n answer in
     let used : Used q rest n c.interchange.result.now = subst (Used q rest n) (sym c.interchange.ensures) some.0 in
-    whatever_error c.from_residual.result _
-    (λ fault clean opening es at. piece_cut_short (g.D.Deliver.stands opening) (g.D.Deliver.answers opening) es _ q rest c.interchange.result.now n c.pieces.desk c.answer_one.new.desk _ c.pieces.worst _ _ _
-    (c.pieces.invariant.done (c.in_err-answer_one-in-Ok-Some.ensures.stays clean) opening es at) used (λ others. c.in_err-answer_one-in-Ok-Some.ensures.delivered clean opening others))
+    on_err c.from_residual.result _
+    (piece_cut_short call c.args.desk.now _ q rest c.interchange.result.now n c.pieces.desk c.answer_one.new.desk _ c.pieces.worst _ _ _
+    c.pieces.invariant.done used c.in_err-answer_one-in-Ok-Some.ensures.delivered)
 
 pub returns-in-Ok-None-clause-ok : goal.returns-in-Ok-None-clause-ok
 returns-in-Ok-None-clause-ok g c =
+    let call = IsDelivered g.D.Deliver.clean g.D.Deliver.stands g.D.Deliver.answers g.D.Deliver.leads in
     let q = pending c.pieces.cutter in
     let rest = c.pieces.rest.now in
     let answer : Answers q rest c.feed.new.self None = rw c.in-Ok-None.field-0-is at (c.in-Ok-None.ensures.ok c.pieces.invariant.running) in
-    λ clean opening es at.
-    piece_ends (g.D.Deliver.stands opening) (g.D.Deliver.answers opening) es _ _ _ c.pieces.desk _ c.pieces.worst _ _
-    (ends_used_up q rest c.feed.new.self answer) (c.pieces.invariant.done clean opening es at)
+    piece_ends call c.args.desk.now _ _ _ c.pieces.desk _ c.pieces.worst _ _
+    (ends_used_up q rest c.feed.new.self answer) c.pieces.invariant.done
 
 pub returns-in-Err-clause-ok : goal.returns-in-Err-clause-ok
 returns-in-Err-clause-ok g c =
+    let call = IsDelivered g.D.Deliver.clean g.D.Deliver.stands g.D.Deliver.answers g.D.Deliver.leads in
     let q = pending c.pieces.cutter in
     let rest = c.pieces.rest.now in
-    λ clean opening es at.
-    piece_ends (g.D.Deliver.stands opening) (g.D.Deliver.answers opening) es _ _ _ c.pieces.desk _ c.pieces.worst _ _
+    piece_ends call c.args.desk.now _ _ _ c.pieces.desk _ c.pieces.worst _ _
     (ends_cut q rest c.pieces.cutter c.feed.new.self c.in-Err.fault (c.in-Err.ensures.err c.pieces.invariant.running) (pending c.feed.new.self))
-    (c.pieces.invariant.done clean opening es at)
+    c.pieces.invariant.done

@@ -1,8 +1,11 @@
-use Rattle.std.proofs.Common.{◌≡◌, ◌≢◌, ◌⊎◌, [], None, Some, inl, inr, refl, sym, ◌∙◌, arith, take}
+use Rattle.std.proofs.Common.{◌≡◌, ◌≢◌, ◌⊎◌, [], None, Some, Err, inl, inr, refl, sym, ◌∙◌, arith, take}
 use Rattle.std.proofs.lemmas.Bool.{ne_eqb}
 use Rattle.edi_cutter.specs.Cuts.{pending}
 use Rattle.office_stream.specs.declared.stream_end.StreamEnd.TheVariants.{Whole, Open, Cut}
-use Rattle.office_stream.proofs.StreamLemmas.{nothing_read, sofar_more, began, began_now, cut_short, piece_at, input_ends, stream_cut, streamed, end_cut_short, nil_is, nil_is_not, at_write, ok_with, err_weaker, is_err_and, starts_running, starts_empty, nothing_taken}
+use Rattle.office_stream.specs.declared.stream_fault.StreamFault.TheVariants.{Read, Turns}
+use Rattle.office_replies.specs.Calls.{IsDelivered}
+use Rattle.office_stream.proofs.Answering.{are_delivered}
+use Rattle.office_stream.proofs.StreamLemmas.{nothing_read, sofar_more, began, began_now, cut_short, piece_at, input_ends, stream_cut, finished, passed_on, streams_as, nil_is, nil_is_not, err_weaker, is_err_and, starts_running, starts_empty, nothing_taken}
 use Rattle.office_stream.proofs.stream.run_stream.Goals as goal
 use Rattle.office_stream.proofs.stream.run_stream.Goals.{then-at_rest, else-at_rest}
 
@@ -18,53 +21,16 @@ reads-init g c = record {
   most = omega arith;
   least = omega arith;
   stays = λ clean. clean;
-  sofar = λ clean opening es at. nothing_read (g.D.Deliver.stands opening) (g.D.Deliver.answers opening) es _ (pending c.new-cutter.result) _ _ (starts_empty c.new-cutter.result c.new-cutter.ensures) at;
+  sofar = nothing_read (IsDelivered g.D.Deliver.clean g.D.Deliver.stands g.D.Deliver.answers g.D.Deliver.leads) c.args.desk.now _ (pending c.new-cutter.result) _ (starts_empty c.new-cutter.result c.new-cutter.ensures);
 }
-
-pub returns-in-Err-clause-err : goal.returns-in-Err-clause-err
-returns-in-Err-clause-err g c = λ clean opening es at.
-    began (g.D.Deliver.stands opening) (g.D.Deliver.answers opening) es _ _ _ (pending c.reads.cutter) c.reads.desk c.reads.worst _ _
-    (c.reads.invariant.sofar clean opening es at) c.in-Err.ensures.bytes
-
-pub returns-then-count-eq0-clause-ok : goal.returns-then-count-eq0-clause-ok
-returns-then-count-eq0-clause-ok g c =
-    let reads = c.in-Ok.ensures.bytes in
-    let none = c.if-count-eq0.true in
-    let how : ((c.if-at_rest.end ≡ Whole) × (pending c.reads.cutter ≡ [])) ⊎ ((c.if-at_rest.end ≡ Open) × (pending c.reads.cutter ≢ [])) = elim c.if-at_rest.branch [
-      | then-at_rest w ↦ inl (w.end-is, nil_is (pending c.reads.cutter) (sym c.at_rest.ensures ∙ w.if-at_rest.true))
-      | else-at_rest w ↦ inr (w.end-is, nil_is_not (pending c.reads.cutter) (sym c.at_rest.ensures ∙ w.if-at_rest.false))
-    ] in
-    ok_with c.finish.result _ _ _
-    (λ all is writes clean opening es at.
-    streamed (g.D.Deliver.stands opening) (g.D.Deliver.answers opening) es _ _ c.if-at_rest.end c.reads.desk c.reads.worst all _ _ _
-    (input_ends (g.D.Deliver.stands opening) (g.D.Deliver.answers opening) es _ _ _ (pending c.reads.cutter) c.if-at_rest.end c.reads.desk c.reads.worst _ _
-    (c.reads.invariant.sofar clean opening es at) (nothing_taken _ _ c.in-Ok.count c.read.new.buf none reads.0) (reads.1 none (omega (arith, c.read.auto.buf))) how)
-    writes is)
-    c.finish.ensures.ok c.finish.ensures.writes
-
-pub returns-then-count-eq0-clause-err : goal.returns-then-count-eq0-clause-err
-returns-then-count-eq0-clause-err g c =
-    let reads = c.in-Ok.ensures.bytes in
-    let none = c.if-count-eq0.true in
-    let how : ((c.if-at_rest.end ≡ Whole) × (pending c.reads.cutter ≡ [])) ⊎ ((c.if-at_rest.end ≡ Open) × (pending c.reads.cutter ≢ [])) = elim c.if-at_rest.branch [
-      | then-at_rest w ↦ inl (w.end-is, nil_is (pending c.reads.cutter) (sym c.at_rest.ensures ∙ w.if-at_rest.true))
-      | else-at_rest w ↦ inr (w.end-is, nil_is_not (pending c.reads.cutter) (sym c.at_rest.ensures ∙ w.if-at_rest.false))
-    ] in
-    err_weaker c.finish.result _ _
-    (λ fault is clean opening es at. at_write fault _ _ _ is.0
-    (end_cut_short (g.D.Deliver.stands opening) (g.D.Deliver.answers opening) es _ _ c.if-at_rest.end c.reads.desk c.reads.worst _ _ _
-    (input_ends (g.D.Deliver.stands opening) (g.D.Deliver.answers opening) es _ _ _ (pending c.reads.cutter) c.if-at_rest.end c.reads.desk c.reads.worst _ _
-    (c.reads.invariant.sofar clean opening es at) (nothing_taken _ _ c.in-Ok.count c.read.new.buf none reads.0) (reads.1 none (omega (arith, c.read.auto.buf))) how)
-    is.2))
-    c.finish.ensures.err
 
 pub reads-preserved : goal.reads-preserved
 reads-preserved g c =
-    let stands = g.D.Deliver.stands in
-    let answers = g.D.Deliver.answers in
+    let call = IsDelivered g.D.Deliver.clean g.D.Deliver.stands g.D.Deliver.answers g.D.Deliver.leads in
     let piece = take c.in-Ok.count c.read.new.buf in
     let q = pending c.reads.cutter in
     let q' = pending c.answer_piece.new.cutter in
+    let done = piece_at call c.reads.desk c.in_ok-worst_now.cut None q' _ c.answer_piece.new.desk c.reads.worst c.in_ok-worst_now.worst_now _ _ c.in_default.is c.in_ok-worst_now.ensures.ok in
     record {
       running = c.in_ok-worst_now.ensures.running c.in_default.is;
       reader = c.in-Ok.ensures.succeeds ∙ c.reads.invariant.reader;
@@ -76,59 +42,58 @@ reads-preserved g c =
       most = omega (arith, c.in-Ok.ensures.counted, c.reads.invariant.most);
       least = omega (arith, c.in-Ok.ensures.counted, c.reads.invariant.least);
       stays = λ clean. c.reads.invariant.stays (c.in_ok-worst_now.ensures.stays clean);
-      sofar = λ clean opening es at.
-          sofar_more (stands opening) (answers opening) es _ _ _ q q' piece c.reads.desk c.answer_piece.new.desk c.reads.worst c.in_ok-worst_now.worst_now _ _ _
-          (c.reads.invariant.sofar (c.in_ok-worst_now.ensures.stays clean) opening es at) c.in-Ok.ensures.bytes.0
-          (λ others now. piece_at (stands opening) (answers opening) others c.in_ok-worst_now.cut None q' _ c.answer_piece.new.desk c.reads.worst c.in_ok-worst_now.worst_now _ _
-          c.in_default.is (c.in_ok-worst_now.ensures.ok clean opening others now));
+      sofar = sofar_more call c.args.desk.now _ _ _ q q' piece c.reads.desk c.answer_piece.new.desk c.reads.worst c.in_ok-worst_now.worst_now _ _ _
+          c.reads.invariant.sofar c.in-Ok.ensures.bytes.0 done;
     }
 
-pub returns-in_err-worst_now-clause-err : goal.returns-in_err-worst_now-clause-err
-returns-in_err-worst_now-clause-err g c =
-    is_err_and c.from_residual.result _ _
-    (λ fault is clean opening es at. at_write fault _ _ _ (is ∙ c.in_err-worst_now.ensures.err.0)
-    (cut_short (g.D.Deliver.stands opening) (g.D.Deliver.answers opening) es _ _ _ (pending c.reads.cutter) (take c.in-Ok.count c.read.new.buf)
-    c.reads.desk c.answer_piece.new.desk c.reads.worst _ _ _ (c.reads.invariant.sofar (c.in_err-worst_now.ensures.stays clean) opening es at) c.in-Ok.ensures.bytes.0
-    (λ others now. c.in_err-worst_now.ensures.cut_short clean opening others now)))
-    c.from_residual.ensures.1
+-- ---- what was done
 
-pub returns-in-Some-clause-ok : goal.returns-in-Some-clause-ok
-returns-in-Some-clause-ok g c =
-    let stands = g.D.Deliver.stands in
-    let answers = g.D.Deliver.answers in
+pub returns-in-Err-clause-streams : goal.returns-in-Err-clause-streams
+returns-in-Err-clause-streams g c =
+    let call = IsDelivered g.D.Deliver.clean g.D.Deliver.stands g.D.Deliver.answers g.D.Deliver.leads in
+    streams_as _ _ (are_delivered g.D.Deliver.clean g.D.Deliver.stands g.D.Deliver.answers g.D.Deliver.leads c.args.desk.now c.reads.desk) _ (Err Read)
+    (began call c.args.desk.now _ _ _ (pending c.reads.cutter) c.reads.desk c.reads.worst _ _ c.reads.invariant.sofar c.in-Err.ensures.bytes)
+
+pub returns-then-count-eq0-clause-streams : goal.returns-then-count-eq0-clause-streams
+returns-then-count-eq0-clause-streams g c =
+    let call = IsDelivered g.D.Deliver.clean g.D.Deliver.stands g.D.Deliver.answers g.D.Deliver.leads in
+    let reads = c.in-Ok.ensures.bytes in
+    let none = c.if-count-eq0.true in
+    let how : ((c.if-at_rest.end ≡ Whole) × (pending c.reads.cutter ≡ [])) ⊎ ((c.if-at_rest.end ≡ Open) × (pending c.reads.cutter ≢ [])) = elim c.if-at_rest.branch [
+      | then-at_rest w ↦ inl (w.end-is, nil_is (pending c.reads.cutter) (sym c.at_rest.ensures ∙ w.if-at_rest.true))
+      | else-at_rest w ↦ inr (w.end-is, nil_is_not (pending c.reads.cutter) (sym c.at_rest.ensures ∙ w.if-at_rest.false))
+    ] in
+    streams_as _ _ (are_delivered g.D.Deliver.clean g.D.Deliver.stands g.D.Deliver.answers g.D.Deliver.leads c.args.desk.now c.reads.desk) _ c.finish.result
+    (finished call c.args.desk.now _ _ c.if-at_rest.end c.reads.desk c.reads.worst _ _ _ c.finish.result _
+    (input_ends call c.args.desk.now _ _ _ (pending c.reads.cutter) c.if-at_rest.end c.reads.desk c.reads.worst _ _
+    c.reads.invariant.sofar (nothing_taken _ _ c.in-Ok.count c.read.new.buf none reads.0) (reads.1 none (omega (arith, c.read.auto.buf))) how)
+    c.finish.ensures.ok c.finish.ensures.writes c.finish.ensures.err)
+
+pub returns-in_err-worst_now-clause-streams : goal.returns-in_err-worst_now-clause-streams
+returns-in_err-worst_now-clause-streams g c =
+    let call = IsDelivered g.D.Deliver.clean g.D.Deliver.stands g.D.Deliver.answers g.D.Deliver.leads in
+    streams_as _ _ (are_delivered g.D.Deliver.clean g.D.Deliver.stands g.D.Deliver.answers g.D.Deliver.leads c.args.desk.now c.answer_piece.new.desk) _ c.from_residual.result
+    (passed_on call c.args.desk.now _ c.answer_piece.new.desk c.from_residual.result _ c.in_err-worst_now.ensures.err.0 c.from_residual.ensures.1
+    (cut_short call c.args.desk.now _ _ _ (pending c.reads.cutter) (take c.in-Ok.count c.read.new.buf) c.reads.desk c.answer_piece.new.desk c.reads.worst _ _ _
+    c.reads.invariant.sofar c.in-Ok.ensures.bytes.0 c.in_err-worst_now.ensures.cut_short))
+
+pub returns-in-Some-clause-streams : goal.returns-in-Some-clause-streams
+returns-in-Some-clause-streams g c =
+    let call = IsDelivered g.D.Deliver.clean g.D.Deliver.stands g.D.Deliver.answers g.D.Deliver.leads in
     let piece = take c.in-Ok.count c.read.new.buf in
     let q = pending c.reads.cutter in
     let q' = pending c.answer_piece.new.cutter in
-    ok_with c.finish-in-Some.result _ _ _
-    (λ all is writes clean opening es at.
-    streamed (stands opening) (answers opening) es _ _ (Cut c.in-Some.fault) c.answer_piece.new.desk c.in_ok-worst_now.worst_now all _ _ _
-    (stream_cut (stands opening) (answers opening) es _ _ _ q q' piece c.in-Some.fault c.reads.desk c.answer_piece.new.desk c.reads.worst c.in_ok-worst_now.worst_now _ _ _
-    (c.reads.invariant.sofar (c.in_ok-worst_now.ensures.stays clean) opening es at) c.in-Ok.ensures.bytes.0
-    (λ others now. piece_at (stands opening) (answers opening) others c.in_ok-worst_now.cut (Some c.in-Some.fault) q' _ c.answer_piece.new.desk c.reads.worst c.in_ok-worst_now.worst_now _ _
-    c.in-Some.is (c.in_ok-worst_now.ensures.ok clean opening others now)))
-    writes is)
-    c.finish-in-Some.ensures.ok c.finish-in-Some.ensures.writes
+    let done = piece_at call c.reads.desk c.in_ok-worst_now.cut (Some c.in-Some.fault) q' _ c.answer_piece.new.desk c.reads.worst c.in_ok-worst_now.worst_now _ _ c.in-Some.is c.in_ok-worst_now.ensures.ok in
+    streams_as _ _ (are_delivered g.D.Deliver.clean g.D.Deliver.stands g.D.Deliver.answers g.D.Deliver.leads c.args.desk.now c.answer_piece.new.desk) _ c.finish-in-Some.result
+    (finished call c.args.desk.now _ _ (Cut c.in-Some.fault) c.answer_piece.new.desk c.in_ok-worst_now.worst_now _ _ _ c.finish-in-Some.result _
+    (stream_cut call c.args.desk.now _ _ _ q q' piece c.in-Some.fault c.reads.desk c.answer_piece.new.desk c.reads.worst c.in_ok-worst_now.worst_now _ _ _
+    c.reads.invariant.sofar c.in-Ok.ensures.bytes.0 done)
+    c.finish-in-Some.ensures.ok c.finish-in-Some.ensures.writes c.finish-in-Some.ensures.err)
 
-pub returns-in-Some-clause-err : goal.returns-in-Some-clause-err
-returns-in-Some-clause-err g c =
-    let stands = g.D.Deliver.stands in
-    let answers = g.D.Deliver.answers in
-    let piece = take c.in-Ok.count c.read.new.buf in
-    let q = pending c.reads.cutter in
-    let q' = pending c.answer_piece.new.cutter in
-    err_weaker c.finish-in-Some.result _ _
-    (λ fault is clean opening es at. at_write fault _ _ _ is.0
-    (end_cut_short (stands opening) (answers opening) es _ _ (Cut c.in-Some.fault) c.answer_piece.new.desk c.in_ok-worst_now.worst_now _ _ _
-    (stream_cut (stands opening) (answers opening) es _ _ _ q q' piece c.in-Some.fault c.reads.desk c.answer_piece.new.desk c.reads.worst c.in_ok-worst_now.worst_now _ _ _
-    (c.reads.invariant.sofar (c.in_ok-worst_now.ensures.stays clean) opening es at) c.in-Ok.ensures.bytes.0
-    (λ others now. piece_at (stands opening) (answers opening) others c.in_ok-worst_now.cut (Some c.in-Some.fault) q' _ c.answer_piece.new.desk c.reads.worst c.in_ok-worst_now.worst_now _ _
-    c.in-Some.is (c.in_ok-worst_now.ensures.ok clean opening others now)))
-    is.2))
-    c.finish-in-Some.ensures.err
-
-pub returns-clause-err : goal.returns-clause-err
-returns-clause-err g c = λ clean opening es at.
-    began_now (g.D.Deliver.stands opening) (g.D.Deliver.answers opening) es _ _ (pending c.reads.cutter) c.reads.desk c.reads.worst _ _ (c.reads.invariant.sofar clean opening es at)
+pub returns-clause-streams : goal.returns-clause-streams
+returns-clause-streams g c =
+    streams_as _ _ (are_delivered g.D.Deliver.clean g.D.Deliver.stands g.D.Deliver.answers g.D.Deliver.leads c.args.desk.now c.reads.desk) _ (Err Turns)
+    (began_now (IsDelivered g.D.Deliver.clean g.D.Deliver.stands g.D.Deliver.answers g.D.Deliver.leads) c.args.desk.now _ _ (pending c.reads.cutter) c.reads.desk c.reads.worst _ _ c.reads.invariant.sofar)
 
 -- ---- what was flushed
 

@@ -1,6 +1,6 @@
-use Rattle.std.proofs.Common.{◌≡◌, ◌+◌, ◌-◌, ◌^◌, ◌≤◌, ◌<◌, min, List, None, false, true}
-use Rattle.office_replies.specs.Events.{Event}
+use Rattle.std.proofs.Common.{◌≡◌, ◌+◌, ◌-◌, ◌^◌, ◌≤◌, ◌<◌, min, None, false, true}
 use Rattle.edi_cutter.specs.Cuts.{pending}
+use Rattle.office_replies.specs.Calls.{IsDelivered}
 use Rattle.office_stream.proofs.StreamLemmas.{Sofar}
 use Rattle.office_stream.proofs.stream.run_stream.Given as goal
 
@@ -16,7 +16,6 @@ invariant-reads g l = record {
   most : l.reader.reads ≤ l.fn.reader.reads + l.counter;
   least : min (l.fn.reader.reads + l.counter) (2 ^ 64 - 1) ≤ l.reader.reads;
   stays : g.D.Deliver.clean l.desk → g.D.Deliver.clean l.fn.desk;
-  sofar : g.D.Deliver.clean l.desk → (opening : g.D.Deliver.Opening) (es : List Event) → g.D.Deliver.stands opening es l.fn.desk →
-      Sofar (g.D.Deliver.stands opening) (g.D.Deliver.answers opening) es (g.R.Read.remaining l.fn.reader.inner) (g.R.Read.remaining l.reader.inner)
+  sofar : Sofar (IsDelivered g.D.Deliver.clean g.D.Deliver.stands g.D.Deliver.answers g.D.Deliver.leads) l.fn.desk (g.R.Read.remaining l.fn.reader.inner) (g.R.Read.remaining l.reader.inner)
       (pending l.cutter) l.desk l.worst (g.W.Write.contents l.fn.writer.inner) (g.W.Write.contents l.writer.inner);
 }

@@ -15,7 +15,7 @@ pub loop-account-preserved : goal.loop-account-preserved
 loop-account-preserved g c =
     let old = state g.S.Store c.args.tx.now.conn.now in
     let mid = state g.S.Store c.loop-account.tx.conn.now in
-    let new = state g.S.Store c.insert_partner.new.tx.conn.now in
+    let new = state g.S.Store c.add_partner.new.tx.conn.now in
     let i = c.loop-account.account-index in
     let all = c.args.accounts.now in
     let item = c.account-item.result in
@@ -29,9 +29,9 @@ loop-account-preserved g c =
       same = search rules;
       id = omega (arith, c.loop-account.invariant.id);
       steps = λ clean inside was.
-          let early : HasCleanDisk mid = omega (arith, c.insert_partner.ensures.survives.clean) in
+          let early : HasCleanDisk mid = omega (arith, c.add_partner.ensures.survives.clean) in
           let first = c.loop-account.invariant.steps early inside was in
-          let second : Steps (with_partners (one ∷ [])) mid new = rw c.as_str.ensures.value at (c.in_ok-insert_partner.ensures.steps clean first.inside) in
+          let second : Steps (with_partners (one ∷ [])) mid new = rw c.as_str.ensures.value at (c.in_ok-add_partner.ensures.steps clean first.inside) in
           subst (λ l. Steps (with_partners l) old new) (sym more) (more_partners old mid new (partners_from 1 (account_contents (take i all))) (one ∷ []) first second);
-      survives = quiet_then old mid new c.loop-account.invariant.survives c.insert_partner.ensures.survives;
+      survives = quiet_then old mid new c.loop-account.invariant.survives c.add_partner.ensures.survives;
     }

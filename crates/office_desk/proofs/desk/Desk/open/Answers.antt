@@ -3,12 +3,14 @@ use Rattle.sqlite.specs.Held.{state}
 use Rattle.sqlite.specs.State.{HasCleanDisk, IsUnchanged}
 use Rattle.office_rows.specs.Stored.{HasRows}
 use Rattle.office_rows.specs.Tables.{office_schema}
-use Rattle.office_setup.specs.Setups.{setup_content}
-use Rattle.office_history.specs.After.{AreAfter, SaysSame}
+use Rattle.edi_messages.specs.Codes.{table_texts}
+use Rattle.office_setup.specs.Setups.{SetupContent, setup_content}
+use Rattle.office_history.specs.After.{SaysSame, content_after}
 use Rattle.office_history.proofs.Alike.{reopens}
 use Rattle.office_loading.specs.Tables.{Loads}
 use Rattle.office_desk.specs.Beside.{IsBeside, IsOrNone}
 use Rattle.office_desk.specs.Telling.{Holds}
+use Rattle.office_desk.proofs.AlikeLemmas.{codes_after}
 use Rattle.office_desk.proofs.CrashLemmas.{held_leaves}
 use Rattle.office_desk.proofs.NumberLemmas.{nexts_loaded}
 use Rattle.office_desk.proofs.OfficeLemmas.{office_with}
@@ -33,21 +35,25 @@ returns g c = record {
       let loads : Loads old.now (setup_content own) there.terminal = c.in_ok-setup.ensures.loaded clean held_rows.schema in
       let still : IsUnchanged old new = c.in_ok-setup.ensures.same clean held_rows.schema in
       let back = reopens content es rows old.now loads.0 (setup_content own) there.terminal after given held_rows loads.1 loads.2 in
-      let beside : IsBeside (setup_content own) es (Some there) = record {
-        terminal = beside_loaded (setup_content own) es rows old.now (setup_content own) there.terminal loads.2.given back.rows_are held_rows loads;
-        nexts = nexts_loaded (setup_content own) es rows there.nexts.items back.rows_are (c.in_ok-setup.ensures.nexts clean rows held_rows);
+      let opening : SetupContent = record content { codes = own.codes } in
+      let beside : IsBeside opening es (Some there) = record {
+        terminal = beside_loaded opening es rows old.now (setup_content own) there.terminal back.given back.rows_are held_rows loads;
+        nexts = nexts_loaded opening es rows there.nexts.items back.rows_are (c.in_ok-setup.ensures.nexts clean rows held_rows);
       } in
-      let says : SaysSame (setup_content desk.setup) content = subst (λ s. SaysSame (setup_content s) content) (sym c.new.ensures.setup) back.says in
-      let held : Holds (setup_content desk.setup) es (state g.S.Store desk.conn).committed desk.beside = record {
+      let held : Holds opening es (setup_content desk.setup) (state g.S.Store desk.conn).committed desk.beside = record {
+        given = back.given;
+        now_is = subst (λ s. content_after opening es ≡ setup_content s) (sym c.new.ensures.setup) back.now;
         rows = rows;
         has = subst (HasRows rows) (sym (ap (λ k. (state g.S.Store k).committed) c.new.ensures.conn ∙ still.0.committed_is)) has;
-        after = subst (λ s. AreAfter (setup_content s) es rows) (sym c.new.ensures.setup) back.rows_are;
-        beside = subst (λ s. IsBeside (setup_content s) es desk.beside) (sym c.new.ensures.setup) (subst (IsBeside (setup_content own) es) (sym c.new.ensures.beside) beside);
+        after = back.rows_are;
+        beside = subst (IsBeside opening es) (sym c.new.ensures.beside) beside;
       } in
       record {
-        says = says;
-        stands = record { setup = refl; holds = held };
-        leaves = held_leaves (setup_content desk.setup) es (state g.S.Store desk.conn) desk.beside sound.1 (λ db left. g.met.S.Store.settled desk.conn.store db sound.1 left) held;
+        says = subst (λ s. SaysSame (setup_content s) (content_after content es)) (sym c.new.ensures.setup) back.says;
+        opening = opening;
+        opening_says = record { terminal = refl; codes = back.says.codes ∙ ap table_texts (codes_after es content); partners = refl; blocks = refl; limit = refl };
+        stands = held;
+        leaves = held_leaves opening es (setup_content desk.setup) (state g.S.Store desk.conn) desk.beside sound.1 (λ db left. g.met.S.Store.settled desk.conn.store db sound.1 left) held;
       };
   office = λ sound schema.
       let desk = c.new.result in

@@ -3,7 +3,7 @@ use Rattle.sqlite.specs.Held.{state}
 use Rattle.sqlite.specs.State.{HasCleanDisk}
 use Rattle.office_rows.specs.Stored.{HasRows}
 use Rattle.office_rows.proofs.StepLemmas.{if_ok}
-use Rattle.office_setup.specs.Given.{IsGiven}
+use Rattle.office_history.specs.After.{machine_after}
 use Rattle.office_setup.specs.Setups.{setup_content}
 use Rattle.office_delivery.specs.Reading.{IsSame}
 use Rattle.office_rows.specs.Tables.{office_schema}
@@ -26,15 +26,16 @@ returns-clause-told g c = λ sound.
     let clean : HasCleanDisk mid = reads.clean sound.0 in
     let settled : old.now ≡ old.committed = c.is_autocommit-is_idle.ensures.settled (c.is_autocommit-is_idle.ensures.value ∙ ap not c.args.self.now.idle) (c.beside_of.ensures.reads.was_open clean (reads.was_open sound.0 sound.1)) in
     if_ok c.tell-found.result (λ found told. record {
-      after = λ es holds.
+      after = λ opening es holds.
           let has : HasRows holds.rows old.now = subst (HasRows holds.rows) (sym settled) holds.has in
           let same : IsSame old mid = c.in_ok-there.ensures.same clean has.schema in
-          let beside : IsBeside content es (Some there) = c.in_ok-there.ensures.beside clean content es holds.rows c.args.self.now.given has holds.after (subst (IsBeside content es) (sym c.take.ensures.value) holds.beside) in
+          let beside : IsBeside opening es (Some there) = c.in_ok-there.ensures.beside clean opening es holds.rows holds.given has holds.after (subst (IsBeside opening es) (sym c.take.ensures.value) holds.beside) in
           record {
             rows = holds.rows;
             after = holds.after;
-            tells = subst (λ t. TellsOf content t holds.rows c.args.query.now (option_map string_bytes found)) (ap (λ m. m.terminal) beside.terminal)
-                (told holds.rows (subst (HasRows holds.rows) (sym same.now) has) holds.after.kept_once);
+            tells = subst (λ k. TellsOf k (machine_after opening es).terminal holds.rows c.args.query.now (option_map string_bytes found)) (sym holds.now_is)
+                (subst (λ t. TellsOf content t holds.rows c.args.query.now (option_map string_bytes found)) (ap (λ m. m.terminal) beside.terminal)
+                (told holds.rows (subst (HasRows holds.rows) (sym same.now) has) holds.after.kept_once));
           };
       office = λ rows kept holds.
           let now : HoldsOffice content rows kept old.now c.take.result = office_with content rows kept old.committed old.now c.args.self.now.beside c.take.result settled (subst (IsOrNone rows kept) (sym c.take.ensures.value) holds.beside) holds in
@@ -49,20 +50,16 @@ returns-clause-same g c = λ sound content es stands.
     let old = state g.S.Store c.args.self.now.conn in
     let mid = state g.S.Store c.beside_of.new.conn in
     let end = state g.S.Store c.tell-found.new.conn in
-    let rows = stands.holds.rows in
+    let rows = stands.rows in
     let reads = c.tell-found.ensures.reads in
     let clean : HasCleanDisk mid = reads.clean sound.0 in
     let settled : old.now ≡ old.committed = c.is_autocommit-is_idle.ensures.settled (c.is_autocommit-is_idle.ensures.value ∙ ap not c.args.self.now.idle) (c.beside_of.ensures.reads.was_open clean (reads.was_open sound.0 sound.1)) in
-    let has : HasRows rows old.now = subst (HasRows rows) (sym settled) stands.holds.has in
+    let has : HasRows rows old.now = subst (HasRows rows) (sym settled) stands.has in
     let same : IsSame old mid = c.in_ok-there.ensures.same clean has.schema in
     let there : HasRows rows mid.now = subst (HasRows rows) (sym same.now) has in
-    let given : IsGiven content = subst IsGiven stands.setup c.args.self.now.given in
-    let beside : IsBeside content es (Some c.in_ok-there.there) = c.in_ok-there.ensures.beside clean content es rows given has stands.holds.after (subst (IsBeside content es) (sym c.take.ensures.value) stands.holds.beside) in
+    let beside : IsBeside content es (Some c.in_ok-there.there) = c.in_ok-there.ensures.beside clean content es rows stands.given has stands.after (subst (IsBeside content es) (sym c.take.ensures.value) stands.beside) in
     let kept : end.committed ≡ old.committed = (reads.keeps sound.0 there.schema).committed sound.1 ∙ same.committed in
-    record {
-      setup = stands.setup;
-      holds = record { rows = rows; has = subst (HasRows rows) (sym kept) stands.holds.has; after = stands.holds.after; beside = beside };
-    }
+    record { given = stands.given; now_is = stands.now_is; rows = rows; has = subst (HasRows rows) (sym kept) stands.has; after = stands.after; beside = beside }
 
 pub returns-clause-holds : goal.returns-clause-holds
 returns-clause-holds g c = λ sound rows kept holds.

@@ -1,0 +1,191 @@
+-- What a desk answers to an account that is to be added, and what it holds behind it.
+use Rattle.std.proofs.Common.{◌≡◌, ℕ, ◌+◌, ◌-◌, ◌<◌, Bool, true, false, cond, map, List, [], ◌∷◌, ◌++◌, length, Option, None, Some, get_or, option_map, inl, inr, refl, sym, ap, ap₂, subst, ◌∙◌, arith}
+use Rattle.std.proofs.lemmas.List.{length-append, map-append}
+use Rattle.std.proofs.lemmas.List.FromFn.{map-range_with_len_more}
+use Rattle.std.proofs.lemmas.Option.{slice_get-get_or, slice_get-map}
+use Rattle.std.proofs.lemmas.Simd.{map-map}
+use Rattle.std.specs.List.{range_with_len}
+use Rattle.std.specs.Prelude.{slice_get}
+use Rattle.sqlite.specs.Effect.{Database}
+use Rattle.sqlite.specs.Tree.{Trees}
+use Rattle.sqlite_trees.specs.declared.store.Store.{Ghosts}
+use Rattle.edi_messages.specs.declared.partner_kind.PartnerKind.{PartnerKind}
+use Rattle.partner_core.specs.Deliveries.{run}
+use Rattle.partner_core.specs.Numbered.{with_number}
+use Rattle.partner_core.proofs.Numbered.{with_number-below}
+use Rattle.terminal_core.specs.State.{TerminalState}
+use Rattle.office_replies.specs.Events.{Event, added}
+use Rattle.office_replies.specs.declared.account_answer.AccountAnswer.{AccountAnswer}
+use Rattle.office_replies.specs.declared.account_fault.AccountFault.TheVariants.{Partner}
+use Rattle.office_rows.specs.Effects.{with_partner}
+use Rattle.office_rows.specs.Rows.{Rows}
+use Rattle.office_rows.specs.Stored.{HasRows, StoresRows}
+use Rattle.office_setup.specs.Kinds.{kind_named}
+use Rattle.office_setup.specs.Accounts.{account_contents}
+use Rattle.office_setup.specs.Parties.{partner_codes, partner_from, partner_kinds}
+use Rattle.office_setup.specs.declared.account.Account.{Account}
+use Rattle.office_setup.proofs.Named.{one_further}
+use Rattle.office_setup.specs.PartyCodes.{is_party_code}
+use Rattle.office_setup.specs.Setups.{SetupContent, parties_in, setup_content, setup_with_account}
+use Rattle.office_setup.specs.Given.{IsGiven}
+use Rattle.office_admission.specs.Accounts.{AccountContent, AccountPair, account_answer, added_as, by_kind, by_number, content_after, content_with, refused_for}
+use Rattle.office_admission.specs.Deliveries.{deliveries_of}
+use Rattle.office_admission.proofs.Adding.{account_adds, added_last, content_on, given_after, no_run_beyond, parties_grown}
+use Rattle.office_taking.specs.Growth.{with_account}
+use Rattle.office_taking.specs.Taking.{MachineState}
+use Rattle.office_history.specs.After.{AreAfter, machine_after, machine_with}
+use Rattle.office_history.specs.Laws.{AddsAccount}
+use Rattle.office_history.proofs.Growing.{account_adds_row}
+use Rattle.office_desk.specs.Accounts.{AnswersAccount, IsLengthened, IsSameOrNone, Says}
+use Rattle.office_desk.specs.Beside.{IsBeside, nexts_after}
+use Rattle.office_desk.specs.Crashes.{IsAfter}
+use Rattle.office_desk.specs.Telling.{Holds}
+use Rattle.office_desk.specs.Desks.{StandsFor}
+use Rattle.office_desk.specs.declared.beside.Beside.{Beside}
+use Rattle.office_desk.specs.declared.desk.Desk.{Desk}
+
+-- ---- the answer
+
+-- a code and a kind of their forms are answered by the accounts
+pub asked : (accounts : List AccountPair) (code kind : List ℕ) (own : PartnerKind) → is_party_code code ≡ true → kind_named kind ≡ Some own →
+    account_answer accounts code kind ≡ by_number accounts own (partner_from 1 code (map (λ (account : AccountPair). account.0) accounts))
+asked accounts code kind own coded named =
+    ap (λ b. cond b (by_kind accounts code (kind_named kind)) (refused_for Partner)) coded ∙ ap (by_kind accounts code) named
+
+-- what has no form of them is refused
+pub not_coded : (accounts : List AccountPair) (code kind : List ℕ) → is_party_code code ≡ false → account_answer accounts code kind ≡ refused_for Partner
+not_coded accounts code kind none = ap (λ b. cond b (by_kind accounts code (kind_named kind)) (refused_for Partner)) none
+
+pub not_named : (accounts : List AccountPair) (code kind : List ℕ) → kind_named kind ≡ None → account_answer accounts code kind ≡ refused_for Partner
+not_named accounts code kind none = by (is_party_code code)
+  where
+    by : (coded : Bool) → cond coded (by_kind accounts code (kind_named kind)) (refused_for Partner) ≡ refused_for Partner
+    by true = ap (by_kind accounts code) none
+    by false = refl
+
+-- ---- the accounts of a set-up
+
+codes_in : (accounts : List Account) → map (λ (pair : AccountPair). pair.0) (account_contents accounts) ≡ partner_codes accounts
+codes_in accounts = map-map _ _ accounts
+
+kinds_in : (accounts : List Account) → map (λ (pair : AccountPair). pair.1) (account_contents accounts) ≡ partner_kinds accounts
+kinds_in accounts = map-map _ _ accounts
+
+-- the number of a code is behind its place
+pub found_by_code : (accounts : List Account) (code : List ℕ) (found : Option ℕ) → found ≡ partner_from 0 code (partner_codes accounts) →
+    partner_from 1 code (map (λ (pair : AccountPair). pair.0) (account_contents accounts)) ≡ option_map (λ index. index + 1) found
+found_by_code accounts code found is =
+    ap (partner_from 1 code) (codes_in accounts) ∙ sym (one_further 0 code (partner_codes accounts)) ∙ ap (option_map (λ index. index + 1)) (sym is)
+
+pub kind_at : (accounts : List Account) (index : ℕ) (other : Account) → index < length accounts →
+    with_number (map (λ (pair : AccountPair). pair.1) (account_contents accounts)) (index + 1) ≡ Some (get_or accounts index other).kind
+kind_at accounts index other low =
+    let place : index + 1 - 1 ≡ index = omega arith in
+    let there : slice_get accounts (index + 1 - 1) ≡ Some (get_or accounts index other) = ap (slice_get accounts) place ∙ slice_get-get_or accounts index other low in
+    ap (λ l. with_number l (index + 1)) (kinds_in accounts)
+    ∙ with_number-below (partner_kinds accounts) (index + 1) (omega arith)
+    ∙ slice_get-map (λ (account : Account). account.kind) accounts (index + 1 - 1)
+    ∙ ap (option_map (λ (account : Account). account.kind)) there
+
+-- ---- the set-up
+
+-- a given set-up is one with the account too
+pub given_with : (content : SetupContent) (code kind : List ℕ) (id : ℕ) (own : PartnerKind) → IsGiven content → kind_named kind ≡ Some own → account_answer content.partners code kind ≡ added_as id →
+    IsGiven (setup_with_account content code own)
+given_with content code kind id own given named is =
+    subst IsGiven (added_last content code kind id own named is).content_is (given_after (added code kind ∷ []) content given)
+
+module _ (content : SetupContent) (es : List Event) (code kind : List ℕ) (own : PartnerKind) (id : ℕ) (named : kind_named kind ≡ Some own)
+    (is : account_answer (content_after content es).partners code kind ≡ added_as id) where
+  abbrev now : SetupContent
+  now = content_after content es
+
+  abbrev later : List Event
+  later = es ++ added code kind ∷ []
+
+  pub grown : content_after content later ≡ setup_with_account now code own
+  grown = content_on es (added code kind ∷ []) content ∙ (added_last now code kind id own named is).content_is
+
+  -- ---- beside the rows
+
+  machine_grown : (terminal : TerminalState) → machine_with (setup_with_account now code own) terminal ≡ with_account code own (machine_with now terminal)
+  machine_grown terminal = λ i. record {
+    parties = parties_grown now code own i;
+    codes = now.codes;
+    kinds = map-append (λ (account : AccountPair). account.1) now.partners ((code, own) ∷ []) i;
+    blocks = now.blocks;
+    visit_limit = now.visit_limit;
+    terminal = terminal;
+  }
+
+  abbrev numbers : List Event → ℕ → ℕ
+  numbers events p = run (deliveries_of content events) p + 1
+
+  nexts_grown : nexts_after content later ≡ nexts_after content es ++ 1 ∷ []
+  nexts_grown =
+      let same : numbers later ≡ numbers es = ap (λ ds. λ p. run ds p + 1) (account_adds es content code kind) in
+      let many : length (content_after content later).partners ≡ length now.partners + 1 = ap (λ (c : SetupContent). length c.partners) grown ∙ length-append now.partners ((code, own) ∷ []) in
+      ap₂ (λ f n. map f (range_with_len 1 n)) same many
+      ∙ map-range_with_len_more (numbers es) 1 (length now.partners) (length now.partners + 1) (omega arith)
+      ∙ ap (λ r. nexts_after content es ++ (r + 1) ∷ []) (no_run_beyond es content)
+
+  beside_grown : (machine_after content later ≡ with_account code own (machine_after content es)) → (old new : Option Beside) → IsLengthened old new → IsBeside content es old → IsBeside content later new
+  beside_grown machine None None longer beside = tt
+  beside_grown machine (Some old) (Some new) longer beside = record {
+    terminal =
+        ap₂ machine_with grown longer.0 ∙ machine_grown old.terminal ∙ ap (with_account code own) beside.terminal ∙ sym machine;
+    nexts = longer.1 ∙ ap (λ l. l ++ 1 ∷ []) beside.nexts ∙ sym nexts_grown;
+  }
+  beside_grown machine None (Some new) longer beside = absurd longer
+  beside_grown machine (Some old) None longer beside = absurd longer
+
+  -- ---- what is held
+
+  pub account_held : (setup : SetupContent) (was db : Database) (old new : Option Beside) → (holds : Holds content es setup was old) →
+      HasRows (with_partner id code own holds.rows) db → IsLengthened old new → Holds content later (setup_with_account setup code own) db new
+  account_held setup was db old new holds has longer =
+      let adds : AddsAccount content es code kind own (with_partner id code own holds.rows) = account_adds_row content es holds.rows code kind own id holds.after named is in
+      record {
+        given = holds.given;
+        now_is = grown ∙ ap (λ c. setup_with_account c code own) holds.now_is;
+        rows = with_partner id code own holds.rows;
+        has = has;
+        after = adds.rows_are;
+        beside = beside_grown adds.machine old new longer holds.beside;
+      }
+
+  -- a store that holds the rows with the account holds those after it
+  pub account_after : (rows : Rows) (db : Trees) → AreAfter content es rows → StoresRows (with_partner id code own rows) db → IsAfter content later db
+  account_after rows db after are = record { rows = with_partner id code own rows; are = are; after = (account_adds_row content es rows code kind own id after named is).rows_are }
+
+-- ---- what is answered and held
+
+pub asked_is : (accounts : List AccountPair) (code came kind : List ℕ) (own : PartnerKind) (said : AccountContent) → code ≡ came → is_party_code code ≡ true → kind_named kind ≡ Some own →
+    said ≡ by_number accounts own (partner_from 1 code (map (λ (account : AccountPair). account.0) accounts)) → account_answer accounts came kind ≡ said
+asked_is accounts code came kind own said same coded named is = subst (λ text. account_answer accounts text kind ≡ said) same (asked accounts code kind own coded named ∙ sym is)
+
+pub says_of : (accounts : List AccountPair) (code kind : List ℕ) (said : AccountContent) (answer : AccountAnswer) → account_answer accounts code kind ≡ said → Says said code answer → Says (account_answer accounts code kind) code answer
+says_of accounts code kind said answer is says = subst (λ s. Says s code answer) (sym is) says
+
+module _ {S : Type 0} (g : Ghosts S) (content : SetupContent) (es : List Event) (code kind : List ℕ) where
+  -- the accounts of a desk that stands there are those so far
+  pub says_now : (desk : Desk S g) (answer : AccountAnswer) → StandsFor g content es desk → Says (account_answer (setup_content desk.setup).partners code kind) code answer → AnswersAccount content es code kind answer
+  says_now desk answer stands says = subst (λ (k : SetupContent). Says (account_answer k.partners code kind) code answer) (sym stands.now_is) says
+
+pub not_added : (content : SetupContent) (es : List Event) (was is : SetupContent) (db db' : Database) (old new : Option Beside) → Holds content es was db old → is ≡ was → db' ≡ db → IsSameOrNone old new → Holds content es is db' new
+not_added content es was is db db' old new holds set same (inl still) = record {
+  given = holds.given;
+  now_is = holds.now_is ∙ sym set;
+  rows = holds.rows;
+  has = subst (HasRows holds.rows) (sym same) holds.has;
+  after = holds.after;
+  beside = subst (IsBeside content es) (sym still) holds.beside;
+}
+not_added content es was is db db' old new holds set same (inr none) = record {
+  given = holds.given;
+  now_is = holds.now_is ∙ sym set;
+  rows = holds.rows;
+  has = subst (HasRows holds.rows) (sym same) holds.has;
+  after = holds.after;
+  beside = subst (IsBeside content es) (sym none) tt;
+}

@@ -1,0 +1,85 @@
+-- What one call does to a desk: all that is said of it, in one piece, so that whoever knows a desk by its traits alone can
+-- hand it on.
+use Rattle.std.specs.Prelude.{◌≡◌, ℕ, List, Option, Result, Ok, Err}
+use Rattle.sqlite.specs.Held.{state}
+use Rattle.sqlite.specs.State.{HasCleanDisk}
+use Rattle.sqlite_trees.specs.declared.store.Store.{Ghosts}
+use Rattle.edi_segments.specs.Interchange.{interchange_of}
+use Rattle.terminal_core.specs.State.{TerminalState}
+use Rattle.office_replies.specs.Adding.{Adds}
+use Rattle.office_replies.specs.Delivering.{Delivers, LeadsOn}
+use Rattle.office_replies.specs.Events.{Event}
+use Rattle.office_replies.specs.declared.account_answer.AccountAnswer.{AccountAnswer}
+use Rattle.office_replies.specs.declared.response.Response.{Response}
+use Rattle.office_queries.specs.Looking.{Tells}
+use Rattle.office_queries.specs.declared.not_now.NotNow.{NotNow}
+use Rattle.office_queries.specs.declared.query.Query.{Query}
+use Rattle.office_setup.specs.Parties.{parties_of}
+use Rattle.office_setup.specs.Setups.{SetupContent, setup_content}
+use Rattle.office_admission.specs.Accounts.{account_answer}
+use Rattle.office_admission.specs.Refusals.{RefusedSurely}
+use Rattle.office_rows.specs.Rows.{Rows}
+use Rattle.office_rows.specs.Tables.{office_schema}
+use Rattle.office_desk.specs.Accounts.{AddsOver, AnswersAccount, LeavesAdded, Says}
+use Rattle.office_desk.specs.Answers.{AnswersNext}
+use Rattle.office_desk.specs.Crashes.{Leaves, LeavesAll, LeavesBehind, LeavesNoMore}
+use Rattle.office_desk.specs.Desks.{IsSound, StandsFor, Refuses}
+use Rattle.office_desk.specs.Kept.{AnswersOver, Office}
+use Rattle.office_desk.specs.Noting.{NotesFault, NotesLook, NotesStore}
+use Rattle.office_desk.specs.Offices.{DeskHolds}
+use Rattle.office_desk.specs.Reports.{DeskTells}
+use Rattle.office_desk.specs.declared.desk.Desk.{Desk}
+
+-- A text was delivered, with that response. From whatever events it is answered at its place; over any office's rows by
+-- what is kept; what a crash leaves; the set-up stays; what is refused is refused so, and touches nothing; and why it is
+-- NotNow.
+pub record Leads {S : Type 0} (g : Ghosts S) (old : Desk S g) (sent : List ℕ) (response : Response) (new : Desk S g)
+    : Type 0 where
+  pub delivers : IsSound g new → (content : SetupContent) (es : List Event) → StandsFor g content es old →
+      Delivers (StandsFor g content) (AnswersNext content) es sent response new
+  pub office : IsSound g new → (before : Office) → DeskHolds g old before.rows before.terminal →
+      AnswersOver g before sent response new
+  pub setup : new.setup ≡ old.setup
+  pub stays : IsSound g new → IsSound g old
+  pub crash : IsSound g old → HasCleanDisk (state g new.conn) → (content : SetupContent) (es : List Event) →
+      StandsFor g content es old → LeavesBehind content es sent response (state g new.conn)
+  pub refused : Refuses g sent old response new
+  pub sure : RefusedSurely (parties_of old.setup) (interchange_of sent) response
+  pub noted : NotesFault response old.last_fault new.last_fault
+
+-- An account was asked for under a code, of a kind, with that answer. From whatever events it is answered at its place;
+-- by the desk's own set-up, whatever rows it has; what a crash leaves; and why it is NotNow.
+pub record Enrols {S : Type 0} (g : Ghosts S) (old : Desk S g) (code kind : List ℕ) (answer : AccountAnswer)
+    (new : Desk S g) : Type 0 where
+  pub adds : IsSound g new → (content : SetupContent) (es : List Event) → StandsFor g content es old →
+      Adds (StandsFor g content) (AnswersAccount content) es code kind answer new
+  pub stays : IsSound g new → IsSound g old
+  pub says : Says (account_answer (setup_content old.setup).partners code kind) code answer
+  pub over : IsSound g new → AddsOver g old code kind answer new
+  pub crash : IsSound g old → HasCleanDisk (state g new.conn) → (content : SetupContent) (es : List Event) →
+      StandsFor g content es old → LeavesAdded content es code kind answer (state g new.conn)
+  pub noted : NotesStore answer old.last_fault new.last_fault
+
+-- A report was asked for. What was found is what the rows tell; the desk stands where it stood, and holds what it held; a
+-- crash leaves nothing that it would not have left before; and why it can't be told now.
+pub record Looks {S : Type 0} (g : Ghosts S) (old : Desk S g) (query : Query) (found : Result (Option (List ℕ)) NotNow)
+    (new : Desk S g) : Type 0 where
+  pub told : IsSound g new → Tells (DeskTells g old query) found
+  pub same : IsSound g new → (content : SetupContent) (es : List Event) → StandsFor g content es old →
+      StandsFor g content es new
+  pub holds : IsSound g new → (rows : Rows) (terminal : TerminalState) → DeskHolds g old rows terminal →
+      DeskHolds g new rows terminal
+  pub crash : IsSound g old → HasCleanDisk (state g new.conn) → (state g old.conn).committed.schema ≡ office_schema →
+      LeavesNoMore (state g old.conn) (state g new.conn)
+  pub stays : IsSound g new → IsSound g old
+  pub noted : NotesLook found old.last_fault new.last_fault
+
+-- ---- what follows of deliveries, one behind the other
+
+-- what a crash leaves behind them, of a desk that stands after some events
+abbrev pub DeliveriesOutlastCrashes : {S : Type 0} → Ghosts S → Type 0
+DeliveriesOutlastCrashes {S} g =
+    (old new : Desk S g) (texts : List (List ℕ)) (responses : List Response) →
+    LeadsOn (Leads g) old texts responses new → IsSound g new → (content : SetupContent) (es : List Event) →
+    StandsFor g content es old → Leaves content es (state g old.conn) →
+    LeavesAll content es texts responses (state g new.conn)

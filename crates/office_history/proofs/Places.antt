@@ -1,0 +1,159 @@
+-- The rules by place: what holds of the rules of each version holds of them, and where they stay as they are.
+use Rattle.std.proofs.Common.{◌≡◌, ℕ, List, [], ◌∷◌, ◌++◌, Bool, true, false, cond, Option, None, Some, Err, refl, sym, ap, subst, ◌∙◌}
+use Rattle.std.specs.Prelude.{nat_le}
+use Rattle.std.proofs.lemmas.List.{append-nil}
+use Rattle.edi_segments.specs.Interchange.{interchange_of}
+use Rattle.partner_core.specs.ByPlace.{taken_by_place, AreNumbered}
+use Rattle.partner_core.specs.Deliveries.{Delivery, delivery, run}
+use Rattle.partner_core.specs.Machine.{Taking}
+use Rattle.partner_core.proofs.ByPlace.{goes_on_by_new}
+use Rattle.partner_core.proofs.Keepings.{keeps_run}
+use Rattle.terminal_core.specs.Versions.{newest}
+use Rattle.terminal_core.specs.declared.version.Version.{Version}
+use Rattle.office_admission.specs.Admission.{admission, number_said}
+use Rattle.office_admission.specs.Deliveries.{with_delivery}
+use Rattle.office_admission.proofs.Adding.{deliveries_on, first_admitted}
+use Rattle.office_admission.proofs.Growing.{number_told}
+use Rattle.office_replies.specs.Events.{Event, delivered, migrated, added}
+use Rattle.office_replies.specs.declared.fault.Fault.{Fault}
+use Rattle.office_setup.specs.Setups.{SetupContent, parties_in}
+use Rattle.office_taking.specs.Laws.{KeepsSound}
+use Rattle.office_taking.specs.Taking.{MachineState, interchange_taken, interchange_taken_by}
+use Rattle.office_taking.proofs.Reaching.{keeps_sound, by_place_sound}
+use Rattle.office_rows.specs.Rows.{Rows}
+use Rattle.office_history.specs.After.{behind, migration_in, taking_by, taking_in, content_after, deliveries_of, opening_of, AreRowsOf}
+use Rattle.office_history.specs.Laws.{IsFor}
+use Rattle.office_history.proofs.Afters.{GoesOn}
+
+-- ---- what holds of the rules of each version
+
+-- the step by place is one by the old rules or one by the new
+pub placed : (P : MachineState × List ℕ → Type 0) (before : List Delivery) (old new : Taking MachineState) (machine : MachineState) (p : ℕ) (text : List ℕ) → P (old machine p text) → P (new machine p text)
+    → P (taken_by_place number_said before old new machine p text)
+placed P before old new machine p text by_old by_new = by (nat_le (number_said text) (run before p))
+  where
+    by : (is_old : Bool) → P (cond is_old (old machine p text) (new machine p text))
+    by true = by_old
+    by false = by_new
+
+module _ (P : Taking MachineState → Type 0) (each : (version : Version) → P (interchange_taken_by version))
+    (either : (before : List Delivery) (old new : Taking MachineState) → P old → P new → P (taken_by_place number_said before old new)) where
+  by_rules : (version : Version) (content : SetupContent) (migration : Option (Version × List Event)) → P (taking_by version content migration)
+  by_rules version content None = each version
+  by_rules version content (Some migration) =
+      either (deliveries_of content migration.1) (interchange_taken_by migration.0) (interchange_taken_by version) (each migration.0) (each version)
+
+  pub in_force : (version : Version) (content : SetupContent) (es : List Event) → P (taking_in version content es)
+  unfolding taking_in
+  in_force version content es = by_rules version content (migration_in es)
+
+pub sound_in : (version : Version) (content : SetupContent) (es : List Event) → KeepsSound (taking_in version content es)
+sound_in version content es = in_force KeepsSound keeps_sound (λ before old new one two. by_place_sound number_said before old new one two) version content es
+
+-- ---- where they stay
+
+delivered_stays : (es : List Event) (sent : List ℕ) → migration_in (es ++ delivered sent ∷ []) ≡ migration_in es
+delivered_stays [] sent = refl
+delivered_stays (delivered text ∷ es) sent = ap (behind (delivered text)) (delivered_stays es sent)
+delivered_stays (migrated version ∷ es) sent = refl
+delivered_stays (added code kind ∷ es) sent = ap (behind (added code kind)) (delivered_stays es sent)
+
+added_stays : (es : List Event) (its own : List ℕ) → migration_in (es ++ added its own ∷ []) ≡ migration_in es
+added_stays [] its own = refl
+added_stays (delivered text ∷ es) its own = ap (behind (delivered text)) (added_stays es its own)
+added_stays (migrated version ∷ es) its own = refl
+added_stays (added code kind ∷ es) its own = ap (behind (added code kind)) (added_stays es its own)
+
+pub taking_delivered : (version : Version) (content : SetupContent) (es : List Event) (sent : List ℕ) → taking_in version content (es ++ delivered sent ∷ []) ≡ taking_in version content es
+unfolding taking_in
+taking_delivered version content es sent = ap (taking_by version content) (delivered_stays es sent)
+
+pub taking_added : (version : Version) (content : SetupContent) (es : List Event) (code kind : List ℕ) → taking_in version content (es ++ added code kind ∷ []) ≡ taking_in version content es
+unfolding taking_in
+taking_added version content es code kind = ap (taking_by version content) (added_stays es code kind)
+
+pub no_rules_before : (version : Version) (content : SetupContent) → taking_in version content [] ≡ interchange_taken_by version
+unfolding taking_in
+no_rules_before version content = refl
+
+-- ---- a migration
+
+none_behind : (event : Event) (o : Option (Version × List Event)) → behind event o ≡ None → o ≡ None
+none_behind event None e = refl
+none_behind event (Some migration) e = cc
+
+first_migration : (es : List Event) (version : Version) → migration_in es ≡ None → migration_in (es ++ migrated version ∷ []) ≡ Some (version, es)
+first_migration [] version none = refl
+first_migration (delivered text ∷ es) version none = ap (behind (delivered text)) (first_migration es version (none_behind (delivered text) (migration_in es) none))
+first_migration (migrated other ∷ es) version none = cc
+first_migration (added code kind ∷ es) version none = ap (behind (added code kind)) (first_migration es version (none_behind (added code kind) (migration_in es) none))
+
+pub taking_unmigrated : (version : Version) (content : SetupContent) (es : List Event) → migration_in es ≡ None → taking_in version content es ≡ interchange_taken_by version
+unfolding taking_in
+taking_unmigrated version content es none = ap (taking_by version content) none
+
+pub taking_migrated : (version old : Version) (content : SetupContent) (es : List Event) → migration_in es ≡ None
+    → taking_in version content (es ++ migrated old ∷ []) ≡ taken_by_place number_said (deliveries_of content es) (interchange_taken_by old) (interchange_taken_by version)
+unfolding taking_in
+taking_migrated version old content es none = ap (taking_by version content) (first_migration es old none)
+
+-- ---- what was delivered is numbered, and goes on by the rules in force
+
+pub numbered : (content : SetupContent) (es : List Event) → AreNumbered number_said (deliveries_of content es)
+numbered content es p k text first = number_told (parties_in (content_after content es)) text (p, k) (first_admitted es content p k text first)
+
+pub admitted_more : (content : SetupContent) (es : List Event) (sent : List ℕ) (p k : ℕ) → IsFor content es sent p k
+    → deliveries_of content (es ++ delivered sent ∷ []) ≡ deliveries_of content es ++ delivery p k (interchange_of sent) ∷ []
+admitted_more content es sent p k is = deliveries_on es (delivered sent ∷ []) content ∙ ap (λ place. deliveries_of content es ++ with_delivery (interchange_of sent) place []) is
+
+pub refused_more : (content : SetupContent) (es : List Event) (sent : List ℕ) (fault : Fault) → admission (parties_in (content_after content es)) (interchange_of sent) ≡ Err fault
+    → deliveries_of content (es ++ delivered sent ∷ []) ≡ deliveries_of content es
+refused_more content es sent fault is =
+    deliveries_on es (delivered sent ∷ []) content ∙ ap (λ place. deliveries_of content es ++ with_delivery (interchange_of sent) place []) is ∙ append-nil (deliveries_of content es)
+
+pub numbered_more : (content : SetupContent) (es : List Event) (sent : List ℕ) (p k : ℕ) → IsFor content es sent p k → AreNumbered number_said (deliveries_of content es ++ delivery p k (interchange_of sent) ∷ [])
+numbered_more content es sent p k is = subst (AreNumbered number_said) (admitted_more content es sent p k is) (numbered content (es ++ delivered sent ∷ []))
+
+-- the events before the migration are the first ones
+record IsSplit (es before : List Event) : Type 0 where
+  later : List Event
+  is : es ≡ before ++ later
+
+split_behind : (event : Event) (es : List Event) (o : Option (Version × List Event)) (migration : Version × List Event) → ((m : Version × List Event) → o ≡ Some m → IsSplit es m.1) → behind event o ≡ Some migration → IsSplit (event ∷ es) migration.1
+split_behind event es None migration rest e = cc
+split_behind event es (Some m) migration rest e =
+    let own : (m.0, event ∷ m.1) ≡ migration = cc in
+    let its : event ∷ m.1 ≡ migration.1 = ap (λ (q : Version × List Event). q.1) own in
+    let split = rest m refl in
+    record { later = split.later; is = ap (λ l. event ∷ l) split.is ∙ ap (λ l. l ++ split.later) its }
+
+split_of : (es : List Event) (migration : Version × List Event) → migration_in es ≡ Some migration → IsSplit es migration.1
+split_of [] migration e = cc
+split_of (delivered text ∷ es) migration e = split_behind (delivered text) es (migration_in es) migration (split_of es) e
+split_of (migrated version ∷ es) migration e =
+    let own : (version, []) ≡ migration = cc in
+    let none : [] ≡ migration.1 = ap (λ (q : Version × List Event). q.1) own in
+    record { later = migrated version ∷ es; is = ap (λ l. l ++ migrated version ∷ es) none }
+split_of (added code kind ∷ es) migration e = split_behind (added code kind) es (migration_in es) migration (split_of es) e
+
+goes_on_by : (content now : SetupContent) (es : List Event) (D : List Delivery) (d : Delivery) (migration : Option (Version × List Event)) → migration_in es ≡ migration → deliveries_of content es ≡ D
+    → AreNumbered number_said (D ++ d ∷ []) → GoesOn (taking_by newest content migration) now D d
+goes_on_by content now es D d None is own numbered = λ here there keeps takes. keeps_run interchange_taken (opening_of now) D d here there keeps takes
+goes_on_by content now es D d (Some migration) is own numbered =
+    let split = split_of es migration is in
+    let before = deliveries_of content migration.1 in
+    let later = deliveries_of (content_after content migration.1) split.later in
+    let same : before ++ later ≡ D = sym (deliveries_on migration.1 split.later content) ∙ ap (deliveries_of content) (sym split.is) ∙ own in
+    subst (λ E. AreNumbered number_said (E ++ d ∷ []) → GoesOn (taking_by newest content (Some migration)) now E d) same
+    (λ numbers here there keeps takes. goes_on_by_new number_said (interchange_taken_by migration.0) interchange_taken (opening_of now) before later d here there numbers keeps takes) numbered
+
+pub goes_on : (content now : SetupContent) (es : List Event) (d : Delivery) → AreNumbered number_said (deliveries_of content es ++ d ∷ []) → GoesOn (taking_in newest content es) now (deliveries_of content es) d
+unfolding taking_in
+goes_on content now es d numbered = goes_on_by content now es (deliveries_of content es) d (migration_in es) refl refl numbered
+
+-- ---- the same rows, said otherwise
+
+pub moved : (version : Version) (taking taking' : Taking MachineState) (now now' : SetupContent) (D D' : List Delivery) (rows : Rows) → taking' ≡ taking → now' ≡ now → D' ≡ D
+    → AreRowsOf version taking now D rows → AreRowsOf version taking' now' D' rows
+moved version taking taking' now now' D D' rows one two three are =
+    subst (λ t. AreRowsOf version t now' D' rows) (sym one) (subst (λ n. AreRowsOf version taking n D' rows) (sym two) (subst (λ E. AreRowsOf version taking now E rows) (sym three) are))

@@ -1,0 +1,51 @@
+-- What stands behind a head decides what a stream asks for.
+use Rattle.std.proofs.Common.{◌≡◌, ◌⊎◌, ℕ, List, ◌++◌, drop, take, Option, None, Some, Result, Ok, Err, IfSome, inl, inr, sym, subst, ap, ◌∙◌}
+use Rattle.std.specs.Option.{option_and_then}
+use Rattle.httparse.specs.Grammar.{RequestHead}
+use Rattle.httparse.specs.Spans.{IsRequestAt}
+use Rattle.httparse.specs.declared.spans.HeaderSpan.{HeaderSpan}
+use Rattle.office_queries.specs.Keys.{query_of}
+use Rattle.office_queries.specs.declared.report_kind.ReportKind.{ReportKind}
+use Rattle.office_http.specs.Heads.{FindsHead}
+use Rattle.office_http.specs.Requests.{Asks, AsksAt, AsksWith, Gets}
+use Rattle.office_http.specs.Routes.{endpoint_of, path_of, key_in}
+use Rattle.office_http.specs.declared.endpoint.Endpoint.{Endpoint}
+use Rattle.office_http.specs.declared.endpoint.Endpoint.TheVariants as endpoint
+use Rattle.office_http.specs.declared.found_head.FoundHead.{FoundHead}
+use Rattle.office_http.specs.declared.refusal.Refusal.{Refusal}
+use Rattle.office_http.specs.declared.refusal.Refusal.TheVariants.{NotNow}
+use Rattle.office_http.specs.declared.request.Request.{Request}
+use Rattle.office_http.specs.declared.request.Request.TheVariants.{Refused}
+
+abbrev pub IsRouted : Result Endpoint Refusal → Type 0
+IsRouted (Ok to) = Unit {0}
+IsRouted (Err refusal) = ⊥
+
+pub ok_not_err : (to : Endpoint) (refusal : Refusal) → Ok to ≡ Err refusal → ⊥
+ok_not_err to refusal same = subst IsRouted same tt
+
+pub all_of_some : {A : Type 0} (o : Option A) (P : A → Type 0) → ((a : A) → P a) → IfSome o P
+all_of_some None P all = tt
+all_of_some (Some a) P all = all a
+
+-- a report by its key, at the path of a head
+pub report_asked : (head : RequestHead) (rest method path : List ℕ) (to : Result Endpoint Refusal) (kind : ReportKind) (request : Request) →
+    to ≡ Ok (endpoint.Report kind) → (to ≡ Err NotNow) ⊎ (to ≡ endpoint_of method path) → method ≡ head.method → path ≡ path_of head.target →
+    (request ≡ Refused NotNow) ⊎ Gets kind (option_and_then (query_of kind) (key_in kind path)) request → AsksWith head rest request
+report_asked head rest method path to kind request is (inl not_now) same_method same_path asks = absurd (ok_not_err _ _ (sym is ∙ not_now))
+report_asked head rest method path to kind request is (inr leads) same_method same_path (inl not_now) = inl not_now
+report_asked head rest method path to kind request is (inr leads) same_method same_path (inr gets) =
+    let there : Ok (endpoint.Report kind) ≡ endpoint_of head.method (path_of head.target) =
+    sym is ∙ leads ∙ ap (λ (m : List ℕ). endpoint_of m path) same_method ∙ ap (λ (p : List ℕ). endpoint_of head.method p) same_path in
+    inr (subst (λ (at : Result Endpoint Refusal). AsksAt at head rest request) there
+    (subst (λ (p : List ℕ). Gets kind (option_and_then (query_of kind) (key_in kind p)) request) same_path gets))
+
+-- a head that was found, and what is asked for behind it
+pub asked_known : (known left : Option (List ℕ)) (buffer : List ℕ) (headers : List HeaderSpan) (found : FoundHead) (request : Request) →
+    IfSome known (λ stream. FindsHead 8192 64 stream left buffer headers (Some found)) →
+    IfSome left (λ given. (head : RequestHead) → IsRequestAt (take found.filled buffer) headers found.spans head →
+    AsksWith head (drop found.spans.len (take found.filled buffer) ++ given) request) → IfSome known (λ stream. Asks stream request)
+asked_known None left buffer headers found request finds asks = tt
+asked_known (Some stream) None buffer headers found request finds asks = absurd finds
+asked_known (Some stream) (Some given) buffer headers found request finds asks =
+    inr (finds.head, drop found.spans.len (take found.filled buffer) ++ given, finds.is_head, asks finds.head finds.spans)

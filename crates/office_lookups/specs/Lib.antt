@@ -1,0 +1,4 @@
+pub mod Blocks
+pub mod Containers
+pub mod Contrls
+pub mod Laws

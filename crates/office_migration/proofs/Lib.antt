@@ -1,0 +1,5 @@
+pub mod StayLemmas
+pub mod MoreLemmas
+pub mod PairLemmas
+pub mod MigratedLemmas
+pub mod HistoryLemmas

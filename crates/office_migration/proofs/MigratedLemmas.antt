@@ -1,0 +1,101 @@
+-- The rows that were copied are those of the old store, brought to the newest version.
+use Rattle.std.proofs.Common.{◌≡◌, ℕ, List, [], ◌∷◌, map, Result, Ok, Err, IfErr, refl, sym, ap, subst, ◌∙◌, take}
+use Rattle.std.specs.List.Sorted.{IsPermutation}
+use Rattle.std.proofs.lemmas.List.Sorted.{IsPermutation-trans, IsPermutation-map}
+use Rattle.sqlite.specs.Order.{Row}
+use Rattle.sqlite.specs.Table.{Table}
+use Rattle.sqlite.specs.Tree.{Trees}
+use Rattle.sqlite.specs.Effect.{Database}
+use Rattle.sqlite.specs.State.{State}
+use Rattle.sqlite_trees.proofs.ListLemmas.{map-map}
+use Rattle.terminal_core.specs.State.{TerminalState}
+use Rattle.office_setup.specs.Setups.{SetupContent}
+use Rattle.office_rows.specs.Tables.{partner, interchange, visit, place, listed, setting, block, office_tables, no_schema}
+use Rattle.office_rows.specs.Layouts.{bare_schema}
+use Rattle.office_rows.specs.Rows.{Interchange, Rows}
+use Rattle.office_rows.specs.Values.{partner_values, interchange_values, visit_values, place_values, line_values, setting_values, block_values}
+use Rattle.office_rows.specs.Stored.{Holds, AreRows, HasRows, HasEmpty}
+use Rattle.office_rows.specs.Steps.{Turns}
+use Rattle.office_rows.specs.Shown.{columns_at, ShowsTable}
+use Rattle.office_rows.specs.Opened.{OpenedRows, Shows}
+use Rattle.office_rows.specs.Bare.{HasBareRows, with_weights}
+use Rattle.office_rows.specs.Migrated.{migrated_rows, migrated_settings, migrated_opened}
+use Rattle.office_rows.specs.Office.{IsOffice}
+use Rattle.office_rows.proofs.StepLemmas.{stores}
+use Rattle.office_tables.specs.declared.table_fault.TableFault.{TableFault}
+use Rattle.office_tables.specs.declared.table_fault.TableFault.TheVariants.{Store, Damaged, Version, Memory}
+use Rattle.office_tables.specs.Faults.{IsOfStore}
+use Rattle.office_loading.specs.Older.{NamesOlder, TellsOlder, FailsToLoadOlder}
+use Rattle.office_loading.proofs.OlderOffice.{renamed_columns, renamed_all}
+use Rattle.office_migration.specs.Copies.{AreOfPairs, copied_rows}
+use Rattle.office_migration.specs.Migration.{IsCopy, IsMigration}
+use Rattle.office_migration.proofs.PairLemmas.{copied_all}
+
+module _ {A : Type 0} (table : Table) (values : A → Row) where
+  -- records that show the same values are held alike
+  held_as : (xs ys : List A) (stored : List Row) → IsPermutation (map values xs) (map values ys) → Holds table values ys stored → Holds table values xs stored
+  held_as xs ys stored same held = record { shaped = held.shaped; same = IsPermutation-trans _ _ _ same held.same }
+
+  -- what a query of all columns shows are the records that the tree holds
+  shown_as : (shown key : List ℕ) → ((x : A) → columns_at shown (values x) ≡ values x) → (db : Database) (xs ys : List A) → Holds table values xs (db.trees table.tree) → ShowsTable table shown key db (map values ys) → IsPermutation (map values xs) (map values ys)
+  shown_as shown key whole db xs ys held it =
+      let by = IsPermutation-map (columns_at shown) _ _ (IsPermutation-trans _ _ _ held.same it.same) in
+      let mine : map (columns_at shown) (map values xs) ≡ map values xs = map-map (columns_at shown) values xs ∙ (λ i. map (λ x. whole x i) xs) in
+      subst (λ l. IsPermutation l (map values ys)) mine (subst (IsPermutation (map (columns_at shown) (map values xs))) (sym it.is) by)
+
+  shown_held : (shown key : List ℕ) → ((x : A) → columns_at shown (values x) ≡ values x) → (db : Database) (xs ys : List A) → Holds table values xs (db.trees table.tree) → ShowsTable table shown key db (map values ys) → (stored : List Row) → Holds table values ys stored → Holds table values xs stored
+  shown_held shown key whole db xs ys held it stored new = held_as xs ys stored (shown_as shown key whole db xs ys held it) new
+
+module _ (db : Database) (rows : OpenedRows) (content : SetupContent) (state : TerminalState) (office : IsOffice (migrated_opened rows) content state) (shown : Shows (with_weights db) rows)
+    (copied : List Interchange) (pairs : AreOfPairs (db.trees 2) rows.numbers copied) (own : Rows) (has : HasBareRows own db) where
+  rows_copied : (trees : Trees) → AreRows (copied_rows (migrated_opened rows) copied) trees → AreRows (migrated_rows own) trees
+  rows_copied trees new =
+      let seen = with_weights db in
+      let old = has.rows_are in
+      let named = shown_as setting setting_values (0 ∷ 1 ∷ []) (0 ∷ []) (λ x. refl) seen own.settings rows.settings old.settings shown.settings in
+      let settings : IsPermutation (map setting_values (migrated_settings own.settings)) (map setting_values (migrated_settings rows.settings)) =
+      subst (λ l. IsPermutation l (map setting_values (migrated_settings rows.settings))) (sym (renamed_all own.settings))
+      (subst (IsPermutation (map renamed_columns (map setting_values own.settings))) (sym (renamed_all rows.settings)) (IsPermutation-map renamed_columns _ _ named)) in
+      let interchanges = copied_all seen rows.numbers shown.numbers rows.partners content.partners office.accounts office.kept own.interchanges copied old.interchanges pairs in
+      record {
+        partners = shown_held partner partner_values (0 ∷ 1 ∷ 2 ∷ 3 ∷ []) (0 ∷ []) (λ x. refl) seen own.partners rows.partners old.partners shown.partners (trees 0) new.partners;
+        interchanges = held_as interchange interchange_values own.interchanges copied (trees 2) (IsPermutation-map interchange_values _ _ interchanges) new.interchanges;
+        visits = shown_held visit visit_values (0 ∷ 1 ∷ 2 ∷ 3 ∷ 4 ∷ 5 ∷ 6 ∷ 7 ∷ 8 ∷ 9 ∷ 10 ∷ 11 ∷ 12 ∷ 13 ∷ 14 ∷ []) (0 ∷ []) (λ x. refl) seen own.visits rows.visits old.visits shown.visits (trees 4) new.visits;
+        places = shown_held place place_values (0 ∷ 1 ∷ 2 ∷ []) (0 ∷ []) (λ x. refl) seen own.places rows.places old.places shown.places (trees 5) new.places;
+        lines = shown_held listed line_values (0 ∷ 1 ∷ 2 ∷ 3 ∷ 4 ∷ 5 ∷ []) (0 ∷ 1 ∷ 2 ∷ 3 ∷ []) (λ x. refl) seen own.lines rows.lines old.lines shown.lines (trees 9) new.lines;
+        settings = held_as setting setting_values (migrated_settings own.settings) (migrated_settings rows.settings) (trees 11) settings new.settings;
+        blocks = shown_held block block_values (0 ∷ 1 ∷ 2 ∷ 3 ∷ []) (0 ∷ []) (λ x. refl) seen own.blocks rows.blocks old.blocks shown.blocks (trees 13) new.blocks;
+      }
+
+  pub has_migrated : (new : Database) → HasRows (copied_rows (migrated_opened rows) copied) new → HasRows (migrated_rows own) new
+  has_migrated new h = record { schema = h.schema; lists = h.lists; rows_are = rows_copied new.trees h.rows_are }
+
+-- ---- the transaction
+
+pub made_rows : (tables : OpenedRows) (copied : List Interchange) (old begun last : State) → begun.now ≡ old.committed → Turns (HasEmpty (take 0 office_tables)) (HasRows (copied_rows tables copied)) begun last → old.committed.schema ≡ no_schema → HasRows (copied_rows tables copied) last.now
+made_rows tables copied old begun last same turns none = turns.now (record { schema = ap (λ (d : Database). d.schema) same ∙ none; empty = tt })
+
+pub copied_whole : (from : Database) (tables : OpenedRows) (copied : List Interchange) (old begun last : State) (db : Trees) → (from.schema ≡ bare_schema → AreOfPairs (from.trees 2) tables.numbers copied) → begun.now ≡ old.committed → Turns (HasEmpty (take 0 office_tables)) (HasRows (copied_rows tables copied)) begun last → db ≡ last.now.trees → IsCopy from tables old.committed db
+copied_whole from tables copied old begun last db pairs same turns is none bare = (copied, pairs bare, rw is (stores (copied_rows tables copied) last.now (made_rows tables copied old begun last same turns none)))
+
+pub migrated_whole : (from before : Database) (rows : OpenedRows) (content : SetupContent) (state : TerminalState) → IsOffice (migrated_opened rows) content state → Shows (with_weights from) rows → (db : Trees) → IsCopy from (migrated_opened rows) before db → IsMigration from before db
+migrated_whole from before rows content state office shown db copy none own has =
+    let c = copy none has.schema in
+    has_migrated from rows content state office shown c.0 c.1 own has (record { schema = _; trees = db }) c.2
+
+-- ---- faults
+
+-- a fault of the store says nothing of rows
+pub of_store_fails : (db : Database) (fault : TableFault) → IsOfStore fault → FailsToLoadOlder db fault
+of_store_fails db (Store error) h = h
+of_store_fails db Memory h = h
+of_store_fails db Damaged h = absurd h
+of_store_fails db Version h = absurd h
+
+-- behind a version that was found comes a fault of the store alone
+pub copy_tells : (X : Type 0) (rows : List Row) (result : Result X TableFault) → NamesOlder rows → IfErr result IsOfStore → TellsOlder rows result
+copy_tells X rows (Ok x) named h = named
+copy_tells X rows (Err (Store error)) named h = h
+copy_tells X rows (Err Memory) named h = h
+copy_tells X rows (Err Damaged) named h = absurd h
+copy_tells X rows (Err Version) named h = absurd h

@@ -1,0 +1,54 @@
+-- What a migration leaves.
+use Rattle.std.specs.Prelude.{◌≡◌, List, IsTrue}
+use Rattle.sqlite.specs.State.{State}
+use Rattle.sqlite.specs.Effect.{Database}
+use Rattle.sqlite.specs.Tree.{Trees}
+use Rattle.terminal_core.specs.State.{TerminalState}
+use Rattle.office_setup.specs.Setups.{SetupContent}
+use Rattle.office_rows.specs.Tables.{no_schema}
+use Rattle.office_rows.specs.Layouts.{bare_schema}
+use Rattle.office_rows.specs.Rows.{Interchange, Rows}
+use Rattle.office_rows.specs.Opened.{OpenedRows}
+use Rattle.office_rows.specs.Stored.{HasRows, StoresRows}
+use Rattle.office_rows.specs.Bare.{HasBareRows}
+use Rattle.office_rows.specs.Migrated.{migrated_rows}
+use Rattle.office_loading.specs.Older.{LoadsOlder}
+use Rattle.office_migration.specs.Copies.{AreOfPairs, copied_rows}
+
+-- what was committed is all there is, and a crash leaves it alone
+pub record IsSettled (s : State) : Type 0 where
+  pub settled : s.now ≡ s.committed
+  pub is_open : IsTrue s.is_open
+  pub alone : (db : Trees) → s.may_leave db → db ≡ s.committed.trees
+
+-- ---- the rows that were read, with interchanges
+
+-- an empty database has these rows and the old store's interchanges of their numbers, committed
+pub record Copies (old : Database) (tables : OpenedRows) (before after : State) : Type 0 where
+  pub copied : List Interchange
+  pub are : AreOfPairs (old.trees 2) tables.numbers copied
+  pub rows : before.committed.schema ≡ no_schema → HasRows (copied_rows tables copied) after.committed
+  pub stays : IsSettled after
+
+-- these are these rows and the old store's interchanges of their numbers, whole
+abbrev pub IsCopy : Database → OpenedRows → Database → Trees → Type 0
+IsCopy old tables before db = before.schema ≡ no_schema → old.schema ≡ bare_schema →
+    (copied : List Interchange) × AreOfPairs (old.trees 2) tables.numbers copied
+    × StoresRows (copied_rows tables copied) db
+
+-- ---- the rows of a store
+
+-- the old store holds an office of version 1 or 2; an empty database has its rows, brought to the newest version,
+-- committed
+pub record Migrates (old : Database) (before after : State) : Type 0 where
+  pub content : SetupContent
+  pub terminal : TerminalState
+  pub loads : LoadsOlder old content terminal
+  pub rows : before.committed.schema ≡ no_schema → (rows : Rows) → HasBareRows rows old →
+      HasRows (migrated_rows rows) after.committed
+  pub stays : IsSettled after
+
+-- these are the rows of the old store, brought to the newest version, whole
+abbrev pub IsMigration : Database → Database → Trees → Type 0
+IsMigration old before db = before.schema ≡ no_schema → (rows : Rows) → HasBareRows rows old →
+    StoresRows (migrated_rows rows) db

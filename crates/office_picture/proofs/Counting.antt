@@ -1,0 +1,16 @@
+-- Texts of counted parts.
+use Rattle.std.proofs.Common.{◌≡◌, ℕ, zero, suc, ◌+◌, List, [], ◌∷◌, ◌++◌, flat_map, refl, sym, ap, ◌∙◌, append_assoc, arith}
+use Rattle.std.specs.List.{range_with_len}
+use Rattle.std.proofs.lemmas.List.{append-nil}
+
+module _ (f : ℕ → List ℕ) where
+  -- one part more
+  from : (a n m : ℕ) → a + n ≡ m → flat_map f (range_with_len a (suc n)) ≡ flat_map f (range_with_len a n) ++ f m
+  from a zero m e = append-nil (f a) ∙ ap f (omega arith)
+  from a (suc n) m e = ap (λ rest. f a ++ rest) (from (a + 1) n m (omega arith)) ∙ sym (append_assoc (f a) (flat_map f (range_with_len (a + 1) n)) (f m))
+
+  pub next : (n : ℕ) (before text now : List ℕ) → text ≡ before ++ flat_map f (range_with_len 0 n) → now ≡ text ++ f n → now ≡ before ++ flat_map f (range_with_len 0 (n + 1))
+  next n before text now e is =
+      let more : n + 1 ≡ suc n = omega arith in
+      is ∙ ap (λ t. t ++ f n) e ∙ append_assoc before (flat_map f (range_with_len 0 n)) (f n)
+      ∙ ap (λ t. before ++ t) (sym (ap (λ k. flat_map f (range_with_len 0 k)) more ∙ from 0 n n (omega arith)))

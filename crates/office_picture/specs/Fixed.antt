@@ -1,0 +1,77 @@
+-- The parts of the page that are the same for every yard.
+use Rattle.std.specs.Prelude.{ℕ, List, ◌++◌, codes}
+
+-- what comes before the title: the kind of page, and its style
+unfoldable pub head : List ℕ
+head =
+    codes "<!doctype html>\n"
+    ++ codes "<html lang='en'>\n"
+    ++ codes "<head>\n"
+    ++ codes "<meta charset='utf-8'>\n"
+    ++ codes "<meta name='viewport' content='width=device-width,initial-scale=1'>\n"
+    ++ codes "<link rel='icon' href='data:,'>\n"
+    ++ codes "<style>\n"
+    ++ codes "*{box-sizing:border-box}\n"
+    ++ codes "body{margin:0;background:#eef2f6;color:#16263a;font:16px/1.4 system-ui,Roboto,'DejaVu "
+    ++ codes "Sans',sans-serif}\n"
+    ++ codes "main{max-width:88rem;margin:auto;padding:1.5rem 1rem 3rem}\n"
+    ++ codes "h1{margin:0;font-size:2rem;line-height:1.2;overflow-wrap:anywhere}\n"
+    ++ codes "h2{margin:0 0 .5rem;font-size:1.25rem}\n"
+    ++ codes "p,small,li{color:#526375;font-size:.875rem;font-weight:400}\n"
+    ++ codes "p{margin:.25rem 0 0;font-size:1rem}\n"
+    ++ codes "b{color:#16263a}\n"
+    ++ codes "small{margin-left:.75rem}\n"
+    ++ codes "ul{display:flex;flex-wrap:wrap;gap:.5rem 1.5rem;margin:1rem 0 0;padding:0;list-style:none}\n"
+    ++ codes "li{display:flex;align-items:center;gap:.5rem}\n"
+    ++ codes "section{margin-top:1.25rem;padding:1rem;background:#fff;border:1px solid #c6d0da;"
+    ++ codes "border-radius:.5rem}\n"
+    ++ codes "div{display:flex;flex-wrap:wrap;gap:1rem 2rem}\n"
+    ++ codes "figure{margin:0;max-width:100%;overflow-x:auto}\n"
+    ++ codes "figcaption{position:sticky;left:0;font-size:.875rem;font-weight:600}\n"
+    ++ codes "svg{display:block;max-width:100%;height:auto}\n"
+    ++ codes "svg.parts{position:absolute;width:0;height:0}\n"
+    ++ codes "text{text-anchor:middle;font:600 11px ui-monospace,'DejaVu Sans Mono',Menlo,Consolas,monospace;"
+    ++ codes "fill:#16263a}\n"
+    ++ codes "g[id] text{font-weight:400;fill:#526375}\n"
+    ++ codes "[href^='#full']~text{fill:#fff}\n"
+    ++ codes "[href^='#empty']~text{stroke:#fff;stroke-width:3.5px;paint-order:stroke}\n"
+    ++ codes "@media(max-width:40rem){main{padding:1rem .5rem 2rem}section{padding:.75rem .5rem}figure "
+    ++ codes "svg{max-width:none}}\n"
+    ++ codes "@media print{body{background:none}main{max-width:none;padding:0}section{padding:0;border:0}"
+    ++ codes "figure{break-inside:avoid}h2{break-after:avoid}}\n"
+    ++ codes "</style>\n"
+
+-- what comes behind the title: the shapes of containers, and how empty and free ones are filled
+unfoldable pub shapes : List ℕ
+shapes =
+    codes "</head>\n"
+    ++ codes "<body>\n"
+    ++ codes "<svg class='parts'>\n"
+    ++ codes "<pattern id='hatch' width='6' height='6' patternUnits='userSpaceOnUse' "
+    ++ codes "patternTransform='rotate(45)'><path d='M0 0H6V6H0Z' fill='#fff'/><path d='M0 1H6' "
+    ++ codes "stroke='#dba170' stroke-width='2'/></pattern>\n"
+    ++ codes "<pattern id='free' width='64' height='30' patternUnits='userSpaceOnUse'><rect x='2.5' y='3.5' "
+    ++ codes "width='59' height='25' rx='2' fill='#f7f9fb' stroke='#9fb0c0' stroke-dasharray='3'/></pattern>\n"
+    ++ codes "<rect id='full20' x='-30' y='3' width='60' height='26' rx='2' fill='#1f5a8c' stroke='#0f3450' "
+    ++ codes "stroke-width='1.5'/>\n"
+    ++ codes "<rect id='full40' x='-62' y='3' width='124' height='26' rx='2' fill='#1f5a8c' stroke='#0f3450' "
+    ++ codes "stroke-width='1.5'/>\n"
+    ++ codes "<rect id='empty20' x='-30' y='3' width='60' height='26' rx='2' fill='url(#hatch)' "
+    ++ codes "stroke='#a04c0a' stroke-width='1.5'/>\n"
+    ++ codes "<rect id='empty40' x='-62' y='3' width='124' height='26' rx='2' fill='url(#hatch)' "
+    ++ codes "stroke='#a04c0a' stroke-width='1.5'/>\n"
+    ++ codes "</svg>\n"
+    ++ codes "<main>\n"
+
+-- the legend
+unfoldable pub legend : List ℕ
+legend =
+    codes "<ul>\n"
+    ++ codes "<li><svg viewBox='-32 0 64 30' width='64' height='30'><use href='#full20'/></svg>full</li>\n"
+    ++ codes "<li><svg viewBox='-32 0 64 30' width='64' height='30'><use href='#empty20'/></svg>empty</li>\n"
+    ++ codes "<li><svg viewBox='-64 0 128 30' width='128' height='30'><use href='#full40'/></svg>a forty, "
+    ++ codes "over two bays</li>\n"
+    ++ codes "<li><svg viewBox='0 0 64 30' width='64' height='30'><path d='M0 0H64V30H0Z' "
+    ++ codes "fill='url(#free)'/></svg>free</li>\n"
+    ++ codes "<li>bays along, tiers up</li>\n"
+    ++ codes "</ul>\n"

@@ -1,0 +1,5 @@
+pub mod Fields
+pub mod Fixed
+pub mod Laws
+pub mod Picture
+pub mod Views

@@ -1,0 +1,17 @@
+-- The keys under which accounts are added.
+use Rattle.std.specs.Prelude.{ℕ, List, Option, option_map, unwrap_or}
+use Rattle.office_queries.specs.Escapes.{decoded_part}
+use Rattle.office_queries.specs.Keys.{parts, two}
+use Rattle.office_queries.specs.declared.account_key.AccountKey.{AccountKey}
+
+-- The bytes that a part stands for. One that can't be decoded stands for itself: its `%` is in no code and in no kind.
+abbrev pub named_by : List ℕ → List ℕ
+named_by part = unwrap_or (decoded_part part) part
+
+-- CODE/KIND
+abbrev pub account_in : List ℕ → Option (List ℕ × List ℕ)
+account_in key = option_map (λ p. (named_by p.0, named_by p.1)) (two (parts key))
+
+-- what a key names, as bytes
+abbrev pub account_named : AccountKey → List ℕ × List ℕ
+account_named key = (key.code.items, key.kind.items)

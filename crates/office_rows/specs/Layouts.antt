@@ -1,0 +1,32 @@
+-- The tables of versions 1 and 2, whose visits have no weight, beside those of the newest.
+use Rattle.std.specs.Prelude.{◌≡◌, [], ◌∷◌, take}
+use Rattle.sqlite.specs.Table.{Table}
+use Rattle.sqlite.specs.Schema.{Schema}
+use Rattle.terminal_core.specs.declared.version.Version.{Version}
+use Rattle.terminal_core.specs.declared.version.Version.TheVariants.{First, Second, Third}
+use Rattle.office_rows.specs.Tables.{partner, interchange, visit, place, listed, setting, block, schema_of, office_schema}
+
+-- whether a visit has a column for its weight
+pub data Layout : Type 0 where
+  bare : Layout
+  weighed : Layout
+
+abbrev pub layout_of : Version → Layout
+layout_of First = bare
+layout_of Second = bare
+layout_of Third = weighed
+
+-- a row for each visit, which ends before the weight
+abbrev pub bare_visit : Table
+bare_visit = record visit { columns = take 14 visit.columns }
+
+abbrev pub bare_schema : Schema
+bare_schema = schema_of (partner ∷ interchange ∷ bare_visit ∷ place ∷ listed ∷ setting ∷ block ∷ [])
+
+abbrev pub schema_in : Layout → Schema
+schema_in bare = bare_schema
+schema_in weighed = office_schema
+
+-- the tables of an office of some version
+abbrev pub IsOfficeSchema : Schema → Type 0
+IsOfficeSchema schema = (layout : Layout) × (schema ≡ schema_in layout)

@@ -1,0 +1,5 @@
+//! Pictures of small yards.
+#![tactic(auto)]
+
+#[cfg(test)]
+mod pictures;

@@ -1,0 +1,198 @@
+"""An addition and a migration by their commands, killed at each call by which they write, each of these calls refused, with
+files that may not grow, and each allocation refused: scripts/kill9, scripts/memory.
+
+An addition is in effect whole or not at all, and the same words again are answered by what stands. A new store has no tables
+or all of them, and the old one stays byte for byte.
+"""
+import os
+import shutil
+import tempfile
+from copy import deepcopy
+from functools import partial
+
+from model.days import Day
+from model.migrated import contents
+from model.office import Office, json_text
+from model.old_stores import write_store
+from model.reports import printed
+from model.rows import rows_in, rows_of
+from model.setup import DEMO
+
+from .books import NOT_NOW, Different, expect, prefilled
+from .calls import FAULTS, KINDS, STRACE, calls_in, places, strace
+from .full import limited
+from .working import run
+
+CODE, KIND = 'HAUL-N', 'gate'
+DELIVERED = 8               # before an addition
+PLAYED = 14                 # in an old store
+ROOMS = [0, 1, 32, 4095, *(4096 * 2 ** power for power in range(9))]     # bytes to which a file may grow
+
+# what a command may tell that had no memory, and print beside what it owes
+WANTS = {('', 'store: Memory\n', 3), ('', 'cannot read\n', 3), ('', '', 3), (NOT_NOW + '\n', '', 3)}
+
+
+class Addition:
+    """`account` over a store, which holds an office before it."""
+
+    name = 'account'
+
+    def __init__(self, program, store, office):
+        self.store, self.before = store, office
+        self.words = [program, 'account', store, CODE, KIND]
+
+    def found(self, given):
+        """Whether the account stands behind a process that printed, told and ended so; what it printed is in effect."""
+        after = deepcopy(self.before)
+        line = json_text(after.add_account(CODE, KIND)) + '\n'
+        got, faults = rows_in(self.store)
+        expect('integrity and foreign keys', [], faults)
+        is_added = got == rows_of(after)
+        if not is_added:
+            expect('the rows without the account', rows_of(self.before), got)
+        if given[0] not in (line, '', NOT_NOW + '\n') or (given[2] == 0 or given[0] == line) and not is_added:
+            raise Different('%r, and the account is %s' % (given, 'there' if is_added else 'not there'))
+        office = after if is_added else deepcopy(self.before)
+        again = json_text(office.add_account(CODE, KIND)) + '\n', '', 0
+        expect('account again', again, run(*self.words))
+        expect('the rows with the account', (rows_of(after), []), rows_in(self.store))
+        return 'added' if is_added else 'not added'
+
+
+class Migration:
+    """`migrate` of an old store, which holds an office, to a path at which nothing stands."""
+
+    name = 'migrate'
+
+    def __init__(self, program, folder, template, office):
+        self.program, self.old, self.new = program, os.path.join(folder, 'old.db'), os.path.join(folder, 'new.db')
+        shutil.copyfile(template, self.old)
+        self.after, self.bytes = deepcopy(office), contents(self.old)
+        self.after.migrate()
+        self.words = [program, 'migrate', self.old, self.new]
+
+    def found(self, given):
+        """Whether the new store is there behind a process that printed, told and ended so."""
+        expect('the old store', self.bytes, contents(self.old))
+        got, faults = rows_in(self.new)
+        expect('integrity and foreign keys', [], faults)
+        if given[0] not in ('ready\n', '') or (given[2] == 0 or given[0]) and not got:
+            raise Different('%r, and the new store has no tables' % (given,))
+        again = ('', 'store: Store\n', 3) if got else ('ready\n', '', 0)
+        if got:
+            expect('the rows of the new store', rows_of(self.after), got)
+        expect('migrate again', again, run(*self.words))
+        expect('the rows of the new store', (rows_of(self.after), []), rows_in(self.new))
+        expect('report', (printed(self.after, 'yard')[0], '', 0), run(self.program, 'report', self.new, 'yard'))
+        expect('the old store', self.bytes, contents(self.old))
+        return 'whole' if got else 'no tables'
+
+
+# ---- calls of the system
+
+def each_call(make, chance, counted):
+    """Each call of a process that is made in a folder of its own: killed as it begins, or answered with a fault."""
+    with tempfile.TemporaryDirectory(prefix='kill9-') as folder:
+        log = os.path.join(folder, 'calls')
+        run(*strace(log), *make(folder).words)
+        calls = calls_in(log)
+    for kind, fault in [(kind, None) for kind in KINDS] + FAULTS:
+        for place in places(calls[kind], kind, chance):
+            with tempfile.TemporaryDirectory(prefix='kill9-') as folder:
+                tried = make(folder)
+                how = 'inject=%s:%s:when=%d' % (kind, 'error=' + fault if fault else 'signal=SIGKILL', place)
+                given = run(*strace(os.path.join(folder, 'calls'), '-e', how), *tried.words)
+                try:
+                    found = tried.found(given)
+                except Different as different:
+                    raise Different('%s, %s: %s' % (tried.name, how, different)) from different
+                counted['%s, %s %s: %s' % (tried.name, fault or 'killed at', kind, found)] += 1
+
+
+def each_room(make, counted):
+    """A process with files that may not grow beyond so many bytes."""
+    for size in ROOMS:
+        with tempfile.TemporaryDirectory(prefix='kill9-') as folder:
+            tried = make(folder)
+            given = run(*tried.words, preexec_fn=limited(size))
+            try:
+                counted['%s, files that may not grow: %s' % (tried.name, tried.found(given))] += 1
+            except Different as different:
+                raise Different('%s, files of %d bytes: %s' % (tried.name, size, different)) from different
+
+
+def try_all(program, seed, counted):
+    """An addition to a store to which something was delivered, and migrations of stores of versions 1 and 2."""
+    if not STRACE:
+        counted['not run: strace is not there'] = 1
+        return
+    with tempfile.TemporaryDirectory(prefix='kill9-') as folder:
+        book = prefilled(program, folder, seed, DELIVERED)
+
+        def addition(other):
+            copied = book.copied(other)
+            return Addition(program, copied.store, copied.office)
+        each_call(addition, book.chance, counted)
+        each_room(addition, counted)
+        for version in (1, 2):
+            migration = partial(new_migration, program, *old_store(folder, seed, version))
+            each_call(migration, book.chance, counted)
+            each_room(migration, counted)
+
+
+def old_store(folder, seed, version):
+    """A store that the model played by old rules, and its office."""
+    office, day = Office(DEMO, keeps_fold=True, version=version), Day('old %s' % seed)
+    for _text in range(PLAYED):
+        office.answer(day.delivery())
+    template = os.path.join(folder, 'version%d' % version)
+    write_store(template, office)
+    return template, office
+
+
+def new_migration(program, template, office, folder):
+    """A migration in that folder."""
+    return Migration(program, folder, template, office)
+
+
+# ---- allocations
+
+PRINTING = 20               # more allocations than printing an answer takes
+
+
+def refuse_commands(refusing, office, steps, counted):
+    """Allocations of an addition over the store, and of a migration."""
+    start = os.path.join(refusing.folder, 'start.db')
+    refusing.copy_to(start)
+
+    def addition():
+        refusing.copy_from(start)
+        return Addition(refusing.program, refusing.store, office)
+    refusing.run([*addition().words[1:-1], 'none'])
+    refuse_each(refusing, addition, refusing.allocations() - PRINTING, steps, counted)
+    refusing.copy_from(start)
+    template, old = old_store(refusing.folder, 1, 2)
+
+    def migration():
+        for end in ('', '-wal'):
+            if os.path.exists(os.path.join(refusing.folder, 'new.db' + end)):
+                os.remove(os.path.join(refusing.folder, 'new.db' + end))
+        return Migration(refusing.program, refusing.folder, template, old)
+    refuse_each(refusing, migration, 0, steps, counted)
+
+
+def refuse_each(refusing, make, opened, steps, counted):
+    """Allocations of a process, refused in their turn: of those by which it opens a store each of a first step, of those
+    behind them each of a second. It then does what it does with all of them, or tells by name that memory ran out."""
+    refusing.run(make().words[1:])
+    behind = range(opened + 1, refusing.allocations() + 1, steps[1])
+    for refused in [*range(1, opened + 1, steps[0]), *behind]:
+        tried = make()
+        given = refusing.run(tried.words[1:], refused)
+        what = '%s, allocation %d' % (tried.name, refused)
+        if given not in WANTS and given[1:] != ('', 0):
+            raise Different('%s: %r' % (what, given))
+        try:
+            counted['%s: %s' % (tried.name, tried.found(given))] += 1
+        except Different as different:
+            raise Different('%s: %s' % (what, different)) from different
