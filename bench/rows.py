@@ -233,7 +233,7 @@ def filled(stores):
     """Stores of a large yard that is filled, with a load list."""
     both = stores.streams('yard')
     for program in both:
-        program.feed(streams.filling(CONTAINERS))
+        program.feed(streams.filling(CONTAINERS) + streams.wanted(CONTAINERS))
         program.close()
     return stores.path('office-yard'), stores.path('peer-yard')
 
@@ -277,7 +277,22 @@ def http(stores, client):
         Row('POST of a gate-in or gate-out, no sync', 'us', *unsynced, '', True),
         Row('the same, durable', 'us', *served(stores, client, disk, REQUESTS, [posts]), '1.45 times', True),
         Row('GET /yard, 200 containers', 'us', *served(stores, client, disk, REQUESTS, yard), '', True),
-        Row('GET /yard, 10,000 containers', 'us', *served(stores, client, large, 200, ['/yard', '200']), '', True)]
+        Row('GET /yard, 10,000 containers', 'us', *served(stores, client, large, 200, ['/yard', '200']), '', True)
+    ] + looked_up(stores, client)
+
+
+def looked_up(stores, client):
+    """What people look up in the large yard, all of which is on a load list: the office alone, since the peer has none."""
+    paths = [
+        '/containers/' + streams.box(5000), '/work/9123456/V1/load', '/blocks', '/contrls/HAULA/50', '/yard.csv', '/picture']
+    rows = []
+    for path in paths:
+        server = Server(stores.office, 'serve', stores.path('office-yard'), str(free_port()), '200')
+        seconds, _response = server.asked(client, path, '200')
+        server.close()
+        wanted = '' if path.startswith('/containers') else '3 times /yard'
+        rows.append(Row('GET %s, 10,000 containers' % path, 'us', seconds * 1e6, None, wanted))
+    return rows
 
 
 def free_port():

@@ -129,6 +129,15 @@ def filling(count):
     return texts
 
 
+def wanted(count):
+    """A load list of the same, a hundred in a message."""
+    numbers, texts = Numbers(), []
+    for first in range(0, count, 100):
+        groups = [Group(box(serial), size_of(serial), port='NLRTM') for serial in range(first, first + 100)]
+        texts.append(numbers.send('LINEA', message(1, '45', groups, ('9123456', 'V1'))))
+    return texts
+
+
 def twenties(count):
     """Gate-ins of so many full twenties, in messages that are as long as they may be, from the second haulier."""
     numbers, texts = Numbers(), []

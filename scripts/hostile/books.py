@@ -9,7 +9,7 @@ from model.cuts import cut
 from model.days import Day
 from model.http import response
 from model.office import Office, json_text
-from model.reports import printed
+from model.reports import WHOLE, printed
 from model.requests import every_key
 from model.rows import rows_in, rows_of
 from model.setup import DEMO, read_setup
@@ -122,7 +122,7 @@ class Book:
     def everything(self):
         """The rows, and each report: the yard by command, all else by HTTP."""
         self.found(None)
-        for kind in ('yard', 'yardcsv'):
+        for kind, _key in WHOLE:
             expect(kind, (printed(self.office, kind)[0], '', 0), run(self.program, 'report', self.store, kind))
         keys = [(kind, key) for kind, key in every_key(self.office) if key.isascii()]
         with Served(self.program, self.store, len(keys) or 1) as served:

@@ -9,7 +9,7 @@ from copy import deepcopy
 
 from model.http import response, response_text
 from model.office import Office
-from model.reports import printed
+from model.reports import WHOLE, printed
 from model.requests import every_key
 from model.rows import rows_in, rows_of
 from model.setup import DEMO
@@ -67,7 +67,7 @@ def refuse_reports(refusing, office, step, counted):
     """Each allocation of a report of each kind."""
     keys = {kind: key for kind, key in every_key(office)}
     before = rows_in(refusing.store)
-    for kind, key in [('yard', ''), ('yardcsv', ''), *keys.items()]:
+    for kind, key in [*WHOLE, *keys.items()]:
         words = ['report', refusing.store, kind, *([key] if key else [])]
         text, status = printed(office, kind, key)
         for refused in range(1, allocations_of(refusing, words) + 1, step):
