@@ -10,3 +10,4 @@ pub mod BreakLemmas
 pub mod WriterLemmas
 pub mod ReaderLemmas
 pub mod PlacedLemmas
+pub mod SeekLemmas

@@ -9,17 +9,36 @@ use super::service::Service;
 pub(crate) fn part<'a>(service: Service, separator: u8, bytes: &'a [u8], index: usize) -> &'a [u8]
     ensures { result.now ≡ get_or (parts_of service separator false bytes.now) index [] }
 {
-    let mut rest = bytes;
-    for _ in 0..index {
-        match split_once(service, separator, rest) {
-            Some((_, behind)) => rest = behind,
-            None => return &[],
-        }
-    }
+    let rest = behind_separators(service, separator, bytes, index);
     match split_once(service, separator, rest) {
         Some((part, _)) => part,
         None => rest,
     }
+}
+
+/// What stands behind so many separators that are not released. If there are fewer, it is empty.
+fn behind_separators<'a>(service: Service, separator: u8, bytes: &'a [u8], count: usize) -> &'a [u8]
+    ensures { get_or (parts_of service separator false bytes.now) count []
+        ≡ get_or (parts_of service separator false result.now) 0 [] }
+{
+    let mut left = count;
+    let mut start = 0;
+    while left > 0 {
+        if start >= bytes.len() {
+            return &[];
+        }
+        if bytes[start] == separator {
+            left -= 1;
+            start += 1;
+        } else if !service.releases(false, bytes[start]) {
+            start += 1;
+        } else if start + 1 < bytes.len() {
+            start += 2;
+        } else {
+            return &[];
+        }
+    }
+    &bytes[start..]
 }
 
 /// What stands before and behind the first separator that is not released.

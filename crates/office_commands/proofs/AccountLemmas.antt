@@ -10,7 +10,7 @@ use Rattle.office_replies.specs.Events.{Event}
 use Rattle.office_replies.specs.declared.account_answer.AccountAnswer.{AccountAnswer}
 use Rattle.office_replies.specs.declared.worst.Worst.{Worst}
 use Rattle.office_setup.specs.Setups.{SetupContent}
-use Rattle.office_history.specs.After.{SaysSame, content_after}
+use Rattle.office_history.specs.After.{SaysSame}
 use Rattle.office_stream.specs.Accounts.{AnsweredAccount, AccountCutShort}
 use Rattle.office_stream.specs.declared.port.Port.{Port}
 use Rattle.office_stream.specs.declared.stream_fault.StreamFault.{StreamFault}

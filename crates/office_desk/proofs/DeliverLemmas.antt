@@ -9,7 +9,7 @@ use Rattle.edi_syntax.specs.Envelope.{header_of}
 use Rattle.partner_core.specs.Answers.{Told}
 use Rattle.partner_core.specs.Answers as told
 use Rattle.office_replies.specs.Events.{Event, delivered}
-use Rattle.office_replies.specs.Contents.{AnswerContent, GivesOrNotNow, content_of}
+use Rattle.office_replies.specs.Contents.{GivesOrNotNow, content_of}
 use Rattle.office_replies.specs.Delivering.{with_answered}
 use Rattle.office_replies.specs.declared.response.Response.{Response}
 use Rattle.office_replies.specs.declared.response.Response.TheVariants as response

@@ -1,5 +1,5 @@
 -- A report, as one piece.
-use Rattle.std.proofs.Common.{◌≡◌, ℕ, List, Option, Result, Ok, Err, IfOk, OnOk, OnErr, option_map, string_bytes}
+use Rattle.std.proofs.Common.{◌≡◌, List, Option, Result, Ok, Err, IfOk, OnOk, OnErr, option_map, string_bytes}
 use Rattle.std.specs.Prelude.{String}
 use Rattle.std.specs.Result.{result_map_both}
 use Rattle.sqlite.specs.Held.{state}

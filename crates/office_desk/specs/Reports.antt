@@ -1,5 +1,5 @@
 -- What the desk tells: the reports of the rows that it holds.
-use Rattle.std.specs.Prelude.{◌≡◌, ℕ, List, Option, None, Some, codes, string_bytes}
+use Rattle.std.specs.Prelude.{◌≡◌, ℕ, List, Option, None, Some, codes, option_and_then, string_bytes}
 use Rattle.sqlite.specs.Held.{state}
 use Rattle.sqlite_trees.specs.declared.store.Store.{Ghosts}
 use Rattle.edi_messages.specs.Owned.{call_content}
@@ -15,6 +15,11 @@ use Rattle.office_history.specs.After.{AreAfter, content_after, machine_after, p
 use Rattle.office_history.specs.Cascade.{text_in}
 use Rattle.office_queries.specs.declared.query.Query.{Query}
 use Rattle.office_queries.specs.declared.query.Query.TheVariants as query
+use Rattle.office_lookups.specs.Blocks.{IsBlocksReport}
+use Rattle.office_lookups.specs.Containers.{container_report}
+use Rattle.office_lookups.specs.Contrls.{contrl_in}
+use Rattle.office_lookups.specs.Work.{IsWorkReport}
+use Rattle.office_picture.specs.Picture.{IsPicture}
 use Rattle.office_reports.specs.Export.{IsYardExport}
 use Rattle.office_reports.specs.Lists.{IsListReport}
 use Rattle.office_reports.specs.Tickets.{ticket_text}
@@ -58,6 +63,13 @@ abbrev pub ticket_of : List VisitContent → Rows → List ℕ → ℕ → Optio
 ticket_of visits rows code number None = None
 ticket_of visits rows code number (Some partner) = ticket_told visits code partner number (reply_in rows partner number)
 
+-- ---- CONTRLs
+
+-- the CONTRL of the reply that is kept, if it was taken
+abbrev pub contrl_told : Rows → ℕ → Option ℕ → Option (List ℕ)
+contrl_told rows number None = None
+contrl_told rows number (Some partner) = option_and_then contrl_in (reply_in rows partner number)
+
 -- ---- all reports
 
 -- the text, if there is one, is what the rows tell at the query, which are those of that set-up and of that terminal
@@ -70,6 +82,13 @@ TellsOf content state rows (query.Ticket partner number) found =
     found ≡ ticket_of state.visits rows (string_bytes partner) number (partner_called content (string_bytes partner))
 TellsOf content state rows (query.Reply partner number) found =
     TellsReplyOf rows (string_bytes partner) number (partner_called content (string_bytes partner)) found
+TellsOf content state rows (query.Work call side) found = IsWorkReport state (call_content call) side found
+TellsOf content state rows query.Picture found =
+    (page : List ℕ) × (found ≡ Some page) × IsPicture state content.terminal content.blocks page
+TellsOf content state rows (query.Container container) found = found ≡ container_report content state container
+TellsOf content state rows query.Blocks found = (text : List ℕ) × (found ≡ Some text) × IsBlocksReport state text
+TellsOf content state rows (query.Contrl partner number) found =
+    found ≡ contrl_told rows number (partner_called content (string_bytes partner))
 
 -- what the rows after those events tell
 pub record TellsAfter (content : SetupContent) (es : List Event) (query : Query)

@@ -1,2 +1,5 @@
 pub mod Counts
 pub mod Lasts
+pub mod LoadLemmas
+pub mod Puts
+pub mod OpenLineLemmas

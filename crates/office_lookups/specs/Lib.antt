@@ -2,3 +2,5 @@ pub mod Blocks
 pub mod Containers
 pub mod Contrls
 pub mod Laws
+pub mod OpenLines
+pub mod Work

@@ -13,4 +13,14 @@ pub enum ReportKind {
     Ticket,
     /// What an interchange was answered.
     Reply,
+    /// Where a container is.
+    Container,
+    /// What is left to do of a list of a vessel's voyage.
+    Work,
+    /// The blocks of the yard, and how full they are.
+    Blocks,
+    /// The CONTRL that an interchange was answered.
+    Contrl,
+    /// The yard as a page.
+    Picture,
 }

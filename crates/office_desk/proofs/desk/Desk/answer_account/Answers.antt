@@ -1,4 +1,4 @@
-use Rattle.std.proofs.Common.{◌≡◌, ◌++◌, [], ◌∷◌, map, List, Some, inl, refl, sym, ap, subst, ◌∙◌, rules, string_bytes}
+use Rattle.std.proofs.Common.{◌≡◌, ◌++◌, [], ◌∷◌, map, List, inl, refl, sym, ap, subst, ◌∙◌, rules, string_bytes}
 use Rattle.sqlite.specs.Held.{state}
 use Rattle.office_admission.specs.Accounts.{AccountPair, account_answer, added_as, by_number, content_after, known_as, refused_for}
 use Rattle.office_replies.specs.AccountAnswers.{account_added_text, account_known_text}

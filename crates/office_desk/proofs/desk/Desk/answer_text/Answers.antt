@@ -1,4 +1,4 @@
-use Rattle.std.proofs.Common.{◌≡◌, Ok, Err, Some, [], ◌∷◌, ◌++◌, ◌-◌, get_or, string_bytes, arith, refl, sym, subst, ◌∙◌}
+use Rattle.std.proofs.Common.{◌≡◌, Ok, Err, Some, ◌-◌, get_or, string_bytes, arith, refl, sym, subst, ◌∙◌}
 use Rattle.std.proofs.lemmas.Option.{slice_get-get_or}
 use Rattle.edi_segments.specs.Interchange.{interchange_of}
 use Rattle.edi_syntax.specs.Envelope.{header_of}
