@@ -1,4 +1,4 @@
-.PHONY: demo test build check strength refusals beside program kill9 memory clients fuzz bench
+.PHONY: demo test build check strength refusals beside program picture kill9 memory clients fuzz bench
 
 # The main job on a real interchange, by a build that proves nothing (`make build` leaves the proved program).
 demo:
@@ -39,6 +39,10 @@ beside:
 # What the program prints, tells and ends with, on files of its own: once it is built.
 program:
 	scripts/program
+
+# The picture of the yard that the program serves, in Debian's Chromium without a window, beside the model: once it is built.
+picture:
+	scripts/picture
 
 # The program killed 1,000 times while deliveries are under way, without room, on files that are read-only or gone, and by
 # twos on one store, beside the model: once it is built.

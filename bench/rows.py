@@ -1,4 +1,5 @@
 """The rows of the table: what is measured, of the office and of the peer in the same run."""
+import itertools
 import os
 import shutil
 import socket
@@ -7,7 +8,7 @@ import tempfile
 import time
 
 import streams
-from running import Server, Stream, instructions, least_seconds, spent
+from running import Cost, Server, Stream, instructions, least_seconds
 
 PART = 1000                 # interchanges that are timed together
 PARTS = 5                   # of which the least counts
@@ -16,10 +17,14 @@ MARKS = [1000, 10000, 100000]
 IN_MEMORY = '/dev/shm' if os.path.isdir('/dev/shm') else None    # where a sync costs nothing
 PATIENCE = 100              # seconds that a stream may take
 IN_DEMO = 4                 # containers in the yard of the demonstration
-BACK = 10000                # texts that come in reverse order
+MILLION = 1000000           # interchanges that the peer keeps before the office opens their store
+BACK, CASCADE = 10000, 100000   # texts that come in reverse order
 CALLS = 101                 # with a full load list each: 100,899 rows
 CONTAINERS = 10000          # in the yard that is reported
 REQUESTS = 2000
+VISITS = 100000             # of containers that have left
+LOOKED_UP = [                # over HTTP, of the yard with a load list
+    '/yard.csv', '/containers/' + streams.box(5000), '/work/9123456/V0/load', '/partners', '/blocks', '/contrls/HAULA/50', '/picture']
 FEW, MORE = 100, 600        # deliveries whose instructions are counted; the difference is without start and opening
 
 
@@ -162,9 +167,9 @@ def own_work(stores):
     return per_mark('gate-ins and gate-outs, tables in memory; peer: no store', parts, by_processor, '2.17 times', MARKS[:2])
 
 
-def reversed_order(stores):
+def reversed_order(stores, count):
     """Texts that wait, and the one that closes the gap, over stores in a file system in memory, if there is one."""
-    texts = streams.reverse(BACK)
+    texts = streams.reverse(count)
     with tempfile.TemporaryDirectory(prefix='bench-', dir=IN_MEMORY) as folder:
         both = stores.streams('reverse', folder=folder)
         waiting = [program.feed(texts[:-1]) for program in both]
@@ -173,11 +178,13 @@ def reversed_order(stores):
             program.close()
     if len({part.answers for part in waiting}) > 1 or len({part.answers for part in closing}) > 1:
         raise SystemExit('bench: office and peer differ in reverse order')
-    early = [part.seconds * 1e6 / BACK for part in waiting] + [None]
+    early = [part.seconds * 1e6 / count for part in waiting] + [None]
     close = [part.seconds * 1e3 for part in closing] + [None]
+    each = [part.seconds * 1e6 / count for part in closing] + [None]
     return [
-        Row('10,000 texts in reverse order, no sync, each', 'us', early[0], early[1], '', True),
-        Row('the text that closes their gap', 'ms', close[0], close[1])]
+        Row('%s texts in reverse order, no sync, each' % format(count, ','), 'us', early[0], early[1], '', True),
+        Row('the text that closes their gap', 'ms', close[0], close[1]),
+        Row('of these, for each text that it takes', 'us', each[0], each[1])]
 
 
 def replacing(stores):
@@ -200,6 +207,49 @@ def replacing(stores):
         Row('the latter by the former', 'times', replaced / listed, None, 'at most 2')]
 
 
+def beside_the_kit(stores, store, kept):
+    """Opening a store with a small report, beside the kit's own opening of that file: `init` opens it too, and then writes
+    nothing since there are tables."""
+    opened = Cost(3, stores.office, 'report', store, 'visits', streams.box(0))
+    own = Cost(3, stores.office, 'init', store, stores.path_of('partners.csv'), stores.path_of('large.csv'), statuses=(3,))
+    return [
+        Row('opening %s interchanges; peer: the kit\'s own opening' % kept, 'ms', opened.seconds * 1e3, own.seconds * 1e3, '1.15 times'),
+        Row('the same, peak memory', 'MB', opened.peak, own.peak, '1.15 times')]
+
+
+def million(stores):
+    """A store of a million interchanges that the peer has made, in a file system in memory, if there is one: its opening, and
+    deliveries over it."""
+    texts = streams.gates_without_end()
+    with tempfile.TemporaryDirectory(prefix='bench-', dir=IN_MEMORY) as folder:
+        made = stores.new('made', folder=folder)
+        maker = Stream(stores.peer, 'deliver', made) if stores.peer else Stream(stores.office, 'deliver', made, '-')
+        for _part in range(MILLION // PART):
+            maker.feed(list(itertools.islice(texts, PART)))
+        maker.close()
+        found = beside_the_kit(stores, made, format(MILLION, ','))
+        parts = fed(stores.both_on(made, folder), list(itertools.islice(texts, PARTS * PART)), PART)
+        size = os.path.getsize(made) / 1e6
+    costs = [min(part.seconds for part in taken) * 1e6 / PART for taken in parts] + [None]
+    return found + [
+        Row('gate-ins and gate-outs, no sync, %s kept' % format(MILLION, ','), 'us', costs[0], costs[1], '2.3 times', True),
+        Row('the store of %s interchanges' % format(MILLION, ','), 'MB', size)]
+
+
+def migrating(stores):
+    """A store of version 2 that is brought over, beside its opening when that is done; after `gates`."""
+    store = stores.path('office-gate-ins-%d' % MARKS[-1])
+    if not os.path.exists(store):
+        return []
+    old, new = stores.older(store, 'older'), stores.path('migrated')
+    brought = Cost(3, stores.office, 'migrate', old, new, before=lambda: stores.remove(new))
+    opened = Cost(3, stores.office, 'report', new, 'visits', streams.box(0))
+    return [
+        Row('migrate, %s interchanges; peer: opening what it made' % format(MARKS[-1], ','), 'ms', brought.seconds * 1e3,
+            opened.seconds * 1e3, '4 times'),
+        Row('the same, peak memory', 'MB', brought.peak, opened.peak)]
+
+
 def opening(stores):
     """Opening the stores that the longest stream has left."""
     office, peer = stores.path('office-gate-ins-end'), stores.path('peer-gate-ins-end')
@@ -210,30 +260,14 @@ def opening(stores):
         all_rows = least_seconds(3, stores.peer, 'rows', peer) * 1e3
     return [
         Row('opening the store that gate-ins and gate-outs leave, with a small report', 'ms', spent, rows_only, '1200 ms'),
-        Row('the same; the peer reads all rows', 'ms', spent, all_rows)]
-
-
-def migrating(stores):
-    """An older store with the rows that the longest stream has left, brought over, beside opening the new one; both in a file
-    system in memory, if there is one."""
-    with tempfile.TemporaryDirectory(prefix='bench-', dir=IN_MEMORY) as folder:
-        old, turns = stores.older(stores.path('office-gate-ins-end'), 'older', folder), []
-        for turn in range(3):
-            new = os.path.join(folder, 'migrated-%d.db' % turn)
-            turns.append((spent(stores.office, 'migrate', old, new), spent(stores.office, 'report', new, 'yard')))
-    moved, opened = (min(turn[each] for turn in turns) for each in (0, 1))
-    return [
-        Row('migrating an older store of 105,000 gate-ins and gate-outs, no sync', 'ms', moved[0] * 1e3),
-        Row('opening the new one, with a report of the yard', 'ms', opened[0] * 1e3),
-        Row('the former by the latter', 'times', moved[0] / opened[0], None, 'at most 4'),
-        Row('most memory of the migration', 'MB', moved[2])]
+        Row('the same; the peer reads all rows', 'ms', spent, all_rows)] + beside_the_kit(stores, office, 'these')
 
 
 def filled(stores):
     """Stores of a large yard that is filled, with a load list."""
     both = stores.streams('yard')
     for program in both:
-        program.feed(streams.filling(CONTAINERS))
+        program.feed(streams.filling(CONTAINERS) + [streams.listed(CONTAINERS)])
         program.close()
     return stores.path('office-yard'), stores.path('peer-yard')
 
@@ -278,6 +312,32 @@ def http(stores, client):
         Row('the same, durable', 'us', *served(stores, client, disk, REQUESTS, [posts]), '1.45 times', True),
         Row('GET /yard, 200 containers', 'us', *served(stores, client, disk, REQUESTS, yard), '', True),
         Row('GET /yard, 10,000 containers', 'us', *served(stores, client, large, 200, ['/yard', '200']), '', True)]
+
+
+def lookups(stores, client):
+    """What people look up of a yard of 10,000 containers, over HTTP from a server that is warm, beside the yard's report of the
+    same server; after `reports`, whose store has the large yard."""
+    large, yard = [stores.path('office-yard')], None
+    found = []
+    for path in ['/yard'] + LOOKED_UP:
+        spent = served(stores, client, large, 200, [path, '200'])[0]
+        yard = yard or spent
+        found.append(Row('GET %s, 10,000 containers; peer: GET /yard' % path, 'us', spent, yard, '' if path == '/yard' else '3 times', True))
+    return found + long_gone(stores, client)
+
+
+def long_gone(stores, client):
+    """A container that left, over as many visits as that: that of the newest visit, and that of the oldest, which is looked for
+    behind all others."""
+    with tempfile.TemporaryDirectory(prefix='bench-', dir=IN_MEMORY) as folder:
+        store = stores.new('office-gone', folder=folder)
+        office = Stream(stores.office, 'deliver', store, '-')
+        office.feed(streams.come_and_gone(VISITS))
+        office.close()
+        return [
+            Row('GET /containers/.., left, %s of %s visits' % (which, format(VISITS, ',')), 'us',
+                served(stores, client, [store], 200, ['/containers/' + streams.box(serial), '200'])[0], None, '', True)
+            for which, serial in (('newest', VISITS - 1), ('oldest', 0))]
 
 
 def free_port():

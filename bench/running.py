@@ -93,6 +93,24 @@ def least_seconds(times, *words):
     return least
 
 
+class Cost:
+    """The least time that a command took, in seconds, and the most resident memory that it had, in megabytes."""
+
+    def __init__(self, times, *words, statuses=(0, 1), before=lambda: None):
+        self.seconds, self.peak = None, 0
+        for _time in range(times):
+            before()
+            started = time.monotonic()
+            with subprocess.Popen(words, stdout=subprocess.DEVNULL, stderr=subprocess.DEVNULL) as process:
+                _pid, status, usage = os.wait4(process.pid, 0)
+                process.returncode = os.waitstatus_to_exitcode(status)
+            seconds = time.monotonic() - started
+            if process.returncode not in statuses:
+                raise SystemExit('bench: %s ended with %d' % (' '.join(words), process.returncode))
+            self.seconds = seconds if self.seconds is None else min(self.seconds, seconds)
+            self.peak = max(self.peak, usage.ru_maxrss / 1024)
+
+
 def instructions(path, *words):
     """How many instructions a program runs on a file as its input, by valgrind."""
     with open(path, 'rb') as file:
@@ -113,7 +131,7 @@ class Server:
         """Seconds and hash of the responses to a client's requests."""
         seconds, others, responses = command(client, self.port, *words).decode().split()
         if others != '0':
-            raise SystemExit('bench: %s of the responses are not 200' % others)
+            raise SystemExit('bench: %s of the responses to %s are not 200' % (others, words[0]))
         return float(seconds), responses
 
     def close(self):

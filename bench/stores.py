@@ -2,7 +2,6 @@
 import os
 import shutil
 import sqlite3
-from contextlib import closing
 
 from model.old_stores import schema_of
 from model.rows import OLD_COLUMNS, rows_in
@@ -29,20 +28,30 @@ class Stores:
 
     def path(self, name):
         """Where a store of that name is."""
-        return os.path.join(self.folder, name + '.db')
+        return self.path_of(name + '.db')
+
+    def path_of(self, name):
+        """Where a file of that name is."""
+        return os.path.join(self.folder, name)
 
     def file(self, name, text):
         """A file of that text."""
-        path = os.path.join(self.folder, name)
+        path = self.path_of(name)
         with open(path, 'w', encoding='latin-1') as file:
             file.write(text)
         return path
 
-    def copy(self, store, path):
-        """A copy of a store, with its log."""
+    def remove(self, path):
+        """A store's path, where nothing is left of it."""
         for end in ('', '-wal', '-shm'):
             if os.path.exists(path + end):
                 os.remove(path + end)
+        return path
+
+    def copy(self, store, path):
+        """A copy of a store, with its log."""
+        self.remove(path)
+        for end in ('', '-wal', '-shm'):
             if os.path.exists(store + end):
                 shutil.copyfile(store + end, path + end)
         return path
@@ -51,26 +60,35 @@ class Stores:
         """A store to which nothing was delivered."""
         return self.copy(self.path(yard), os.path.join(folder or self.folder, name + '.db'))
 
-    def older(self, store, name, folder=None):
-        """A store of version 2 with the rows of a store, but for weights, written by SQLite's own library."""
-        path = os.path.join(folder or self.folder, name + '.db')
-        newest = self.copy(store, self.path(name + '-newest'))
-        with closing(sqlite3.connect(path, isolation_level=None)) as made:
-            made.executescript(schema_of(2))
-            made.execute('ATTACH ? AS newest', (newest,))
-            made.execute('BEGIN')
-            for table, columns in OLD_COLUMNS.items():
-                made.execute('INSERT INTO %s SELECT %s FROM newest.%s' % (table, ', '.join(columns.split()), table))
-            made.execute("UPDATE setting SET value = '2' WHERE name = 'version'")
-            made.execute('COMMIT')
-        return path
-
     def streams(self, name, yard='large', folder=None):
         """Office and peer, each ready for a stream over a new store of its own."""
         both = [Stream(self.office, 'deliver', self.new('office-' + name, yard, folder), '-')]
         if self.peer:
             both.append(Stream(self.peer, 'deliver', self.new('peer-' + name, yard, folder)))
         return both
+
+    def both_on(self, made, folder):
+        """Office and peer, each over a copy of a store."""
+        both = [Stream(self.office, 'deliver', self.copy(made, os.path.join(folder, 'office-on.db')), '-')]
+        if self.peer:
+            both.append(Stream(self.peer, 'deliver', self.copy(made, os.path.join(folder, 'peer-on.db'))))
+        return both
+
+    def older(self, store, name):
+        """A store of version 2 with the rows of one, written by SQLite's own library."""
+        path = self.remove(self.path(name))
+        old = sqlite3.connect(path)
+        try:
+            old.executescript(schema_of(2))
+            old.execute('ATTACH ? AS newer', (self.copy(store, self.path('newer')),))
+            for table, columns in OLD_COLUMNS.items():
+                columns = ', '.join(columns.split())
+                old.execute('INSERT INTO %s (%s) SELECT %s FROM newer.%s' % (table, columns, columns, table))
+            old.execute("UPDATE setting SET value = '2' WHERE name = 'version'")
+            old.commit()
+        finally:
+            old.close()
+        return path
 
     def save(self, folder, name, mark):
         """Copies of the stores of a stream that has come to a mark."""

@@ -2,6 +2,7 @@
 
 All are the same at each run: what is drawn is drawn by a seed.
 """
+import itertools
 import random
 
 from model.names import check_digit
@@ -82,16 +83,18 @@ def gate_in(serial, slot=''):
     return message(1, '34', [Group(box(serial), size_of(serial), slot, booking='BOOK%d' % serial, moment='202403050910')])
 
 
-def gates(count, in_yard=IN_YARD):
+def gates_without_end(in_yard=IN_YARD):
     """Gate-ins and gate-outs in turn, from one haulier, with so many containers in the yard."""
-    numbers, texts = Numbers(), []
-    for serial in range(count):
-        texts.append(numbers.send('HAULA', gate_in(serial)))
+    numbers = Numbers()
+    for serial in itertools.count():
+        yield numbers.send('HAULA', gate_in(serial))
         if serial >= in_yard:
-            texts.append(numbers.send('HAULA', message(1, '36', [Group(box(serial - in_yard))])))
-        if len(texts) >= count:
-            break
-    return texts[:count]
+            yield numbers.send('HAULA', message(1, '36', [Group(box(serial - in_yard))]))
+
+
+def gates(count, in_yard=IN_YARD):
+    """So many of these."""
+    return list(itertools.islice(gates_without_end(in_yard), count))
 
 
 def lists(count):
@@ -127,6 +130,22 @@ def filling(count):
         groups = [Group(box(serial), size_of(serial), moment='202403050910') for serial in range(first, first + 100)]
         texts.append(numbers.send('HAULA', message(1, '34', groups)))
     return texts
+
+
+def come_and_gone(count):
+    """Gate-ins of so many containers, as many in a message as there may be; behind each message all of them leave, the last
+    one first, so that none is buried."""
+    numbers, texts = Numbers(), []
+    for first in range(0, count, FULL):
+        serials = range(first, min(first + FULL, count))
+        texts.append(numbers.send('HAULA', message(1, '34', [Group(box(serial), size_of(serial)) for serial in serials])))
+        texts.append(numbers.send('HAULA', message(1, '36', [Group(box(serial)) for serial in reversed(serials)])))
+    return texts
+
+
+def listed(count):
+    """A load list of the first containers of these, as many as a message may have, and those that are not in the yard."""
+    return Numbers().send('LINEA', full_list('V0', count - FULL // 2))
 
 
 def twenties(count):

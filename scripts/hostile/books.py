@@ -7,10 +7,12 @@ import subprocess
 
 from model.cuts import cut
 from model.days import Day
+from model.events import Added
 from model.http import response
 from model.office import Office, json_text
-from model.reports import printed
-from model.requests import every_key
+from model.old_stores import write_store
+from model.reports import WHOLE, printed
+from model.requests import every_key, path_of
 from model.rows import rows_in, rows_of
 from model.setup import DEMO, read_setup
 from model.setups import Files, files_of
@@ -19,7 +21,7 @@ from model.stream import status
 from .working import Served, run
 
 NOT_NOW = '{"answer":"not now"}'
-PATHS = {'visits': '/visits/', 'list': '/lists/', 'ticket': '/tickets/', 'reply': '/replies/'}
+ADDED = 0.08                # of what is sent, where accounts are added
 
 
 class Different(Exception):
@@ -32,10 +34,16 @@ def expect(what, wanted, got):
         raise Different('%s\n  model   %s\n  program %s' % (what, repr(wanted)[:3000], repr(got)[:3000]))
 
 
-class Book:
-    """A store of a random set-up. Texts are made as they are wanted, by the seed alone, and each is one interchange."""
+def answer(office, sent):
+    """The line that answers a text, or the addition of an account; it is in effect from here on."""
+    return json_text(office.add_account(*sent) if isinstance(sent, Added) else office.answer(sent))
 
-    def __init__(self, program, folder, seed):
+
+class Book:
+    """A store of a random set-up. What is sent is made as it is wanted, by the seed alone: texts, each one interchange, and
+    additions of accounts, where `adds` says so."""
+
+    def __init__(self, program, folder, seed, newcomers=()):
         self.program, self.folder, self.seed = program, folder, seed
         self.store = os.path.join(folder, 'office.db')
         files = Files(seed).both()
@@ -43,7 +51,8 @@ class Book:
             files = files_of(DEMO)
         self.office = Office(read_setup(*files)[0], keeps_fold=True)
         self.chance = random.Random('hostile %s' % seed)
-        self.day, self.texts, self.answered = Day(seed, self.office.setup), [], []
+        self.day, self.adds = Day(seed, self.office.setup, newcomers), False
+        self.texts, self.answered = [], []
         self.files = [self.file(name, text) for name, text in zip(('partners.csv', 'blocks.csv'), files)]
 
     def file(self, name, text):
@@ -58,27 +67,39 @@ class Book:
         expect('init', ('ready\n', '', 0), run(self.program, 'init', self.store, *self.files))
         return self
 
+    def migrated(self, version, count):
+        """Brings over a store of an old version, to which so many texts were delivered."""
+        old, setup = os.path.join(self.folder, 'old.db'), self.office.setup
+        self.office = Office(setup, keeps_fold=True, version=version)
+        for text in self.upcoming(count):
+            self.office.answer(text)
+            self.answered.append(text)
+        write_store(old, self.office)
+        expect('migrate', ('ready\n', '', 0), run(self.program, 'migrate', old, self.store))
+        self.office.migrate()
+        self.found(None)
+        return self
+
     def upcoming(self, count):
-        """The texts that were not answered, that many."""
+        """What was not answered, that many."""
         while len(self.texts) < len(self.answered) + count:
+            if self.adds and self.day.happens(ADDED):
+                self.texts.append(Added(*self.day.addition()))
+                continue
             text = self.day.delivery()
             if cut(text) == ([text], None):
                 self.texts.append(text)
         return self.texts[len(self.answered):len(self.answered) + count]
 
-    def line(self, text):
-        """The answer to a text, which is in effect from here on."""
-        return json_text(self.office.answer(text))
-
     def take(self, lines):
-        """Answers that were read, each to the next text: in effect, unless they are not now. Gives how many were not."""
+        """Answers that were read, each to what is sent next: in effect, unless they are not now. Gives how many were not."""
         refused = 0
         for line in lines:
             text = self.upcoming(1)[0]
             if line == NOT_NOW:
                 refused += 1
             else:
-                expect('the answer to %r' % text, self.line(text), line)
+                expect('the answer to %r' % (text,), answer(self.office, text), line)
             self.answered.append(text)
         return refused
 
@@ -92,7 +113,7 @@ class Book:
             expect('the rows after all answered', wanted, got)
             return 'n'
         further = copy.deepcopy(self.office)
-        further.answer(in_flight)
+        answer(further, in_flight)
         if rows_of(further) == wanted:
             expect('the rows, which the one in flight leaves as they are', wanted, got)
             return 'n or n+1'
@@ -108,8 +129,8 @@ class Book:
         expect('report yard', (printed(self.office, 'yard')[0], '', 0), got)
 
     def again(self):
-        """All from the first once more, in one call: each line and the status. Then rows and each report."""
-        texts = list(self.answered)
+        """All texts from the first once more, in one call: each line and the status. Then rows and each report."""
+        texts = [sent for sent in self.answered if not isinstance(sent, Added)]
         answers = [self.office.answer(text) for text in texts]
         wanted = ''.join(json_text(answer) + '\n' for answer in answers), '', status(answers)
         got = run(self.program, 'deliver', self.store, self.file('again.edi', ''.join(texts)))
@@ -122,12 +143,12 @@ class Book:
     def everything(self):
         """The rows, and each report: the yard by command, all else by HTTP."""
         self.found(None)
-        for kind in ('yard', 'yardcsv'):
+        for kind, _key in WHOLE:
             expect(kind, (printed(self.office, kind)[0], '', 0), run(self.program, 'report', self.store, kind))
         keys = [(kind, key) for kind, key in every_key(self.office) if key.isascii()]
         with Served(self.program, self.store, len(keys) or 1) as served:
             for kind, key in keys:
-                request = 'GET %s%s HTTP/1.1\r\n\r\n' % (PATHS[kind], key.replace('%', '%25').replace(' ', '%20'))
+                request = 'GET %s HTTP/1.1\r\n\r\n' % path_of(kind, key.replace('%', '%25').replace(' ', '%20'))
                 expect('GET %s %s' % (kind, key), response(self.office, request), served.exchange(request))
 
     def copied(self, folder):

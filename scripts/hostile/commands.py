@@ -29,14 +29,16 @@ DELIVERED = 8               # before an addition
 PLAYED = 14                 # in an old store
 ROOMS = [0, 1, 32, 4095, *(4096 * 2 ** power for power in range(9))]     # bytes to which a file may grow
 
-# what a command may tell that had no memory, and print beside what it owes
-WANTS = {('', 'store: Memory\n', 3), ('', 'cannot read\n', 3), ('', '', 3), (NOT_NOW + '\n', '', 3)}
+# what a command tells that had no memory; what it ends with that could not write its line
+MEMORY = '', 'store: Memory\n', 3
+UNWRITTEN = '', '', 3
 
 
 class Addition:
     """`account` over a store, which holds an office before it."""
 
-    name = 'account'
+    name, ready = 'account', None
+    wants = {MEMORY, UNWRITTEN, (NOT_NOW + '\n', '', 3)}
 
     def __init__(self, program, store, office):
         self.store, self.before = store, office
@@ -63,12 +65,13 @@ class Addition:
 class Migration:
     """`migrate` of an old store, which holds an office, to a path at which nothing stands."""
 
-    name = 'migrate'
+    ready = 'ready\n'
+    wants = {MEMORY, UNWRITTEN}
 
     def __init__(self, program, folder, template, office):
         self.program, self.old, self.new = program, os.path.join(folder, 'old.db'), os.path.join(folder, 'new.db')
         shutil.copyfile(template, self.old)
-        self.after, self.bytes = deepcopy(office), contents(self.old)
+        self.after, self.bytes, self.name = deepcopy(office), contents(self.old), 'migrate, version %d' % office.version
         self.after.migrate()
         self.words = [program, 'migrate', self.old, self.new]
 
@@ -77,8 +80,10 @@ class Migration:
         expect('the old store', self.bytes, contents(self.old))
         got, faults = rows_in(self.new)
         expect('integrity and foreign keys', [], [] if faults == UNMADE and not got else faults)
-        if given[0] not in ('ready\n', '') or (given[2] == 0 or given[0]) and not got:
+        if given[0] not in (self.ready, '') or (given[2] == 0 or given[0]) and not got:
             raise Different('%r, and the new store has no tables' % (given,))
+        if given == MEMORY and got:
+            raise Different('%r, and the new store has tables' % (given,))
         again = ('', 'store: Store\n', 3) if got else ('ready\n', '', 0)
         if got:
             expect('the rows of the new store', rows_of(self.after), got)
@@ -87,6 +92,13 @@ class Migration:
         expect('report', (printed(self.after, 'yard')[0], '', 0), run(self.program, 'report', self.new, 'yard'))
         expect('the old store', self.bytes, contents(self.old))
         return 'whole' if got else 'no tables'
+
+    def found_early(self, given):
+        """The same of a process that may not have come so far as to open the new store: then there is no such file."""
+        if given not in self.wants or os.path.exists(self.new):
+            return self.found(given)
+        expect('the old store', self.bytes, contents(self.old))
+        return 'not begun'
 
 
 # ---- calls of the system
@@ -169,31 +181,54 @@ def refuse_commands(refusing, office, steps, counted):
     def addition():
         refusing.copy_from(start)
         return Addition(refusing.program, refusing.store, office)
-    refusing.run([*addition().words[1:-1], 'none'])
-    refuse_each(refusing, addition, refusing.allocations() - PRINTING, steps, counted)
+    opened, every = made_by(refusing, addition, 'none'), made_by(refusing, addition, KIND)
+    places = [*range(1, opened + 1, steps[0]), *range(opened + 1, every + 1, steps[1])]
+    refuse_each(refusing, addition, Addition.found, places, counted)
     refusing.copy_from(start)
-    template, old = old_store(refusing.folder, 1, 2)
-
-    def migration():
-        for end in ('', '-wal'):
-            if os.path.exists(os.path.join(refusing.folder, 'new.db' + end)):
-                os.remove(os.path.join(refusing.folder, 'new.db' + end))
-        return Migration(refusing.program, refusing.folder, template, old)
-    refuse_each(refusing, migration, 0, steps, counted)
+    for version in (1, 2):
+        refuse_migration(refusing, partial(anew, refusing, *old_store(refusing.folder, version, version)), steps[1], counted)
 
 
-def refuse_each(refusing, make, opened, steps, counted):
-    """Allocations of a process, refused in their turn: of those by which it opens a store each of a first step, of those
-    behind them each of a second. It then does what it does with all of them, or tells by name that memory ran out."""
-    refusing.run(make().words[1:])
-    behind = range(opened + 1, refusing.allocations() + 1, steps[1])
-    for refused in [*range(1, opened + 1, steps[0]), *behind]:
+def made_by(refusing, make, last):
+    """How many allocations a process makes that has another last word, but for those of printing its answer."""
+    words = make().words[1:]
+    refusing.run([*words[:-1], last])
+    return refusing.allocations() - (PRINTING if words[-1] != last else 0)
+
+
+def anew(refusing, template, office):
+    """A migration of an old store, beside which nothing lies, to a path at which nothing stands."""
+    for name in ('old.db-wal', 'new.db', 'new.db-wal'):
+        if os.path.exists(os.path.join(refusing.folder, name)):
+            os.remove(os.path.join(refusing.folder, name))
+    return Migration(refusing.program, refusing.folder, template, office)
+
+
+def refuse_migration(refusing, make, step, counted):
+    """Allocations of a migration, before the new store is opened and behind it: as many are before as a process makes whose new
+    store can't be opened."""
+    new = make().words[-1]
+    opened = made_by(refusing, make, os.path.join(refusing.folder, 'none', 'new.db'))
+    every = made_by(refusing, make, new)
+    refuse_each(refusing, make, Migration.found_early, range(1, opened + 1, step), counted)
+    refuse_each(refusing, make, Migration.found, range(opened + 1, every + 1, step), counted)
+
+
+def told_by(given):
+    """What a process told, in a word or two."""
+    return given[1].strip() or ('not now' if given[0] == NOT_NOW + '\n' else 'what it owes' if given[0] else 'nothing')
+
+
+def refuse_each(refusing, make, found, places, counted):
+    """These allocations of a process, refused in their turn. It then does what it does with all of them, or tells by name that
+    memory ran out."""
+    for refused in places:
         tried = make()
         given = refusing.run(tried.words[1:], refused)
         what = '%s, allocation %d' % (tried.name, refused)
-        if given not in WANTS and given[1:] != ('', 0):
+        if given not in tried.wants and (given[1:] != ('', 0) or given[0] != (tried.ready or given[0])):
             raise Different('%s: %r' % (what, given))
         try:
-            counted['%s: %s' % (tried.name, tried.found(given))] += 1
+            counted['%s: %s, told %s' % (tried.name, found(tried, given), told_by(given))] += 1
         except Different as different:
             raise Different('%s: %s' % (what, different)) from different

@@ -1,21 +1,28 @@
 """SIGKILL at a random moment while deliveries are under way, many times a store.
 
-After each kill the rows have to be those after all texts whose answers were read, or after one more, the one in flight.
-Then the program opens the store, and is killed again. At the end all is sent once more, from the first on.
+After each kill the rows have to be those after all whose answers were read, or after one more, the one in flight. Then the
+program opens the store, and is killed again. At the end all texts are sent once more, from the first on. Accounts are added
+between the deliveries, by `serve` and by `account`, and one store in four was brought over from an old version.
 """
 import os
 import tempfile
 import threading
+from itertools import takewhile
 from time import monotonic
 
+from model.days import NEWCOMERS
+from model.events import Added
+
 from .books import Book, Different, expect
-from .working import Delivering, Served
+from .working import Delivering, Served, run
 
 KILLS = 40                  # a store: some 200 deliveries, so that the log is moved into the file at least once
 MOST = 10                   # deliveries from one kill to the next
 OPENING = 0.15              # of the kills: while the store is opened, before the first answer
 AHEAD = 12                  # texts that are sent ahead of the answers
 KINDS = ('deliver, one by one', 'deliver, ahead', 'serve')
+MIGRATED_EVERY = 4          # stores of which one is brought over from an old version
+OLD_TEXTS = 12              # that were delivered to it before
 
 
 class Pace:
@@ -67,10 +74,28 @@ def worker_of(kind, book):
     return Delivering(book.program, book.store, ahead=kind.endswith('ahead'))
 
 
+def is_text(sent):
+    """Whether it is a text, which `deliver` takes, and not an addition."""
+    return not isinstance(sent, Added)
+
+
+def added(book, counted):
+    """What is next is added by `account`, as long as that is an account."""
+    while not is_text(book.upcoming(1)[0]):
+        code, kind = book.upcoming(1)[0]
+        line, _told, _status = run(book.program, 'account', book.store, code, kind)
+        book.take([line[:-1]])
+        counted['accounts asked for by account'] += 1
+
+
 def killed_once(book, pace, counted):
     """A process at work, killed; the rows behind it; the program opens the store again."""
     kind = book.chance.choice(KINDS)
+    if kind != 'serve':
+        added(book, counted)
     texts = book.upcoming(MOST + AHEAD)
+    if kind != 'serve':
+        texts = list(takewhile(is_text, texts))
     with worker_of(kind, book) as worker:
         moment = Moment(book.chance, worker, pace)
         worker.answers(texts, moment.read)
@@ -84,7 +109,9 @@ def killed_once(book, pace, counted):
     counted['kills of ' + kind] += 1
     counted['kills before the first answer'] += not moment.lines
     counted['answers read before kills'] += len(moment.lines)
-    counted['kills with a delivery in flight'] += in_flight is not None
+    counted['kills with a delivery in flight'] += in_flight is not None and is_text(in_flight)
+    counted['kills with an addition in flight'] += in_flight is not None and not is_text(in_flight)
+    counted['accounts asked for by serve'] += sum(not is_text(sent) for sent in texts[:len(moment.lines)])
     counted['found ' + found] += 1
 
 
@@ -96,8 +123,14 @@ def written(book):
 def killed_often(program, seed, kills, pace, counted):
     """One store through all its kills, and to its end."""
     with tempfile.TemporaryDirectory(prefix='kill9-') as folder:
-        book = Book(program, folder, seed).init()
+        book = Book(program, folder, seed, NEWCOMERS)
         try:
+            if seed % MIGRATED_EVERY:
+                book.init()
+            else:
+                book.migrated(1 + seed // MIGRATED_EVERY % 2, OLD_TEXTS)
+                counted['stores brought over'] += 1
+            book.adds = True
             for _kill in range(kills):
                 before = written(book)
                 killed_once(book, pace, counted)

@@ -19,6 +19,7 @@ from model.stream import lines
 
 from .books import Different, expect
 from .memory_of_others import try_others
+from .rounds import room
 
 HERE = os.path.dirname(os.path.abspath(__file__))
 TOP = os.path.dirname(os.path.dirname(HERE))
@@ -139,8 +140,8 @@ def try_day(program, steps, counted):
         if name.endswith('.edi'):
             with open(os.path.join(folder, name), encoding='latin-1', newline='') as file:
                 texts.append((name, file.read().strip()))
-    with tempfile.TemporaryDirectory(prefix='memory-') as room:
-        refusing, office = Refusing(program, room), Office(DEMO, keeps_fold=True)
+    with tempfile.TemporaryDirectory(prefix='memory-', dir=room()) as folder:
+        refusing, office = Refusing(program, folder), Office(DEMO, keeps_fold=True)
         setup = [os.path.join(TOP, 'examples/setup', name) for name in ('partners.csv', 'blocks.csv')]
         refusing.run(['init', refusing.store, *setup])
         for name, text in texts:

@@ -9,7 +9,7 @@ from copy import deepcopy
 
 from model.http import response, response_text
 from model.office import Office
-from model.reports import printed
+from model.reports import REPORTS, WHOLE, printed
 from model.requests import every_key
 from model.rows import rows_in, rows_of
 from model.setup import DEMO
@@ -21,6 +21,9 @@ from .sampled import free_port
 from .served import account, get, post
 
 NOT_NOW = response_text(503, 'application/json', '{"answer":"not now"}')
+
+UNUSED = 'ABCU9999990'      # a container that never came
+PRINTING = 20               # more allocations than printing takes that nothing is found
 
 # what a command may tell that had no memory
 WANTS = {('', 'store: Memory\n', 3), ('', 'setup: Memory\n', 1), ('', 'cannot read\n', 3), ('', '', 3)}
@@ -63,18 +66,27 @@ def refuse_init(refusing, setup, step, counted):
 
 # ---- report
 
-def refuse_reports(refusing, office, step, counted):
-    """Each allocation of a report of each kind."""
-    keys = {kind: key for kind, key in every_key(office)}
+def keys_of(office):
+    """Each kind of report, under a key that finds something where one does."""
+    found = {kind: key for kind, key in every_key(office) if printed(office, kind, key)[1] == 0}
+    expect('kinds of reports', sorted(REPORTS), sorted([kind for kind, _key in WHOLE] + list(found)))
+    return [*WHOLE, *found.items()]
+
+
+def refuse_reports(refusing, office, steps, counted):
+    """Allocations of a report of each kind: of those by which it opens the store each of a first step, of those behind them
+    each of a second."""
     before = rows_in(refusing.store)
-    for kind, key in [('yard', ''), ('yardcsv', ''), *keys.items()]:
+    opened = allocations_of(refusing, ['report', refusing.store, 'visits', UNUSED]) - PRINTING
+    for kind, key in keys_of(office):
         words = ['report', refusing.store, kind, *([key] if key else [])]
-        text, status = printed(office, kind, key)
-        for refused in range(1, allocations_of(refusing, words) + 1, step):
+        wanted = printed(office, kind, key)[0], '', 0
+        behind = range(opened + 1, allocations_of(refusing, words) + 1, steps[1])
+        for refused in [*range(1, opened + 1, steps[0]), *behind]:
             given = refusing.run(words, refused)
             if given not in WANTS:
-                expect('report %s, allocation %d' % (kind, refused), (text, '', status), given)
-            counted['report: ' + ('told that memory ran out' if given in WANTS else 'the report')] += 1
+                expect('report %s, allocation %d' % (kind, refused), wanted, given)
+            counted['report %s: %s' % (kind, 'told that memory ran out' if given in WANTS else 'the report')] += 1
     expect('rows behind the reports', before, rows_in(refusing.store))
 
 
@@ -138,7 +150,7 @@ def try_others(refusing, office, setup, text, steps, counted):
     refusing.copy_to(kept)
     refuse_init(refusing, setup, steps[1], counted)
     refusing.copy_from(kept)
-    refuse_reports(refusing, office, max(steps[0] // 10, 1), counted)
+    refuse_reports(refusing, office, steps, counted)
     refuse_commands(refusing, office, steps, counted)
     refusing.copy_from(kept)
     refuse_requests(refusing, office, text, steps, counted)

@@ -6,6 +6,9 @@ is gone or all are answered.
 import socket
 import subprocess
 import threading
+from urllib.parse import quote
+
+from model.events import Added
 
 SECONDS = 60                # that one answer may take
 
@@ -19,6 +22,14 @@ def run(program, *words, **how):
 def post(text):
     """A request that delivers a text."""
     return 'POST /interchanges HTTP/1.1\r\nContent-Length: %d\r\n\r\n%s' % (len(text), text)
+
+
+def request_of(sent):
+    """A request that delivers a text, or adds an account."""
+    if not isinstance(sent, Added):
+        return post(sent)
+    code, kind = (quote(part.encode('latin-1'), safe='') for part in sent)
+    return 'POST /partners/%s/%s HTTP/1.1\r\nContent-Length: 0\r\n\r\n' % (code, kind)
 
 
 class Worker:
@@ -119,7 +130,7 @@ class Served(Worker):
     def answers(self, texts, read):
         """Each response that is whole is an answer: its body."""
         for text in texts:
-            response = self.exchange(post(text))
+            response = self.exchange(request_of(text))
             head, end, body = response.partition('\r\n\r\n')
             if not end or 'Content-Length: %d' % len(body) not in head.split('\r\n'):
                 break

@@ -7,10 +7,11 @@ import copy
 
 from .moments import are_digits
 from .office import Office, json_text
-from .reports import KINDS, printed, text_of
+from .reports import REPORTS, has_key, printed
 from .rules import NEWEST
 from .setup import read_setup
 from .stream import answers, lines, status
+from .words import text_of
 
 # how many words stand behind each command: at least, at most
 WORDS = {
@@ -78,8 +79,8 @@ def serve(files, store, port, count):
 
 
 def report(files, store, kind, key=None):
-    """The yard's reports have no key, and the others have one."""
-    if kind not in KINDS or (kind in ('yard', 'yardcsv')) != (key is None):
+    """A report on the whole terminal has no key, and any other has one."""
+    if kind not in REPORTS or has_key(kind) != (key is not None):
         raise Fault('usage: office report DB KIND [KEY]', 2)
     return printed(office_in(files, store), kind, key or '')
 

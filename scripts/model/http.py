@@ -32,12 +32,22 @@ Head = namedtuple('Head', 'method target fields length')
 ROUTES = [
     (r'/interchanges', 'POST', 'delivery'),
     (r'/partners/([^/]+/[^/]+)', 'POST', 'account'),
+    (r'/partners', 'GET', 'partners'),
     (r'/yard', 'GET', 'yard'),
+    (r'/yard\.csv', 'GET', 'yardcsv'),
+    (r'/blocks', 'GET', 'blocks'),
+    (r'/picture', 'GET', 'picture'),
+    (r'/containers/([^/]+)', 'GET', 'container'),
     (r'/visits/([^/]+)', 'GET', 'visits'),
     (r'/lists/([^/]+/[^/]+/[^/]+)', 'GET', 'list'),
+    (r'/work/([^/]+/[^/]+/[^/]+)', 'GET', 'work'),
     (r'/tickets/([^/]+/[^/]+)', 'GET', 'ticket'),
     (r'/replies/([^/]+/[^/]+)', 'GET', 'reply'),
+    (r'/contrls/([^/]+/[^/]+)', 'GET', 'contrl'),
 ]
+# what the body of a report is, if not plain text
+CONTENT_TYPES = {'reply': 'application/json', 'yardcsv': 'text/csv', 'contrl': 'application/EDIFACT',
+    'picture': 'text/html; charset=utf-8'}
 
 PHRASES = {
     200: 'OK', 202: 'Accepted', 400: 'Bad Request', 404: 'Not Found', 405: 'Method Not Allowed', 409: 'Conflict',
@@ -129,7 +139,7 @@ def answered(office, request):
     text = report(office, kind, key)
     if text is None:
         raise Refusal(404, 'none')
-    return 200, 'application/json' if kind == 'reply' else 'text/plain', text
+    return 200, CONTENT_TYPES.get(kind, 'text/plain'), text
 
 
 def response(office, request):

@@ -1,8 +1,10 @@
 """Keys of reports, as the command line and HTTP have them: docs/crates/office_queries.md."""
 from .moments import DIGITS, are_digits
 
-# how many parts a key has
-PARTS = {'visits': 1, 'list': 3, 'ticket': 2, 'reply': 2}
+# how many parts the key of each report has
+PARTS = {
+    'yard': 0, 'yardcsv': 0, 'picture': 0, 'blocks': 0, 'partners': 0, 'visits': 1, 'container': 1, 'list': 3, 'work': 3,
+    'ticket': 2, 'reply': 2, 'contrl': 2}
 
 
 def decoded(part):
@@ -23,8 +25,8 @@ def read_key(kind, key):
     values = [decoded(part) for part in key.split('/')]
     if len(values) != PARTS[kind] or None in values:
         return None
-    if kind in ('ticket', 'reply'):
+    if PARTS[kind] == 2:
         values[1] = number_in(values[1])
-    if kind == 'list' and values[2] not in ('load', 'discharge'):
+    if PARTS[kind] == 3 and values[2] not in ('load', 'discharge'):
         return None
     return None if None in values else values

@@ -19,6 +19,7 @@ from .events import Delivered
 from .office import Office
 from .old_stores import write_store
 from .opened import fault_of_old_rows
+from .reports import WHOLE
 from .requests import every_key, random_requests
 from .rows import OLD_COLUMNS, rows_in, rows_of
 from .setup import DEMO, read_setup
@@ -106,7 +107,7 @@ def goes_on(beside, name, program, office, day):
     """All reports; texts of old times again, those that were refused and those that wait among them; more deliveries,
     requests, and the rows behind them."""
     chance = random.Random('migrated %s' % name)
-    for kind, key in [('yard', ''), ('yardcsv', '')] + every_key(office):
+    for kind, key in WHOLE + every_key(office):
         beside.report(name, program, office, kind, key)
     texts = [event.text for event in office.events if isinstance(event, Delivered) and event.text]
     again = chance.sample(texts, min(AGAIN, len(texts)))

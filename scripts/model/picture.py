@@ -3,8 +3,9 @@
 One page of HTML that needs nothing from elsewhere and no script. A cell is 64 wide and 30 high. Bay b has its middle at
 32 b, so that a forty in an even bay lies over the two odd ones beside it. Tier t has its top 30 t above the ground.
 """
+from .lookups import standing
 from .names import slot_of, slot_text
-from .reports import load_text, standing
+from .words import load_text
 
 STYLE = '''\
 *{box-sizing:border-box}

@@ -1,75 +1,104 @@
-"""The picture of the yard in a real browser: what the page holds, and that it asks for nothing else.
+"""The picture of the yard in a real browser: what `office serve` gives, what the page holds, and that it asks for nothing
+else.
 
-The browser is Debian's Chromium without a window. It goes through a proxy of this script, which gives the page and notes
-what else is asked for. What the browser asks of its own makers is not counted: no page that names no address can do so.
+The browser is Debian's Chromium without a window. It asks the program itself, whose log tells what it was asked, and all
+other addresses through a proxy of this script, which notes them and gives nothing. What the browser asks of its own makers
+is not counted: no page that names no address can do so.
 """
 import http.server
 import os
 import random
 import re
 import shutil
+import socket
 import subprocess
 import tempfile
 import threading
 from collections import namedtuple
 from html.parser import HTMLParser
 
-from .days import Day
+from .http import response
+from .lookups import standing
 from .names import Slot, check_digit, slot_of, slot_text
 from .office import Office
-from .picture import is_forty, page
-from .reports import load_text, standing
+from .picture import is_forty
 from .setup import DEMO
+from .setups import files_of
+from .stores import Program, exchanged
+from .stream import answers, lines
+from .words import load_text
 from .yard import Block
 
 WIDTHS = {'desk': (1280, 800), 'phone': (390, 844)}
-SAVED = {('full', 'desk'): 'picture_desk.png', ('day', 'phone'): 'picture_phone.png'}
+SAVED = {('busy', 'desk'): 'picture_desk.png', ('busy', 'phone'): 'picture_phone.png'}
+MOST_BYTES = 300000         # of all pictures in docs/pictures
 BROWSERS = ('chromium', 'chromium-headless-shell', 'chromium-browser')
 FLAGS = [
     '--headless', '--no-sandbox', '--disable-gpu', '--hide-scrollbars', '--disable-background-networking',
     '--disable-component-update', '--disable-sync', '--no-first-run', '--enable-logging=stderr',
     '--disable-features=OptimizationHints,MediaRouter,Translate']
 OF_MAKERS = re.compile(r'\b(google|googleapis)\.com\b')
+REQUEST = 'GET /picture HTTP/1.1\r\n\r\n'
+ASKED = re.compile(r'^\S+ (?:GET /picture 200|- - \d+) ')   # a line of the log: the page, or a connection that asks nothing
 
+GATE_IN = "EQD+CN+%s+%s:102:5+++%d'LOC+ZZZ+%s'"
 Container = namedtuple('Container', 'number size_type is_full')
+Yard = namedtuple('Yard', 'name setup stream')
 
 
-# ---- the three yards
+# ---- the yards, each by the interchanges that fill it
 
-def day(seed=5, deliveries=60):
-    """The yard of `office demo` after some deliveries."""
-    office, sender = Office(), Day(seed)
-    for _delivery in range(deliveries):
-        office.answer(sender.delivery())
-    return [(slot_of(text), visit) for text, visit in standing(office.fold().terminal)]
-
-
-def full(plan):
-    """A container in each cell, twenties or forties in a stack, and empty ones above full ones."""
+def stacked(plan, lowest):
+    """Containers from the lowest tier up, at least `lowest` and as many as there are tiers in a stack: twenties or
+    forties, and empty ones above full ones."""
     chance, standings = random.Random(1), []
     for block in plan:
         for row in range(1, block.rows + 1):
             bay = 1
             while bay < 2 * block.bays:
                 is_pair = bay + 2 < 2 * block.bays and chance.random() < 0.45
-                standings += stack(chance, block, row, bay + is_pair, len(standings))
+                height = chance.randint(min(lowest, block.tiers), block.tiers)
+                standings += stack(chance, height, Slot(block.letter, bay + is_pair, row, 0), len(standings))
                 bay += 4 if is_pair else 2
-    return sorted(standings, key=lambda pair: slot_text(pair[0]))
+    return standings
 
 
-def stack(chance, block, row, bay, before):
-    """As high as the block."""
-    laden = chance.randint(block.tiers - 2, block.tiers)
-    for tier in range(1, block.tiers + 1):
+def stack(chance, height, ground, before):
+    """So many containers, one on the other."""
+    laden = chance.randint(max(height - 2, 0), height)
+    for tier in range(1, height + 1):
         first = chance.choice(['ABCU', 'HLXU', 'MSCU', 'OOLU', 'TGHU']) + '%06d' % (before + tier)
-        size_type = '42G1' if bay % 2 == 0 else '22G1'
-        yield Slot(block.letter, bay, row, tier), Container(first + str(check_digit(first)), size_type, tier <= laden)
+        size_type = '42G1' if ground.bay % 2 == 0 else '22G1'
+        yield ground._replace(tier=tier), Container(first + str(check_digit(first)), size_type, tier <= laden)
 
 
-def yards():
-    """Name, plan and containers of each."""
-    six = [Block(letter, 16, 6, 5) for letter in 'ABCDEF']
-    return [('empty', DEMO.plan, []), ('day', DEMO.plan, day()), ('full', six, full(six))]
+def brought_in(plan, lowest):
+    """An interchange for each block, by which its containers come in by the gate, each to its slot."""
+    standings = stacked(plan, lowest)
+    for number, block in enumerate(plan, start=1):
+        groups = [
+            GATE_IN % (box.number, box.size_type, 5 if box.is_full else 4, slot_text(slot))
+            for slot, box in standings if slot.block == block.letter]
+        yield "UNB+UNOA:3+HAULA+TERM1+240305:0910+%d'UNH+1+CODECO:D:95B:UN'BGM+34+G1+9'%sUNT+%d+1'UNZ+1+%d'\n" % (
+            number, ''.join(groups), 3 + 2 * len(groups), number)
+
+
+def of_day(top):
+    """The interchanges of examples/day, in their order."""
+    folder = os.path.join(top, 'examples', 'day')
+    for name in sorted(os.listdir(folder)):
+        if name.endswith('.edi'):
+            with open(os.path.join(folder, name), encoding='latin-1', newline='') as file:
+                yield file.read()
+
+
+def yards(top):
+    """Each with a store of its own: nothing in it, a day behind it, stacks of all heights, each cell used."""
+    six = DEMO._replace(plan=[Block(letter, 8, 6, 4) for letter in 'ABCDEF'])
+    yield Yard('empty', DEMO, '')
+    yield Yard('day', DEMO, ''.join(of_day(top)))
+    yield Yard('busy', six, ''.join(brought_in(six.plan, 0)))
+    yield Yard('full', six, ''.join(brought_in(six.plan, 4)))
 
 
 # ---- the page as the browser holds it
@@ -99,8 +128,9 @@ class Held(HTMLParser):
             self.title = data
 
 
-def wanted(standings):
+def wanted(office):
     """What has to be drawn."""
+    standings = [(slot_of(text), visit) for text, visit in standing(office.fold().terminal)]
     return sorted(
         ('translate(%d -%d)' % (32 * slot.bay, 30 * slot.tier),
          '#%s%s' % ('full' if visit.is_full else 'empty', 40 if is_forty(slot) else 20),
@@ -108,77 +138,134 @@ def wanted(standings):
         for slot, visit in standings)
 
 
-def faults(text, plan, standings, asked, said):
+def faults(office, text, elsewhere, said):
     """What is wrong with a page, in words."""
-    held = Held(text)
+    held, drawn = Held(text), wanted(office)
     found = []
-    if sorted(held.drawn) != wanted(standings):
-        found.append('%d containers drawn, %d in the yard, or not the same' % (len(held.drawn), len(standings)))
-    if held.rows != sum(block.rows for block in plan):
+    if sorted(held.drawn) != drawn:
+        found.append('%d containers drawn, %d in the yard, or not the same' % (len(held.drawn), len(drawn)))
+    if held.rows != sum(block.rows for block in office.setup.plan):
         found.append('%d rows' % held.rows)
     if held.scripts:
         found.append('a script')
     if '//' in text:
         found.append('an address')
-    found += ['asked for ' + path for path in asked if not path.endswith('/picture') and not OF_MAKERS.search(path)]
+    found += ['asked for ' + path for path in elsewhere if not OF_MAKERS.search(path)]
     return found + [line for line in said.splitlines() if 'CONSOLE' in line]
+
+
+# ---- the program
+
+class Served:
+    """`office serve` on a port of its own over a new store of a yard, and the model's office, until it is left."""
+
+    def __init__(self, path, folder, yard):
+        self.office, self.program, self.faults = Office(yard.setup, keeps_fold=True), Program(path, folder), []
+        self.expect('init', 'ready\n', self.program.init(*files_of(yard.setup))[0])
+        owed = ''.join(line + '\n' for line in lines(answers(self.office, yard.stream)))
+        self.expect('deliver', owed, self.program.deliver(yard.stream)[0])
+        with socket.socket() as free:
+            free.bind(('127.0.0.1', 0))
+            self.port = free.getsockname()[1]
+        self.log = open(os.path.join(folder, 'log'), 'w+', encoding='utf-8')
+        words = [path, 'serve', self.program.store, str(self.port), '1000000', '--log']
+        self.process = subprocess.Popen(words, stdout=subprocess.PIPE, stderr=self.log, encoding='utf-8')
+        self.expect('listening', 'listening 127.0.0.1:%d\n' % self.port, self.process.stdout.readline())
+        self.page = exchanged(self.port, REQUEST)
+        self.expect('the response', response(self.office, REQUEST), self.page)
+
+    def expect(self, name, owed, got):
+        """A fault where something came that is not owed."""
+        self.faults += [] if owed == got else ['%s: %s for %s' % (name, repr(got)[:200], repr(owed)[:200])]
+
+    def asked(self):
+        """What its log tells besides the page."""
+        self.log.seek(0)
+        return [line.rstrip() for line in self.log if not ASKED.match(line)]
+
+    def __enter__(self):
+        return self
+
+    def __exit__(self, *_fault):
+        self.process.kill()
+        self.process.wait()
+        self.process.stdout.close()
+        self.log.close()
 
 
 # ---- the browser
 
 class Proxy(http.server.BaseHTTPRequestHandler):
-    """Gives the page to whatever is asked for, and notes it."""
+    """Notes what is asked for elsewhere, and gives nothing."""
 
     def do_GET(self):
         self.server.asked.append(self.path)
-        body = self.server.page.encode() if self.path.endswith('/picture') else b''
-        self.send_response(200 if body else 404)
-        self.send_header('Content-Type', 'text/html; charset=utf-8')
-        self.send_header('Content-Length', str(len(body)))
+        self.send_response(404)
+        self.send_header('Content-Length', '0')
         self.end_headers()
-        self.wfile.write(body)
 
-    def do_CONNECT(self):
-        self.server.asked.append(self.path)
-        self.send_error(404)
+    do_CONNECT = do_POST = do_HEAD = do_GET
 
     def log_message(self, *_values):
         """Says nothing."""
 
 
-def opened(browser, folder, text, width, name):
-    """The page as the browser holds it, what it asked for, what it said, and a picture in the folder."""
-    server = http.server.ThreadingHTTPServer(('127.0.0.1', 0), Proxy)
-    server.page, server.asked = text, []
-    threading.Thread(target=server.serve_forever, daemon=True).start()
-    flags = FLAGS + ['--proxy-server=127.0.0.1:%d' % server.server_port, '--user-data-dir=' + os.path.join(folder, 'user')]
-    flags.append('--window-size=%d,%d' % width)
+def opened(browser, folder, port, size, name):
+    """The page as the browser holds it, what it asked for elsewhere, what it said, and a picture in the folder."""
+    proxy = http.server.ThreadingHTTPServer(('127.0.0.1', 0), Proxy)
+    proxy.asked, proxy.handle_error = [], lambda *_values: None     # the browser may be gone
+    threading.Thread(target=proxy.serve_forever, daemon=True).start()
+    flags = FLAGS + ['--proxy-server=127.0.0.1:%d' % proxy.server_port, '--user-data-dir=' + os.path.join(folder, 'user')]
+    flags.append('--window-size=%d,%d' % size)
     saved = os.path.join(folder, name)
     ran = [
         subprocess.run(
-            [browser] + flags + [what, 'http://office.test/picture'], capture_output=True, timeout=180, text=True)
+            [browser] + flags + [what, 'http://127.0.0.1:%d/picture' % port], capture_output=True, timeout=180, text=True,
+            check=False)
         for what in ('--dump-dom', '--screenshot=' + saved)]
-    server.shutdown()
-    return ran[0].stdout, server.asked, ran[0].stderr + ran[1].stderr, saved
+    proxy.shutdown()
+    return ran[0].stdout, proxy.asked, ran[0].stderr + ran[1].stderr, saved
 
 
-def check(top):
-    """0 where each page holds what the model says, and where there is no browser."""
+# ---- the check
+
+def look(browser, served, folder, yard, width):
+    """What is wrong with one yard at one width. Keeps the picture if it is one of docs/pictures."""
+    text, elsewhere, said, saved = opened(browser, folder, served.port, WIDTHS[width], '%s_%s.png' % (yard.name, width))
+    found = faults(served.office, text, elsewhere, said)
+    print('%s, %s: %d containers, %d bytes%s' % (
+        yard.name, width, len(wanted(served.office)), len(served.page), ''.join('; ' + fault for fault in found)), flush=True)
+    return found, saved
+
+
+def keep(top, saved):
+    """Puts the pictures into docs/pictures, if they are not too large. Gives what is wrong with them."""
+    total = sum(os.path.getsize(path) for path in saved.values())
+    if total > MOST_BYTES:
+        return ['the pictures have %d bytes' % total]
+    for name, path in saved.items():
+        shutil.copy(path, os.path.join(top, 'docs', 'pictures', name))
+    return []
+
+
+def check(top, program):
+    """0 where each page is the model's, holds what it says, and asks for nothing else. Without a browser 0 too."""
     browser = next((path for path in map(shutil.which, BROWSERS) if path), None)
     if browser is None:
         print('picture: skipped, for want of Chromium')
         return 0
-    found = []
-    with tempfile.TemporaryDirectory() as folder:
-        for name, plan, standings in yards():
-            text = page(DEMO.terminal, plan, standings)
-            for width, size in WIDTHS.items():
-                held, asked, said, saved = opened(browser, folder, text, size, '%s_%s.png' % (name, width))
-                wrong = faults(held, plan, standings, asked, said)
-                found += wrong
-                print('%s, %s: %d containers, %d bytes%s' % (
-                    name, width, len(standings), len(text), ''.join('; ' + fault for fault in wrong)))
-                if (name, width) in SAVED:
-                    os.makedirs(os.path.join(top, 'docs', 'pictures'), exist_ok=True)
-                    shutil.copy(saved, os.path.join(top, 'docs', 'pictures', SAVED[name, width]))
+    found, saved = [], {}
+    with tempfile.TemporaryDirectory() as room:
+        for yard in yards(top):
+            folder = os.path.join(room, yard.name)
+            os.mkdir(folder)
+            with Served(program, folder, yard) as served:
+                for width in WIDTHS:
+                    wrong, path = look(browser, served, folder, yard, width)
+                    found += wrong
+                    saved.update({SAVED[yard.name, width]: path} if (yard.name, width) in SAVED else {})
+                found += served.faults + ['asked of the program: ' + line for line in served.asked()]
+        found += keep(top, saved)
+    for fault in found:
+        print('FAILED: ' + fault)
     return 1 if found else 0

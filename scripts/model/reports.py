@@ -3,45 +3,18 @@
 Each report is a text of whole lines, or None where there is nothing to tell. It is computed from all deliveries, as
 answers are.
 """
+from . import lookups
 from .deliveries import first_text, run
-from .keys import read_key
+from .keys import PARTS, read_key
+from .lookups import standing
 from .moments import day_number
 from .names import slot_text
 from .office import json_text
-
-KINDS = ('yard', 'yardcsv', 'visits', 'list', 'ticket', 'reply')
-
-
-# ---- words in lines
-
-def text_of(lines):
-    """Each line ends with LF."""
-    return ''.join(line + '\n' for line in lines)
-
-
-def load_text(visit):
-    """Whether it came full."""
-    return 'FULL' if visit.is_full else 'EMPTY'
-
-
-def moment_text(moment):
-    """As 2024-03-05 09:10."""
-    return '%s-%s-%s %s:%s' % (moment[0:4], moment[4:6], moment[6:8], moment[8:10], moment[10:12])
-
-
-def passage_text(passage):
-    """How, by which partner's number, and when."""
-    return '%s %s %d %s' % (passage.way.upper(), *passage.source, moment_text(passage.moment))
+from .picture import picture
+from .words import load_text, moment_text, passage_text, text_of
 
 
 # ---- the yard
-
-def standing(terminal):
-    """Slot and open visit of each container in the yard, by the text of the slot."""
-    visits = {visit.number: visit for visit in terminal.visits if visit.exit is None}
-    return sorted(
-        ((slot_text(place.slot), visits[number]) for number, place in terminal.yard.items()), key=lambda pair: pair[0])
-
 
 def yard(office):
     """A line for each container, and how many there are."""
@@ -135,15 +108,26 @@ def reply(office, partner, number):
 
 # ---- all of them
 
+REPORTS = {
+    'yard': yard, 'yardcsv': yardcsv, 'picture': picture, 'blocks': lookups.blocks, 'partners': lookups.partners,
+    'visits': visits, 'container': lookups.container, 'list': vessel_list, 'work': lookups.work, 'ticket': ticket,
+    'reply': reply, 'contrl': lookups.contrl}
+
+
+def has_key(kind):
+    """Those on the whole terminal have none."""
+    return PARTS[kind] > 0
+
+
+WHOLE = [(kind, '') for kind in REPORTS if not has_key(kind)]
+
+
 def report(office, kind, key=''):
-    """The report of a kind under a key, which the yard has none of. None where nothing is found, also under a key that
-    can't be read."""
-    if kind in ('yard', 'yardcsv'):
-        return {'yard': yard, 'yardcsv': yardcsv}[kind](office)
+    """The report of a kind under a key. None where nothing is found, also under a key that can't be read."""
+    if not has_key(kind):
+        return REPORTS[kind](office)
     values = read_key(kind, key)
-    if values is None:
-        return None
-    return {'visits': visits, 'list': vessel_list, 'ticket': ticket, 'reply': reply}[kind](office, *values)
+    return None if values is None else REPORTS[kind](office, *values)
 
 
 def printed(office, kind, key=''):

@@ -11,12 +11,17 @@ ODD_KEYS = [
     '9123456/V12/', '9123456/V12/Load', '9123456/V12/move', '9123456/V99/load', '9123456/V12/load/', '%FF/%00/load',
     '%2F/1', '9123456%2FV12%2Fload']
 
+KEYED = ['visits', 'container', 'list', 'work', 'ticket', 'reply', 'contrl']
+WHOLE = ['yard', 'yard', 'yardcsv', 'blocks', 'partners', 'partners', 'picture']
+
 KINDS = [
     (14, 'delivery'), (2, 'altered delivery'), (8, 'report'), (2, 'odd report'), (1, 'method'), (1, 'route'),
     (2, 'length'), (1, 'cut'), (6, 'altered head'), (2, 'large'), (2, 'account'), (1, 'odd account')]
 METHODS = ['GET', 'POST', 'PUT', 'HEAD', 'get', 'OPTIONS', 'DELETE', 'X', 'PATCH', 'CONNECT', "!#$%&'*+-.^_`|~"]
 PATHS = [
-    '/', '*', '/x', '/yard/', '//yard', '/Yard', 'yard', 'http://127.0.0.1/yard', '/yardcsv', '/visits', '/visits/',
+    '/', '*', '/x', '/yard/', '//yard', '/Yard', 'yard', 'http://127.0.0.1/yard', '/yardcsv', '/yard.CSV', '/visits',
+    '/visits/', '/containers', '/containers/', '/containers/A/B', '/blocks/', '/partners/', '/partners/HAULA', '/Partners',
+    '/picture/1', '/work/9123456/V12', '/contrls/HAULA', '/contrls/HAULA/1/',
     '/visits/A/B', '/lists/9123456/V12', '/lists//V12/load', '/tickets/HAULA/', '/replies/HAULA', '/replies/HAULA/1/',
     '/interchanges/', '/interchanges/1', '/yard#1', '/%79ard', '/interchange', '/visits/%zz', '/tickets/HAULA%2F1',
     '/lists/a/b/c/d', '/yard\xe9', '/visits/\xc3\xa9', '/visits/\xff']
@@ -52,11 +57,11 @@ def written(random, text, share=ESCAPED):
 
 def known(random, office):
     """A kind of report and a key under which something may be found."""
-    kind = random.choice(['visits', 'list', 'ticket', 'reply'])
+    kind = random.choice(['visits', 'container', 'list', 'work', 'ticket', 'reply'])
     terminal, delivered = office.fold().terminal, office.deliveries
-    if kind == 'visits' and terminal.visits:
+    if kind in ('visits', 'container') and terminal.visits:
         values = [random.choice(terminal.visits).number]
-    elif kind == 'list' and terminal.lines:
+    elif kind in ('list', 'work') and terminal.lines:
         call, side, _number = random.choice(sorted(terminal.lines))
         values = [*call, random.choice([side, side, side, 'load', 'discharge'])]
     elif kind == 'ticket' and terminal.visits and random.random() < 0.5:
@@ -65,11 +70,11 @@ def known(random, office):
         values = [partner, str(number)]
     elif delivered:
         delivery = random.choice(delivered)
-        kind = random.choice(['ticket', 'reply'])
+        kind = random.choice(['ticket', 'reply', 'contrl'])
         number = delivery.number + random.choice([0, 0, 0, 0, 1])
         values = [delivery.partner, str(number).zfill(random.choice([0, 0, 6, 14]))]
     else:
-        values = ['HAULA', '1']
+        kind, values = random.choice(['ticket', 'reply', 'contrl']), ['HAULA', '1']
     return kind, '/'.join(written(random, value) for value in values)
 
 
@@ -81,7 +86,7 @@ def question(random, office):
 def odd(random, office):
     """A kind of report and an odd key, of a partner that the office has."""
     partner = random.choice(sorted(office.setup.partners))
-    return random.choice(['visits', 'list', 'ticket', 'reply']), random.choice(ODD_KEYS).replace('HAULA', partner)
+    return random.choice(KEYED), random.choice(ODD_KEYS).replace('HAULA', partner)
 
 
 def every_key(office):
@@ -91,7 +96,8 @@ def every_key(office):
     lists = {'/'.join([*call, side]) for call, side, _number in terminal.lines}
     used = {'%s/%d' % (delivery.partner, delivery.number) for delivery in office.deliveries}
     return [
-        (kind, key) for kind, keys in (('visits', boxes), ('list', lists), ('ticket', used), ('reply', used))
+        (kind, key) for kind, keys in (
+            ('visits', boxes), ('container', boxes), ('list', lists), ('work', lists), ('ticket', used), ('reply', used), ('contrl', used))
         for key in sorted(keys)]
 
 
@@ -126,14 +132,17 @@ def get(random, path, method='GET'):
 
 def path_of(kind, key):
     """Where a report stands."""
-    fronts = {'yard': '/yard', 'visits': '/visits/', 'list': '/lists/', 'ticket': '/tickets/', 'reply': '/replies/'}
+    fronts = {
+        'yard': '/yard', 'yardcsv': '/yard.csv', 'picture': '/picture', 'blocks': '/blocks', 'partners': '/partners',
+        'visits': '/visits/', 'container': '/containers/', 'list': '/lists/', 'work': '/work/', 'ticket': '/tickets/',
+        'reply': '/replies/', 'contrl': '/contrls/'}
     return fronts[kind] + key
 
 
 def report_path(random, office):
     """The path of a report under which something may be found."""
-    if random.random() < 0.15:
-        return '/yard'
+    if random.random() < 0.3:
+        return path_of(random.choice(WHOLE), '')
     return path_of(*known(random, office))
 
 

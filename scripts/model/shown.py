@@ -23,8 +23,10 @@ Told = namedtuple('Told', 'kind key text')
 
 REPORTS = [
     (r'VISITS (\S+)\n', 'visits', '%s'), (r'LOAD LIST (\S+) (\S+)\n', 'list', '%s/%s/load'),
-    (r'DISCHARGE LIST (\S+) (\S+)\n', 'list', '%s/%s/discharge')]
-ROUTES = {'visits': 'visits', 'list': 'lists'}
+    (r'DISCHARGE LIST (\S+) (\S+)\n', 'list', '%s/%s/discharge'),
+    (r'LOAD WORK (\S+) (\S+)\n', 'work', '%s/%s/load'), (r'DISCHARGE WORK (\S+) (\S+)\n', 'work', '%s/%s/discharge'),
+    (r'CONTAINER (\S+)\n', 'container', '%s')]
+ROUTES = {'visits': 'visits', 'list': 'lists', 'work': 'work', 'container': 'containers'}
 
 
 def steps_of(part):

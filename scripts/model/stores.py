@@ -10,7 +10,7 @@ from functools import partial
 from .days import NEWCOMERS, Day, streamed
 from .http import response
 from .office import Office, json_text
-from .reports import printed, text_of
+from .reports import WHOLE, has_key, printed, text_of
 from .requests import every_key, question, random_requests
 from .rows import rows_in, rows_of
 from .setup import DEMO, read_setup
@@ -65,8 +65,8 @@ class Program:
         return self.run('migrate', old, self.store)
 
     def report(self, kind, key):
-        """A report; the yard's have no key."""
-        return self.run('report', self.store, kind, *([] if kind in ('yard', 'yardcsv') else [key]))
+        """A report; those on the whole terminal have no key."""
+        return self.run('report', self.store, kind, *([key] if has_key(kind) else []))
 
     def serve(self, requests, expect, exchange=None):
         """Sends each request on a connection of its own, and hands on the response that it should have beside the one
@@ -222,7 +222,7 @@ def try_list(beside, seed, requests):
             if chance.random() < 0.7:
                 beside.account(name, program, office, *day.addition())
         asked = [question(chance, office) for _question in range(QUESTIONS)]
-        for kind, key in [('yard', ''), ('yardcsv', '')] + asked:
+        for kind, key in WHOLE + asked:
             beside.report(name, program, office, kind, key)
         beside.rows(name, program, office)
         if requests:
@@ -243,7 +243,8 @@ def try_faults(beside):
                 (['init', store, bad, blocks], 'setup: Csv\n', 1), (['report', store, 'yard'], no_store, 3),
                 (['report', store, 'visits', '%'], no_store, 3), (['deliver', store, missing], unread, 3),
                 (['deliver', store, partners], no_store, 3), (['report', store, 'list'], usage, 2),
-                (['report', store, 'yard', 'A'], usage, 2), (['report', store, 'yardcsv', ''], usage, 2)):
+                (['report', store, 'yard', 'A'], usage, 2), (['report', store, 'yardcsv', ''], usage, 2),
+                (['report', store, 'container'], usage, 2), (['report', store, 'blocks', ''], usage, 2)):
             beside.expect('faults', ' '.join(words), ('', told_of, ended), program.run(*words))
         beside.expect('init ready', 'faults', ('ready\n', '', 0), program.run('init', store, partners, blocks))
         beside.expect('faults', 'init again', ('', 'setup: Csv\n', 1), program.run('init', store, bad, blocks))
@@ -257,7 +258,7 @@ def over_store(beside, name, setup, text):
         office = beside.init(name, program, files_of(setup))
         beside.deliver(name, program, office, text)
         beside.rows(name, program, office)
-        for kind, key in [('yard', ''), ('yardcsv', '')] + every_key(office):
+        for kind, key in WHOLE + every_key(office):
             beside.report(name, program, office, kind, key)
 
 

@@ -12,7 +12,7 @@ use Rattle.office_command_line.specs.Commands.{office_app}
 use Rattle.office_command_line.specs.declared.command_fault.CommandFault.{CommandFault}
 use Rattle.office_command_line.specs.declared.command_fault.CommandFault.TheVariants.{Words, Values, Memory}
 use Rattle.office_queries.specs.declared.report_kind.ReportKind.{ReportKind}
-use Rattle.office_queries.specs.declared.report_kind.ReportKind.TheVariants.{Yard, YardTable, Visits, List as VesselList, Ticket, Reply}
+use Rattle.office_queries.specs.declared.report_kind.ReportKind.TheVariants.{Yard, YardTable, Visits, List as VesselList, Ticket, Reply, Container, Work, Partners, Blocks, Contrl, Picture}
 use Rattle.office_command_line.specs.declared.request.Request.{Request}
 use Rattle.office_command_line.specs.declared.request.Request.TheVariants as request
 
@@ -60,15 +60,27 @@ kind_said word =
     else if bytes_eq word (codes "list") then Some VesselList
     else if bytes_eq word (codes "ticket") then Some Ticket
     else if bytes_eq word (codes "reply") then Some Reply
+    else if bytes_eq word (codes "container") then Some Container
+    else if bytes_eq word (codes "work") then Some Work
+    else if bytes_eq word (codes "partners") then Some Partners
+    else if bytes_eq word (codes "blocks") then Some Blocks
+    else if bytes_eq word (codes "contrl") then Some Contrl
+    else if bytes_eq word (codes "picture") then Some Picture
     else None
 
--- the yard alone is reported on without a key
+-- what is about the whole terminal is reported on without a key
 abbrev pub wants_key : ReportKind → Bool
 wants_key Yard = false
 wants_key YardTable = false
 wants_key Visits = true
 wants_key VesselList = true
 wants_key Ticket = true
+wants_key Container = true
+wants_key Work = true
+wants_key Partners = false
+wants_key Blocks = false
+wants_key Contrl = true
+wants_key Picture = false
 wants_key Reply = true
 
 -- ---- what the words of a subcommand ask for

@@ -74,11 +74,11 @@ pub(crate) fn report_command<'a>(alloc: Global) -> Result<Command<'a>, AllocErro
     let kind = word(
         alloc,
         "KIND",
-        "yard, yardcsv, visits, list, ticket or reply",
+        "yard, yardcsv, picture, blocks, partners, container, visits, list, work, ticket, reply or contrl",
     );
     let key = word_if_any(alloc, "KEY", "BOX, VESSEL/VOYAGE/SIDE or PARTNER/NUMBER");
     let report = Command::new(alloc, "report")
-        .about("Prints a report; all but yard and yardcsv want a KEY")
+        .about("Prints a report; those from container on want a KEY")
         .after_help("Example: office report office.db visits ABCU0000017")
         .arg(store)?
         .arg(kind)?

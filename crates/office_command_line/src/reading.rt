@@ -145,8 +145,18 @@ fn wants_key(kind: ReportKind) -> bool
     ensures { result ≡ wants_key kind }
 {
     match kind {
-        ReportKind::Yard | ReportKind::YardTable => false,
-        ReportKind::Visits | ReportKind::List | ReportKind::Ticket | ReportKind::Reply => true,
+        ReportKind::Yard
+        | ReportKind::YardTable
+        | ReportKind::Partners
+        | ReportKind::Blocks
+        | ReportKind::Picture => false,
+        ReportKind::Visits
+        | ReportKind::List
+        | ReportKind::Ticket
+        | ReportKind::Reply
+        | ReportKind::Container
+        | ReportKind::Work
+        | ReportKind::Contrl => true,
     }
 }
 
@@ -160,6 +170,12 @@ fn kind_of(word: &str) -> Option<ReportKind>
         "list" => Some(ReportKind::List),
         "ticket" => Some(ReportKind::Ticket),
         "reply" => Some(ReportKind::Reply),
+        "container" => Some(ReportKind::Container),
+        "work" => Some(ReportKind::Work),
+        "partners" => Some(ReportKind::Partners),
+        "blocks" => Some(ReportKind::Blocks),
+        "contrl" => Some(ReportKind::Contrl),
+        "picture" => Some(ReportKind::Picture),
         _ => None,
     }
 }

@@ -5,3 +5,4 @@ mod StreamLemmas
 mod NowAlike
 mod ReportLemmas
 mod AccountLemmas
+mod LookingLemmas

@@ -19,7 +19,9 @@ use Rattle.office_queries.specs.declared.query.Query.{Query}
 use Rattle.office_queries.specs.declared.query.Query.TheVariants as query
 use Rattle.office_queries.specs.declared.report_kind.ReportKind.{ReportKind}
 use Rattle.office_reports.specs.Visits.{visit_report}
-use Rattle.office_desk.specs.Reports.{TellsOf, TellsAfter, TellsReplyOf, DeskTells, ticket_of, partner_called}
+use Rattle.office_lookups.specs.Containers.{container_report}
+use Rattle.office_picture.specs.Picture.{IsPicture}
+use Rattle.office_desk.specs.Reports.{TellsOf, TellsAfter, TellsPartners, TellsReplyOf, DeskTells, contrl_told, ticket_of, partner_called}
 use Rattle.office_desk.specs.declared.desk.Desk.{Desk}
 use Rattle.office_desk.proofs.AlikeLemmas.{answers_alike}
 use Rattle.office_commands.proofs.NowAlike.{now_alike}
@@ -48,6 +50,15 @@ module _ (one other : SetupContent) (says : SaysSame one other) where
       told ∙ ap (ticket_of state.visits rows (string_bytes partner) number) (called_alike (string_bytes partner))
   of_alike state rows (query.Reply partner number) found told =
       subst (λ called. TellsReplyOf rows (string_bytes partner) number called found) (called_alike (string_bytes partner)) told
+  of_alike state rows (query.Container container) found told =
+      told ∙ (λ i. container_report (record { terminal = one.terminal; codes = one.codes; partners = says.partners i; blocks = one.blocks; visit_limit = one.visit_limit }) state container)
+  of_alike state rows query.Partners found told = subst (λ accounts. TellsPartners rows accounts found) says.partners told
+  of_alike state rows query.Blocks found told = told
+  of_alike state rows (query.Work call side) found told = told
+  of_alike state rows (query.Contrl partner number) found told =
+      told ∙ ap (contrl_told rows number) (called_alike (string_bytes partner))
+  of_alike state rows query.Picture found told =
+      (told.0, told.1, subst (λ blocks. IsPicture state other.terminal blocks told.0) says.blocks (subst (λ name. IsPicture state name one.blocks told.0) says.terminal told.2))
 
 module _ (one other : SetupContent) (says : SaysSame one other) where
   pub after_alike : (es : List Event) (asked : Query) (found : Option (List ℕ)) → TellsAfter one es asked found → TellsAfter other es asked found

@@ -5,3 +5,4 @@ pub mod Command
 pub mod Delivering
 pub mod Accounts
 pub mod Reporting
+pub mod Looking

@@ -4,6 +4,7 @@ ghost use Rattle.sqlite.specs.WalFiles.{image_at};
 ghost use Rattle.office_desk.specs.Desks.{IsSound};
 ghost use Rattle.office_desk.specs.Reports.{DeskTells};
 ghost use Rattle.office_commands.specs.Ending.{Prints};
+ghost use Rattle.office_commands.specs.Looking.{LooksOver, OnlyLooks};
 ghost use Rattle.office_commands.specs.Reporting.{Reports, TellsKey, TellsHeld, in_lines};
 
 use crate::opening::open_store;
@@ -31,6 +32,7 @@ pub fn report_over<S: Start, W: Write>(
         Reports (λ found. IsSound over_files ended.1 → TellsHeld (image_at S.Start) kind key.now found)
         (Prints writer.old.failed writer.new.failed writer.new.flushed
         (W.contents writer.old.inner) (W.contents writer.new.inner)) ended.0) }
+    ensures looks { IfOk result (λ ended. LooksOver (image_at S.Start) ended.1) }
     ensures err { OnErr result (writer.new ≡ writer.old) }
 {
     let mut desk = open_store(rt, path, start)?;
@@ -38,7 +40,7 @@ pub fn report_over<S: Start, W: Write>(
     Ok((status, desk))
 }
 
-/// Prints the report that a key asks for, from a desk, and answers the exit status, as `report_over` does.
+/// Prints the report that a key asks for, from a desk, and answers the exit status, as `report_over` does. It only looks.
 pub fn report_on<S: Alter + Drop, W: Write>(
     alloc: Global,
     desk: &mut Desk<S>,
@@ -51,6 +53,7 @@ pub fn report_on<S: Alter + Drop, W: Write>(
         (Prints writer.old.failed writer.new.failed writer.new.flushed
         (W.contents writer.old.inner) (W.contents writer.new.inner)) status) }
     ensures err { OnErr result (writer.new ≡ writer.old) }
+    ensures looks { OnlyLooks S.Store desk.old desk.new }
     ensures stays { IsSound S.Store desk.new → IsSound S.Store desk.old }
 {
     match find(alloc, desk, kind, key)? {
@@ -71,6 +74,7 @@ fn find<S: Alter + Drop>(
 ) -> Result<Option<String>, TableFault>
     ensures found { IfOk result (λ found. IsSound S.Store desk.new →
         TellsKey (DeskTells S.Store desk.old) kind key.now (option_map string_bytes found)) }
+    ensures looks { OnlyLooks S.Store desk.old desk.new }
     ensures stays { IsSound S.Store desk.new → IsSound S.Store desk.old }
 {
     match read_query(alloc, kind, key)? {

@@ -1,12 +1,16 @@
 -- Writing a list in turn, and committing what was written.
-use Rattle.std.proofs.Common.{◌≡◌, List, [], ◌∷◌, ◌++◌, IsTrue, false, map, fold, sym, ap, ◌∙◌}
+use Rattle.std.proofs.Common.{◌≡◌, ℕ, ◌+◌, List, [], ◌∷◌, ◌++◌, IsTrue, false, map, fold, refl, sym, ap, ◌∙◌}
 use Rattle.std.proofs.lemmas.List.{map-append}
 use Rattle.std.proofs.lemmas.List.Sums.{fold_push}
 use Rattle.sqlite.specs.State.{State, Shows}
 use Rattle.sqlite.specs.Tree.{Trees}
+use Rattle.terminal_core.specs.Rows.{ChangeContent, visit_opened, visit_closed, placed_at, moved_to, removed_from, listed_on, line_done, unlisted}
 use Rattle.office_rows.specs.Rows.{Rows}
+use Rattle.office_rows.specs.Effects.{with_kept, with_reply, with_next, with_change}
 use Rattle.office_rows.specs.Steps.{Steps}
 use Rattle.office_rows.proofs.StepLemmas.{steps_then, steps_same, stores}
+use Rattle.office_tables.specs.Kept.{with_kept_reply}
+use Rattle.office_history.specs.Cascade.{TakenContent, with_changes, with_interchange, with_interchanges, with_run}
 use Rattle.office_delivery.specs.Writing.{Commits, IsWhole}
 
 -- each of a list, one after the other
@@ -34,3 +38,37 @@ committed change old begun last end same steps alone shows = record {
   is_open = shows.is_open;
   alone = alone shows.is_open;
 }
+
+-- ---- a text that is taken at once
+
+-- a change alters no interchange
+change_then_reply : (partner number : ℕ) (reply : List ℕ) (change : ChangeContent) (rows : Rows) → with_change change (with_reply partner number reply rows) ≡ with_reply partner number reply (with_change change rows)
+change_then_reply partner number reply (visit_opened visit) rows = refl
+change_then_reply partner number reply (visit_closed visit departure) rows = refl
+change_then_reply partner number reply (placed_at container visit slot) rows = refl
+change_then_reply partner number reply (moved_to container slot) rows = refl
+change_then_reply partner number reply (removed_from container) rows = refl
+change_then_reply partner number reply (listed_on call side container port) rows = refl
+change_then_reply partner number reply (line_done call side container) rows = refl
+change_then_reply partner number reply (unlisted call side container) rows = refl
+
+changes_then_reply : (partner number : ℕ) (reply : List ℕ) (changes : List ChangeContent) (rows : Rows) → with_changes changes (with_reply partner number reply rows) ≡ with_reply partner number reply (with_changes changes rows)
+changes_then_reply partner number reply [] rows = refl
+changes_then_reply partner number reply (c ∷ changes) rows =
+    ap (with_changes changes) (change_then_reply partner number reply c rows) ∙ changes_then_reply partner number reply changes (with_change c rows)
+
+-- kept with its reply, and then what it changed, and then the number behind it
+pub steps_first : (partner : ℕ) (text : List ℕ) (taken : TakenContent) (a b c d : State) → Steps (with_kept_reply partner taken.number text taken.reply) a b → Steps (with_changes taken.changes) b c
+    → Steps (with_next partner (taken.number + 1)) c d → Steps (λ rows. with_interchange partner taken (with_kept partner taken.number text rows)) a d
+steps_first partner text taken a b c d kept changed next =
+    let number = taken.number in
+    let whole = steps_then (λ rows. with_changes taken.changes (with_kept_reply partner number text taken.reply rows)) (with_next partner (number + 1)) a c d
+    (steps_then (with_kept_reply partner number text taken.reply) (with_changes taken.changes) a b c kept changed) next in
+    steps_same _ _ a d (λ rows. ap (with_next partner (number + 1)) (changes_then_reply partner number taken.reply taken.changes (with_kept partner number text rows))) whole
+
+-- a run whose first text is taken at once, and then those behind it
+pub steps_run : (partner number : ℕ) (text : List ℕ) (taken behind : List TakenContent) (first : TakenContent) (a b c : State) → first.number ≡ number → taken ≡ first ∷ behind
+    → Steps (λ rows. with_interchange partner first (with_kept partner first.number text rows)) a b → Steps (with_interchanges partner behind) b c → Steps (with_run partner number text taken) a c
+steps_run partner number text taken behind first a b c same is one more =
+    steps_same _ _ a c (λ rows i. with_run partner (same i) text (sym is i) rows)
+    (steps_then (λ rows. with_interchange partner first (with_kept partner first.number text rows)) (with_interchanges partner behind) a b c one more)

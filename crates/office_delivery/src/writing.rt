@@ -2,6 +2,7 @@ ghost use Rattle.std.specs.Prelude.{◌≡◌, ◌<◌, All, OnOk, IfErr, IsTrue
 ghost use Rattle.sqlite.specs.Held.{state};
 ghost use Rattle.sqlite.specs.State.{HasCleanDisk, Survives, KeepsCommit};
 ghost use Rattle.terminal_core.specs.Rows.{change_content};
+ghost use Rattle.office_rows.specs.Effects.{with_kept};
 ghost use Rattle.office_rows.specs.Steps.{Steps};
 ghost use Rattle.office_tables.specs.Faults.{IsOfStore};
 ghost use Rattle.office_history.specs.Cascade.{with_changes, with_interchange, with_interchanges, with_run};
@@ -9,11 +10,12 @@ ghost use Rattle.office_delivery.specs.Taken.{taken_content, taken_contents};
 
 use crate::taken::Taken;
 use office_changes::{apply, mark_taken};
-use office_tables::{TableFault, keep};
+use office_tables::{TableFault, keep, keep_taken, set_next};
 use sqlite::{Alter, Transaction};
 use terminal_core::Change;
 
-/// Keeps an interchange and marks a run of its partner's as taken, each with its changes.
+/// Keeps an interchange and marks a run of its partner's as taken, each with its changes. Where the run begins with it, it
+/// is kept with its reply; those behind it waited.
 pub(crate) fn write_all<S: Alter>(
     tx: &mut Transaction<'_, S>,
     partner: u16,
@@ -31,8 +33,39 @@ pub(crate) fn write_all<S: Alter>(
     ensures survives { Survives (state S.Store tx.old.conn.now) (state S.Store tx.new.conn.now) (λ _. ⊥) }
     ensures fault { IfErr result IsOfStore }
 {
-    keep(tx, partner, number, text)?;
-    write_interchanges(tx, partner, taken)
+    match taken.split_first() {
+        Some((first, behind)) if first.number == number => {
+            write_first(tx, partner, text, first)?;
+            write_interchanges(tx, partner, behind)
+        }
+        _ => {
+            keep(tx, partner, number, text)?;
+            write_interchanges(tx, partner, taken)
+        }
+    }
+}
+
+/// Keeps an interchange that was taken at once, with its reply, and writes what it changed.
+fn write_first<S: Alter>(
+    tx: &mut Transaction<'_, S>,
+    partner: u16,
+    text: &[u8],
+    taken: &Taken,
+) -> Result<(), TableFault>
+    requires { taken.now.number < 1000000000 }
+    ensures same_reference { tx.new.conn.ghost_name ≡ tx.old.conn.ghost_name }
+    ensures steps { HasCleanDisk (state S.Store tx.new.conn.now) → IsTrue (state S.Store tx.old.conn.now).in_transaction
+        → OnOk result (Steps (λ rows. with_interchange partner (taken_content taken.now)
+        (with_kept partner taken.now.number text.now rows)) (state S.Store tx.old.conn.now)
+        (state S.Store tx.new.conn.now)) }
+    ensures keeps { HasCleanDisk (state S.Store tx.new.conn.now) → IsTrue (state S.Store tx.old.conn.now).in_transaction
+        → KeepsCommit (state S.Store tx.old.conn.now) (state S.Store tx.new.conn.now) }
+    ensures survives { Survives (state S.Store tx.old.conn.now) (state S.Store tx.new.conn.now) (λ _. ⊥) }
+    ensures fault { IfErr result IsOfStore }
+{
+    keep_taken(tx, partner, taken.number, text, taken.reply.as_str())?;
+    apply_all(tx, &taken.changes)?;
+    set_next(tx, partner, taken.number + 1)
 }
 
 /// Each of the partner's interchanges that were taken, one after the other.

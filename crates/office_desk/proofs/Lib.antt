@@ -20,3 +20,4 @@ pub mod RunNexts
 pub mod RunSteps
 pub mod LookLemmas
 pub mod CallLemmas
+pub mod PartnerLemmas

@@ -12,6 +12,7 @@ use Rattle.office_delivery.proofs.ReadLemmas.{none_kept, no_text, text_kept}
 use Rattle.office_setup.specs.Parties.{Parties, partner_codes, partner_from}
 use Rattle.office_setup.specs.Setups.{setup_content}
 use Rattle.office_setup.specs.declared.setup.Setup.{Setup}
+use Rattle.office_lookups.specs.Contrls.{contrl_in}
 use Rattle.office_desk.specs.Reports.{TellsReply, partner_called, reply_text, ticket_told}
 use Rattle.office_desk.proofs.DeliverLemmas.{parties_same}
 use Rattle.office_desk.proofs.HoldLemmas.{reply_kept}
@@ -53,6 +54,11 @@ module _ (rows : Rows) (partner number : ℕ) (once : AreKeptOnce rows.interchan
       None ≡ ticket_told visits code partner number (reply_in rows partner number)
   no_ticket code visits kept is none =
       sym (ap (ticket_told visits code partner number) (reply_of_kept kept is ∙ ap (option_map string_bytes) (none_if (option_and_then (λ (k : Kept). k.reply) kept) none)))
+
+  -- the CONTRL of the reply that is kept
+  pub contrl_kept : (kept : Option Kept) (reply : Option (List ℕ)) → IsKept partner number rows kept → reply ≡ option_map string_bytes (option_and_then (λ (k : Kept). k.reply) kept) →
+      option_and_then contrl_in reply ≡ option_and_then contrl_in (reply_in rows partner number)
+  contrl_kept kept reply is told = ap (option_and_then contrl_in) (told ∙ sym (reply_of_kept kept is))
 
 -- who is found among the accounts
 pub called : (setup : Setup) (code own : List ℕ) (found : Option ℕ) → found ≡ partner_from 1 code (partner_codes setup.partners.items) → code ≡ own →

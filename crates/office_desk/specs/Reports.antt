@@ -1,7 +1,9 @@
 -- What the desk tells: the reports of the rows that it holds.
-use Rattle.std.specs.Prelude.{◌≡◌, ℕ, List, Option, None, Some, codes, string_bytes}
+use Rattle.std.specs.Prelude.{◌≡◌, ℕ, ◌+◌, List, [], ◌∷◌, Option, None, Some, codes, option_and_then, string_bytes}
+use Rattle.std.specs.List.Sorted.{IsPermutation}
 use Rattle.sqlite.specs.Held.{state}
 use Rattle.sqlite_trees.specs.declared.store.Store.{Ghosts}
+use Rattle.edi_messages.specs.declared.partner_kind.PartnerKind.{PartnerKind}
 use Rattle.edi_messages.specs.Owned.{call_content}
 use Rattle.terminal_core.specs.Rows.{VisitContent}
 use Rattle.terminal_core.specs.State.{TerminalState}
@@ -11,10 +13,17 @@ use Rattle.office_rows.specs.Rows.{Rows}
 use Rattle.office_setup.specs.Parties.{partner_from}
 use Rattle.office_setup.specs.Setups.{SetupContent, setup_content}
 use Rattle.office_tables.specs.Answers.{IsNextOf}
+use Rattle.office_selecting.specs.Waiting.{waiting_numbers}
 use Rattle.office_history.specs.After.{AreAfter, content_after, machine_after, parties_in, reply_in}
 use Rattle.office_history.specs.Cascade.{text_in}
 use Rattle.office_queries.specs.declared.query.Query.{Query}
 use Rattle.office_queries.specs.declared.query.Query.TheVariants as query
+use Rattle.office_lookups.specs.Blocks.{IsBlocksReport}
+use Rattle.office_lookups.specs.Containers.{container_report}
+use Rattle.office_lookups.specs.Contrls.{contrl_in}
+use Rattle.office_lookups.specs.Partners.{PartnerContent, partners_text}
+use Rattle.office_lookups.specs.Work.{IsWorkReport}
+use Rattle.office_picture.specs.Picture.{IsPicture}
 use Rattle.office_reports.specs.Export.{IsYardExport}
 use Rattle.office_reports.specs.Lists.{IsListReport}
 use Rattle.office_reports.specs.Tickets.{ticket_text}
@@ -58,6 +67,35 @@ abbrev pub ticket_of : List VisitContent → Rows → List ℕ → ℕ → Optio
 ticket_of visits rows code number None = None
 ticket_of visits rows code number (Some partner) = ticket_told visits code partner number (reply_in rows partner number)
 
+-- ---- CONTRLs
+
+-- the CONTRL of the reply that is kept, if it was taken
+abbrev pub contrl_told : Rows → ℕ → Option ℕ → Option (List ℕ)
+contrl_told rows number None = None
+contrl_told rows number (Some partner) = option_and_then contrl_in (reply_in rows partner number)
+
+-- ---- partners
+
+-- the partner that has an account under that id: the number that is next, and those of its interchanges that wait for it
+pub record IsLookedUp (rows : Rows) (id : ℕ) (account : List ℕ × PartnerKind) (partner : PartnerContent) : Type 0 where
+  pub code : partner.code ≡ account.0
+  pub kind : partner.kind ≡ account.1
+  pub next : IsNextOf id rows partner.next
+  pub waiting : IsPermutation (waiting_numbers id partner.next rows) partner.waiting
+
+-- these are the partners that have those accounts, by their ids from this one on
+abbrev pub AreLookedUp : Rows → ℕ → List (List ℕ × PartnerKind) → List PartnerContent → Type 0
+AreLookedUp rows id [] [] = Unit {0}
+AreLookedUp rows id [] (partner ∷ partners) = ⊥
+AreLookedUp rows id (account ∷ accounts) [] = ⊥
+AreLookedUp rows id (account ∷ accounts) (partner ∷ partners) =
+    IsLookedUp rows id account partner × AreLookedUp rows (id + 1) accounts partners
+
+-- the text tells of each account, in the order of the ids
+abbrev pub TellsPartners : Rows → List (List ℕ × PartnerKind) → (found : Option (List ℕ)) → Type 0
+TellsPartners rows accounts found =
+    (partners : List PartnerContent) × AreLookedUp rows 1 accounts partners × (found ≡ Some (partners_text partners))
+
 -- ---- all reports
 
 -- the text, if there is one, is what the rows tell at the query, which are those of that set-up and of that terminal
@@ -70,6 +108,14 @@ TellsOf content state rows (query.Ticket partner number) found =
     found ≡ ticket_of state.visits rows (string_bytes partner) number (partner_called content (string_bytes partner))
 TellsOf content state rows (query.Reply partner number) found =
     TellsReplyOf rows (string_bytes partner) number (partner_called content (string_bytes partner)) found
+TellsOf content state rows (query.Work call side) found = IsWorkReport state (call_content call) side found
+TellsOf content state rows query.Picture found =
+    (page : List ℕ) × (found ≡ Some page) × IsPicture state content.terminal content.blocks page
+TellsOf content state rows (query.Container container) found = found ≡ container_report content state container
+TellsOf content state rows query.Partners found = TellsPartners rows content.partners found
+TellsOf content state rows query.Blocks found = (text : List ℕ) × (found ≡ Some text) × IsBlocksReport state text
+TellsOf content state rows (query.Contrl partner number) found =
+    found ≡ contrl_told rows number (partner_called content (string_bytes partner))
 
 -- what the rows after those events tell
 pub record TellsAfter (content : SetupContent) (es : List Event) (query : Query)

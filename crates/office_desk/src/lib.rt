@@ -12,6 +12,7 @@ mod judging;
 pub mod laws;
 mod next;
 mod noting;
+mod partners;
 mod reloading;
 mod taking;
 mod telling;

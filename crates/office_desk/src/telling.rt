@@ -9,8 +9,13 @@ ghost use Rattle.office_history.specs.After.{AreKeptOnce, reply_in};
 ghost use Rattle.office_history.specs.Cascade.{text_in};
 ghost use Rattle.office_delivery.specs.Reading.{IsSame, OnlyReads};
 ghost use Rattle.std.specs.Option.{option_and_then};
+ghost use Rattle.office_lookups.specs.Contrls.{contrl_in};
+ghost use Rattle.office_picture.specs.Picture.{IsPicture};
 ghost use Rattle.office_desk.specs.Reports.{TellsOf, TellsReply, reply_text, ticket_told};
 
+use crate::partners::tell_partners;
+use office_lookups::{blocks_report, container_report, contrl_in, work_report};
+use office_picture::picture;
 use office_queries::Query;
 use office_replies::{answered, waiting};
 use office_reports::{list_report, ticket, visit_report, yard_csv, yard_report};
@@ -37,8 +42,13 @@ pub(crate) fn tell<S: Alter>(
     match query {
         Query::Yard => Ok(Some(yard_report(alloc, terminal)?)),
         Query::YardTable => Ok(Some(yard_csv(alloc, terminal)?)),
+        Query::Partners => Ok(Some(tell_partners(alloc, conn, setup.partners.as_slice())?)),
+        Query::Blocks => Ok(Some(blocks_report(alloc, terminal)?)),
+        Query::Picture => Ok(Some(tell_picture(alloc, setup, terminal)?)),
         Query::Visits(container) => Ok(visit_report(alloc, setup, terminal, *container)?),
+        Query::Container(container) => Ok(container_report(alloc, setup, terminal, *container)?),
         Query::List { call, side } => Ok(list_report(alloc, terminal, call, *side)?),
+        Query::Work { call, side } => Ok(work_report(alloc, terminal, call, *side)?),
         Query::Ticket { partner, number } => match setup.partner_called(partner) {
             Some(id) => tell_ticket(alloc, conn, terminal, partner, id, *number),
             None => Ok(None),
@@ -47,6 +57,46 @@ pub(crate) fn tell<S: Alter>(
             Some(id) => tell_reply(alloc, conn, partner, id, *number),
             None => Ok(None),
         },
+        Query::Contrl { partner, number } => match setup.partner_called(partner) {
+            Some(id) => tell_contrl(alloc, conn, id, *number),
+            None => Ok(None),
+        },
+    }
+}
+
+/// The picture of the yard, by the terminal's name and its blocks.
+fn tell_picture(alloc: Global, setup: &Setup, terminal: &Terminal) -> Result<String, AllocError>
+    ensures { IfOk result
+        (λ page. IsPicture terminal.now (setup_content setup.now).terminal (setup_content setup.now).blocks
+        (string_bytes page)) }
+{
+    picture(alloc, setup.terminal.as_str(), &setup.blocks, terminal)
+}
+
+/// The CONTRL that an interchange was answered, if it was taken.
+fn tell_contrl<S: Alter>(
+    alloc: Global,
+    conn: &mut Connection<S>,
+    partner: u16,
+    number: u32,
+) -> Result<Option<String>, TableFault>
+    ensures told { HasCleanDisk (state S.Store conn.new) → IfOk result (λ found. (rows : Rows) →
+        HasRows rows (state S.Store conn.old).now → AreKeptOnce rows.interchanges →
+        option_map string_bytes found ≡ option_and_then contrl_in (reply_in rows partner number)) }
+    ensures reads { OnlyReads (state S.Store conn.old) (state S.Store conn.new) }
+{
+    match reply_of(kept(conn, partner, number)?) {
+        Some(reply) => Ok(contrl_in(alloc, reply.as_str())?),
+        None => Ok(None),
+    }
+}
+
+fn reply_of(kept: Option<Kept>) -> Option<String>
+    ensures { result ≡ option_and_then (λ k. k.reply) kept }
+{
+    match kept {
+        Some(Kept { text: _, reply }) => reply,
+        None => None,
     }
 }
 

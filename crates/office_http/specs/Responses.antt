@@ -2,13 +2,16 @@
 use Rattle.std.specs.Prelude.{ℕ, List, [], ◌++◌, length, codes, decimal, unwrap_or, Option, None, Some}
 use Rattle.http.specs.StatusCode.{code_digits, reason_phrase}
 use Rattle.office_http.specs.declared.content_type.ContentType.{ContentType}
-use Rattle.office_http.specs.declared.content_type.ContentType.TheVariants.{Json, Text}
+use Rattle.office_http.specs.declared.content_type.ContentType.TheVariants.{Json, Text, Table, Page, Interchange}
 use Rattle.office_http.specs.declared.refusal.Refusal.{Refusal}
 use Rattle.office_http.specs.declared.refusal.Refusal.TheVariants.{BadRequest, NotFound, OnlyGet, OnlyPost, NoLength, TooLong, NotNow}
 
 abbrev pub media_type : ContentType → List ℕ
 media_type Json = codes "application/json"
 media_type Text = codes "text/plain"
+media_type Table = codes "text/csv"
+media_type Page = codes "text/html; charset=utf-8"
+media_type Interchange = codes "application/EDIFACT"
 
 unfoldable pub status_line : ℕ → List ℕ
 status_line status = codes "HTTP/1.1 "

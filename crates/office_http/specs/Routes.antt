@@ -28,13 +28,20 @@ with_route text to rows = place_route (parse_route text) to rows
 
 unfoldable pub endpoints : RowsOf (RouteOf Endpoint)
 endpoints =
-    with_route (codes "/partners/{code}/{kind}") endpoint.Accounts
+    with_route (codes "/partners") (endpoint.Report kind.Partners)
+    (with_route (codes "/picture") (endpoint.Report kind.Picture)
+    (with_route (codes "/contrls/{partner}/{number}") (endpoint.Report kind.Contrl)
+    (with_route (codes "/blocks") (endpoint.Report kind.Blocks)
+    (with_route (codes "/work/{vessel}/{voyage}/{side}") (endpoint.Report kind.Work)
+    (with_route (codes "/containers/{box}") (endpoint.Report kind.Container)
+    (with_route (codes "/yard.csv") (endpoint.Report kind.YardTable)
+    (with_route (codes "/partners/{code}/{kind}") endpoint.Accounts
     (with_route (codes "/lists/{vessel}/{voyage}/{side}") (endpoint.Report kind.List)
     (with_route (codes "/visits/{box}") (endpoint.Report kind.Visits)
     (with_route (codes "/yard") (endpoint.Report kind.Yard)
     (with_route (codes "/tickets/{partner}/{number}") (endpoint.Report kind.Ticket)
     (with_route (codes "/replies/{partner}/{number}") (endpoint.Report kind.Reply)
-    (with_route (codes "/interchanges") endpoint.Interchanges []))))))
+    (with_route (codes "/interchanges") endpoint.Interchanges [])))))))))))))
 
 -- the target up to `?` (63)
 abbrev pub path_of : List ℕ → List ℕ
@@ -74,11 +81,17 @@ behind front path = if starts_with nat_eq path front then Some (drop (length fro
 -- what stands before a key
 abbrev pub front_of : ReportKind → List ℕ
 front_of kind.Yard = codes "/yard"
-front_of kind.YardTable = codes "/yard"
+front_of kind.YardTable = codes "/yard.csv"
 front_of kind.Visits = codes "/visits/"
 front_of kind.List = codes "/lists/"
 front_of kind.Ticket = codes "/tickets/"
 front_of kind.Reply = codes "/replies/"
+front_of kind.Container = codes "/containers/"
+front_of kind.Work = codes "/work/"
+front_of kind.Partners = codes "/partners"
+front_of kind.Blocks = codes "/blocks"
+front_of kind.Contrl = codes "/contrls/"
+front_of kind.Picture = codes "/picture"
 
 -- the key of a report in its path: what stands behind that
 abbrev pub key_in : ReportKind → List ℕ → Option (List ℕ)

@@ -15,21 +15,27 @@ use Rattle.office_http.specs.Requests.{Asks}
 use Rattle.office_http.specs.Responses.{response_bytes, refusal_bytes}
 use Rattle.office_http.specs.Steps.{Step, events_after, AreAnswered, StepsLead}
 use Rattle.office_http.specs.declared.content_type.ContentType.{ContentType}
-use Rattle.office_http.specs.declared.content_type.ContentType.TheVariants.{Json, Text}
+use Rattle.office_http.specs.declared.content_type.ContentType.TheVariants.{Json, Text, Table, Page, Interchange}
 use Rattle.office_http.specs.declared.refusal.Refusal.TheVariants.{NotFound, NotNow}
 use Rattle.office_http.specs.declared.request.Request.{Request}
 use Rattle.office_http.specs.declared.request.Request.TheVariants.{Delivery, Account, Report, Refused}
 use Rattle.office_http.specs.declared.serve_fault.ServeFault.{ServeFault}
 use Rattle.office_http.specs.declared.serve_fault.ServeFault.TheVariants as fault
 
--- what a report is: a reply is JSON
+-- what a report is: a reply is JSON, a CONTRL an interchange, the picture a page
 abbrev pub content_of : ReportKind → ContentType
 content_of kind.Yard = Text
-content_of kind.YardTable = Text
+content_of kind.YardTable = Table
 content_of kind.Visits = Text
 content_of kind.List = Text
 content_of kind.Ticket = Text
 content_of kind.Reply = Json
+content_of kind.Container = Text
+content_of kind.Work = Text
+content_of kind.Partners = Text
+content_of kind.Blocks = Text
+content_of kind.Contrl = Interchange
+content_of kind.Picture = Page
 
 -- the response with a report, if there is something to tell
 abbrev pub report_bytes : ReportKind → Option (List ℕ) → List ℕ

@@ -8,6 +8,12 @@ pub(crate) enum ContentType {
     Json,
     /// Plain text.
     Text,
+    /// Comma-separated values (RFC 4180).
+    Table,
+    /// A page of HTML in UTF-8.
+    Page,
+    /// An interchange of UN/EDIFACT.
+    Interchange,
 }
 
 impl ContentType {
@@ -18,6 +24,9 @@ impl ContentType {
         match self {
             ContentType::Json => "application/json",
             ContentType::Text => "text/plain",
+            ContentType::Table => "text/csv",
+            ContentType::Page => "text/html; charset=utf-8",
+            ContentType::Interchange => "application/EDIFACT",
         }
     }
 }

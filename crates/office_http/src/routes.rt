@@ -46,6 +46,19 @@ fn router(alloc: Global) -> Result<Router<Endpoint>, InsertError>
         Endpoint::Report(ReportKind::List),
     )?;
     router.insert("/partners/{code}/{kind}", Endpoint::Accounts)?;
+    router.insert("/yard.csv", Endpoint::Report(ReportKind::YardTable))?;
+    router.insert("/containers/{box}", Endpoint::Report(ReportKind::Container))?;
+    router.insert(
+        "/work/{vessel}/{voyage}/{side}",
+        Endpoint::Report(ReportKind::Work),
+    )?;
+    router.insert("/blocks", Endpoint::Report(ReportKind::Blocks))?;
+    router.insert(
+        "/contrls/{partner}/{number}",
+        Endpoint::Report(ReportKind::Contrl),
+    )?;
+    router.insert("/picture", Endpoint::Report(ReportKind::Picture))?;
+    router.insert("/partners", Endpoint::Report(ReportKind::Partners))?;
     Ok(router)
 }
 
@@ -96,10 +109,17 @@ fn front_of(kind: ReportKind) -> &'static str
     ensures { result.now ≡ front_of kind }
 {
     match kind {
-        ReportKind::Yard | ReportKind::YardTable => "/yard",
+        ReportKind::Yard => "/yard",
+        ReportKind::YardTable => "/yard.csv",
         ReportKind::Visits => "/visits/",
         ReportKind::List => "/lists/",
         ReportKind::Ticket => "/tickets/",
         ReportKind::Reply => "/replies/",
+        ReportKind::Container => "/containers/",
+        ReportKind::Work => "/work/",
+        ReportKind::Partners => "/partners",
+        ReportKind::Blocks => "/blocks",
+        ReportKind::Contrl => "/contrls/",
+        ReportKind::Picture => "/picture",
     }
 }

@@ -139,6 +139,16 @@ fn content_of(kind: ReportKind) -> ContentType
 {
     match kind {
         ReportKind::Reply => ContentType::Json,
-        _ => ContentType::Text,
+        ReportKind::YardTable => ContentType::Table,
+        ReportKind::Picture => ContentType::Page,
+        ReportKind::Contrl => ContentType::Interchange,
+        ReportKind::Yard
+        | ReportKind::Visits
+        | ReportKind::List
+        | ReportKind::Ticket
+        | ReportKind::Container
+        | ReportKind::Work
+        | ReportKind::Partners
+        | ReportKind::Blocks => ContentType::Text,
     }
 }

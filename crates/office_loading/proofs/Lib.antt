@@ -16,3 +16,4 @@ pub mod OfficeLemmas
 pub mod NextLemmas
 pub mod OlderLemmas
 pub mod OlderOffice
+pub mod WaitingLemmas

@@ -3,3 +3,4 @@ pub mod Fits
 pub mod Columns
 pub mod Tables
 pub mod Older
+pub mod Waiting

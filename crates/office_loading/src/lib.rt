@@ -21,7 +21,9 @@ mod setting_rows;
 mod stays;
 mod version;
 mod visit_rows;
+mod waiting;
 
 pub use loading::load;
 pub use numbering::nexts;
 pub use older::{load_old, read_older_tables};
+pub use waiting::waiting_numbers;

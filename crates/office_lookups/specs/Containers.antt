@@ -14,6 +14,7 @@ use Rattle.office_setup.specs.Setups.{SetupContent}
 use Rattle.office_reports.specs.Names.{load_name, slot_name, phrase, line}
 use Rattle.office_reports.specs.Visits.{booking_words, gross_words, is_visit_of, passage_words}
 use Rattle.office_reports.specs.Yard.{slot_in}
+use Rattle.office_lookups.specs.OpenLines.{open_lines_text}
 
 -- the container that stands on one
 abbrev pub blocker_in : TerminalState → BoxNumber → Option BoxNumber
@@ -61,10 +62,11 @@ gone_report setup container None = None
 gone_report setup container (Some visit) =
     Some (container_head container ++ gone_line setup visit visit.departure)
 
--- where it stands by its open visit; if it has none, how it left
+-- where it stands by its open visit, and each open line that names it; if it has none, how it left
 abbrev pub report_by : SetupContent → TerminalState → BoxNumber → Option VisitContent → Option Slot → Option (List ℕ)
 report_by setup state container (Some visit) (Some slot) =
-    Some (container_head container ++ here_line setup visit slot (blocker_in state container))
+    Some (container_head container ++ here_line setup visit slot (blocker_in state container)
+    ++ open_lines_text state.lines container)
 report_by setup state container (Some visit) None = gone_report setup container (last_visit state container)
 report_by setup state container None slot = gone_report setup container (last_visit state container)
 

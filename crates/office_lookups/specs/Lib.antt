@@ -2,3 +2,6 @@ pub mod Blocks
 pub mod Containers
 pub mod Contrls
 pub mod Laws
+pub mod OpenLines
+pub mod Partners
+pub mod Work

@@ -6,6 +6,7 @@ ghost use Rattle.office_reports.specs.Names.{phrase, line};
 ghost use Rattle.office_reports.specs.Visits.{booking_words, is_visit_of};
 ghost use Rattle.office_lookups.specs.Containers.{above_words, arrival_words, container_head, container_report, gone_line, gone_report, here_line};
 
+use crate::open_lines::push_open_lines;
 use box6346::{BoxNumber, Slot};
 use office_reports::passage_text;
 use office_reports::texts::{load_name, number_text, phrase, push_line, size_text, slot_text};
@@ -15,8 +16,10 @@ use terminal_core::{Terminal, Visit};
 
 /// Where a container is: `CONTAINER BOX`, and if it is in the yard
 /// `IN SLOT SIZE FULL VISIT N GATE PARTNER NUMBER MOMENT`, with ` BOOKING B` and ` GROSS w` if it has them, then
-/// ` FREE`, or ` UNDER BOX` with the container that stands on it; else `OUT SIZE FULL VISIT N GATE PARTNER NUMBER MOMENT`,
-/// by which it left last. Each line ends with LF. `None` if it never came.
+/// ` FREE`, or ` UNDER BOX` with the container that stands on it, and a line `LOAD VESSEL VOYAGE` or
+/// `DISCHARGE VESSEL VOYAGE`, and the port if there is one, for each open line that names it; else
+/// `OUT SIZE FULL VISIT N GATE PARTNER NUMBER MOMENT`, by which it left last. Each line ends with LF. `None` if it never
+/// came.
 pub fn container_report(
     alloc: Global,
     setup: &Setup,
@@ -36,6 +39,7 @@ pub fn container_report(
     push_head(alloc, &mut text, container)?;
     let blocker = terminal.blocker_on(container);
     push_here(alloc, &mut text, setup, visit, slot, blocker)?;
+    push_open_lines(alloc, &mut text, terminal, container)?;
     Ok(Some(text))
 }
 
@@ -144,7 +148,7 @@ fn arrival_text(
 }
 
 /// Whether it is free, or what stands on it.
-fn above_text(alloc: Global, blocker: Option<BoxNumber>) -> Result<String, AllocError>
+pub(crate) fn above_text(alloc: Global, blocker: Option<BoxNumber>) -> Result<String, AllocError>
     ensures { IfOk result (λ text. string_bytes text ≡ phrase (above_words blocker)) }
 {
     match blocker {

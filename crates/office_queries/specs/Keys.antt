@@ -7,6 +7,7 @@ use Rattle.box6346.specs.ContainerNumber.{number_of as box_of}
 use Rattle.box6346.specs.declared.box_number.BoxNumber.{BoxNumber}
 use Rattle.box6346.specs.declared.number_fault.NumberFault.{NumberFault}
 use Rattle.edi_messages.specs.Texts.{is_name}
+use Rattle.edi_messages.specs.declared.call.Call.{Call}
 use Rattle.edi_syntax.specs.Numbers.{number_of, as_control_number}
 use Rattle.terminal_core.specs.declared.side.Side.{Side}
 use Rattle.terminal_core.specs.declared.side.Side.TheVariants.{Load, Discharge}
@@ -18,10 +19,10 @@ use Rattle.office_queries.specs.declared.report_kind.ReportKind.TheVariants as k
 
 -- what is asked for, with its texts as bytes
 pub data Asked : Type 0 where
-  yard yard_table : Asked
-  visits : BoxNumber → Asked
-  list : List ℕ → List ℕ → Side → Asked
-  ticket reply : List ℕ → ℕ → Asked
+  yard yard_table partners blocks picture : Asked
+  visits container : BoxNumber → Asked
+  list work : List ℕ → List ℕ → Side → Asked
+  ticket reply contrl : List ℕ → ℕ → Asked
 
 abbrev pub query_asked : Query → Asked
 query_asked query.Yard = yard
@@ -30,6 +31,16 @@ query_asked (query.Visits number) = visits number
 query_asked (query.List call side) = list (string_bytes call.vessel) (string_bytes call.voyage) side
 query_asked (query.Ticket partner number) = ticket (string_bytes partner) number
 query_asked (query.Reply partner number) = reply (string_bytes partner) number
+query_asked (query.Container number) = container number
+query_asked (query.Work call side) = work (string_bytes call.vessel) (string_bytes call.voyage) side
+query_asked query.Partners = partners
+query_asked query.Blocks = blocks
+query_asked (query.Contrl partner number) = contrl (string_bytes partner) number
+query_asked query.Picture = picture
+
+-- the list that a call and a side name
+abbrev pub list_named : Call × Side → List ℕ × List ℕ × Side
+list_named of = (string_bytes of.0.vessel, string_bytes of.0.voyage, of.1)
 
 -- ---- the parts of a key
 
@@ -93,12 +104,19 @@ box_in part = option_and_then (λ bytes. if_ok (box_of bytes)) (decoded_part par
 abbrev pub if_empty : List ℕ → Asked → Option Asked
 if_empty key what = if length key == 0 then Some what else None
 
+-- BOX
+abbrev pub container_of : List ℕ → Option BoxNumber
+container_of key = option_and_then box_in (one (parts key))
+
 -- VESSEL/VOYAGE/SIDE
-abbrev pub list_in : List ℕ × List ℕ × List ℕ → Option Asked
+abbrev pub list_in : List ℕ × List ℕ × List ℕ → Option (List ℕ × List ℕ × Side)
 list_in p =
     option_and_then (λ vessel.
-    option_and_then (λ voyage. option_map (λ side. list vessel voyage side) (side_in p.2)) (name_in p.1))
+    option_and_then (λ voyage. option_map (λ side. (vessel, voyage, side)) (side_in p.2)) (name_in p.1))
     (name_in p.0)
+
+abbrev pub list_of : List ℕ → Option (List ℕ × List ℕ × Side)
+list_of key = option_and_then list_in (three (parts key))
 
 -- PARTNER/NUMBER
 abbrev pub interchange_in : List ℕ × List ℕ → Option (List ℕ × ℕ)
@@ -111,7 +129,13 @@ interchange_of key = option_and_then interchange_in (two (parts key))
 abbrev pub query_of : ReportKind → List ℕ → Option Asked
 query_of kind.Yard key = if_empty key yard
 query_of kind.YardTable key = if_empty key yard_table
-query_of kind.Visits key = option_map visits (option_and_then box_in (one (parts key)))
-query_of kind.List key = option_and_then list_in (three (parts key))
+query_of kind.Visits key = option_map visits (container_of key)
+query_of kind.List key = option_map (λ of. list of.0 of.1 of.2) (list_of key)
 query_of kind.Ticket key = option_map (λ of. ticket of.0 of.1) (interchange_of key)
 query_of kind.Reply key = option_map (λ of. reply of.0 of.1) (interchange_of key)
+query_of kind.Container key = option_map container (container_of key)
+query_of kind.Work key = option_map (λ of. work of.0 of.1 of.2) (list_of key)
+query_of kind.Partners key = if_empty key partners
+query_of kind.Blocks key = if_empty key blocks
+query_of kind.Contrl key = option_map (λ of. contrl of.0 of.1) (interchange_of key)
+query_of kind.Picture key = if_empty key picture

@@ -32,4 +32,26 @@ pub enum Query {
         /// Its control reference, from 1 to 999,999,999.
         number: u32,
     },
+    /// Where a container is.
+    Container(BoxNumber),
+    /// What is left to do of the list of a call on one side.
+    Work {
+        /// The vessel and its voyage.
+        call: Call,
+        /// Whether what is loaded or what is discharged.
+        side: Side,
+    },
+    /// The partners: which numbers are expected, and what waits for them.
+    Partners,
+    /// The blocks of the yard, and how full they are.
+    Blocks,
+    /// The CONTRL that an interchange was answered.
+    Contrl {
+        /// The code of its sender.
+        partner: String,
+        /// Its control reference, from 1 to 999,999,999.
+        number: u32,
+    },
+    /// The yard as a page.
+    Picture,
 }

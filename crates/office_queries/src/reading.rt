@@ -1,34 +1,48 @@
 ghost use Rattle.std.specs.Prelude.{◌≡◌, IfOk, option_map, string_bytes};
-ghost use Rattle.office_queries.specs.Keys.{query_asked, if_empty, interchange_of, list_in, query_of};
-ghost use Rattle.office_queries.specs.declared.report_kind.ReportKind.TheVariants as kind;
+ghost use Rattle.office_queries.specs.Keys.{query_asked, container_of, if_empty, interchange_of, list_named, list_of, query_of};
 
 use crate::parts::{one_part, three_parts, two_parts};
 use crate::query::Query;
 use crate::report_kind::ReportKind;
 use crate::values::{read_box, read_name, read_number, read_side};
+use box6346::BoxNumber;
 use edi_messages::Call;
 use std::alloc::{AllocError, Global};
+use terminal_core::Side;
 
-/// What a key asks for: the empty key for the yard, `BOX` for the visits, `VESSEL/VOYAGE/SIDE` for a list, and
-/// `PARTNER/NUMBER` for a ticket and for a reply. In each part `%` and two hexadecimal digits stand for a byte. None:
-/// the key can't be read, or nothing can be found under it.
+/// What a key asks for: the empty key for the yard, its table, its picture, its blocks and the partners, `BOX` for a
+/// container and for its visits, `VESSEL/VOYAGE/SIDE` for a list and for what is left of it, and `PARTNER/NUMBER` for a ticket, for a reply
+/// and for a CONTRL. In each part `%` and two hexadecimal digits stand for a byte. None: the key can't be read, or
+/// nothing can be found under it.
 pub fn read_query(alloc: Global, kind: ReportKind, key: &str) -> Result<Option<Query>, AllocError>
     ensures { IfOk result (λ query. option_map query_asked query ≡ query_of kind key.now) }
 {
     match kind {
         ReportKind::Yard => Ok(if_empty(key, Query::Yard)),
         ReportKind::YardTable => Ok(if_empty(key, Query::YardTable)),
-        ReportKind::Visits => read_visits(alloc, key),
-        ReportKind::List => match three_parts(key) {
-            Some((vessel, voyage, side)) => read_list(alloc, vessel, voyage, side),
-            None => Ok(None),
-        },
+        ReportKind::Partners => Ok(if_empty(key, Query::Partners)),
+        ReportKind::Blocks => Ok(if_empty(key, Query::Blocks)),
+        ReportKind::Picture => Ok(if_empty(key, Query::Picture)),
+        ReportKind::Visits => Ok(read_container(alloc, key)?.map(|number| Query::Visits(number))),
+        ReportKind::Container => {
+            Ok(read_container(alloc, key)?.map(|number| Query::Container(number)))
+        }
+        ReportKind::List => {
+            Ok(read_list(alloc, key)?.map(|(call, side)| Query::List { call, side }))
+        }
+        ReportKind::Work => {
+            Ok(read_list(alloc, key)?.map(|(call, side)| Query::Work { call, side }))
+        }
         ReportKind::Ticket => match read_interchange(alloc, key)? {
             Some((partner, number)) => Ok(Some(Query::Ticket { partner, number })),
             None => Ok(None),
         },
         ReportKind::Reply => match read_interchange(alloc, key)? {
             Some((partner, number)) => Ok(Some(Query::Reply { partner, number })),
+            None => Ok(None),
+        },
+        ReportKind::Contrl => match read_interchange(alloc, key)? {
+            Some((partner, number)) => Ok(Some(Query::Contrl { partner, number })),
             None => Ok(None),
         },
     }
@@ -40,26 +54,23 @@ fn if_empty(key: &str, query: Query) -> Option<Query>
     if key.is_empty() { Some(query) } else { None }
 }
 
-fn read_visits(alloc: Global, key: &str) -> Result<Option<Query>, AllocError>
-    ensures { IfOk result (λ query. option_map query_asked query ≡ query_of kind.Visits key.now) }
+/// The container that a key names.
+fn read_container(alloc: Global, key: &str) -> Result<Option<BoxNumber>, AllocError>
+    ensures { IfOk result (λ number. number ≡ container_of key.now) }
 {
-    let Some(part) = one_part(key) else {
-        return Ok(None);
-    };
-    match read_box(alloc, part)? {
-        Some(number) => Ok(Some(Query::Visits(number))),
+    match one_part(key) {
+        Some(part) => read_box(alloc, part),
         None => Ok(None),
     }
 }
 
-fn read_list(
-    alloc: Global,
-    vessel: &str,
-    voyage: &str,
-    side: &str,
-) -> Result<Option<Query>, AllocError>
-    ensures { IfOk result (λ query. option_map query_asked query ≡ list_in (vessel.now, voyage.now, side.now)) }
+/// The list that a key names: a call, and its side.
+fn read_list(alloc: Global, key: &str) -> Result<Option<(Call, Side)>, AllocError>
+    ensures { IfOk result (λ found. option_map list_named found ≡ list_of key.now) }
 {
+    let Some((vessel, voyage, side)) = three_parts(key) else {
+        return Ok(None);
+    };
     let Some(vessel) = read_name(alloc, vessel)? else {
         return Ok(None);
     };
@@ -67,10 +78,7 @@ fn read_list(
         return Ok(None);
     };
     match read_side(alloc, side)? {
-        Some(side) => Ok(Some(Query::List {
-            call: Call { vessel, voyage },
-            side,
-        })),
+        Some(side) => Ok(Some((Call { vessel, voyage }, side))),
         None => Ok(None),
     }
 }

@@ -13,4 +13,16 @@ pub enum ReportKind {
     Ticket,
     /// What an interchange was answered.
     Reply,
+    /// Where a container is.
+    Container,
+    /// What is left to do of a list of a vessel's voyage.
+    Work,
+    /// The partners: which numbers are expected, and what waits for them.
+    Partners,
+    /// The blocks of the yard, and how full they are.
+    Blocks,
+    /// The CONTRL that an interchange was answered.
+    Contrl,
+    /// The yard as a page.
+    Picture,
 }

@@ -1,9 +1,32 @@
-ghost use Rattle.std.specs.Prelude.{◌≡◌, IfOk, string_bytes, encode_utf8_all};
+ghost use Rattle.std.specs.Prelude.{◌≡◌, IfOk, IfSome, string_bytes, encode_utf8_all};
 
 use std::alloc::{AllocError, Global};
 
 /// Bytes as text, each of them as the character of its number: ASCII stays as it is.
 pub fn text_of(alloc: Global, bytes: &[u8]) -> Result<String, AllocError>
+    ensures { IfOk result (λ text. string_bytes text ≡ encode_utf8_all bytes.now) }
+{
+    match as_ascii(bytes) {
+        Some(text) => String::from_str(alloc, text),
+        None => each_as_character(alloc, bytes),
+    }
+}
+
+/// The bytes as a text, if each is of ASCII.
+fn as_ascii(bytes: &[u8]) -> Option<&str>
+    ensures { IfSome result (λ text. text.now ≡ encode_utf8_all bytes.now) }
+{
+    if !bytes.is_ascii() {
+        return None;
+    }
+    match str::from_utf8(bytes) {
+        Ok(text) => Some(text),
+        Err(_) => None,
+    }
+}
+
+/// The character of each byte, one after the other.
+fn each_as_character(alloc: Global, bytes: &[u8]) -> Result<String, AllocError>
     ensures { IfOk result (λ text. string_bytes text ≡ encode_utf8_all bytes.now) }
 {
     let mut text = String::new(alloc);

@@ -14,7 +14,7 @@ pub mod yard;
 
 pub use export::yard_csv;
 pub use listed_line::ListedLine;
-pub use lists::{list_name, list_report};
+pub use lists::{lines_on, list_name, list_report};
 pub use standing::Standing;
 pub use tickets::ticket;
 pub use visits::{passage_text, visit_report};

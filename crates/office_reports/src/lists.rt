@@ -136,7 +136,7 @@ fn state_name(state: LineState) -> &'static str
 }
 
 /// The lines of a call's list, by the containers' numbers.
-fn lines_on(
+pub fn lines_on(
     alloc: Global,
     terminal: &Terminal,
     call: &Call,

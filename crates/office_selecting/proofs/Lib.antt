@@ -5,3 +5,4 @@ pub mod SettingLemmas
 pub mod LackingLemmas
 pub mod QueryTexts
 pub mod ListedLemmas
+pub mod WaitingLemmas

@@ -1,9 +1,11 @@
-//! The queries of whole tables, each in the order of its key.
+//! The queries of whole tables, each in the order of its key, and those of some interchanges.
 #![tactic(auto)]
 
 mod selecting;
+mod waiting;
 
 pub use selecting::{
     select_bare_visits, select_blocks, select_interchange, select_interchanges, select_lines,
     select_partners, select_places, select_settings, select_visits,
 };
+pub use waiting::select_waiting;

@@ -3,3 +3,5 @@ pub mod OpenLemmas
 pub mod FaultLemmas
 pub mod MadeLemmas
 pub mod MadeTexts
+pub mod KeyLemmas
+pub mod PairLemmas

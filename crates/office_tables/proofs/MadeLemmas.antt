@@ -1,5 +1,5 @@
 -- A text that makes a table, run on a database of any schema: the table was not there.
-use Rattle.std.proofs.Common.{◌≡◌, ℕ, ◌+◌, ◌<◌, Bool, true, false, not, ◌==◌, length, ◌&&◌, ◌||◌, if◌then◌else◌, cond, List, [], ◌∷◌, ◌++◌, slice_range, Option, Some, None, is_some, Result, Ok, Err, OnOk, inl, inr, refl, sym, ap, ap₂, subst, ◌∙◌}
+use Rattle.std.proofs.Common.{◌≡◌, ℕ, ◌+◌, Bool, true, false, not, ◌==◌, length, ◌&&◌, if◌then◌else◌, List, [], ◌∷◌, ◌++◌, slice_range, Option, None, is_some, Result, Ok, Err, OnOk, inl, inr, refl, sym, ap, subst, ◌∙◌}
 use Rattle.std.specs.List.{AllByRecursion, position_from}
 use Rattle.std.proofs.lemmas.Bool.{cases_Bool, or_parts, or_from}
 use Rattle.sqlite_ast.specs.declared.Statement.{Statement}

@@ -1,3 +1,4 @@
 pub mod Faults
 pub mod Opened
 pub mod Answers
+pub mod Kept

@@ -1,10 +1,14 @@
-ghost use Rattle.std.specs.Prelude.{◌≡◌, [], ◌∷◌, OnOk, IfErr, IsTrue};
+ghost use Rattle.std.specs.Prelude.{◌≡◌, [], ◌∷◌, false, OnOk, IfErr, IsTrue};
+ghost use Rattle.std.specs.List.{list_any};
 ghost use Rattle.sqlite.specs.Held.{state};
 ghost use Rattle.sqlite.specs.State.{HasCleanDisk, Survives, KeepsCommit};
-ghost use Rattle.office_rows.specs.Effects.{with_kept, with_reply};
+ghost use Rattle.office_rows.specs.Effects.{is_pair, with_kept, with_reply};
 ghost use Rattle.office_rows.specs.Opening.{interchange, with_interchanges};
+ghost use Rattle.office_rows.specs.Rows.{Rows};
 ghost use Rattle.office_rows.specs.Steps.{Steps};
+ghost use Rattle.office_rows.specs.Stored.{HasRows};
 ghost use Rattle.office_tables.specs.Faults.{IsOfStore};
+ghost use Rattle.office_tables.specs.Kept.{with_kept_reply};
 
 use crate::table_fault::TableFault;
 use crate::values::{characters, integer};
@@ -38,7 +42,27 @@ pub fn keep<S: Alter>(
     Ok(())
 }
 
-/// Keeps an interchange with its reply; one that waits has an empty one.
+/// Keeps an interchange that is taken at once, with its reply: what `keep` and `set_reply` come to, by one statement.
+pub fn keep_taken<S: Alter>(
+    tx: &mut Transaction<'_, S>,
+    partner: u16,
+    number: u32,
+    body: &[u8],
+    reply: &str,
+) -> Result<(), TableFault>
+    ensures same_reference { tx.new.conn.ghost_name ≡ tx.old.conn.ghost_name }
+    ensures steps { HasCleanDisk (state S.Store tx.new.conn.now) → IsTrue (state S.Store tx.old.conn.now).in_transaction
+        → OnOk result (Steps (with_kept_reply partner number body.now reply.now) (state S.Store tx.old.conn.now)
+        (state S.Store tx.new.conn.now)) }
+    ensures keeps { HasCleanDisk (state S.Store tx.new.conn.now) → IsTrue (state S.Store tx.old.conn.now).in_transaction
+        → KeepsCommit (state S.Store tx.old.conn.now) (state S.Store tx.new.conn.now) }
+    ensures survives { Survives (state S.Store tx.old.conn.now) (state S.Store tx.new.conn.now) (λ _. ⊥) }
+    ensures fault { IfErr result IsOfStore }
+{
+    insert_interchange(tx, u32::from(partner), number, body, reply)
+}
+
+/// Keeps an interchange with its reply; one that waits has an empty one. None was kept under its pair of numbers.
 pub fn insert_interchange<'a, S: Alter>(
     tx: &mut Transaction<'_, S>,
     partner: u32,
@@ -50,6 +74,9 @@ pub fn insert_interchange<'a, S: Alter>(
     ensures steps { HasCleanDisk (state S.Store tx.new.conn.now) → IsTrue (state S.Store tx.old.conn.now).in_transaction
         → OnOk result (Steps (with_interchanges (interchange partner number body.now reply.now ∷ []))
         (state S.Store tx.old.conn.now) (state S.Store tx.new.conn.now)) }
+    ensures new { HasCleanDisk (state S.Store tx.new.conn.now) → IsTrue (state S.Store tx.old.conn.now).in_transaction
+        → OnOk result ((rows : Rows) → HasRows rows (state S.Store tx.old.conn.now).now →
+        list_any (is_pair partner number) rows.interchanges ≡ false) }
     ensures keeps { HasCleanDisk (state S.Store tx.new.conn.now) → IsTrue (state S.Store tx.old.conn.now).in_transaction
         → KeepsCommit (state S.Store tx.old.conn.now) (state S.Store tx.new.conn.now) }
     ensures survives { Survives (state S.Store tx.old.conn.now) (state S.Store tx.new.conn.now) (λ _. ⊥) }

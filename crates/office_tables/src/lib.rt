@@ -19,7 +19,7 @@ mod visits;
 pub use blocks::insert_blocks;
 pub use creating::create_tables;
 pub use finding::{kept, next_of, read_kept};
-pub use interchanges::{insert_interchange, keep, set_reply};
+pub use interchanges::{insert_interchange, keep, keep_taken, set_reply};
 pub use kept_interchange::Kept;
 pub use lines::{delete_line, insert_line, insert_listing, set_done};
 pub use opening::create;

@@ -1,11 +1,12 @@
 //! Calls of the tables without a program: interchanges that wait and are taken, an office that loads, a desk that is opened
-//! again, an account that is added. What rows a set-up and each change make, and which are damaged, `make beside`
-//! compares.
+//! again, an account that is added, an old store that is brought over. What rows a set-up and each change make, and which
+//! are damaged, `make beside` compares.
 
 ghost use Rattle.std.specs.Prelude.{◌≡◌, ◌≤◌, IfOk, length, string_bytes};
 
 mod accounts;
 mod desk;
+mod migrated;
 mod opening;
 mod weights;
 

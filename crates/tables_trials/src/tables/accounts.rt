@@ -2,6 +2,7 @@
 
 use super::made;
 use office_desk::Desk;
+use office_queries::Query;
 use office_replies::{AccountAnswer, AddAccount, Deliver};
 use sqlite::MemStore;
 use std::alloc::Global;
@@ -86,6 +87,22 @@ fn a_text_before_its_account_is_refused(rt: HostRuntime) -> Result<(), Fail> {
     assert_sent(&rt, rt.alloc(), &mut desk, &[(FIRST, 400)]);
     assert_asked(&rt, rt.alloc(), &mut desk, &[(b"HAULC", b"gate", ADDED)]);
     assert_sent(&rt, rt.alloc(), &mut desk, &[(SECOND, 202), (FIRST, 200)]);
+    Ok(())
+}
+
+/// What is told of the partners, whose setup has two, behind that.
+const PARTNERS: &str =
+    "PARTNERS\nHAULA GATE NEXT 1\nLINEA LINE NEXT 1\nHAULC GATE NEXT 1 WAITING 1 FROM 2 TO 2 MISSING 1\n3 PARTNERS 1 WAITING\n";
+
+#[test]
+fn what_waits_for_a_new_partner_is_told(rt: HostRuntime) -> Result<(), Fail> {
+    let conn = made(&rt, rt.alloc())?;
+    assert!(&rt; conn.is_autocommit());
+    let mut desk = Desk::open(rt.alloc(), conn)?;
+    assert_asked(&rt, rt.alloc(), &mut desk, &[(b"HAULC", b"gate", ADDED)]);
+    assert_sent(&rt, rt.alloc(), &mut desk, &[(SECOND, 202)]);
+    let told = desk.told(rt.alloc(), &Query::Partners)?;
+    assert!(&rt; told.as_deref() == Some(PARTNERS));
     Ok(())
 }
 

@@ -1,6 +1,7 @@
 use Rattle.sqlite.specs.Files.{over_files}
 use Rattle.office_desk.specs.Reports.{DeskTells, TellsAfter}
 use Rattle.office_commands.specs.Reporting.{TellsOver}
+use Rattle.office_commands.proofs.LookingLemmas.{looked_over}
 use Rattle.office_commands.proofs.ReportLemmas.{key_also, after_alike, told_over}
 use Rattle.office_commands.proofs.report.report_over.Goals as goal
 
@@ -27,3 +28,8 @@ returns-clause-ok g c =
                 (λ asked tells. told_over db desk asked ends.found (c.in_ok-desk.ensures.office was db held) tells) told;
           };
     }
+
+pub returns-clause-looks : goal.returns-clause-looks
+returns-clause-looks g c =
+    looked_over _ c.in_ok-desk.desk _ (record { events = λ sound content es begins. c.in_ok-desk.ensures.opens sound content es begins.0 begins.1; office = c.in_ok-desk.ensures.office })
+    c.report_on.ensures.looks c.report_on.ensures.stays

@@ -1,7 +1,7 @@
 use Rattle.std.proofs.Common.{◌≡◌, None, Some, option_map, string_bytes, refl, sym, ap, subst, ◌∙◌}
 use Rattle.office_rows.proofs.StepLemmas.{if_ok}
 use Rattle.office_setup.specs.Setups.{setup_content}
-use Rattle.office_desk.specs.Reports.{TellsOf, TellsReplyOf, partner_called, ticket_of}
+use Rattle.office_desk.specs.Reports.{TellsOf, TellsReplyOf, contrl_told, partner_called, ticket_of}
 use Rattle.office_desk.proofs.ReportLemmas.{called}
 use Rattle.office_desk.proofs.telling.tell.Goals as goal
 
@@ -43,3 +43,23 @@ returns-in-None-partner_called-clause-told g c clean rows has once =
     let own = string_bytes c.in-Reply.partner in
     let there : partner_called content own ≡ None = called a.setup.now c.deref-in-Reply.result.now own None (sym c.in-None-partner_called.is ∙ c.partner_called-in-Reply.ensures) c.deref-in-Reply.ensures in
     subst (λ q. TellsOf content a.terminal.now rows q None) (sym c.in-Reply.is) (subst (λ p. TellsReplyOf rows own c.in-Reply.number p None) (sym there) refl)
+
+pub returns-in-Some-partner_called-2-clause-told : goal.returns-in-Some-partner_called-2-clause-told
+returns-in-Some-partner_called-2-clause-told g c clean =
+    let a = c.args in
+    let content = setup_content a.setup.now in
+    let own = string_bytes c.in-Contrl.partner in
+    let id = c.in-Some-partner_called-2.id in
+    let there : partner_called content own ≡ Some id = called a.setup.now c.deref-in-Contrl.result.now own (Some id) (sym c.in-Some-partner_called-2.is ∙ c.partner_called-in-Contrl.ensures) c.deref-in-Contrl.ensures in
+    if_ok c.tell_contrl.result (λ found told. λ rows has once.
+    subst (λ q. TellsOf content a.terminal.now rows q (option_map string_bytes found)) (sym c.in-Contrl.is)
+    (told rows has once ∙ sym (ap (contrl_told rows c.in-Contrl.number) there)))
+    (c.tell_contrl.ensures.told clean)
+
+pub returns-in-None-partner_called-2-clause-told : goal.returns-in-None-partner_called-2-clause-told
+returns-in-None-partner_called-2-clause-told g c clean rows has once =
+    let a = c.args in
+    let content = setup_content a.setup.now in
+    let own = string_bytes c.in-Contrl.partner in
+    let there : partner_called content own ≡ None = called a.setup.now c.deref-in-Contrl.result.now own None (sym c.in-None-partner_called-2.is ∙ c.partner_called-in-Contrl.ensures) c.deref-in-Contrl.ensures in
+    subst (λ q. TellsOf content a.terminal.now rows q None) (sym c.in-Contrl.is) (sym (ap (contrl_told rows c.in-Contrl.number) there))

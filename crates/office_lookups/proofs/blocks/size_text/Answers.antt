@@ -1,6 +1,6 @@
-use Rattle.std.proofs.Common.{◌≡◌, List, ℕ, [], ◌∷◌, IfOk, string_bytes, codes, encode_utf8_all, decimal, refl, sym, ap, subst, ◌∙◌, rules}
+use Rattle.std.proofs.Common.{◌≡◌, [], ◌∷◌, IfOk, string_bytes, codes, encode_utf8_all, decimal, subst, ◌∙◌, rules}
 use Rattle.office_reports.specs.Names.{phrase}
-use Rattle.office_lookups.specs.Blocks.{cell_count, size_words}
+use Rattle.office_lookups.specs.Blocks.{cell_count}
 use Rattle.office_lookups.proofs.blocks.size_text.Goals as goal
 
 pub returns : goal.returns

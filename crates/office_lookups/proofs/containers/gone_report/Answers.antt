@@ -1,5 +1,5 @@
-use Rattle.std.proofs.Common.{◌≡◌, List, ℕ, ◌++◌, [], string_bytes, Option, None, Some, option_map, ap, ◌∙◌}
-use Rattle.terminal_core.specs.Rows.{VisitContent, visit_content}
+use Rattle.std.proofs.Common.{◌++◌, Some, option_map, ap, ◌∙◌}
+use Rattle.terminal_core.specs.Rows.{visit_content}
 use Rattle.office_setup.specs.Setups.{setup_content}
 use Rattle.office_lookups.specs.Containers.{container_head, gone_line, gone_report}
 use Rattle.office_lookups.proofs.Lasts.{last_content}

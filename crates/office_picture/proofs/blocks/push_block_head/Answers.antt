@@ -1,6 +1,6 @@
 use Rattle.std.proofs.Common.{◌++◌, ◌∷◌, [], ap, ◌∙◌, codes, decimal, string_bytes}
 use Rattle.std.proofs.lemmas.Result.{on_ok_weaker}
-use Rattle.office_picture.specs.Fields.{field_text, joined}
+use Rattle.office_picture.specs.Fields.{joined}
 use Rattle.office_picture.specs.Views.{block_head}
 use Rattle.office_picture.proofs.blocks.push_block_head.Goals as goal
 

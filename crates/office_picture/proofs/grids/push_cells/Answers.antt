@@ -1,6 +1,6 @@
 use Rattle.std.proofs.Common.{◌++◌, ◌∷◌, [], ap, ◌∙◌, codes, decimal, string_bytes}
 use Rattle.std.proofs.lemmas.Result.{on_ok_weaker}
-use Rattle.office_picture.specs.Fields.{field_text, joined}
+use Rattle.office_picture.specs.Fields.{joined}
 use Rattle.office_picture.specs.Views.{cells_view}
 use Rattle.office_picture.proofs.grids.push_cells.Goals as goal
 

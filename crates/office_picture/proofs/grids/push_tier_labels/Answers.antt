@@ -1,4 +1,4 @@
-use Rattle.std.proofs.Common.{◌+◌, ◌*◌, ◌++◌, ap, ◌∙◌, string_bytes}
+use Rattle.std.proofs.Common.{◌+◌, string_bytes}
 use Rattle.office_picture.specs.Views.{tier_label}
 use Rattle.office_picture.proofs.Counting.{next}
 use Rattle.office_picture.proofs.grids.push_tier_labels.Goals as goal

@@ -1,6 +1,6 @@
 use Rattle.std.proofs.Common.{◌++◌, ◌∷◌, [], ap, ◌∙◌, codes, decimal, string_bytes}
 use Rattle.std.proofs.lemmas.Result.{on_ok_weaker}
-use Rattle.office_picture.specs.Fields.{field_text, joined}
+use Rattle.office_picture.specs.Fields.{joined}
 use Rattle.office_picture.specs.Views.{row_head}
 use Rattle.office_picture.proofs.rows.push_row_head.Goals as goal
 

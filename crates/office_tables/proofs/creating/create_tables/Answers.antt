@@ -1,5 +1,5 @@
-use Rattle.std.proofs.Common.{[], ◌∷◌, take, arith, OnOk}
-use Rattle.sqlite.specs.State.{State, HasCleanDisk}
+use Rattle.std.proofs.Common.{[], ◌∷◌, take, arith}
+use Rattle.sqlite.specs.State.{HasCleanDisk}
 use Rattle.sqlite.specs.Held.{state}
 use Rattle.office_rows.specs.Tables.{office_tables, listed, setting, block}
 use Rattle.office_rows.proofs.StepLemmas.{on_ok}

@@ -1,0 +1,87 @@
+ghost use Rattle.std.specs.Prelude.{◌≡◌, ◌≤◌, ◌++◌, [], ◌∷◌, Some, IfOk, OnOk, length, map, string_bytes};
+ghost use Rattle.sqlite.specs.Held.{state};
+ghost use Rattle.sqlite.specs.State.{HasCleanDisk};
+ghost use Rattle.office_rows.specs.Rows.{Rows};
+ghost use Rattle.office_rows.specs.Stored.{HasRows};
+ghost use Rattle.office_rows.specs.Tables.{office_schema};
+ghost use Rattle.office_setup.specs.Setups.{account_contents};
+ghost use Rattle.office_delivery.specs.Reading.{IsSame, OnlyReads};
+ghost use Rattle.office_lookups.specs.Partners.{partner_content};
+ghost use Rattle.office_desk.specs.Reports.{AreLookedUp, IsLookedUp, TellsPartners};
+
+use office_loading::waiting_numbers;
+use office_lookups::{Partner, partners_report};
+use office_setup::Account;
+use office_tables::{TableFault, next_of};
+use sqlite::{Alter, Connection};
+use std::alloc::{AllocError, Global};
+
+/// Which numbers are expected of the partners with these accounts, the first of them under the id 1, and what waits for
+/// them. It changes nothing.
+pub(crate) fn tell_partners<S: Alter>(
+    alloc: Global,
+    conn: &mut Connection<S>,
+    accounts: &[Account],
+) -> Result<String, TableFault>
+    requires few { length accounts.now ≤ 999 }
+    ensures told { HasCleanDisk (state S.Store conn.new) → IfOk result (λ text. (rows : Rows) →
+        HasRows rows (state S.Store conn.old).now →
+        TellsPartners rows (account_contents accounts.now) (Some (string_bytes text))) }
+    ensures reads { OnlyReads (state S.Store conn.old) (state S.Store conn.new) }
+{
+    let partners = look_all_up(alloc, conn, accounts)?;
+    Ok(partners_report(alloc, &partners)?)
+}
+
+fn look_all_up<S: Alter>(
+    alloc: Global,
+    conn: &mut Connection<S>,
+    accounts: &[Account],
+) -> Result<Vec<Partner>, TableFault>
+    requires few { length accounts.now ≤ 999 }
+    ensures are { HasCleanDisk (state S.Store conn.new) → IfOk result (λ partners. (rows : Rows) →
+        HasRows rows (state S.Store conn.old).now →
+        AreLookedUp rows 1 (account_contents accounts.now) (map partner_content partners.items)) }
+    ensures reads { OnlyReads (state S.Store conn.old) (state S.Store conn.new) }
+{
+    let mut partners = Vec::new(alloc);
+    let mut id = 0;
+    for account in accounts {
+        id += 1;
+        let partner = look_up(alloc, conn, id, account)?;
+        append(&mut partners, partner)?;
+    }
+    Ok(partners)
+}
+
+/// The partner that has an account under this id.
+fn look_up<S: Alter>(
+    alloc: Global,
+    conn: &mut Connection<S>,
+    id: u16,
+    account: &Account,
+) -> Result<Partner, TableFault>
+    ensures is { HasCleanDisk (state S.Store conn.new) → IfOk result (λ partner. (rows : Rows) →
+        HasRows rows (state S.Store conn.old).now →
+        IsLookedUp rows id (string_bytes account.now.code, account.now.kind) (partner_content partner)) }
+    ensures same { HasCleanDisk (state S.Store conn.new) → (state S.Store conn.old).now.schema ≡ office_schema →
+        OnOk result (IsSame (state S.Store conn.old) (state S.Store conn.new)) }
+    ensures reads { OnlyReads (state S.Store conn.old) (state S.Store conn.new) }
+{
+    let next = next_of(conn, id)?;
+    let waiting = waiting_numbers(alloc, conn, id, next)?;
+    let code = String::from_str(alloc, account.code.as_str())?;
+    Ok(Partner {
+        code,
+        kind: account.kind,
+        next,
+        waiting,
+    })
+}
+
+fn append(partners: &mut Vec<Partner>, next: Partner) -> Result<(), AllocError>
+    ensures { OnOk result (partners.new.items ≡ partners.old.items ++ next ∷ []) }
+{
+    partners.push(next)?;
+    Ok(())
+}

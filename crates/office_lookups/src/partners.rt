@@ -1,0 +1,171 @@
+//! Which number is expected of each partner, and what waits for it.
+
+ghost use Rattle.std.specs.Prelude.{◌≡◌, ◌++◌, ◌∷◌, [], codes, decimal, length, map, max, min, sum_by, IfOk, OnOk, string_bytes};
+ghost use Rattle.std.specs.List.{flat_map, fold};
+ghost use Rattle.office_reports.specs.Names.{line};
+ghost use Rattle.office_lookups.specs.Partners.{kind_name, partner_content, partner_line, partners_end, partners_text, waiting_count, waiting_words};
+
+use crate::partner::Partner;
+use edi_messages::PartnerKind;
+use office_reports::texts::push_line;
+use std::alloc::{AllocError, Global};
+
+/// What is expected of partners: `PARTNERS`; for each a line `CODE KIND NEXT n`, with ` WAITING k FROM a TO b MISSING n`
+/// behind it if some of its interchanges wait: how many, the least and the greatest of their numbers, and the first
+/// number that is missing; `n PARTNERS k WAITING`. Each line ends with LF.
+pub fn partners_report(alloc: Global, partners: &[Partner]) -> Result<String, AllocError>
+    ensures { IfOk result (λ text. string_bytes text ≡ partners_text (map partner_content partners.now)) }
+{
+    let mut text = String::new(alloc);
+    push_line(alloc, &mut text, &["PARTNERS"])?;
+    push_partners(alloc, &mut text, partners)?;
+    push_counts(alloc, &mut text, partners)?;
+    Ok(text)
+}
+
+fn push_partners(alloc: Global, text: &mut String, partners: &[Partner]) -> Result<(), AllocError>
+    ensures { OnOk result (string_bytes text.new
+        ≡ string_bytes text.old ++ flat_map partner_line (map partner_content partners.now)) }
+{
+    for partner in partners {
+        push_partner(alloc, text, partner)?;
+    }
+    Ok(())
+}
+
+fn push_partner(alloc: Global, text: &mut String, partner: &Partner) -> Result<(), AllocError>
+    ensures { OnOk result
+        (string_bytes text.new ≡ string_bytes text.old ++ partner_line (partner_content partner.now)) }
+{
+    let code = partner.code.as_str();
+    let kind = kind_name(partner.kind);
+    let next = partner.next.to_string(alloc)?;
+    match partner.waiting.split_first() {
+        Some((first, others)) => {
+            push_waited_for(alloc, text, code, kind, next.as_str(), *first, others)
+        }
+        None => push_expected(alloc, text, code, kind, next.as_str()),
+    }
+}
+
+fn push_expected(
+    alloc: Global,
+    text: &mut String,
+    code: &str,
+    kind: &str,
+    next: &str,
+) -> Result<(), AllocError>
+    ensures { OnOk result (string_bytes text.new ≡ string_bytes text.old
+        ++ line (code.now ∷ kind.now ∷ codes "NEXT" ∷ next.now ∷ [])) }
+{
+    push_line(alloc, text, &[code, kind, "NEXT", next])
+}
+
+/// The line of a partner whose next number is missing: others wait for it.
+fn push_waited_for(
+    alloc: Global,
+    text: &mut String,
+    code: &str,
+    kind: &str,
+    next: &str,
+    first: u32,
+    others: &[u32],
+) -> Result<(), AllocError>
+    ensures { OnOk result (string_bytes text.new ≡ string_bytes text.old
+        ++ line (code.now ∷ kind.now ∷ codes "NEXT" ∷ next.now ∷ codes "WAITING" ∷ decimal (length (first ∷ others.now))
+        ∷ codes "FROM" ∷ decimal (fold min first others.now) ∷ codes "TO" ∷ decimal (fold max first others.now)
+        ∷ codes "MISSING" ∷ next.now ∷ [])) }
+{
+    let count = (others.len() as u128 + 1).to_string(alloc)?;
+    let least = least(first, others).to_string(alloc)?;
+    let greatest = greatest(first, others).to_string(alloc)?;
+    push_words(
+        alloc,
+        text,
+        code,
+        kind,
+        next,
+        count.as_str(),
+        least.as_str(),
+        greatest.as_str(),
+    )
+}
+
+fn push_words(
+    alloc: Global,
+    text: &mut String,
+    code: &str,
+    kind: &str,
+    next: &str,
+    count: &str,
+    least: &str,
+    greatest: &str,
+) -> Result<(), AllocError>
+    ensures { OnOk result (string_bytes text.new ≡ string_bytes text.old
+        ++ line (code.now ∷ kind.now ∷ codes "NEXT" ∷ next.now ∷ codes "WAITING" ∷ count.now ∷ codes "FROM" ∷ least.now
+        ∷ codes "TO" ∷ greatest.now ∷ codes "MISSING" ∷ next.now ∷ [])) }
+{
+    push_line(
+        alloc,
+        text,
+        &[
+            code, kind, "NEXT", next, "WAITING", count, "FROM", least, "TO", greatest, "MISSING",
+            next,
+        ],
+    )
+}
+
+fn push_counts(alloc: Global, text: &mut String, partners: &[Partner]) -> Result<(), AllocError>
+    ensures { OnOk result
+        (string_bytes text.new ≡ string_bytes text.old ++ partners_end (map partner_content partners.now)) }
+{
+    let count = partners.len().to_string(alloc)?;
+    let waiting = waiting_count(partners).to_string(alloc)?;
+    push_line(
+        alloc,
+        text,
+        &[count.as_str(), "PARTNERS", waiting.as_str(), "WAITING"],
+    )
+}
+
+/// How many interchanges wait, of all partners.
+fn waiting_count(partners: &[Partner]) -> u128
+    ensures { result ≡ sum_by waiting_count (map partner_content partners.now) }
+{
+    let mut count = 0;
+    for partner in partners {
+        count += partner.waiting.len() as u128;
+    }
+    count
+}
+
+fn least(first: u32, others: &[u32]) -> u32
+    ensures { result ≡ fold min first others.now }
+{
+    let mut least = first;
+    for number in others {
+        least = least.min(*number);
+    }
+    least
+}
+
+fn greatest(first: u32, others: &[u32]) -> u32
+    ensures { result ≡ fold max first others.now }
+{
+    let mut greatest = first;
+    for number in others {
+        greatest = greatest.max(*number);
+    }
+    greatest
+}
+
+fn kind_name(kind: PartnerKind) -> &'static str
+    ensures { result.now ≡ kind_name kind }
+{
+    match kind {
+        PartnerKind::Gate => "GATE",
+        PartnerKind::Line => "LINE",
+        PartnerKind::Quay => "QUAY",
+        PartnerKind::Yard => "YARD",
+    }
+}

@@ -1,0 +1,101 @@
+-- An interchange that is inserted is the only one of its partner and number.
+use Rattle.std.proofs.Common.{◌≡◌, ℕ, ◌&&◌, ◌||◌, List, [], ◌∷◌, ◌++◌, Bool, true, false, if◌then◌else◌, Result, Ok, Err, OnOk, map, inl, inr, refl, sym, ap, ap₂, eq-eqb, ◌∙◌}
+use Rattle.std.specs.List.{list_any}
+use Rattle.std.proofs.lemmas.Bool.{or_parts}
+use Rattle.std.proofs.lemmas.List.{map-append}
+use Rattle.std.proofs.lemmas.List.Sorted.{list_any-IsPermutation}
+use Rattle.sqlite.specs.declared.types.Value.TheVariants.{Null}
+use Rattle.sqlite.specs.Collation.TheVariants.{Binary}
+use Rattle.sqlite.specs.Order.{Row, column}
+use Rattle.sqlite.specs.Listing.{understood}
+use Rattle.sqlite.specs.Source.TheVariants.{Values}
+use Rattle.sqlite.specs.Command.TheVariants.{Insert}
+use Rattle.sqlite.specs.State.{State, Executes}
+use Rattle.sqlite.proofs.Callers.{statement_of, runs_as}
+use Rattle.sqlite_value.specs.Keys.{first_key}
+use Rattle.sqlite_schema.specs.declared.schema.Index.{Index}
+use Rattle.sqlite_schema.specs.Rules.{equal}
+use Rattle.sqlite_catalog.specs.Listing.{automatic}
+use Rattle.sqlite_rules.specs.Cast.{cast_row}
+use Rattle.sqlite_rules.specs.declared.error.Rowids.TheVariants.{Chosen}
+use Rattle.sqlite_rules.specs.Edit.{with_rowid}
+use Rattle.office_rows.specs.Tables.{interchange, office_schema}
+use Rattle.office_rows.specs.Rows.{Interchange, Rows}
+use Rattle.office_rows.specs.Values.{number, interchange_values}
+use Rattle.office_rows.specs.Steps.{Steps}
+use Rattle.office_rows.specs.Stored.{HasRows, columns_of}
+use Rattle.office_rows.specs.Effects.{is_pair}
+use Rattle.office_rows.specs.Opening.{with_interchanges, interchange as interchange_of}
+use Rattle.office_rows.proofs.Writing as texts
+use Rattle.office_rows.proofs.WriteLemmas.{cast_null, cast_int, equal_numbers, inserts}
+use Rattle.office_tables.specs.Kept.{with_kept_reply}
+use Rattle.office_tables.proofs.KeyLemmas.{new_key}
+
+and_true : (b : Bool) → (b && true) ≡ b
+and_true true = refl
+and_true false = refl
+
+any_map : {X Y : Type 0} (p : Y → Bool) (f : X → Y) (xs : List X) → list_any p (map f xs) ≡ list_any (λ x. p (f x)) xs
+any_map p f [] = refl
+any_map p f (x ∷ xs) = ap (λ b. p (f x) || b) (any_map p f xs)
+
+-- the index of the pairs
+abbrev pairs : Index
+pairs = automatic interchange 0 (1 ∷ 2 ∷ []) 3
+
+-- the columns have the numbers of this partner's interchange
+abbrev shows : ℕ → ℕ → Row → Bool
+shows p n c = equal Binary (column c 0) (number p) && (equal Binary (column c 1) (number n) && true)
+
+module _ (old new : State) (rows : Rows) (count : ℕ) (has : HasRows rows old.now) where
+  pub new_pair : (a : Interchange) → Executes texts.insert_whole (interchange_values a) old new (Ok count) → list_any (is_pair a.partner a.number) rows.interchanges ≡ false
+  unfolding first_key
+  new_pair a h =
+      let params = interchange_values a in
+      let source : Row = Null ∷ interchange_values a in
+      let text = statement_of texts.insert_whole (understood office_schema texts.insert_whole) in
+      let w = runs_as texts.insert_whole params old new office_schema has.schema (Insert 1 (Values texts.insert_whole_terms 5)) texts.insert_whole_is texts.insert_whole_plain count h in
+      let it = inserts old new has.schema 1 interchange refl refl params text count texts.insert_whole_terms 5 w in
+      let held = has.rows_are.interchanges in
+      let stored = old.now.trees 2 in
+      let row : Row = with_rowid Chosen stored (cast_row interchange source) in
+      let shown : columns_of interchange row ≡ interchange_values a = simp (cast_null, cast_int) in
+      let none = new_key office_schema interchange pairs old.now.trees new.now.trees source (inr (inl refl)) (inr (inl refl)) refl held.shaped it.edits.applies in
+      let stays : list_any (λ r. equal Binary (column r 1) (column row 1) && (equal Binary (column r 2) (column row 2) && true)) stored ≡ false = none in
+      let first : column row 1 ≡ number a.partner = ap (λ c. column c 0) shown in
+      let second : column row 2 ≡ number a.number = ap (λ c. column c 1) shown in
+      let in_columns : list_any (λ r. shows a.partner a.number (columns_of interchange r)) stored ≡ false = rw (first, second) at stays in
+      let in_values : list_any (shows a.partner a.number) (map interchange_values rows.interchanges) ≡ false =
+      list_any-IsPermutation (shows a.partner a.number) _ _ held.same ∙ any_map (shows a.partner a.number) (columns_of interchange) stored ∙ in_columns in
+      (λ i. list_any (λ (x : Interchange). pair_is a x i) rows.interchanges) ∙ sym (any_map (shows a.partner a.number) interchange_values rows.interchanges) ∙ in_values
+    where
+      pair_is : (a x : Interchange) → is_pair a.partner a.number x ≡ shows a.partner a.number (interchange_values x)
+      pair_is a x = sym (ap₂ ◌&&◌ (equal_numbers x.partner a.partner) (and_true _ ∙ equal_numbers x.number a.number))
+
+-- where no interchange is of the pair, a reply to the pair changes none
+unchanged : (p n : ℕ) (reply : List ℕ) (xs : List Interchange) → list_any (is_pair p n) xs ≡ false → map (λ (i : Interchange). if is_pair p n i then record i { reply = reply } else i) xs ≡ xs
+unchanged p n reply [] none = refl
+unchanged p n reply (x ∷ xs) none =
+    let parts = or_parts _ _ none in
+    ap₂ ◌∷◌ (ap (λ b. if b then record x { reply = reply } else x) parts.0) (unchanged p n reply xs parts.1)
+
+-- so keeping it and then giving it its reply adds one row, which has the reply
+pub kept_with_reply : (p n : ℕ) (body reply : List ℕ) (rows : Rows) → list_any (is_pair p n) rows.interchanges ≡ false → with_interchanges (interchange_of p n body reply ∷ []) rows ≡ with_kept_reply p n body reply rows
+kept_with_reply p n body reply rows none =
+    let waiting = interchange_of p n body [] in
+    let same : is_pair p n waiting ≡ true = ap₂ ◌&&◌ (eq-eqb p p refl) (eq-eqb n n refl) in
+    let f : Interchange → Interchange = λ i. if is_pair p n i then record i { reply = reply } else i in
+    let last : f waiting ≡ interchange_of p n body reply = ap (λ b. if b then record waiting { reply = reply } else waiting) same in
+    let all : rows.interchanges ++ interchange_of p n body reply ∷ [] ≡ map f (rows.interchanges ++ waiting ∷ []) =
+    sym (map-append f rows.interchanges (waiting ∷ []) ∙ ap₂ ◌++◌ (unchanged p n reply rows.interchanges none) (ap (λ i. i ∷ []) last)) in
+    ap (λ l. record rows { interchanges = l }) all
+
+pub steps_kept : {X E : Type 0} (p n : ℕ) (body reply : List ℕ) (old new : State) (result : Result X E) → OnOk result (Steps (with_interchanges (interchange_of p n body reply ∷ [])) old new)
+    → OnOk result ((rows : Rows) → HasRows rows old.now → list_any (is_pair p n) rows.interchanges ≡ false) → OnOk result (Steps (with_kept_reply p n body reply) old new)
+steps_kept p n body reply old new (Ok x) steps none = record {
+  rows = λ rows has. rw (← kept_with_reply p n body reply rows (none rows has)) (steps.rows rows has);
+  inside = steps.inside;
+  committed = steps.committed;
+  is_open = steps.is_open;
+}
+steps_kept p n body reply old new (Err e) steps none = steps
