@@ -15,7 +15,9 @@ PATHS = [
     '/yard', '/yard?a=b', '/visits/ABCU0000017', '/visits/%41BCU0000017', '/visits/ABCU0000022', '/lists/91%2F23/V12/load',
     '/lists/91%2f23/%5612/load', '/lists/91/23/V12/load', '/lists/91%2F23/V12/discharge', '/tickets/HAULA/1',
     '/tickets/HAULA/00001', '/tickets/HAULA/2', '/replies/HAULA/1', '/replies/LINEA/1', '/replies/HAULA/3', '/replies/HAULA/9',
-    '/replies/HAULA%2F1', '/interchanges', '/', '/nothing', '/yard/', '/visits/%zz']
+    '/replies/HAULA%2F1', '/interchanges', '/', '/nothing', '/yard/', '/visits/%zz', '/yard.csv', '/picture', '/blocks', '/partners',
+    '/containers/ABCU0000017', '/containers/%41BCU0000017', '/containers/ABCU0000022', '/work/91%2F23/V12/load',
+    '/work/91/23/V12/load', '/work/91%2F23/V12/discharge', '/contrls/HAULA/1', '/contrls/HAULA/3', '/contrls/HAULA/9', '/picture/']
 ODD_ACCOUNTS = [
     '/partners/%48AULF/%67ate', '/partners/%zz/gate', '/partners/HAULG/%zz', '/partners/%00/gate', '/partners/%2F/gate',
     '/partners/HAUL%2fG/gate', '/partners/' + 35 * 'H' + '/yard', '/partners/' + 36 * 'H' + '/yard', '/partners/HAULG',
