@@ -19,6 +19,7 @@ mod reading;
 mod record;
 mod setting_rows;
 mod stays;
+mod streaming;
 mod version;
 mod visit_rows;
 mod waiting;
