@@ -116,7 +116,7 @@ module _ {S T : Type 0} (g : store.Ghosts S) (says : Row → T → Type 0) (sql 
     row_refused is_said row moved same Damaged h =
         let given = s.given ++ row ∷ [] in
         let all = unchanged_then _ _ _ s.same same in
-        (given, begins_from sql [] (state g first) (state g new) given all (given_begin g sql [] new given (moved sql [] s.given s.has)), all, row, contains_had given row (has_last s.given row), h)
+        (given, begins_from sql [] (state g first) (state g new) given all (given_begin g sql [] new given (moved sql [] s.given s.has)), all, (row, contains_had given row (has_last s.given row), h))
     row_refused is_said row moved same Memory h = h
     row_refused is_said row moved same Version h = h
     row_refused is_said row moved same (Store error) h = absurd h
