@@ -6,8 +6,8 @@ use Rattle.office_commands.proofs.MigratingLemmas.{ok_both, sees_bare, sees_olde
 use Rattle.office_commands.proofs.migration.migrate_over.Goals as goal
 
 -- The old store is seen as its files held it, and the new one had no table where its file was empty.
-pub returns-in-Ok-open_found-clause-ok : goal.returns-in-Ok-open_found-clause-ok
-returns-in-Ok-open_found-clause-ok g c =
+pub returns-clause-ok : goal.returns-clause-ok
+returns-clause-ok g c =
     let judged = c.in-Ok.conn in
     let found = c.in-Ok-open_found.conn in
     let older = c.fill-outcome.new.older in

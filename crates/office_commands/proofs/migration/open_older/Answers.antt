@@ -4,8 +4,8 @@ use Rattle.sqlite.specs.State.{HasCleanDisk}
 use Rattle.office_commands.proofs.migration.open_older.Goals as goal
 
 -- Looking at the office changes nothing.
-pub returns-in_ok-load_old : goal.returns-in_ok-load_old
-returns-in_ok-load_old g c = record {
+pub returns : goal.returns
+returns g c = record {
   judged = record {
     found = c.in_ok-conn.conn;
     shows = c.in_ok-conn.ensures.found;
