@@ -198,8 +198,8 @@ module _ {D : Type 0} {g : Ghosts D} where
   none_pends steps event (inr there) = there
 
   -- requests that were served of a desk that was opened on files
-  pub served_over : (image : Image) (count : ℕ) (opened desk : Files) → OpensOn image opened → (steps : List Step) → length steps ≤ count → AllLed opened steps desk → IsServedOver image count desk
-  served_over image count opened desk opens steps few led = record {
+  served_from : (image : Image) (count : ℕ) (opened desk : Files) → OpensOn image opened → (steps : List Step) → length steps ≤ count → AllLed opened steps desk → IsServedOver image count desk
+  served_from image count opened desk opens steps few led = record {
     opened = opened;
     opens = opens;
     steps = steps;
@@ -220,6 +220,11 @@ module _ {D : Type 0} {g : Ghosts D} where
           ];
         };
   }
+
+  pub served_over : (image : Image) (count : ℕ) (opened first desk : Files) → OpensOn image opened → first ≡ opened → (steps : List Step) → length steps ≤ count → AllLed first steps desk
+      → IsServedOver image count desk
+  served_over image count opened first desk opens same steps few led =
+      served_from image count opened desk opens steps few (subst (λ (at : Files). AllLed at steps desk) same led)
 
 -- ---- what is printed
 

@@ -22,7 +22,7 @@ impl<'a, D: Report + Faults, N: Notes> Noted<'a, D, N> {
 
     /// What it is made of.
     pub(crate) fn into_desk(self) -> D
-        ensures { result ≡ self.desk }
+        ensures { result ≡ self.entry.desk }
     {
         let Noted { desk, notes: _ } = self;
         desk
