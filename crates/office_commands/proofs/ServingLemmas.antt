@@ -221,10 +221,11 @@ module _ {D : Type 0} {g : Ghosts D} where
         };
   }
 
-  pub served_over : (image : Image) (count : ℕ) (opened first desk : Files) → OpensOn image opened → first ≡ opened → (steps : List Step) → length steps ≤ count → AllLed first steps desk
-      → IsServedOver image count desk
-  served_over image count opened first desk opens same steps few led =
-      served_from image count opened desk opens steps few (subst (λ (at : Files). AllLed at steps desk) same led)
+  pub served_over : (image : Image) (count : ℕ) (opened first desk last : Files) → OpensOn image opened → first ≡ opened → last ≡ desk → (steps : List Step) → length steps ≤ count
+      → AllLed first steps desk → IsServedOver image count last
+  served_over image count opened first desk last opens begins ends steps few led =
+      served_from image count opened last opens steps few
+      (subst (λ (at : Files). AllLed opened steps at) (sym ends) (subst (λ (at : Files). AllLed at steps desk) begins led))
 
 -- ---- what is printed
 
