@@ -16,7 +16,7 @@ more rows id at [] (p ∷ ps) account partner is are one = absurd are
 more rows id at (a ∷ bs) [] account partner is are one = absurd are
 more rows id at (a ∷ bs) (p ∷ ps) account partner is are one = (are.0, more rows (id + 1) at bs ps account partner (omega (arith, is)) are.1 one)
 
-abbrev said : Account → List ℕ × PartnerKind
+abbrev pub said : Account → List ℕ × PartnerKind
 said account = (string_bytes account.code, account.kind)
 
 -- one account more

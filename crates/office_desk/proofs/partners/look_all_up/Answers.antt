@@ -1,8 +1,10 @@
-use Rattle.std.proofs.Common.{◌≡◌, ◌++◌, ◌+◌, [], ◌∷◌, length, map, take, sym, ap, subst, ◌∙◌, arith}
+use Rattle.std.proofs.Common.{◌+◌, List, [], map, refl, sym, ap, subst, ◌∙◌, arith}
+use Rattle.std.proofs.lemmas.List.{take_all}
 use Rattle.sqlite.specs.Held.{state}
 use Rattle.sqlite.specs.State.{HasCleanDisk}
 use Rattle.office_rows.specs.Stored.{HasRows}
 use Rattle.office_setup.specs.Setups.{account_contents}
+use Rattle.office_setup.specs.declared.account.Account.{Account}
 use Rattle.office_delivery.specs.Reading.{IsSame}
 use Rattle.office_delivery.proofs.ReadLemmas.{reads_here, reads_then, same_here, same_then}
 use Rattle.office_lookups.specs.Partners.{partner_content}
@@ -36,7 +38,7 @@ loop-account-preserved g c =
     let new = state g.S.Store c.look_up.new.conn in
     let before = c.loop-account.invariant in
     let i = c.loop-account.account-index in
-    let account = c.account-item.result.now in
+    let account = c.account-item.result in
     let partner = c.in_ok-partner.partner in
     record {
       id = ap (λ n. n + 1) before.id;
@@ -53,4 +55,6 @@ loop-account-preserved g c =
     }
 
 pub returns-clause-are : goal.returns-clause-are
-returns-clause-are g c clean rows has = c.loop-account.invariant.are rows clean has
+returns-clause-are g c clean rows has =
+    subst (λ (accounts : List Account). AreLookedUp rows 1 (account_contents accounts) (map partner_content c.loop-account.partners.items))
+    (take_all c.loop-account.account-index c.args.accounts.now (omega arith)) (c.loop-account.invariant.are rows clean has)

@@ -1,4 +1,4 @@
-use Rattle.std.proofs.Common.{sym, ap, subst, ◌∙◌}
+use Rattle.std.proofs.Common.{refl, sym, ap, subst, ◌∙◌}
 use Rattle.sqlite.specs.Held.{state}
 use Rattle.sqlite.specs.State.{HasCleanDisk}
 use Rattle.office_rows.specs.Stored.{HasRows}
@@ -11,7 +11,7 @@ returns-clause-is g c clean rows has =
     let before : HasCleanDisk (state g.S.Store c.next_of.new.conn) = c.waiting_numbers.ensures.clean clean in
     let there : HasRows rows (state g.S.Store c.next_of.new.conn).now = subst (HasRows rows) (sym (c.in_ok-next.ensures.same before has.schema).0.now_is) has in
     record {
-      code = c.in_ok-code.ensures ∙ c.as_str.ensures.value;
+      code = c.in_ok-code.ensures.ok ∙ c.as_str.ensures.value;
       kind = refl;
       next = c.in_ok-next.ensures.answer before rows has;
       waiting = c.in_ok-waiting.ensures.answer clean rows there;
