@@ -178,7 +178,7 @@ none_open_before rows i row one low at stays =
     ] refl
 
 -- a row more
-next_rows : (rows : List Visit) (i : ℕ) (row : Visit) → i < length rows → row ≡ get_or rows i row → map visit_content (take (i + 1) rows) ≡ map visit_content (take i rows) ++ visit_content row ∷ []
+pub next_rows : (rows : List Visit) (i : ℕ) (row : Visit) → i < length rows → row ≡ get_or rows i row → map visit_content (take (i + 1) rows) ≡ map visit_content (take i rows) ++ visit_content row ∷ []
 next_rows rows i row low at = ap (map visit_content) (take_more rows i row low ∙ ap (λ (r : Visit). take i rows ++ r ∷ []) (sym at)) ∙ map-append visit_content (take i rows) (row ∷ [])
 
 pub open_row_indexed : (rows : List Visit) (i : ℕ) (row : Visit) (old new : List (BoxNumber × ℕ)) → ((b : BoxNumber) → length (filter (is_open_visit b) (map visit_content rows)) ≤ 1) → i < length rows → row ≡ get_or rows i row

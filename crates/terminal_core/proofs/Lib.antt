@@ -27,3 +27,4 @@ pub mod Dropping
 pub mod Rising
 pub mod OpenRows
 pub mod Opened
+pub mod LastIndexed

@@ -1,12 +1,13 @@
 -- Where a terminal keeps what it looks up: what the code relies on, and no caller has to read.
-use Rattle.std.specs.Prelude.{◌≡◌, ℕ, ◌<◌, List, Some, true, slice_get}
+use Rattle.std.specs.Prelude.{◌≡◌, ℕ, ◌<◌, List, Some, true, find, reverse, slice_get}
 use Rattle.std.specs.Coded.{Coded, code_by, coded×, coded_list, coded_ℕ}
 use Rattle.std.specs.Map.{lookup}
+use Rattle.std.specs.Option.{option_map}
 use Rattle.std.specs.Str.{bytes_eq}
 use Rattle.std.specs.Prelude.{refl}
 use Rattle.box6346.specs.declared.box_number.BoxNumber.{BoxNumber}
 use Rattle.terminal_core.specs.Rows.{VisitContent}
-use Rattle.terminal_core.specs.State.{is_open_visit}
+use Rattle.terminal_core.specs.State.{is_open_visit, is_visit_of}
 use Rattle.terminal_core.specs.Codes.{visit_code}
 
 -- each container's open visit is found by the index of its row
@@ -16,20 +17,41 @@ AreIndexed visits open_indexes =
     is_open_visit container visit ≡ true
     → lookup (bytes_eq container) open_indexes ≡ Some row_index
 
--- the visits, and how many more there is room for among them and among the indexes of those that are open
+-- each container's last visit is found by the index of its row, and a container that never came has no index
+abbrev pub AreLastIndexed : List VisitContent → List (BoxNumber × ℕ) → Type 0
+AreLastIndexed visits last_indexes =
+    (container : BoxNumber) →
+    option_map (slice_get visits) (lookup (bytes_eq container) last_indexes)
+    ≡ option_map Some (find (is_visit_of container) (reverse visits))
+
+-- the open and the last visits are found by their indexes
+pub record AreFound (visits : List VisitContent) (open_indexes last_indexes : List (BoxNumber × ℕ)) : Type 0 where
+  pub open_ones : AreIndexed visits open_indexes
+  pub last_ones : AreLastIndexed visits last_indexes
+
+-- the visits, and how many more there is room for: among them, among the indexes of those that are open, and among
+-- those of the containers' last ones
 pub record VisitBook : Type 0 where
   pub visits : List VisitContent
   pub spare_visits : ℕ
-  pub spare_indexes : ℕ
+  pub spare_open_indexes : ℕ
+  pub spare_last_indexes : ℕ
 
 -- one visit more needs no memory
 pub record HasRoom (book : VisitBook) : Type 0 where
   pub for_visit : 0 < book.spare_visits
-  pub for_index : 0 < book.spare_indexes
+  pub for_open_index : 0 < book.spare_open_indexes
+  pub for_last_index : 0 < book.spare_last_indexes
 
 abbrev pub book_code : Coded VisitBook
 book_code =
-    code_by (List VisitContent × (ℕ × ℕ)) (coded× (coded_list visit_code) (coded× coded_ℕ coded_ℕ))
-    (λ b. (b.visits, (b.spare_visits, b.spare_indexes)))
-    (λ p. record { visits = p.0; spare_visits = p.1.0; spare_indexes = p.1.1 })
+    code_by (List VisitContent × (ℕ × (ℕ × ℕ)))
+    (coded× (coded_list visit_code) (coded× coded_ℕ (coded× coded_ℕ coded_ℕ)))
+    (λ b. (b.visits, (b.spare_visits, (b.spare_open_indexes, b.spare_last_indexes))))
+    (λ p. record {
+      visits = p.0;
+      spare_visits = p.1.0;
+      spare_open_indexes = p.1.1.0;
+      spare_last_indexes = p.1.1.1;
+    })
     (λ _. refl)

@@ -1,5 +1,5 @@
 -- What a terminal holds: its yard, every visit, and the lines of the vessels' lists.
-use Rattle.std.specs.Prelude.{◌≡◌, ℕ, ◌+◌, ◌≤◌, Bool, List, [], ◌∷◌, length, filter, find, Option, Some, is_none, is_some, ◌&&◌}
+use Rattle.std.specs.Prelude.{◌≡◌, ℕ, ◌+◌, ◌≤◌, Bool, List, [], ◌∷◌, length, filter, find, reverse, Option, Some, is_none, is_some, ◌&&◌}
 use Rattle.std.specs.Str.{bytes_eq}
 use Rattle.std.specs.Ordering.{nat_cmp}
 use Rattle.std.specs.Cmp.Lexicographic.{slice_cmp}
@@ -63,6 +63,14 @@ is_open_visit container visit = bytes_eq visit.container container && is_none vi
 
 abbrev pub open_visit : TerminalState → BoxNumber → Option VisitContent
 open_visit state container = find (is_open_visit container) state.visits
+
+-- a visit of the container, open or closed
+abbrev pub is_visit_of : BoxNumber → VisitContent → Bool
+is_visit_of container visit = bytes_eq visit.container container
+
+-- the container's last visit
+abbrev pub last_visit : TerminalState → BoxNumber → Option VisitContent
+last_visit state container = find (is_visit_of container) (reverse state.visits)
 
 -- ---- whole states
 

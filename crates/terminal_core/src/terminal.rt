@@ -5,7 +5,7 @@ ghost use Rattle.yard_core.specs.Decisions.{blocker_on};
 ghost use Rattle.yard_core.specs.YardMap.{placement_of};
 ghost use Rattle.edi_messages.specs.Owned.{call_content, entry_content, order_content};
 ghost use Rattle.terminal_core.specs.Rows.{visit_content, change_content, line_done};
-ghost use Rattle.terminal_core.specs.State.{LineContent, TerminalState, empty_state, is_in, line_of, open_visit, IsWhole};
+ghost use Rattle.terminal_core.specs.State.{LineContent, TerminalState, empty_state, is_in, last_visit, line_of, open_visit, IsWhole};
 ghost use Rattle.terminal_core.specs.Versions.{newest};
 ghost use Rattle.terminal_core.specs.Step.{after_entry, after_departure, after_move, after_listing, step, step_gate_in, step_discharge, step_load, with_line};
 ghost use Rattle.terminal_core.specs.Drop.{drop, Drops};
@@ -136,6 +136,14 @@ impl Terminal {
         ensures whole { IsWhole self.now }
     {
         self.visits.open_visit(container)
+    }
+
+    /// The last visit of a container, open or closed, found by its number, and None if it never came.
+    pub fn last_visit(&self, container: BoxNumber) -> Option<&Visit>
+        ensures told { option_map (λ visit. visit_content visit.now) result ≡ last_visit self.now container }
+        ensures whole { IsWhole self.now }
+    {
+        self.visits.last_visit(container)
     }
 
     /// Every visit, as they were opened.

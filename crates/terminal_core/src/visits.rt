@@ -1,12 +1,12 @@
-ghost use Rattle.std.specs.Prelude.{◌≡◌, ◌++◌, ◌∷◌, [], ◌≤◌, ◌-◌, map, find, filter, length, is_some, IfOk, OnOk, OnErr, None, true, false, string_bytes, vec_len, vec_capacity};
+ghost use Rattle.std.specs.Prelude.{◌≡◌, ◌++◌, ◌∷◌, [], ◌≤◌, ◌<◌, ◌-◌, ◌^◌, map, find, filter, reverse, length, is_some, IfOk, OnOk, OnErr, None, true, false, string_bytes, vec_len, vec_capacity};
 ghost use Rattle.std.specs.Option.{option_map};
 ghost use Rattle.box6346.specs.declared.box_number.BoxNumber.{BoxNumber};
 ghost use Rattle.edi_messages.specs.Owned.{entry_content};
 ghost use Rattle.terminal_core.specs.Rows.{visit_content, change_content, visit_closed};
-ghost use Rattle.terminal_core.specs.State.{is_open_visit};
+ghost use Rattle.terminal_core.specs.State.{is_open_visit, is_visit_of};
 ghost use Rattle.terminal_core.specs.Step.{closed_visit, number_of_visit, opened_by, departure_by};
 ghost use Rattle.terminal_core.specs.Calls.{HasOneVisit};
-ghost use Rattle.terminal_core.specs.Index.{AreIndexed, HasRoom};
+ghost use Rattle.terminal_core.specs.Index.{AreIndexed, AreLastIndexed, HasRoom};
 
 use crate::arrival::Arrival;
 use crate::change::Change;
@@ -22,15 +22,18 @@ use std::alloc::{AllocError, Global};
 use std::collections::HashMap;
 use std::marker::Model;
 
-/// Every visit, as they were opened. A container's open visit is found at once, however many there were.
+/// Every visit, as they were opened. A container's open visit and its last one are found at once, however many there
+/// were.
 #[derive(Drop)]
 pub(crate) struct Visits {
     rows: Vec<Visit>,
     open_indexes: HashMap<[u8; 11], usize>,
+    /// One for each container that ever came, so it is kept narrow.
+    last_indexes: HashMap<[u8; 11], u32>,
 }
 
 impl Model for Visits {
-    ghost use Rattle.terminal_core.specs.Index.{VisitBook, book_code, AreIndexed};
+    ghost use Rattle.terminal_core.specs.Index.{VisitBook, book_code, AreFound};
 
     ghost Value = { VisitBook };
 
@@ -43,10 +46,12 @@ impl Model for Visits {
     ghost view = { λ v. record {
       visits = map visit_content v.rows.items;
       spare_visits = vec_capacity v.rows - vec_len v.rows;
-      spare_indexes = spare v.open_indexes;
+      spare_open_indexes = spare v.open_indexes;
+      spare_last_indexes = spare v.last_indexes;
     } };
 
-    ghost invariant = { λ v. AreIndexed (map visit_content v.rows.items) v.open_indexes.entries };
+    ghost invariant = { λ v.
+        AreFound (map visit_content v.rows.items) v.open_indexes.entries v.last_indexes.entries };
 }
 
 impl Visits {
@@ -56,17 +61,24 @@ impl Visits {
         Visits {
             rows: Vec::new(alloc),
             open_indexes: HashMap::new(alloc),
+            last_indexes: HashMap::new(alloc),
         }
     }
 
     /// The visits of rows, of which no two are one container's and open.
     pub(crate) fn restore(alloc: Global, rows: Vec<Visit>) -> Result<Visits, AllocError>
-        requires { (container : BoxNumber) →
+        requires few { length rows.items < 2 ^ 32 }
+        requires one_open { (container : BoxNumber) →
             length (filter (is_open_visit container) (map visit_content rows.items)) ≤ 1 }
         ensures { IfOk result (λ v. v.visits ≡ map visit_content rows.items) }
     {
         let open_indexes = indexed(alloc, &rows)?;
-        Ok(Visits { rows, open_indexes })
+        let last_indexes = last_indexed(alloc, &rows)?;
+        Ok(Visits {
+            rows,
+            open_indexes,
+            last_indexes,
+        })
     }
 
     pub(crate) fn copy(&self, alloc: Global) -> Result<Visits, AllocError>
@@ -74,7 +86,12 @@ impl Visits {
     {
         let rows = copied_visits(alloc, &self.rows)?;
         let open_indexes = self.open_indexes.clone()?;
-        Ok(Visits { rows, open_indexes })
+        let last_indexes = self.last_indexes.clone()?;
+        Ok(Visits {
+            rows,
+            open_indexes,
+            last_indexes,
+        })
     }
 
     pub(crate) fn rows(&self) -> &[Visit]
@@ -108,6 +125,17 @@ impl Visits {
         }
     }
 
+    /// The container's last visit, open or closed.
+    pub(crate) fn last_visit(&self, container: BoxNumber) -> Option<&Visit>
+        ensures { option_map (λ visit. visit_content visit.now) result
+            ≡ find (is_visit_of container) (reverse self.now.visits) }
+    {
+        let Some(row_index) = self.last_indexes.get(&container.text()) else {
+            return None;
+        };
+        self.rows.get(*row_index as usize)
+    }
+
     /// Makes room for one more.
     pub(crate) fn reserve(&mut self) -> Result<(), AllocError>
         ensures kept { self.new.visits ≡ self.old.visits }
@@ -115,19 +143,23 @@ impl Visits {
     {
         self.rows.reserve(1)?;
         self.open_indexes.reserve(1)?;
+        self.last_indexes.reserve(1)?;
         Ok(())
     }
 
     /// Adds a container's visit if it has none that is open.
     pub(crate) fn open(&mut self, visit: Visit)
         requires room { HasRoom self.old }
+        requires few { length self.old.visits < 2 ^ 32 }
         requires stays { visit.departure ≡ None }
         requires none_open { is_some (find (is_open_visit visit.container) self.old.visits) ≡ false }
         ensures { self.new.visits ≡ self.old.visits ++ visit_content visit ∷ [] }
     {
+        let row_index = self.rows.len();
+        let _ = self.open_indexes.insert(visit.container.text(), row_index);
         let _ = self
-            .open_indexes
-            .insert(visit.container.text(), self.rows.len());
+            .last_indexes
+            .insert(visit.container.text(), row_index as u32);
         append(&mut self.rows, visit);
     }
 
@@ -170,6 +202,19 @@ fn indexed(alloc: Global, rows: &[Visit]) -> Result<HashMap<[u8; 11], usize>, Al
         }
     }
     Ok(open_indexes)
+}
+
+/// Where each container's last visit stands.
+fn last_indexed(alloc: Global, rows: &[Visit]) -> Result<HashMap<[u8; 11], u32>, AllocError>
+    requires { length rows.now < 2 ^ 32 }
+    ensures { IfOk result
+        (λ last_indexes. AreLastIndexed (map visit_content rows.now) last_indexes.entries) }
+{
+    let mut last_indexes = HashMap::new(alloc);
+    for (row_index, visit) in rows.iter().enumerate() {
+        last_indexes.insert(visit.container.text(), row_index as u32)?;
+    }
+    Ok(last_indexes)
 }
 
 pub(crate) fn opened_visit(

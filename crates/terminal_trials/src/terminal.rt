@@ -4,6 +4,7 @@
 mod answer;
 mod ask;
 mod dropping;
+mod last_visits;
 mod many;
 mod memory;
 mod resting;

@@ -39,7 +39,12 @@ pub(super) fn open(
     })
 }
 
-fn closed(rt: &impl Abort, alloc: Global, visit: u32, text: &str) -> Result<Visit, AllocError> {
+pub(super) fn closed(
+    rt: &impl Abort,
+    alloc: Global,
+    visit: u32,
+    text: &str,
+) -> Result<Visit, AllocError> {
     let mut visit = open(rt, alloc, visit, text)?;
     visit.departure = Some(Departure {
         way: Way::Gate,

@@ -1,9 +1,15 @@
-use Rattle.std.proofs.Common.{List, sym, ap, ◌∙◌}
-use Rattle.std.specs.Prelude.{map, slice_get}
-use Rattle.terminal_core.specs.declared.visit.Visit.{Visit}
+use Rattle.std.proofs.Common.{ap}
+use Rattle.std.specs.Prelude.{map}
 use Rattle.terminal_core.specs.Rows.{visit_content}
+use Rattle.terminal_core.proofs.LastIndexed.{kept_found}
 use Rattle.terminal_core.proofs.visits.Visits.reserve.Goals as goal
 
+pub invariant_of-self-in_err-reserve-3 : goal.invariant_of-self-in_err-reserve-3
+invariant_of-self-in_err-reserve-3 c =
+    kept_found (map visit_content c.self.inside.rows.items) (map visit_content c.reserve.new.self.items) c.self.inside.open_indexes.entries c.reserve-2.new.self.entries c.self.inside.last_indexes.entries c.reserve-3.new.self.entries
+    (ap (map visit_content) c.reserve.ensures.items) c.reserve-2.ensures.entries.2 c.reserve-3.ensures.entries.2 c.self.invariant
+
 pub invariant_of-self-2 : goal.invariant_of-self-2
-invariant_of-self-2 c q k w at open_ =
-    c.reserve-2.ensures.entries.2 q ∙ c.self.invariant q k w (ap (λ (l : List Visit). slice_get (map visit_content l) k) (sym c.reserve.ensures.items) ∙ at) open_
+invariant_of-self-2 c =
+    kept_found (map visit_content c.self.inside.rows.items) (map visit_content c.reserve.new.self.items) c.self.inside.open_indexes.entries c.reserve-2.new.self.entries c.self.inside.last_indexes.entries c.reserve-3.new.self.entries
+    (ap (map visit_content) c.reserve.ensures.items) c.reserve-2.ensures.entries.2 c.reserve-3.ensures.entries.2 c.self.invariant
