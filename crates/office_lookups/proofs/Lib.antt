@@ -1,5 +1,4 @@
 pub mod Counts
-pub mod Lasts
 pub mod LoadLemmas
 pub mod Puts
 pub mod OpenLineLemmas

@@ -1,5 +1,5 @@
 -- Where a container is (our own).
-use Rattle.std.specs.Prelude.{ℕ, List, [], ◌∷◌, ◌++◌, find, reverse, codes, decimal, Option, None, Some}
+use Rattle.std.specs.Prelude.{ℕ, List, [], ◌∷◌, ◌++◌, codes, decimal, Option, None, Some}
 use Rattle.box6346.specs.declared.box_number.BoxNumber.{BoxNumber}
 use Rattle.box6346.specs.declared.slot.Slot.{Slot}
 use Rattle.edi_moments.specs.Moments.{CivilMoment}
@@ -9,10 +9,10 @@ use Rattle.terminal_core.specs.declared.departure.Departure.{Departure}
 use Rattle.terminal_core.specs.declared.source.Source.{Source}
 use Rattle.terminal_core.specs.declared.way.Way.{Way}
 use Rattle.terminal_core.specs.Rows.{VisitContent}
-use Rattle.terminal_core.specs.State.{TerminalState, open_visit}
+use Rattle.terminal_core.specs.State.{TerminalState, last_visit, open_visit}
 use Rattle.office_setup.specs.Setups.{SetupContent}
 use Rattle.office_reports.specs.Names.{load_name, slot_name, phrase, line}
-use Rattle.office_reports.specs.Visits.{booking_words, gross_words, is_visit_of, passage_words}
+use Rattle.office_reports.specs.Visits.{booking_words, gross_words, passage_words}
 use Rattle.office_reports.specs.Yard.{slot_in}
 use Rattle.office_lookups.specs.OpenLines.{open_lines_text}
 
@@ -47,10 +47,6 @@ abbrev pub gone_line : SetupContent → VisitContent → Option Departure → Li
 gone_line setup visit None = []
 gone_line setup visit (Some departure) =
     line (codes "OUT" ∷ stay_words setup visit departure.way departure.source departure.moment)
-
--- its last visit
-abbrev pub last_visit : TerminalState → BoxNumber → Option VisitContent
-last_visit state container = find (is_visit_of container) (reverse state.visits)
 
 -- CONTAINER BOX
 abbrev pub container_head : BoxNumber → List ℕ

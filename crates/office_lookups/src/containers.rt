@@ -1,9 +1,10 @@
-ghost use Rattle.std.specs.Prelude.{◌≡◌, ◌++◌, ◌∷◌, [], codes, map, find, reverse, string_bytes, IfOk, OnOk};
+ghost use Rattle.std.specs.Prelude.{◌≡◌, ◌++◌, ◌∷◌, [], codes, string_bytes, IfOk, OnOk};
 ghost use Rattle.std.specs.Option.{option_map};
 ghost use Rattle.terminal_core.specs.Rows.{visit_content};
+ghost use Rattle.terminal_core.specs.State.{last_visit};
 ghost use Rattle.office_setup.specs.Setups.{setup_content};
 ghost use Rattle.office_reports.specs.Names.{phrase, line};
-ghost use Rattle.office_reports.specs.Visits.{booking_words, is_visit_of};
+ghost use Rattle.office_reports.specs.Visits.{booking_words};
 ghost use Rattle.office_lookups.specs.Containers.{above_words, arrival_words, container_head, container_report, gone_line, gone_report, here_line};
 
 use crate::open_lines::push_open_lines;
@@ -30,10 +31,10 @@ pub fn container_report(
         (λ found. option_map string_bytes found ≡ container_report (setup_content setup.now) terminal.now container) }
 {
     let Some(visit) = terminal.open_visit(container) else {
-        return gone_report(alloc, setup, terminal.visits(), container);
+        return gone_report(alloc, setup, terminal, container);
     };
     let Some(slot) = terminal.slot_of(container) else {
-        return gone_report(alloc, setup, terminal.visits(), container);
+        return gone_report(alloc, setup, terminal, container);
     };
     let mut text = String::new(alloc);
     push_head(alloc, &mut text, container)?;
@@ -164,30 +165,19 @@ pub(crate) fn above_text(alloc: Global, blocker: Option<BoxNumber>) -> Result<St
 fn gone_report(
     alloc: Global,
     setup: &Setup,
-    visits: &[Visit],
+    terminal: &Terminal,
     container: BoxNumber,
 ) -> Result<Option<String>, AllocError>
     ensures { IfOk result (λ found. option_map string_bytes found
-        ≡ gone_report (setup_content setup.now) container
-        (find (is_visit_of container) (reverse (map visit_content visits.now)))) }
+        ≡ gone_report (setup_content setup.now) container (last_visit terminal.now container)) }
 {
-    let Some(visit) = last_visit(visits, container) else {
+    let Some(visit) = terminal.last_visit(container) else {
         return Ok(None);
     };
     let mut text = String::new(alloc);
     push_head(alloc, &mut text, container)?;
     push_gone(alloc, &mut text, setup, visit)?;
     Ok(Some(text))
-}
-
-fn last_visit(visits: &[Visit], container: BoxNumber) -> Option<&Visit>
-    ensures { option_map (λ visit. visit.now) result
-        ≡ find (λ visit. is_visit_of container (visit_content visit)) (reverse visits.now) }
-{
-    visits
-        .iter()
-        .rev()
-        .find(|visit| visit.container == container)
 }
 
 fn push_gone(
