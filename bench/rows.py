@@ -327,8 +327,7 @@ def lookups(stores, client):
 
 
 def long_gone(stores, client):
-    """A container that left, over as many visits as that: that of the newest visit, and that of the oldest, which is looked for
-    behind all others."""
+    """A container that left, over as many visits as that: that of the newest visit, and that of the oldest."""
     with tempfile.TemporaryDirectory(prefix='bench-', dir=IN_MEMORY) as folder:
         store = stores.new('office-gone', folder=folder)
         office = Stream(stores.office, 'deliver', store, '-')

@@ -45,7 +45,7 @@ impl<'a, D: Report + Faults> Logged<'a, D> {
 }
 
 impl<D: Report + Faults> Deliver for Logged<'_, D> {
-    ghost clean = { λ logged. D.clean logged.desk };
+    ghost is_sound = { λ logged. D.is_sound logged.desk };
 
     ghost Opening = { D.Opening };
 

@@ -52,7 +52,7 @@ fn names_of(file: &File) -> u64 {
 }
 
 impl<D: Deliver + Faults> Deliver for Named<D> {
-    ghost clean = { λ named. D.clean named.desk };
+    ghost is_sound = { λ named. D.is_sound named.desk };
 
     ghost Opening = { D.Opening };
 

@@ -34,7 +34,7 @@ impl Tally {
             }
             Response::Repeat(_) => &mut self.repeated,
             Response::Waiting(_) => &mut self.waiting,
-            Response::Clash(_) | Response::Refused(_) | Response::Rejected { .. } => {
+            Response::Clash(_) | Response::Refused(_) | Response::RefusedWithContrl { .. } => {
                 &mut self.refused
             }
             Response::NotNow => &mut self.not_now,

@@ -49,7 +49,7 @@ impl<'a, D: Deliver + Faults> Watched<'a, D> {
 }
 
 impl<D: Deliver + Faults> Deliver for Watched<'_, D> {
-    ghost clean = { λ watched. D.clean watched.desk };
+    ghost is_sound = { λ watched. D.is_sound watched.desk };
 
     ghost Opening = { D.Opening };
 

@@ -76,5 +76,5 @@ fn rejection(
     let contrl = write_rejection(alloc, head, error)?;
     let contrl = text_of(alloc, &contrl)?;
     let body = refused(alloc, contrl.as_str(), fault.name())?;
-    Ok(Response::Rejected { fault, body })
+    Ok(Response::RefusedWithContrl { fault, body })
 }

@@ -3,11 +3,11 @@
 
 mod builders;
 mod command_fault;
+mod command_reading;
 mod numbers;
 mod office;
-mod reading;
 mod request;
 
 pub use command_fault::CommandFault;
-pub use reading::read_command;
+pub use command_reading::read_command;
 pub use request::Request;

@@ -8,7 +8,7 @@ use Rattle.edi_segments.specs.Interchange.{interchange_of}
 use Rattle.office_replies.specs.Delivering.{AnswersEach, with_answered, events_behind}
 use Rattle.office_replies.specs.Events.{Event}
 use Rattle.office_replies.specs.declared.response.Response.{Response}
-use Rattle.office_replies.specs.declared.response.Response.TheVariants.{Taken, Repeat, Waiting, Clash, Refused, Rejected, NotNow}
+use Rattle.office_replies.specs.declared.response.Response.TheVariants.{Taken, Repeat, Waiting, Clash, Refused, RefusedWithContrl, NotNow}
 use Rattle.office_replies.specs.declared.worst.Worst.{Worst}
 use Rattle.office_admission.specs.Refusals.{MayBeNotNow}
 use Rattle.office_setup.specs.Setups.{SetupContent}
@@ -74,7 +74,7 @@ module _ (one other : SetupContent) (says : SaysSame one other) where
   answer_alike es sent (Waiting body) is = is ∙ (answers_alike one other says es).answers sent
   answer_alike es sent (Clash body) is = is ∙ (answers_alike one other says es).answers sent
   answer_alike es sent (Refused fault) is = is ∙ (answers_alike one other says es).answers sent
-  answer_alike es sent (Rejected fault body) is = is ∙ (answers_alike one other says es).answers sent
+  answer_alike es sent (RefusedWithContrl fault body) is = is ∙ (answers_alike one other says es).answers sent
   answer_alike es sent NotNow may = subst (λ parties. MayBeNotNow parties (interchange_of sent)) (parties_same (content_after one es) (content_after other es) (now_alike one other says es)) may
 
   pub stand_alike : {D : Type 0} {g : Ghosts D} (es : List Event) (desk : Desk (FileStore D g) over_files) → StandsFor over_files one es desk → StandsAlike other es desk

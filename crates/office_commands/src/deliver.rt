@@ -29,13 +29,13 @@ pub fn deliver_to<R: Read, W: Write, E: Write, D: Deliver>(
 ) -> u8
     // What each delivery did to the desk, and how it was answered, from whatever events it stood at.
     ensures ends { StreamEnds (LeavesPorts (ports reader.old writer.old) (ports reader.new writer.new))
-        (Streams (AreDelivered D.clean D.stands D.answers D.leads desk.old desk.new)
+        (Streams (AreDelivered D.is_sound D.stands D.answers D.leads desk.old desk.new)
         (port_bytes (R.remaining reader.old.inner) (R.remaining reader.new.inner)
         (W.contents writer.old.inner) (W.contents writer.new.inner)))
         (Tells errors.new.failed (E.contents errors.old.inner) (E.contents errors.new.inner)) result }
 
     // Nothing is said of a desk whose records have not told the truth.
-    ensures stays { D.clean desk.new → D.clean desk.old }
+    ensures stays { D.is_sound desk.new → D.is_sound desk.old }
 
     // No read is made behind one that found the end, and no more than turns.
     ensures in_time { reader.old.ended ≡ false → reader.new.read_behind_end ≡ reader.old.read_behind_end }

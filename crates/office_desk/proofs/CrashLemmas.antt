@@ -108,7 +108,7 @@ module _ (content : SetupContent) (es : List Event) (sent : List ℕ) where
   answered_behind (response.Waiting body) s leaves = leaves
   answered_behind (response.Clash body) s leaves = leaves
   answered_behind (response.Refused fault) s leaves = leaves
-  answered_behind (response.Rejected fault body) s leaves = leaves
+  answered_behind (response.RefusedWithContrl fault body) s leaves = leaves
   answered_behind response.NotNow s leaves = λ db left. inr (leaves db left)
 
 -- a crash leaves what was committed

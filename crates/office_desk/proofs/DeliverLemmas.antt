@@ -64,7 +64,7 @@ is_now (response.Repeat body) code number kind e = tt
 is_now (response.Waiting body) code number kind e = tt
 is_now (response.Clash body) code number kind e = tt
 is_now (response.Refused fault) code number kind e = tt
-is_now (response.Rejected fault body) code number kind e = tt
+is_now (response.RefusedWithContrl fault body) code number kind e = tt
 is_now response.NotNow code number kind e = absurd (never_now code number kind e)
 
 -- behind an answer that is one now the desk has the fault that it had
@@ -74,7 +74,7 @@ notes_none (response.Repeat body) last is = refl
 notes_none (response.Waiting body) last is = refl
 notes_none (response.Clash body) last is = refl
 notes_none (response.Refused fault) last is = refl
-notes_none (response.Rejected fault body) last is = refl
+notes_none (response.RefusedWithContrl fault body) last is = refl
 notes_none response.NotNow last is = absurd is
 
 module _ {S : Type 0} (g : Ghosts S) (content : SetupContent) (es : List Event) where
@@ -104,7 +104,7 @@ module _ {S : Type 0} (g : Ghosts S) (content : SetupContent) (es : List Event) 
   answers_or_not sent (response.Waiting body) now db there gives surely before after = (gives, after)
   answers_or_not sent (response.Clash body) now db there gives surely before after = (gives, after)
   answers_or_not sent (response.Refused fault) now db there gives surely before after = (gives, after)
-  answers_or_not sent (response.Rejected fault body) now db there gives surely before after = (gives, after)
+  answers_or_not sent (response.RefusedWithContrl fault body) now db there gives surely before after = (gives, after)
   answers_or_not sent response.NotNow now db there gives surely before after = (not_now_surely parties (interchange_of sent) surely, before)
 
   answers_now : (sent : List ℕ) (given : Response) (now : SetupContent) (db : Database) (there : Option Beside) (code : List ℕ) (number : ℕ) (kind : Told) → content_of given ≡ told_answer code number kind →
@@ -114,7 +114,7 @@ module _ {S : Type 0} (g : Ghosts S) (content : SetupContent) (es : List Event) 
   answers_now sent (response.Waiting body) now db there code number kind e is after = (is, after)
   answers_now sent (response.Clash body) now db there code number kind e is after = (is, after)
   answers_now sent (response.Refused fault) now db there code number kind e is after = (is, after)
-  answers_now sent (response.Rejected fault body) now db there code number kind e is after = (is, after)
+  answers_now sent (response.RefusedWithContrl fault body) now db there code number kind e is after = (is, after)
   answers_now sent response.NotNow now db there code number kind e is after = absurd (never_now code number kind e)
 
   pub refusal_delivered : (sent text : List ℕ) (given : Response) (desk : Desk S g) (refusal : Refusal) → text ≡ interchange_of sent → StandsFor g content es desk →
@@ -181,7 +181,7 @@ over g old sent (response.Repeat body) desk code number kind e by = by
 over g old sent (response.Waiting body) desk code number kind e by = by
 over g old sent (response.Clash body) desk code number kind e by = by
 over g old sent (response.Refused fault) desk code number kind e by = by
-over g old sent (response.Rejected fault body) desk code number kind e by = by
+over g old sent (response.RefusedWithContrl fault body) desk code number kind e by = by
 over g old sent response.NotNow desk code number kind e by = absurd (never_now code number kind e)
 
 module _ {S : Type 0} (g : Ghosts S) where
@@ -204,7 +204,7 @@ module _ {S : Type 0} (g : Ghosts S) where
       at (response.Waiting body) e surely here noted = told (response.Waiting body) e here
       at (response.Clash body) e surely here noted = told (response.Clash body) e here
       at (response.Refused fault) e surely here noted = told (response.Refused fault) e here
-      at (response.Rejected fault body) e surely here noted = told (response.Rejected fault body) e here
+      at (response.RefusedWithContrl fault body) e surely here noted = told (response.RefusedWithContrl fault body) e here
       at response.NotNow e surely here noted =
           (not_now_surely (parties_of desk.setup) (interchange_of sent) surely, subst (λ place. NotedFor place old.rows desk.last_fault) (sym here) noted, holds)
 

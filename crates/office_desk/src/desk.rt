@@ -310,7 +310,7 @@ impl<S: Alter + Drop> Deliver for Desk<S> {
     ghost use Rattle.office_desk.specs.Calls.{Leads};
     ghost use Rattle.office_desk.specs.Desks.{IsSound, StandsFor};
 
-    ghost clean = { IsSound S.Store };
+    ghost is_sound = { IsSound S.Store };
 
     ghost Opening = { SetupContent };
 

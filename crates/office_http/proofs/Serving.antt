@@ -27,14 +27,14 @@ module _ {D : Type 0} (leads : D → List ℕ → Response → D → Type 0) (en
   both_lead old mid new [] more same then = subst (λ d. StepsLead leads enrols looks d more new) same then
   both_lead old mid new (step ∷ steps) more (next, led, rest) then = (next, led, both_lead next mid new steps more rest then)
 
-module _ {D Opening : Type 0} (clean : D → Type 0) (stands : Opening → List Event → D → Type 0) (answers : Opening → List Event → List ℕ → Response → Type 0)
+module _ {D Opening : Type 0} (is_sound : D → Type 0) (stands : Opening → List Event → D → Type 0) (answers : Opening → List Event → List ℕ → Response → Type 0)
     (added : Opening → List Event → List ℕ → List ℕ → AccountAnswer → Type 0) (leads : D → List ℕ → Response → D → Type 0)
     (enrols : D → List ℕ → List ℕ → AccountAnswer → D → Type 0) (looks : D → Query → Result (Option (List ℕ)) NotNow → D → Type 0) where
-  pub none_yet : (count : ℕ) (desk : D) → AtMost clean stands answers added leads enrols looks count desk desk
+  pub none_yet : (count : ℕ) (desk : D) → AtMost is_sound stands answers added leads enrols looks count desk desk
   none_yet count desk = record { steps = []; few = omega arith; led = refl; answered = λ sound opening es at. (tt, at) }
 
-  pub one_more : (count : ℕ) (old mid new : D) → (clean new → clean mid) → AtMost clean stands answers added leads enrols looks count old mid →
-      AtMost clean stands answers added leads enrols looks 1 mid new → AtMost clean stands answers added leads enrols looks (count + 1) old new
+  pub one_more : (count : ℕ) (old mid new : D) → (is_sound new → is_sound mid) → AtMost is_sound stands answers added leads enrols looks count old mid →
+      AtMost is_sound stands answers added leads enrols looks 1 mid new → AtMost is_sound stands answers added leads enrols looks (count + 1) old new
   one_more count old mid new stays before then = record {
     steps = before.steps ++ then.steps;
     few = let few = before.few in let one = then.few in omega (arith, few, one, length-append before.steps then.steps);
@@ -49,7 +49,7 @@ module _ {D Opening : Type 0} (clean : D → Type 0) (stands : Opening → List 
 
   -- what was done at a request was one step at most
   pub one_at_most : (tells : D → Query → Option (List ℕ) → Type 0) (request : Request) (old new : D) (IsWritten : List ℕ → Type 0) →
-      Does clean stands answers added tells leads enrols looks request old new IsWritten → AtMost clean stands answers added leads enrols looks 1 old new
+      Does is_sound stands answers added tells leads enrols looks request old new IsWritten → AtMost is_sound stands answers added leads enrols looks 1 old new
   one_at_most tells (Delivery body) old new IsWritten (response, call, written) = record {
     steps = delivery body.items response ∷ [];
     few = omega arith;
@@ -77,14 +77,14 @@ module _ {D Opening : Type 0} (clean : D → Type 0) (stands : Opening → List 
 
   -- with other words of what is written
   pub does_so : (tells : D → Query → Option (List ℕ) → Type 0) (request : Request) (old new : D) (P Q : List ℕ → Type 0) → ((bytes : List ℕ) → P bytes → Q bytes) →
-      Does clean stands answers added tells leads enrols looks request old new P → Does clean stands answers added tells leads enrols looks request old new Q
+      Does is_sound stands answers added tells leads enrols looks request old new P → Does is_sound stands answers added tells leads enrols looks request old new Q
   does_so tells (Delivery body) old new P Q on (response, call, written) = (response, call, on _ written)
   does_so tells (Account key) old new P Q on (answer, call, written) = (answer, call, on _ written)
   does_so tells (Report kind query) old new P Q on (found, call, written) = (found, call, on _ written)
   does_so tells (Refused refusal) old new P Q on (same, written) = (same, on _ written)
 
   pub does_at : {T E : Type 0} (tells : D → Query → Option (List ℕ) → Type 0) (request : Request) (old new : D) (r : Result T E) (value : T) (IsWritten : List ℕ → Type 0) →
-      r ≡ Ok value → Does clean stands answers added tells leads enrols looks request old new (λ bytes. OnOk r (IsWritten bytes)) →
-      Does clean stands answers added tells leads enrols looks request old new IsWritten
+      r ≡ Ok value → Does is_sound stands answers added tells leads enrols looks request old new (λ bytes. OnOk r (IsWritten bytes)) →
+      Does is_sound stands answers added tells leads enrols looks request old new IsWritten
   does_at {T} {E} tells request old new r value IsWritten is done =
-      subst (λ (x : Result T E). Does clean stands answers added tells leads enrols looks request old new (λ bytes. OnOk x (IsWritten bytes))) is done
+      subst (λ (x : Result T E). Does is_sound stands answers added tells leads enrols looks request old new (λ bytes. OnOk x (IsWritten bytes))) is done

@@ -57,7 +57,7 @@ found_bytes kind (Err refusal) = refusal_bytes NotNow
 
 -- ---- what is done at a request
 
-module _ {D Opening : Type 0} (clean : D → Type 0) (stands : Opening → List Event → D → Type 0)
+module _ {D Opening : Type 0} (is_sound : D → Type 0) (stands : Opening → List Event → D → Type 0)
     (answers : Opening → List Event → List ℕ → Response → Type 0)
     (added : Opening → List Event → List ℕ → List ℕ → AccountAnswer → Type 0)
     (tells : D → Query → Option (List ℕ) → Type 0) (leads : D → List ℕ → Response → D → Type 0)
@@ -66,13 +66,13 @@ module _ {D Opening : Type 0} (clean : D → Type 0) (stands : Opening → List 
   -- The one call that is made of the desk, and the bytes that answer it. A refusal doesn't touch the desk.
   abbrev pub Does : Request → D → D → (IsWritten : List ℕ → Type 0) → Type 0
   Does (Delivery body) old new IsWritten =
-      (response : Response) × IsDelivered clean stands answers leads old body.items response new
+      (response : Response) × IsDelivered is_sound stands answers leads old body.items response new
       × IsWritten (answer_bytes response)
   Does (Account key) old new IsWritten =
-      (answer : AccountAnswer) × IsAsked clean stands added enrols old key.code.items key.kind.items answer new
+      (answer : AccountAnswer) × IsAsked is_sound stands added enrols old key.code.items key.kind.items answer new
       × IsWritten (account_bytes answer)
   Does (Report kind query) old new IsWritten =
-      (found : Result (Option (List ℕ)) Unreported) × IsLookedAt clean stands tells looks old query found new
+      (found : Result (Option (List ℕ)) Unreported) × IsLookedAt is_sound stands tells looks old query found new
       × IsWritten (found_bytes kind found)
   Does (Refused refusal) old new IsWritten = (new ≡ old) × IsWritten (refusal_bytes refusal)
 
@@ -84,7 +84,7 @@ module _ {D Opening : Type 0} (clean : D → Type 0) (stands : Opening → List 
 
 -- ---- what was done with a desk
 
-module _ {D Opening : Type 0} (clean : D → Type 0) (stands : Opening → List Event → D → Type 0)
+module _ {D Opening : Type 0} (is_sound : D → Type 0) (stands : Opening → List Event → D → Type 0)
     (answers : Opening → List Event → List ℕ → Response → Type 0)
     (added : Opening → List Event → List ℕ → List ℕ → AccountAnswer → Type 0)
     (leads : D → List ℕ → Response → D → Type 0) (enrols : D → List ℕ → List ℕ → AccountAnswer → D → Type 0)
@@ -95,7 +95,7 @@ module _ {D Opening : Type 0} (clean : D → Type 0) (stands : Opening → List 
     pub steps : List Step
     pub few : length steps ≤ count
     pub led : StepsLead leads enrols looks old steps new
-    pub answered : clean new → (opening : Opening) (es : List Event) → stands opening es old →
+    pub answered : is_sound new → (opening : Opening) (es : List Event) → stands opening es old →
         AreAnswered (answers opening) (added opening) es steps × stands opening (events_after es steps) new
 
 -- what holds after a failed read, and what after a failed write

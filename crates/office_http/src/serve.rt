@@ -28,7 +28,7 @@ pub fn serve_one<R: Read, W: Write, D: Report + AddAccount>(
 ) -> Result<(), ServeFault>
     // Unless a read failed, what was asked for is done, whatever desk it is, and at Ok exactly its answer is written.
     ensures serves { IfSome (R.remaining reader.old.inner) (λ stream. (result ≡ Err ServeFault.Read)
-        ⊎ Serves D.clean D.stands D.answers D.added D.tells D.leads D.enrols D.looks stream desk.old desk.new
+        ⊎ Serves D.is_sound D.stands D.answers D.added D.tells D.leads D.enrols D.looks stream desk.old desk.new
         (λ bytes. OnOk result (Appends (W.contents writer.old.inner) (W.contents writer.new.inner) bytes))) }
 
     // After a failed read nothing was delivered, and nothing written.
@@ -37,10 +37,10 @@ pub fn serve_one<R: Read, W: Write, D: Report + AddAccount>(
         ((writer.new.failed ≡ true) × (reader.new.failed ≡ reader.old.failed))) }
 
     // Whatever the reader gives, one call is made of the desk at most.
-    ensures steps { AtMost D.clean D.stands D.answers D.added D.leads D.enrols D.looks 1 desk.old desk.new }
+    ensures steps { AtMost D.is_sound D.stands D.answers D.added D.leads D.enrols D.looks 1 desk.old desk.new }
 
     // Nothing is said of the answers of a desk whose records have not told the truth.
-    ensures stays { D.clean desk.new → D.clean desk.old }
+    ensures stays { D.is_sound desk.new → D.is_sound desk.old }
 
     // A read for each byte of a head and of a body, at most.
     ensures reads { reader.new.reads ≤ reader.old.reads + 1056768 }
@@ -75,12 +75,12 @@ fn send_answer<W: Write, D: Report + AddAccount>(
     desk: &mut D,
     request: Request,
 ) -> io::Result<()>
-    ensures does { Does D.clean D.stands D.answers D.added D.tells D.leads D.enrols D.looks request desk.old desk.new
+    ensures does { Does D.is_sound D.stands D.answers D.added D.tells D.leads D.enrols D.looks request desk.old desk.new
         (λ bytes. OnOk result (Appends (W.contents writer.old.inner) (W.contents writer.new.inner) bytes)) }
     ensures kept { OnOk result (writer.new.failed ≡ writer.old.failed) }
     ensures fails { OnErr result (writer.new.failed ≡ true) }
     ensures flushed { OnOk result (writer.new.flushed ≡ true) }
-    ensures stays { D.clean desk.new → D.clean desk.old }
+    ensures stays { D.is_sound desk.new → D.is_sound desk.old }
 {
     answer(alloc, writer, desk, request)?;
     writer.flush()
@@ -93,11 +93,11 @@ fn answer<W: Write, D: Report + AddAccount>(
     desk: &mut D,
     request: Request,
 ) -> io::Result<()>
-    ensures does { Does D.clean D.stands D.answers D.added D.tells D.leads D.enrols D.looks request desk.old desk.new
+    ensures does { Does D.is_sound D.stands D.answers D.added D.tells D.leads D.enrols D.looks request desk.old desk.new
         (λ bytes. OnOk result (Appends (W.contents writer.old.inner) (W.contents writer.new.inner) bytes)) }
     ensures kept { OnOk result (writer.new.failed ≡ writer.old.failed) }
     ensures fails { OnErr result (writer.new.failed ≡ true) }
-    ensures stays { D.clean desk.new → D.clean desk.old }
+    ensures stays { D.is_sound desk.new → D.is_sound desk.old }
 {
     match request {
         Request::Delivery(body) => {
@@ -121,11 +121,11 @@ fn answer_report<W: Write, D: Report>(
     query: &Query,
 ) -> io::Result<()>
     ensures does { (found : Result (Option (List ℕ)) NotNow)
-        × IsLookedAt D.clean D.stands D.tells D.looks desk.old query.now found desk.new
+        × IsLookedAt D.is_sound D.stands D.tells D.looks desk.old query.now found desk.new
         × OnOk result (Appends (W.contents writer.old.inner) (W.contents writer.new.inner) (found_bytes kind found)) }
     ensures kept { OnOk result (writer.new.failed ≡ writer.old.failed) }
     ensures fails { OnErr result (writer.new.failed ≡ true) }
-    ensures stays { D.clean desk.new → D.clean desk.old }
+    ensures stays { D.is_sound desk.new → D.is_sound desk.old }
 {
     match desk.report(alloc, query) {
         Ok(Some(text)) => write_text(writer, StatusCode::OK, content_of(kind), text.as_str()),

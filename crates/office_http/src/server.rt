@@ -26,10 +26,10 @@ pub fn serve_on<C: Clock, D: Report + AddAccount, H: Watch>(
     watch: &mut H,
 )
     // At most so many calls are made of the desk, each answered at its place.
-    ensures steps { AtMost D.clean D.stands D.answers D.added D.leads D.enrols D.looks count desk.old desk.new }
+    ensures steps { AtMost D.is_sound D.stands D.answers D.added D.leads D.enrols D.looks count desk.old desk.new }
 
     // Nothing is said of the answers of a desk whose records have not told the truth.
-    ensures stays { D.clean desk.new → D.clean desk.old }
+    ensures stays { D.is_sound desk.new → D.is_sound desk.old }
 {
     'connections: for _ in 0..count {
         if let Ok((stream, _)) = listener.accept() {
@@ -46,8 +46,8 @@ fn serve_stream<C: Clock, D: Report + AddAccount, H: Watch>(
     desk: &mut D,
     watch: &mut H,
 )
-    ensures steps { AtMost D.clean D.stands D.answers D.added D.leads D.enrols D.looks 1 desk.old desk.new }
-    ensures stays { D.clean desk.new → D.clean desk.old }
+    ensures steps { AtMost D.is_sound D.stands D.answers D.added D.leads D.enrols D.looks 1 desk.old desk.new }
+    ensures stays { D.is_sound desk.new → D.is_sound desk.old }
 {
     let Ok(timed) = TimedReader::of_request(stream, clock) else {
         return;

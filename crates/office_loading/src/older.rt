@@ -9,7 +9,7 @@ ghost use Rattle.office_selecting.specs.Settings.{HasNoSettings, HasSettings};
 ghost use Rattle.office_loading.specs.Older.{ReadsOlderTables, LoadsOlder, FailsToLoadOlder, TellsOlder};
 
 use crate::older_settings::read_older_settings;
-use crate::reading::{
+use crate::table_reading::{
     read_bare_visits, read_blocks, read_lines, read_numbers, read_partners, read_places,
 };
 use office_checks::{OpenedTables, restore};

@@ -7,7 +7,7 @@ ghost use Rattle.office_selecting.specs.Settings.{HasNoSettings, HasSettings};
 ghost use Rattle.office_tables.specs.Faults.{IsOfStore};
 ghost use Rattle.office_loading.specs.Tables.{ReadsTables, TellsVersion};
 
-use crate::reading::{
+use crate::table_reading::{
     read_blocks, read_lines, read_numbers, read_partners, read_places, read_visits,
 };
 use crate::version::read_settings;

@@ -11,10 +11,10 @@ Tells is_told (Err refusal) = Unit {0}
 
 -- All that is known of a report that was asked for: what the call did, and, if the records have told the truth, that it
 -- is what there is to tell, and stands at the events at which it stood.
-pub record IsLookedAt {D Opening : Type 0} (clean : D → Type 0) (stands : Opening → List Event → D → Type 0)
+pub record IsLookedAt {D Opening : Type 0} (is_sound : D → Type 0) (stands : Opening → List Event → D → Type 0)
     (tells : D → Query → Option (List ℕ) → Type 0) (looks : D → Query → Result (Option (List ℕ)) NotNow → D → Type 0)
     (old : D) (query : Query) (found : Result (Option (List ℕ)) NotNow) (new : D) : Type 0 where
   pub looked : looks old query found new
-  pub stays : clean new → clean old
-  pub told : clean new → Tells (tells old query) found
-  pub same : clean new → (opening : Opening) (es : List Event) → stands opening es old → stands opening es new
+  pub stays : is_sound new → is_sound old
+  pub told : is_sound new → Tells (tells old query) found
+  pub same : is_sound new → (opening : Opening) (es : List Event) → stands opening es old → stands opening es new

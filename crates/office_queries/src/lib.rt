@@ -4,17 +4,17 @@
 
 mod account_key;
 mod escapes;
+mod key_reading;
 mod not_now;
 mod parts;
 mod query;
-mod reading;
 mod report;
 mod report_kind;
 mod values;
 
 pub use account_key::{AccountKey, read_account_key};
+pub use key_reading::read_query;
 pub use not_now::NotNow;
 pub use query::Query;
-pub use reading::read_query;
 pub use report::Report;
 pub use report_kind::ReportKind;

@@ -20,11 +20,11 @@ pub trait Report: Deliver {
 
     /// The report, if there is something to tell. It stands at the events at which it stood.
     fn report(&mut self, alloc: Global, query: &Query) -> Result<Option<String>, NotNow>
-        ensures told { Self.clean self.new
+        ensures told { Self.is_sound self.new
             → IfOk result (λ found. tells self.old query.now (option_map string_bytes found)) }
-        ensures same { Self.clean self.new → (opening : Self.Opening) (es : List Event) → Self.stands opening es self.old
+        ensures same { Self.is_sound self.new → (opening : Self.Opening) (es : List Event) → Self.stands opening es self.old
             → Self.stands opening es self.new }
-        ensures stays { Self.clean self.new → Self.clean self.old }
+        ensures stays { Self.is_sound self.new → Self.is_sound self.old }
         ensures looked { looks self.old query.now
             (result_map_both (option_map string_bytes) (λ refusal. refusal) result) self.new };
 }

@@ -18,5 +18,5 @@ kind_of (response.Repeat body) = Repeat
 kind_of (response.Waiting body) = Waiting
 kind_of (response.Clash body) = Clash
 kind_of (response.Refused fault) = Refused fault
-kind_of (response.Rejected fault body) = Refused fault
+kind_of (response.RefusedWithContrl fault body) = Refused fault
 kind_of response.NotNow = NotNow

@@ -6,7 +6,7 @@ use Rattle.office_replies.specs.Refusals.{refusal_text}
 use Rattle.office_replies.specs.declared.fault.Fault.{Fault}
 use Rattle.office_replies.specs.declared.fault.Fault.TheVariants as fault
 use Rattle.office_replies.specs.declared.response.Response.{Response}
-use Rattle.office_replies.specs.declared.response.Response.TheVariants.{Taken, Repeat, Waiting, Clash, Refused, Rejected, NotNow}
+use Rattle.office_replies.specs.declared.response.Response.TheVariants.{Taken, Repeat, Waiting, Clash, Refused, RefusedWithContrl, NotNow}
 use Rattle.office_replies.specs.declared.worst.Worst.{Worst}
 use Rattle.office_replies.specs.declared.worst.Worst.TheVariants as worst
 
@@ -26,7 +26,7 @@ status_of (Repeat body) = 200
 status_of (Waiting body) = 202
 status_of (Clash body) = 409
 status_of (Refused fault) = fault_status fault
-status_of (Rejected fault body) = fault_status fault
+status_of (RefusedWithContrl fault body) = fault_status fault
 status_of NotNow = 503
 
 abbrev pub body_of : Response → List ℕ
@@ -35,7 +35,7 @@ body_of (Repeat body) = string_bytes body
 body_of (Waiting body) = string_bytes body
 body_of (Clash body) = string_bytes body
 body_of (Refused fault) = refusal_text fault
-body_of (Rejected fault body) = string_bytes body
+body_of (RefusedWithContrl fault body) = string_bytes body
 body_of NotNow = codes "{\"answer\":\"not now\"}"
 
 abbrev pub worst_of : Response → Worst
@@ -44,7 +44,7 @@ worst_of (Repeat body) = worst.Fine
 worst_of (Waiting body) = worst.Fine
 worst_of (Clash body) = worst.Refused
 worst_of (Refused fault) = worst.Refused
-worst_of (Rejected fault body) = worst.Refused
+worst_of (RefusedWithContrl fault body) = worst.Refused
 worst_of NotNow = worst.NotNow
 
 -- the worse of two: NotNow before Refused before Fine

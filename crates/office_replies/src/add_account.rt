@@ -16,8 +16,8 @@ pub trait AddAccount: Deliver {
     /// Adds an account under a code, of a kind, both as they came, and answers it. Only an account that was added is an
     /// event: what is refused, known or answered NotNow leaves it at the events at which it stood.
     fn add_account(&mut self, alloc: Global, code: &[u8], kind: &[u8]) -> AccountAnswer
-        ensures adds { Self.clean self.new → (opening : Self.Opening) (es : List Event) → Self.stands opening es self.old
+        ensures adds { Self.is_sound self.new → (opening : Self.Opening) (es : List Event) → Self.stands opening es self.old
             → Adds (Self.stands opening) (Self.added opening) es code.now kind.now result self.new }
-        ensures stays { Self.clean self.new → Self.clean self.old }
+        ensures stays { Self.is_sound self.new → Self.is_sound self.old }
         ensures enrolled { enrols self.old code.now kind.now result self.new };
 }

@@ -11,7 +11,7 @@ use std::alloc::Global;
 pub trait Deliver: Drop {
     /// What it keeps its records in has told the truth so far. If it has not, nothing is said of the answers, and it
     /// stays so.
-    ghost clean: { Self → Type 0 };
+    ghost is_sound: { Self → Type 0 };
 
     /// What it begins from.
     ghost Opening: { Type 0 };
@@ -31,8 +31,8 @@ pub trait Deliver: Drop {
     /// Delivers a text, and answers it. A text that is answered NotNow is no delivery: the next is answered as if it
     /// had not come.
     fn deliver(&mut self, alloc: Global, delivered: &[u8]) -> Response
-        ensures delivers { clean self.new → (opening : Opening) (es : List Event) → stands opening es self.old
+        ensures delivers { is_sound self.new → (opening : Opening) (es : List Event) → stands opening es self.old
             → Delivers (stands opening) (answers opening) es delivered.now result self.new }
-        ensures stays { clean self.new → clean self.old }
+        ensures stays { is_sound self.new → is_sound self.old }
         ensures led { leads self.old delivered.now result self.new };
 }

@@ -16,7 +16,7 @@ pub enum Response {
     /// It is refused, and nobody is owed a CONTRL.
     Refused(Fault),
     /// It is refused, with a CONTRL in the body.
-    Rejected { fault: Fault, body: String },
+    RefusedWithContrl { fault: Fault, body: String },
     /// There was no memory, or the store failed: nothing has changed, and the same delivery may come again.
     NotNow,
 }
@@ -34,7 +34,7 @@ impl Response {
             Response::Waiting(_) => 202,
             Response::Clash(_) => 409,
             Response::Refused(fault) => fault.status(),
-            Response::Rejected { fault, .. } => fault.status(),
+            Response::RefusedWithContrl { fault, .. } => fault.status(),
             Response::NotNow => 503,
         }
     }
@@ -48,7 +48,7 @@ impl Response {
             | Response::Repeat(body)
             | Response::Waiting(body)
             | Response::Clash(body)
-            | Response::Rejected { fault: _, body } => body.as_str(),
+            | Response::RefusedWithContrl { fault: _, body } => body.as_str(),
             Response::Refused(fault) => refusal_body(*fault),
             Response::NotNow => "{\"answer\":\"not now\"}",
         }
@@ -60,7 +60,8 @@ impl Response {
     {
         match self {
             Response::Taken(_) | Response::Repeat(_) | Response::Waiting(_) => Worst::Fine,
-            Response::Clash(_) | Response::Refused(_) | Response::Rejected { .. } => Worst::Refused,
+            Response::Clash(_) | Response::Refused(_) | Response::RefusedWithContrl { .. } =>
+                Worst::Refused,
             Response::NotNow => Worst::NotNow,
         }
     }

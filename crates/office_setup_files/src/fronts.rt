@@ -6,9 +6,9 @@ ghost use Rattle.office_setup_files.specs.declared.setup_file.SetupFile.TheVaria
 
 use crate::blocks::blocks_of;
 use crate::forms::{is_block_file, is_partner_file};
-use crate::reading::{codes_in, limit_in, partners_in, terminal_in};
 use crate::setup_fault::SetupFault;
 use crate::setup_file::SetupFile;
+use crate::setup_reading::{codes_in, limit_in, partners_in, terminal_in};
 use crate::texts::{are_same, field};
 use csv::StringRecord;
 use std::alloc::{AllocError, Global};

@@ -8,16 +8,16 @@ mod forms;
 mod fronts;
 mod numbers;
 mod partners;
-mod reading;
 mod rows;
 mod setup_fault;
 mod setup_file;
+mod setup_reading;
 mod terminal;
 mod texts;
 mod wrong_record;
 mod wrong_records;
 
-pub use reading::read_setup;
 pub use setup_fault::SetupFault;
+pub use setup_reading::read_setup;
 pub use wrong_record::WrongRecord;
 pub use wrong_records::first_wrong;

@@ -33,16 +33,16 @@ leads_as Call Other on old new (text ∷ texts) (response ∷ responses) (next, 
 
 -- ---- what the calls did
 
-module _ {D Opening : Type 0} (clean : D → Type 0) (stands : Opening → List Event → D → Type 0)
+module _ {D Opening : Type 0} (is_sound : D → Type 0) (stands : Opening → List Event → D → Type 0)
     (answers : Opening → List Event → List ℕ → Response → Type 0) (leads : D → List ℕ → Response → D → Type 0) where
-  stays_all : (old new : D) (texts : List (List ℕ)) (responses : List Response) → LeadsOn (IsDelivered clean stands answers leads) old texts responses new → clean new → clean old
-  stays_all old new [] [] same sound = subst clean same sound
+  stays_all : (old new : D) (texts : List (List ℕ)) (responses : List Response) → LeadsOn (IsDelivered is_sound stands answers leads) old texts responses new → is_sound new → is_sound old
+  stays_all old new [] [] same sound = subst is_sound same sound
   stays_all old new [] (response ∷ responses) none sound = absurd none
   stays_all old new (text ∷ texts) [] none sound = absurd none
   stays_all old new (text ∷ texts) (response ∷ responses) (next, call, rest) sound = call.stays (stays_all next new texts responses rest sound)
 
-  answered_all : (opening : Opening) (es : List Event) (old new : D) (texts : List (List ℕ)) (responses : List Response) → LeadsOn (IsDelivered clean stands answers leads) old texts responses new →
-      clean new → stands opening es old → Answered (stands opening) (answers opening) es new texts responses
+  answered_all : (opening : Opening) (es : List Event) (old new : D) (texts : List (List ℕ)) (responses : List Response) → LeadsOn (IsDelivered is_sound stands answers leads) old texts responses new →
+      is_sound new → stands opening es old → Answered (stands opening) (answers opening) es new texts responses
   answered_all opening es old new [] [] same sound at = record { each = tt; stands_now = subst (stands opening es) (sym same) at }
   answered_all opening es old new [] (response ∷ responses) none sound at = absurd none
   answered_all opening es old new (text ∷ texts) [] none sound at = absurd none
@@ -51,10 +51,10 @@ module _ {D Opening : Type 0} (clean : D → Type 0) (stands : Opening → List 
       let others = answered_all opening (with_answered es text response) next new texts responses rest sound one.1 in
       record { each = (one.0, others.each); stands_now = others.stands_now }
 
-  pub are_delivered : (old new : D) (texts : List (List ℕ)) (responses : List Response) → LeadsOn (IsDelivered clean stands answers leads) old texts responses new →
-      AreDelivered clean stands answers leads old new texts responses
+  pub are_delivered : (old new : D) (texts : List (List ℕ)) (responses : List Response) → LeadsOn (IsDelivered is_sound stands answers leads) old texts responses new →
+      AreDelivered is_sound stands answers leads old new texts responses
   are_delivered old new texts responses calls = record {
-    led = leads_as (IsDelivered clean stands answers leads) leads (λ old text response new call. call.led) old new texts responses calls;
+    led = leads_as (IsDelivered is_sound stands answers leads) leads (λ old text response new call. call.led) old new texts responses calls;
     answered = λ sound opening es at. answered_all opening es old new texts responses calls sound at;
   }
 

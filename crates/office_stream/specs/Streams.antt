@@ -73,13 +73,13 @@ pub record Answered {D : Type 0} (stands : List Event → D → Type 0)
   pub each : AnswersEach answers es texts responses
   pub stands_now : stands (events_behind es texts responses) desk
 
-module _ {D Opening : Type 0} (clean : D → Type 0) (stands : Opening → List Event → D → Type 0)
+module _ {D Opening : Type 0} (is_sound : D → Type 0) (stands : Opening → List Event → D → Type 0)
     (answers : Opening → List Event → List ℕ → Response → Type 0) (leads : D → List ℕ → Response → D → Type 0) where
   -- These texts were delivered, with these responses. Whatever desk it is, they led from what it was to what it is. And
   -- if its records have told the truth, each was answered at its place, from whatever events it stood at.
   pub record AreDelivered (old new : D) (texts : List (List ℕ)) (responses : List Response) : Type 0 where
     pub led : LeadsOn leads old texts responses new
-    pub answered : clean new → (opening : Opening) (es : List Event) → stands opening es old →
+    pub answered : is_sound new → (opening : Opening) (es : List Event) → stands opening es old →
         Answered (stands opening) (answers opening) es new texts responses
 
 -- The bytes that were read are cut to their end, each interchange answered by its line, and the end by the cut line.

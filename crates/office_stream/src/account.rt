@@ -24,7 +24,7 @@ pub fn answer_account<W: Write, D: AddAccount>(
 ) -> Result<Worst, StreamFault>
     ensures ok { IfOk result
         (λ worst. AnsweredAccount
-        (λ answer. IsAsked D.clean D.stands D.added D.enrols desk.old code.now kind.now answer desk.new)
+        (λ answer. IsAsked D.is_sound D.stands D.added D.enrols desk.old code.now kind.now answer desk.new)
         worst (W.contents writer.old.inner) (W.contents writer.new.inner)) }
     ensures kept { OnOk result (writer.new.failed ≡ writer.old.failed) }
     ensures flushed { OnOk result (writer.new.flushed ≡ true) }
@@ -32,9 +32,9 @@ pub fn answer_account<W: Write, D: AddAccount>(
         (λ fault. (fault ≡ StreamFault.Write) × (writer.new.failed ≡ true)) }
     ensures added { OnErr result
         (AccountCutShort
-        (λ answer. IsAsked D.clean D.stands D.added D.enrols desk.old code.now kind.now answer desk.new)
+        (λ answer. IsAsked D.is_sound D.stands D.added D.enrols desk.old code.now kind.now answer desk.new)
         (W.contents writer.old.inner) (W.contents writer.new.inner)) }
-    ensures stays { D.clean desk.new → D.clean desk.old }
+    ensures stays { D.is_sound desk.new → D.is_sound desk.old }
 {
     let answer = desk.add_account(alloc, code.as_bytes(), kind.as_bytes());
     match send_account_answer(writer, &answer) {

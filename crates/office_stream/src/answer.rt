@@ -41,15 +41,15 @@ fn answer_one<W: Write, D: Deliver>(
     desk: &mut D,
 ) -> Result<Worst, StreamFault>
     ensures ok { IfOk result
-        (λ worst. AnsweredOne (IsDelivered D.clean D.stands D.answers D.leads) desk.old text.now desk.new worst
+        (λ worst. AnsweredOne (IsDelivered D.is_sound D.stands D.answers D.leads) desk.old text.now desk.new worst
         (W.contents writer.old.inner) (W.contents writer.new.inner)) }
     ensures kept { OnOk result (writer.new.failed ≡ writer.old.failed) }
     ensures flushed { OnOk result (writer.new.flushed ≡ true) }
     ensures err { IfErr result
         (λ fault. (fault ≡ StreamFault.Write) × (writer.new.failed ≡ true)) }
-    ensures stays { D.clean desk.new → D.clean desk.old }
+    ensures stays { D.is_sound desk.new → D.is_sound desk.old }
     ensures delivered { OnErr result
-        (DeliveredOne (IsDelivered D.clean D.stands D.answers D.leads) desk.old text.now desk.new
+        (DeliveredOne (IsDelivered D.is_sound D.stands D.answers D.leads) desk.old text.now desk.new
         (W.contents writer.old.inner) (W.contents writer.new.inner)) }
 {
     let response = desk.deliver(alloc, text);
@@ -71,7 +71,7 @@ pub(crate) fn answer_piece<W: Write, D: Deliver>(
 ) -> Result<(Worst, Option<CutFault>), StreamFault>
     requires { cutter.old.fault ≡ None }
     ensures ok { IfOk result
-        (λ done. PieceAnswered (IsDelivered D.clean D.stands D.answers D.leads) desk.old
+        (λ done. PieceAnswered (IsDelivered D.is_sound D.stands D.answers D.leads) desk.old
         (EndsPiece done.1 (pending cutter.new)) (pending cutter.old ++ piece.now) desk.new before done.0
         (W.contents writer.old.inner) (W.contents writer.new.inner)) }
     ensures running { IfOk result (λ done. done.1 ≡ None → cutter.new.fault ≡ None) }
@@ -79,10 +79,10 @@ pub(crate) fn answer_piece<W: Write, D: Deliver>(
     ensures flushed { OnOk result (writer.old.flushed ≡ true → writer.new.flushed ≡ true) }
     ensures err { IfErr result
         (λ fault. (fault ≡ StreamFault.Write) × (writer.new.failed ≡ true)) }
-    ensures stays { D.clean desk.new → D.clean desk.old }
+    ensures stays { D.is_sound desk.new → D.is_sound desk.old }
     ensures cut_short { OnErr result
         (LineCutShort (λ texts responses.
-        LeadsOn (IsDelivered D.clean D.stands D.answers D.leads) desk.old texts responses desk.new)
+        LeadsOn (IsDelivered D.is_sound D.stands D.answers D.leads) desk.old texts responses desk.new)
         (pending cutter.old ++ piece.now) (W.contents writer.old.inner) (W.contents writer.new.inner)) }
 {
     let mut worst = before;

@@ -31,12 +31,12 @@ pub fn run_stream<R: Read, W: Write, D: Deliver>(
     // What was read is cut into interchanges, each was delivered and is answered by its line, in order. After a failed
     // read, or too many reads, all interchanges of what was read are answered by their lines. After a failed write the
     // lines end where it failed, and nothing was delivered behind it.
-    ensures streams { Streams (AreDelivered D.clean D.stands D.answers D.leads desk.old desk.new)
+    ensures streams { Streams (AreDelivered D.is_sound D.stands D.answers D.leads desk.old desk.new)
         (port_bytes (R.remaining reader.old.inner) (R.remaining reader.new.inner)
         (W.contents writer.old.inner) (W.contents writer.new.inner)) result }
 
     // Nothing is said of the answers of a desk whose records have not told the truth.
-    ensures stays { D.clean desk.new → D.clean desk.old }
+    ensures stays { D.is_sound desk.new → D.is_sound desk.old }
 
     // No read is made behind one that found the end.
     ensures in_time { reader.old.ended ≡ false → reader.new.read_behind_end ≡ reader.old.read_behind_end }

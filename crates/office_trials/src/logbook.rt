@@ -36,7 +36,7 @@ impl<W: Write> Logbook<W> {
 }
 
 impl<W: Write + Drop> Deliver for Logbook<W> {
-    ghost clean = { λ book. book.pages.failed ≡ false };
+    ghost is_sound = { λ book. book.pages.failed ≡ false };
 
     // what the book held, if it is known
     ghost Opening = { Option (List ℕ) };

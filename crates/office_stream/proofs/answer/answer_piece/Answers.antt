@@ -12,12 +12,12 @@ pieces-init g c = record {
   kept = refl;
   flushed = λ all. all;
   stays = λ clean. clean;
-  done = nothing_done (IsDelivered g.D.Deliver.clean g.D.Deliver.stands g.D.Deliver.answers g.D.Deliver.leads) c.args.desk.now (pending c.args.cutter.now) c.args.piece.now _ _;
+  done = nothing_done (IsDelivered g.D.Deliver.is_sound g.D.Deliver.stands g.D.Deliver.answers g.D.Deliver.leads) c.args.desk.now (pending c.args.cutter.now) c.args.piece.now _ _;
 }
 
 pub pieces-preserved : goal.pieces-preserved
 pieces-preserved g c =
-    let call = IsDelivered g.D.Deliver.clean g.D.Deliver.stands g.D.Deliver.answers g.D.Deliver.leads in
+    let call = IsDelivered g.D.Deliver.is_sound g.D.Deliver.stands g.D.Deliver.answers g.D.Deliver.leads in
     let q = pending c.pieces.cutter in
     let rest = c.pieces.rest.now in
     let n = c.in-Ok-Some.used in
@@ -37,7 +37,7 @@ pieces-preserved g c =
 
 pub returns-in_err-answer_one-in-Ok-Some-clause-cut_short : goal.returns-in_err-answer_one-in-Ok-Some-clause-cut_short
 returns-in_err-answer_one-in-Ok-Some-clause-cut_short g c =
-    let call = IsDelivered g.D.Deliver.clean g.D.Deliver.stands g.D.Deliver.answers g.D.Deliver.leads in
+    let call = IsDelivered g.D.Deliver.is_sound g.D.Deliver.stands g.D.Deliver.answers g.D.Deliver.leads in
     let q = pending c.pieces.cutter in
     let rest = c.pieces.rest.now in
     let n = c.in-Ok-Some.used in
@@ -50,7 +50,7 @@ returns-in_err-answer_one-in-Ok-Some-clause-cut_short g c =
 
 pub returns-in-Ok-None-clause-ok : goal.returns-in-Ok-None-clause-ok
 returns-in-Ok-None-clause-ok g c =
-    let call = IsDelivered g.D.Deliver.clean g.D.Deliver.stands g.D.Deliver.answers g.D.Deliver.leads in
+    let call = IsDelivered g.D.Deliver.is_sound g.D.Deliver.stands g.D.Deliver.answers g.D.Deliver.leads in
     let q = pending c.pieces.cutter in
     let rest = c.pieces.rest.now in
     let answer : Answers q rest c.feed.new.self None = rw c.in-Ok-None.field-0-is at (c.in-Ok-None.ensures.ok c.pieces.invariant.running) in
@@ -59,7 +59,7 @@ returns-in-Ok-None-clause-ok g c =
 
 pub returns-in-Err-clause-ok : goal.returns-in-Err-clause-ok
 returns-in-Err-clause-ok g c =
-    let call = IsDelivered g.D.Deliver.clean g.D.Deliver.stands g.D.Deliver.answers g.D.Deliver.leads in
+    let call = IsDelivered g.D.Deliver.is_sound g.D.Deliver.stands g.D.Deliver.answers g.D.Deliver.leads in
     let q = pending c.pieces.cutter in
     let rest = c.pieces.rest.now in
     piece_ends call c.args.desk.now _ _ _ c.pieces.desk _ c.pieces.worst _ _

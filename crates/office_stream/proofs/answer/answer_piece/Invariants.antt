@@ -10,8 +10,8 @@ invariant-pieces g l = record {
   running : l.cutter.fault ≡ None;
   kept : l.writer.failed ≡ l.fn.writer.failed;
   flushed : l.fn.writer.flushed ≡ true → l.writer.flushed ≡ true;
-  stays : g.D.Deliver.clean l.desk → g.D.Deliver.clean l.fn.desk;
-  done : PieceAnswered (IsDelivered g.D.Deliver.clean g.D.Deliver.stands g.D.Deliver.answers g.D.Deliver.leads) l.fn.desk (IsLeft (pending l.cutter) l.rest)
+  stays : g.D.Deliver.is_sound l.desk → g.D.Deliver.is_sound l.fn.desk;
+  done : PieceAnswered (IsDelivered g.D.Deliver.is_sound g.D.Deliver.stands g.D.Deliver.answers g.D.Deliver.leads) l.fn.desk (IsLeft (pending l.cutter) l.rest)
       (pending l.fn.cutter ++ l.piece) l.desk l.fn.before l.worst (g.W.Write.contents l.fn.writer.inner) (g.W.Write.contents l.writer.inner);
 }
 

@@ -21,12 +21,12 @@ reads-init g c = record {
   most = omega arith;
   least = omega arith;
   stays = λ clean. clean;
-  sofar = nothing_read (IsDelivered g.D.Deliver.clean g.D.Deliver.stands g.D.Deliver.answers g.D.Deliver.leads) c.args.desk.now _ (pending c.new-cutter.result) _ (starts_empty c.new-cutter.result c.new-cutter.ensures);
+  sofar = nothing_read (IsDelivered g.D.Deliver.is_sound g.D.Deliver.stands g.D.Deliver.answers g.D.Deliver.leads) c.args.desk.now _ (pending c.new-cutter.result) _ (starts_empty c.new-cutter.result c.new-cutter.ensures);
 }
 
 pub reads-preserved : goal.reads-preserved
 reads-preserved g c =
-    let call = IsDelivered g.D.Deliver.clean g.D.Deliver.stands g.D.Deliver.answers g.D.Deliver.leads in
+    let call = IsDelivered g.D.Deliver.is_sound g.D.Deliver.stands g.D.Deliver.answers g.D.Deliver.leads in
     let piece = take c.in-Ok.count c.read.new.buf in
     let q = pending c.reads.cutter in
     let q' = pending c.answer_piece.new.cutter in
@@ -50,20 +50,20 @@ reads-preserved g c =
 
 pub returns-in-Err-clause-streams : goal.returns-in-Err-clause-streams
 returns-in-Err-clause-streams g c =
-    let call = IsDelivered g.D.Deliver.clean g.D.Deliver.stands g.D.Deliver.answers g.D.Deliver.leads in
-    streams_as _ _ (are_delivered g.D.Deliver.clean g.D.Deliver.stands g.D.Deliver.answers g.D.Deliver.leads c.args.desk.now c.reads.desk) _ (Err Read)
+    let call = IsDelivered g.D.Deliver.is_sound g.D.Deliver.stands g.D.Deliver.answers g.D.Deliver.leads in
+    streams_as _ _ (are_delivered g.D.Deliver.is_sound g.D.Deliver.stands g.D.Deliver.answers g.D.Deliver.leads c.args.desk.now c.reads.desk) _ (Err Read)
     (began call c.args.desk.now _ _ _ (pending c.reads.cutter) c.reads.desk c.reads.worst _ _ c.reads.invariant.sofar c.in-Err.ensures.bytes)
 
 pub returns-then-count-eq0-clause-streams : goal.returns-then-count-eq0-clause-streams
 returns-then-count-eq0-clause-streams g c =
-    let call = IsDelivered g.D.Deliver.clean g.D.Deliver.stands g.D.Deliver.answers g.D.Deliver.leads in
+    let call = IsDelivered g.D.Deliver.is_sound g.D.Deliver.stands g.D.Deliver.answers g.D.Deliver.leads in
     let reads = c.in-Ok.ensures.bytes in
     let none = c.if-count-eq0.true in
     let how : ((c.if-at_rest.end ≡ Whole) × (pending c.reads.cutter ≡ [])) ⊎ ((c.if-at_rest.end ≡ Open) × (pending c.reads.cutter ≢ [])) = elim c.if-at_rest.branch [
       | then-at_rest w ↦ inl (w.end-is, nil_is (pending c.reads.cutter) (sym c.at_rest.ensures ∙ w.if-at_rest.true))
       | else-at_rest w ↦ inr (w.end-is, nil_is_not (pending c.reads.cutter) (sym c.at_rest.ensures ∙ w.if-at_rest.false))
     ] in
-    streams_as _ _ (are_delivered g.D.Deliver.clean g.D.Deliver.stands g.D.Deliver.answers g.D.Deliver.leads c.args.desk.now c.reads.desk) _ c.finish.result
+    streams_as _ _ (are_delivered g.D.Deliver.is_sound g.D.Deliver.stands g.D.Deliver.answers g.D.Deliver.leads c.args.desk.now c.reads.desk) _ c.finish.result
     (finished call c.args.desk.now _ _ c.if-at_rest.end c.reads.desk c.reads.worst _ _ _ c.finish.result _
     (input_ends call c.args.desk.now _ _ _ (pending c.reads.cutter) c.if-at_rest.end c.reads.desk c.reads.worst _ _
     c.reads.invariant.sofar (nothing_taken _ _ c.in-Ok.count c.read.new.buf none reads.0) (reads.1 none (omega (arith, c.read.auto.buf))) how)
@@ -71,20 +71,20 @@ returns-then-count-eq0-clause-streams g c =
 
 pub returns-in_err-worst_now-clause-streams : goal.returns-in_err-worst_now-clause-streams
 returns-in_err-worst_now-clause-streams g c =
-    let call = IsDelivered g.D.Deliver.clean g.D.Deliver.stands g.D.Deliver.answers g.D.Deliver.leads in
-    streams_as _ _ (are_delivered g.D.Deliver.clean g.D.Deliver.stands g.D.Deliver.answers g.D.Deliver.leads c.args.desk.now c.answer_piece.new.desk) _ c.from_residual.result
+    let call = IsDelivered g.D.Deliver.is_sound g.D.Deliver.stands g.D.Deliver.answers g.D.Deliver.leads in
+    streams_as _ _ (are_delivered g.D.Deliver.is_sound g.D.Deliver.stands g.D.Deliver.answers g.D.Deliver.leads c.args.desk.now c.answer_piece.new.desk) _ c.from_residual.result
     (passed_on call c.args.desk.now _ c.answer_piece.new.desk c.from_residual.result _ c.in_err-worst_now.ensures.err.0 c.from_residual.ensures.1
     (cut_short call c.args.desk.now _ _ _ (pending c.reads.cutter) (take c.in-Ok.count c.read.new.buf) c.reads.desk c.answer_piece.new.desk c.reads.worst _ _ _
     c.reads.invariant.sofar c.in-Ok.ensures.bytes.0 c.in_err-worst_now.ensures.cut_short))
 
 pub returns-in-Some-clause-streams : goal.returns-in-Some-clause-streams
 returns-in-Some-clause-streams g c =
-    let call = IsDelivered g.D.Deliver.clean g.D.Deliver.stands g.D.Deliver.answers g.D.Deliver.leads in
+    let call = IsDelivered g.D.Deliver.is_sound g.D.Deliver.stands g.D.Deliver.answers g.D.Deliver.leads in
     let piece = take c.in-Ok.count c.read.new.buf in
     let q = pending c.reads.cutter in
     let q' = pending c.answer_piece.new.cutter in
     let done = piece_at call c.reads.desk c.in_ok-worst_now.cut (Some c.in-Some.fault) q' _ c.answer_piece.new.desk c.reads.worst c.in_ok-worst_now.worst_now _ _ c.in-Some.is c.in_ok-worst_now.ensures.ok in
-    streams_as _ _ (are_delivered g.D.Deliver.clean g.D.Deliver.stands g.D.Deliver.answers g.D.Deliver.leads c.args.desk.now c.answer_piece.new.desk) _ c.finish-in-Some.result
+    streams_as _ _ (are_delivered g.D.Deliver.is_sound g.D.Deliver.stands g.D.Deliver.answers g.D.Deliver.leads c.args.desk.now c.answer_piece.new.desk) _ c.finish-in-Some.result
     (finished call c.args.desk.now _ _ (Cut c.in-Some.fault) c.answer_piece.new.desk c.in_ok-worst_now.worst_now _ _ _ c.finish-in-Some.result _
     (stream_cut call c.args.desk.now _ _ _ q q' piece c.in-Some.fault c.reads.desk c.answer_piece.new.desk c.reads.worst c.in_ok-worst_now.worst_now _ _ _
     c.reads.invariant.sofar c.in-Ok.ensures.bytes.0 done)
@@ -92,8 +92,8 @@ returns-in-Some-clause-streams g c =
 
 pub returns-clause-streams : goal.returns-clause-streams
 returns-clause-streams g c =
-    streams_as _ _ (are_delivered g.D.Deliver.clean g.D.Deliver.stands g.D.Deliver.answers g.D.Deliver.leads c.args.desk.now c.reads.desk) _ (Err Turns)
-    (began_now (IsDelivered g.D.Deliver.clean g.D.Deliver.stands g.D.Deliver.answers g.D.Deliver.leads) c.args.desk.now _ _ (pending c.reads.cutter) c.reads.desk c.reads.worst _ _ c.reads.invariant.sofar)
+    streams_as _ _ (are_delivered g.D.Deliver.is_sound g.D.Deliver.stands g.D.Deliver.answers g.D.Deliver.leads c.args.desk.now c.reads.desk) _ (Err Turns)
+    (began_now (IsDelivered g.D.Deliver.is_sound g.D.Deliver.stands g.D.Deliver.answers g.D.Deliver.leads) c.args.desk.now _ _ (pending c.reads.cutter) c.reads.desk c.reads.worst _ _ c.reads.invariant.sofar)
 
 -- ---- what was flushed
 

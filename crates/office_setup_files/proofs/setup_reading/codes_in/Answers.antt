@@ -2,7 +2,7 @@ use Rattle.std.proofs.Common.{◌≡◌, ◌∙◌, MatchOption, map, ap, subst,
 use Rattle.edi_messages.specs.Codes.{table_texts}
 use Rattle.office_setup_files.specs.Entries.{entry_content}
 use Rattle.office_setup_files.specs.Said.{AreCodes, code_texts}
-use Rattle.office_setup_files.proofs.reading.codes_in.Goals as goal
+use Rattle.office_setup_files.proofs.setup_reading.codes_in.Goals as goal
 
 pub returns : goal.returns
 returns c =

@@ -6,7 +6,7 @@ use Rattle.office_rows.specs.Tables.{listed}
 use Rattle.office_rows.specs.Values.{line_values}
 use Rattle.office_loading.specs.Fits.{FitsLine}
 use Rattle.office_loading.proofs.TableLemmas.{reads_table}
-use Rattle.office_loading.proofs.reading.read_lines.Goals as goal
+use Rattle.office_loading.proofs.table_reading.read_lines.Goals as goal
 
 pub returns-clause-read : goal.returns-clause-read
 returns-clause-read g c clean layout is =

@@ -6,7 +6,7 @@ use Rattle.office_rows.specs.Tables.{partner}
 use Rattle.office_rows.specs.Values.{partner_values}
 use Rattle.office_loading.specs.Fits.{FitsPartner}
 use Rattle.office_loading.proofs.TableLemmas.{reads_table}
-use Rattle.office_loading.proofs.reading.read_partners.Goals as goal
+use Rattle.office_loading.proofs.table_reading.read_partners.Goals as goal
 
 pub returns-clause-read : goal.returns-clause-read
 returns-clause-read g c clean layout is =

@@ -6,7 +6,7 @@ use Rattle.office_rows.specs.Tables.{place}
 use Rattle.office_rows.specs.Values.{place_values}
 use Rattle.office_loading.specs.Fits.{FitsPlace}
 use Rattle.office_loading.proofs.TableLemmas.{reads_table}
-use Rattle.office_loading.proofs.reading.read_places.Goals as goal
+use Rattle.office_loading.proofs.table_reading.read_places.Goals as goal
 
 pub returns-clause-read : goal.returns-clause-read
 returns-clause-read g c clean layout is =

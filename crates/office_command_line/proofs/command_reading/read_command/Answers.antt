@@ -6,7 +6,7 @@ use Rattle.office_command_line.specs.Commands.{office_app, init_app, deliver_app
 use Rattle.office_command_line.specs.Requests.{request_asked, met_asks, words_ask, RefusesMet, RefusesWords, WordsAsk}
 use Rattle.office_command_line.specs.declared.command_fault.CommandFault.{CommandFault}
 use Rattle.office_command_line.specs.declared.command_fault.CommandFault.TheVariants.{Words, Values, Memory}
-use Rattle.office_command_line.proofs.reading.read_command.Goals as goal
+use Rattle.office_command_line.proofs.command_reading.read_command.Goals as goal
 
 refuses : (words : List Text) → fault_of office_app words ≡ [] → (fault : CommandFault) → RefusesMet (subcommand_of office_app words) fault →
     RefusesWords words fault

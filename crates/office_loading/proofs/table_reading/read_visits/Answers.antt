@@ -5,7 +5,7 @@ use Rattle.office_rows.specs.Tables.{visit}
 use Rattle.office_rows.specs.Values.{visit_values}
 use Rattle.office_loading.specs.Fits.{FitsVisit}
 use Rattle.office_loading.proofs.TableLemmas.{reads_table}
-use Rattle.office_loading.proofs.reading.read_visits.Goals as goal
+use Rattle.office_loading.proofs.table_reading.read_visits.Goals as goal
 
 pub returns-clause-read : goal.returns-clause-read
 returns-clause-read g c clean is =

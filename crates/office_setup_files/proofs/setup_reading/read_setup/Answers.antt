@@ -5,7 +5,7 @@ use Rattle.office_setup.specs.Given.{IsGiven}
 use Rattle.office_setup.specs.Setups.{setup_content}
 use Rattle.office_setup_files.specs.Said.{SaysSetup}
 use Rattle.office_setup_files.proofs.Givens.{given}
-use Rattle.office_setup_files.proofs.reading.read_setup.Goals as goal
+use Rattle.office_setup_files.proofs.setup_reading.read_setup.Goals as goal
 
 pub returns-clause-given : goal.returns-clause-given
 returns-clause-given c =

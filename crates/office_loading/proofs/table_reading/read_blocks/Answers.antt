@@ -6,7 +6,7 @@ use Rattle.office_rows.specs.Tables.{block}
 use Rattle.office_rows.specs.Values.{block_values}
 use Rattle.office_loading.specs.Fits.{FitsBlock}
 use Rattle.office_loading.proofs.TableLemmas.{reads_table}
-use Rattle.office_loading.proofs.reading.read_blocks.Goals as goal
+use Rattle.office_loading.proofs.table_reading.read_blocks.Goals as goal
 
 pub returns-clause-read : goal.returns-clause-read
 returns-clause-read g c clean layout is =

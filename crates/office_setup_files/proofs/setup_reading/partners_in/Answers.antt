@@ -4,7 +4,7 @@ use Rattle.office_setup.specs.declared.account.Account.{Account}
 use Rattle.office_setup_files.specs.Entries.{entry_content}
 use Rattle.office_setup_files.specs.Said.{ArePartners, AreNoPartners}
 use Rattle.office_setup_files.proofs.Givens.{all_coded}
-use Rattle.office_setup_files.proofs.reading.partners_in.Goals as goal
+use Rattle.office_setup_files.proofs.setup_reading.partners_in.Goals as goal
 
 pub of-requires : goal.of-requires
 of-requires c =

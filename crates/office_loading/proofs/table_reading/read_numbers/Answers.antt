@@ -2,7 +2,7 @@ use Rattle.office_rows.specs.Bare.{weighed_in}
 use Rattle.sqlite.specs.Held.{state}
 use Rattle.office_checks.specs.Contents.{number_content}
 use Rattle.office_loading.proofs.TableLemmas.{reads_numbers}
-use Rattle.office_loading.proofs.reading.read_numbers.Goals as goal
+use Rattle.office_loading.proofs.table_reading.read_numbers.Goals as goal
 
 pub returns-clause-read : goal.returns-clause-read
 returns-clause-read g c clean layout is =
