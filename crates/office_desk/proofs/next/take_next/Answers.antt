@@ -1,4 +1,4 @@
-use Rattle.std.proofs.Common.{◌≡◌, ◌⊎◌, ◌+◌, ◌-◌, length, arith, sym, ap, subst, ◌∙◌}
+use Rattle.std.proofs.Common.{◌≡◌, ◌⊎◌, inl, ◌+◌, ◌-◌, length, arith, sym, ap, subst, ◌∙◌}
 use Rattle.std.specs.Prelude.{slice_index_or, slice_set}
 use Rattle.sqlite.specs.Held.{state}
 use Rattle.sqlite.specs.State.{HasCleanDisk}
@@ -54,3 +54,13 @@ returns-in_err-write_run-clause-crash g c clean = on_err c.from_residual-in_err-
       are_taken = c.in_ok-taken.ensures.taken before rows a.text.now has numbered c.requires.admitted;
       are = is rows (subst (HasRows rows) (settled ∙ sym same.committed) has);
     }) wrote)
+
+pub returns-in_err-body-clause-crash : goal.returns-in_err-body-clause-crash
+returns-in_err-body-clause-crash g c clean = on_err c.from_residual-in_err-body.result (λ rows has settled numbered db left.
+    inl (reads_less (state g.S.Store c.args.conn.now) (state g.S.Store c.take_run.new.conn) clean has.schema c.take_run.ensures.reads db left))
+
+pub write_run-requires-clause-idle : goal.write_run-requires-clause-idle
+write_run-requires-clause-idle g c = c.take_run.ensures.reads.mode c.requires.idle
+
+pub write_run-requires-clause-numbers : goal.write_run-requires-clause-numbers
+write_run-requires-clause-numbers g c = rw c.deref.ensures.value c.in_ok-taken.ensures.numbers

@@ -5,7 +5,7 @@ use Rattle.office_rows.proofs.StepLemmas.{if_ok}
 use Rattle.sqlite.specs.Held.{state}
 use Rattle.office_setup.specs.Setups.{setup_content}
 use Rattle.partner_core.specs.Deliveries.{delivery}
-use Rattle.office_desk.specs.Beside.{IsOrNone}
+use Rattle.office_desk.specs.Beside.{IsBeside, IsOrNone}
 use Rattle.office_history.specs.After.{machine_with}
 use Rattle.office_desk.specs.Telling.{IsRunDone}
 use Rattle.office_desk.proofs.KeptLemmas.{early_or_stays, failed_stays, next_answers_so}
@@ -63,6 +63,18 @@ pub returns-clause-commits : goal.returns-clause-commits
 returns-clause-commits g c clean rows has settled numbers =
     let takes = c.in_ok-answer.ensures.ok clean rows has settled numbers in
     record { is_open = takes.is_open; alone = takes.alone }
+
+pub returns-in_err-answer-clause-err : goal.returns-in_err-answer-clause-err
+returns-in_err-answer-clause-err g c clean is_open = on_err c.from_residual.result (λ content es holds settled.
+    let same = c.in_err-answer.ensures.err clean is_open holds.has.schema in
+    record {
+      given = holds.given;
+      now_is = holds.now_is;
+      rows = holds.rows;
+      has = subst (HasRows holds.rows) (sym same) (subst (HasRows holds.rows) settled holds.has);
+      after = holds.after;
+      beside = subst (IsBeside content es) (sym c.requires.out) tt;
+    })
 
 pub returns-in_err-answer-clause-crash : goal.returns-in_err-answer-clause-crash
 returns-in_err-answer-clause-crash g c clean = on_err c.from_residual.result (λ content es sent holds settled free is comes db left.
