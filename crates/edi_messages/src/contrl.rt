@@ -4,6 +4,7 @@ ghost use Rattle.edi_segments.specs.Spelling.{with_element, with_elements, with_
 ghost use Rattle.edi_segments.specs.Written.{with_segments};
 ghost use Rattle.edi_syntax.specs.Envelope.{header_of, messages_of};
 ghost use Rattle.edi_syntax.specs.Heads.{head_segments};
+ghost use Rattle.edi_syntax.specs.Header.{control_reference};
 ghost use Rattle.edi_syntax.specs.Envelopes.{envelope_segments};
 ghost use Rattle.edi_syntax.specs.Frames.{message, messages_left};
 ghost use Rattle.edi_messages.specs.Contrl.{sender_of, recipient_of, identity_of, unb, unh, verdict_elements, uci, ucm, unt, unz, contrl_text, rejection_text};
@@ -80,21 +81,34 @@ fn write_opening(
     ensures { OnOk result (writer.new ≡ with_segments writer.old (unb (header_of (head_segments head.now))
         ∷ unh ∷ uci (header_of (head_segments head.now)) verdict ∷ [])) }
 {
-    write_unb(head, writer)?;
+    let sender = sender(head);
+    let recipient = recipient(head);
+    let reference = head.reference();
+    write_unb(head, &sender, &recipient, reference, writer)?;
     write_unh(writer)?;
-    write_uci(head, verdict, writer)
+    write_uci(head, &sender, &recipient, reference, verdict, writer)
 }
 
-fn write_unb(head: &Head<'_>, writer: &mut SegmentWriter) -> Result<(), AllocError>
-    requires { writer.old.is_open ≡ false }
+/// The header of the CONTRL, which answers a head with that sender, recipient and control reference.
+fn write_unb(
+    head: &Head<'_>,
+    sender: &[Component<'_>; 3],
+    recipient: &[Component<'_>; 3],
+    reference: Component<'_>,
+    writer: &mut SegmentWriter,
+) -> Result<(), AllocError>
+    requires between { writer.old.is_open ≡ false }
+    requires sender { map value sender.now ≡ sender_of (header_of (head_segments head.now)) }
+    requires recipient { map value recipient.now ≡ recipient_of (header_of (head_segments head.now)) }
+    requires reference { value reference ≡ control_reference (header_of (head_segments head.now)) }
     ensures { OnOk result (writer.new ≡ with_segment writer.old (unb (header_of (head_segments head.now)))) }
 {
     writer.begin(b"UNB")?;
     writer.element(&[b"UNOA", b"3"])?;
-    writer.components(&recipient(head))?;
-    writer.components(&sender(head))?;
+    writer.components(recipient)?;
+    writer.components(sender)?;
     writer.components(&[head.preparation(1), head.preparation(2)])?;
-    writer.components(&[head.reference()])?;
+    writer.components(&[reference])?;
     writer.end()
 }
 
@@ -108,18 +122,25 @@ fn write_unh(writer: &mut SegmentWriter) -> Result<(), AllocError>
     writer.end()
 }
 
+/// The response to an interchange whose head has that sender, recipient and control reference.
 fn write_uci(
     head: &Head<'_>,
+    sender: &[Component<'_>; 3],
+    recipient: &[Component<'_>; 3],
+    reference: Component<'_>,
     verdict: Verdict,
     writer: &mut SegmentWriter,
 ) -> Result<(), AllocError>
-    requires { writer.old.is_open ≡ false }
+    requires between { writer.old.is_open ≡ false }
+    requires sender { map value sender.now ≡ sender_of (header_of (head_segments head.now)) }
+    requires recipient { map value recipient.now ≡ recipient_of (header_of (head_segments head.now)) }
+    requires reference { value reference ≡ control_reference (header_of (head_segments head.now)) }
     ensures { OnOk result (writer.new ≡ with_segment writer.old (uci (header_of (head_segments head.now)) verdict)) }
 {
     writer.begin(b"UCI")?;
-    writer.components(&[head.reference()])?;
-    writer.components(&sender(head))?;
-    writer.components(&recipient(head))?;
+    writer.components(&[reference])?;
+    writer.components(sender)?;
+    writer.components(recipient)?;
     write_verdict(verdict, writer)?;
     writer.end()
 }

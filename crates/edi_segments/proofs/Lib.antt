@@ -4,6 +4,7 @@ pub mod SegmentLemmas
 pub mod LoopLemmas
 pub mod SegmentsLemmas
 pub mod PartLemmas
+pub mod FirstSeparators
 pub mod AdviceLemmas
 pub mod TestLemmas
 pub mod BreakLemmas

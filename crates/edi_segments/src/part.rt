@@ -1,4 +1,5 @@
-ghost use Rattle.std.specs.Prelude.{◌≡◌, ℕ, ◌+◌, ◌<◌, ◌≤◌, get_or, length, drop, IfSome, []};
+ghost use Rattle.std.specs.Prelude.{◌≡◌, ℕ, ◌+◌, ◌<◌, ◌≤◌, ◌==◌, get_or, length, drop, IfSome, []};
+ghost use Rattle.std.specs.List.{position_or_len};
 ghost use Rattle.std.specs.Option.{option_map};
 ghost use Rattle.edi_segments.specs.Parts.{parts_of, separator_of, split_of};
 ghost use Rattle.std.specs.Prelude.{false};
@@ -37,6 +38,46 @@ pub(crate) fn split_once<'a>(
 
 /// Where the first separator stands that is not released.
 fn separator_at(service: Service, separator: u8, bytes: &[u8]) -> Option<usize>
+    ensures found { result ≡ separator_of service separator false bytes.now }
+    ensures within { IfSome result (λ n. n < length bytes.now) }
+{
+    let at = len_before(separator, bytes);
+    if bytes.len() <= at {
+        return None;
+    }
+    if at == 0 {
+        return Some(at);
+    }
+    if service.releases(false, bytes[at - 1]) {
+        return separator_behind_releases(service, separator, bytes);
+    }
+    Some(at)
+}
+
+/// How many bytes stand before the first separator, released or not: all if there is none.
+#[inline(always)]
+fn len_before(separator: u8, bytes: &[u8]) -> usize
+    ensures { result ≡ position_or_len (λ b. b == separator) bytes.now }
+{
+    let mut at = 0;
+    while at + 1 < bytes.len() {
+        if bytes[at] == separator {
+            return at;
+        }
+        if bytes[at + 1] == separator {
+            return at + 1;
+        }
+        at += 2;
+    }
+    if at < bytes.len() && bytes[at] == separator {
+        return at;
+    }
+    bytes.len()
+}
+
+/// Where the first separator stands that is not released, if release characters stand before it.
+#[inline(never)]
+fn separator_behind_releases(service: Service, separator: u8, bytes: &[u8]) -> Option<usize>
     ensures found { result ≡ separator_of service separator false bytes.now }
     ensures within { IfSome result (λ n. n < length bytes.now) }
 {

@@ -5,6 +5,8 @@ pub mod ShownLemmas
 pub mod TableLemmas
 pub mod VersionLemmas
 pub mod ChainLemmas
+pub mod StreamLemmas
+pub mod AnswerLemmas
 pub mod KeyLemmas
 pub mod FitLemmas
 pub mod RowLemmas

@@ -18,6 +18,7 @@ mod place_rows;
 mod record;
 mod setting_rows;
 mod stays;
+mod streaming;
 mod table_reading;
 mod version;
 mod visit_rows;

@@ -15,11 +15,9 @@ ghost use Rattle.office_selecting.specs.Reads.{OnlyReads, WritesNothing};
 ghost use Rattle.office_loading.specs.Tables.{ReadsTable, ShowsPartners, ShowsVisits, ShowsPlaces, ShowsLines, ShowsBlocks};
 
 use crate::record::read_all;
+use crate::streaming::read_shown;
 use office_checks::{NumberRow, PartnerRow};
-use office_selecting::{
-    select_bare_visits, select_blocks, select_interchanges, select_lines, select_partners,
-    select_places, select_visits,
-};
+use office_selecting::{select_blocks, select_lines, select_partners, select_places};
 use office_tables::TableFault;
 use sqlite::{Alter, Connection};
 use std::alloc::Global;
@@ -62,8 +60,11 @@ pub(crate) fn read_numbers<S: Alter>(
     ensures unwritten { WritesNothing (state S.Store conn.old) (state S.Store conn.new) }
     ensures version { IfErr result (IsOfStoreOr ⊤) }
 {
-    let rows = select_interchanges(conn)?;
-    read_all(alloc, &rows)
+    read_shown(
+        alloc,
+        conn,
+        "SELECT partner, number, reply FROM interchange ORDER BY partner, number",
+    )
 }
 
 /// All visits, by their key.
@@ -81,8 +82,11 @@ pub(crate) fn read_visits<S: Alter>(
     ensures unwritten { WritesNothing (state S.Store conn.old) (state S.Store conn.new) }
     ensures version { IfErr result (IsOfStoreOr ⊤) }
 {
-    let rows = select_visits(conn)?;
-    read_all(alloc, &rows)
+    read_shown(
+        alloc,
+        conn,
+        "SELECT visit, box, size, laden, booking, in_by, in_partner, in_number, in_at, in_slot, out_by, out_partner, out_number, out_at, kilos FROM visit ORDER BY visit",
+    )
 }
 
 /// All visits of a store of version 1 or 2, by their key, each with a weight of 0.
@@ -98,8 +102,11 @@ pub(crate) fn read_bare_visits<S: Alter>(
     ensures unwritten { WritesNothing (state S.Store conn.old) (state S.Store conn.new) }
     ensures version { IfErr result (IsOfStoreOr ⊤) }
 {
-    let rows = select_bare_visits(conn)?;
-    read_all(alloc, &rows)
+    read_shown(
+        alloc,
+        conn,
+        "SELECT visit, box, size, laden, booking, in_by, in_partner, in_number, in_at, in_slot, out_by, out_partner, out_number, out_at, 0 AS kilos FROM visit ORDER BY visit",
+    )
 }
 
 /// All containers in the yard, by their key.

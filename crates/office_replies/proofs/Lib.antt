@@ -1,3 +1,4 @@
 pub mod Joined
 pub mod Floats
 pub mod Ready
+pub mod Counts

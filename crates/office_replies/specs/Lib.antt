@@ -12,3 +12,4 @@ pub mod Delivering
 pub mod AccountAnswers
 pub mod Adding
 pub mod Calls
+pub mod Sent

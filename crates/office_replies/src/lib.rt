@@ -11,13 +11,16 @@ mod body;
 mod deliver;
 mod fault;
 mod kept;
+mod kept_reply;
 pub mod laws;
+mod line_members;
 mod line_report;
 mod message_report;
 mod message_verdict;
 mod names;
 mod refusal;
 mod response;
+mod sending;
 mod text;
 mod worst;
 

@@ -1,17 +1,15 @@
-ghost use Rattle.std.specs.Prelude.{◌≡◌, IfOk, Option, string_bytes, encode_utf8_all};
+ghost use Rattle.std.specs.Prelude.{◌≡◌, OnOk, encode_utf8_all};
 ghost use Rattle.std.specs.Option.{option_map};
-ghost use Rattle.serde_json.specs.View.{view};
 ghost use Rattle.serde_json.specs.Data.{object};
-ghost use Rattle.office_replies.specs.Members.{name_text, done_members, settled_members};
-ghost use Rattle.office_replies.specs.Members.{refused_members, buried_members};
-ghost use Rattle.office_replies.specs.Names.{reason_name};
-ghost use Rattle.office_replies.specs.Lines.{line_data, refusal_members, written_line};
+ghost use Rattle.serde_json.specs.Events.{SendsValue};
+ghost use Rattle.office_replies.specs.Lines.{line_data, outcome_members, refusal_members};
+ghost use Rattle.office_replies.specs.Members.{buried_members, done_members, refused_members, settled_members};
 
+use crate::line_members::{LineMembers, send_members};
 use crate::names::reason_name;
-use crate::text::text_of;
+use crate::text::as_ascii;
 use box6346::BoxNumber;
-use serde_json::{Value, json};
-use std::alloc::{AllocError, Global};
+use serde::Serializer;
 use terminal_core::{Outcome, Reason};
 
 /// What became of a line of a message.
@@ -22,109 +20,143 @@ pub struct LineReport {
     pub outcome: Outcome,
 }
 
-/// The JSON of a line, counted from 1 in its message.
-pub(crate) fn line_value(alloc: Global, line: u64, report: LineReport) -> Result<Value, AllocError>
-    ensures { IfOk result (λ v. view v ≡ line_data line report) }
+/// Sends the JSON of a line, counted from 1 in its message. Names of containers and slots are of ASCII; were one not,
+/// it would be an error.
+pub(crate) fn send_line<S: Serializer>(
+    line: u64,
+    report: LineReport,
+    out: &mut S,
+) -> Result<(), S::Error>
+    ensures { OnOk result (SendsValue (line_data line report) (S.written out.old) (S.written out.new)) }
 {
-    let name = number_text(alloc, report.number)?;
-    let name = name.as_ref();
-    match report.outcome {
-        Outcome::Done(slot) => {
-            let slot = text_of(alloc, &slot.text())?;
-            done(alloc, name, line, slot.as_str())
-        }
-        Outcome::Gone => settled(alloc, name, line, "gone"),
-        Outcome::Listed => settled(alloc, name, line, "listed"),
-        Outcome::Refused(reason) => refusal(alloc, name, line, reason),
+    match report.number {
+        Some(number) => match as_ascii(&number.text()) {
+            Some(name) => send_outcome(Some(name), line, report.outcome, out),
+            None => Err(out.custom("a container's number of other characters")),
+        },
+        None => send_outcome(None, line, report.outcome, out),
     }
 }
 
-fn refusal(
-    alloc: Global,
-    name: Option<&String>,
+/// Sends the JSON of a line whose container has that name.
+fn send_outcome<S: Serializer>(
+    name: Option<&str>,
+    line: u64,
+    outcome: Outcome,
+    out: &mut S,
+) -> Result<(), S::Error>
+    ensures { OnOk result (SendsValue (object (outcome_members (option_map (λ t. t.now) name) line outcome))
+        (S.written out.old) (S.written out.new)) }
+{
+    match outcome {
+        Outcome::Done(slot) => match as_ascii(&slot.text()) {
+            Some(slot) => send_done(name, line, slot, out),
+            None => Err(out.custom("a slot's name of other characters")),
+        },
+        Outcome::Gone => send_settled(name, line, "gone", out),
+        Outcome::Listed => send_settled(name, line, "listed", out),
+        Outcome::Refused(reason) => send_refusal(name, line, reason, out),
+    }
+}
+
+fn send_done<'a, S: Serializer>(
+    name: Option<&'a str>,
+    line: u64,
+    slot: &'a str,
+    out: &mut S,
+) -> Result<(), S::Error>
+    ensures { OnOk result (SendsValue (object (done_members (option_map (λ t. t.now) name) line slot.now))
+        (S.written out.old) (S.written out.new)) }
+{
+    let told = LineMembers {
+        blocker: None,
+        name,
+        line,
+        outcome: "done",
+        reason: None,
+        slot: Some(slot),
+    };
+    send_members(&told, out)
+}
+
+/// Sends an outcome that has nothing more to say.
+fn send_settled<'a, S: Serializer>(
+    name: Option<&'a str>,
+    line: u64,
+    outcome: &'a str,
+    out: &mut S,
+) -> Result<(), S::Error>
+    ensures { OnOk result
+        (SendsValue (object (settled_members (option_map (λ t. t.now) name) line outcome.now))
+        (S.written out.old) (S.written out.new)) }
+{
+    let told = LineMembers {
+        blocker: None,
+        name,
+        line,
+        outcome,
+        reason: None,
+        slot: None,
+    };
+    send_members(&told, out)
+}
+
+fn send_refusal<S: Serializer>(
+    name: Option<&str>,
     line: u64,
     reason: Reason,
-) -> Result<Value, AllocError>
-    ensures { IfOk result (λ v.
-        view v ≡ object (refusal_members (name_text name.entry) line reason)) }
+    out: &mut S,
+) -> Result<(), S::Error>
+    ensures { OnOk result (SendsValue (object (refusal_members (option_map (λ t. t.now) name) line reason))
+        (S.written out.old) (S.written out.new)) }
 {
     match reason {
-        Reason::Buried(blocker) => {
-            let blocker = text_of(alloc, &blocker.text())?;
-            buried(alloc, name, line, blocker.as_str())
-        }
-        _ => refused(alloc, name, line, reason_name(reason)),
+        Reason::Buried(blocker) => match as_ascii(&blocker.text()) {
+            Some(blocker) => send_buried(name, line, blocker, out),
+            None => Err(out.custom("a container's number of other characters")),
+        },
+        _ => send_refused(name, line, reason_name(reason), out),
     }
 }
 
-fn number_text(alloc: Global, number: Option<BoxNumber>) -> Result<Option<String>, AllocError>
-    ensures { IfOk result (λ text. option_map string_bytes text ≡ option_map written_line number) }
-{
-    match number {
-        Some(number) => Ok(Some(text_of(alloc, &number.text())?)),
-        None => Ok(None),
-    }
-}
-
-fn done(alloc: Global, name: Option<&String>, line: u64, slot: &str) -> Result<Value, AllocError>
-    ensures { IfOk result (λ v.
-        view v ≡ object (done_members (name_text name.entry) line slot.now)) }
-{
-    match name {
-        Some(name) => json!(in alloc; {"box": name, "line": line, "outcome": "done", "slot": slot}),
-        None => json!(in alloc; {"line": line, "outcome": "done", "slot": slot}),
-    }
-}
-
-fn settled(
-    alloc: Global,
-    name: Option<&String>,
+fn send_refused<'a, S: Serializer>(
+    name: Option<&'a str>,
     line: u64,
-    outcome: &str,
-) -> Result<Value, AllocError>
-    ensures { IfOk result (λ v.
-        view v ≡ object (settled_members (name_text name.entry) line outcome.now)) }
+    reason: &'a str,
+    out: &mut S,
+) -> Result<(), S::Error>
+    ensures { OnOk result
+        (SendsValue (object (refused_members (option_map (λ t. t.now) name) line reason.now))
+        (S.written out.old) (S.written out.new)) }
 {
-    match name {
-        Some(name) => json!(in alloc; {"box": name, "line": line, "outcome": outcome}),
-        None => json!(in alloc; {"line": line, "outcome": outcome}),
-    }
+    let told = LineMembers {
+        blocker: None,
+        name,
+        line,
+        outcome: "refused",
+        reason: Some(reason),
+        slot: None,
+    };
+    send_members(&told, out)
 }
 
-fn refused(
-    alloc: Global,
-    name: Option<&String>,
+fn send_buried<'a, S: Serializer>(
+    name: Option<&'a str>,
     line: u64,
-    reason: &str,
-) -> Result<Value, AllocError>
-    ensures { IfOk result (λ v.
-        view v ≡ object (refused_members (name_text name.entry) line reason.now)) }
+    blocker: &'a str,
+    out: &mut S,
+) -> Result<(), S::Error>
+    ensures { OnOk result
+        (SendsValue (object (buried_members (option_map (λ t. t.now) name) line blocker.now))
+        (S.written out.old) (S.written out.new)) }
 {
-    match name {
-        Some(name) => {
-            json!(in alloc; {"box": name, "line": line, "outcome": "refused", "reason": reason})
-        }
-        None => json!(in alloc; {"line": line, "outcome": "refused", "reason": reason}),
-    }
-}
-
-fn buried(
-    alloc: Global,
-    name: Option<&String>,
-    line: u64,
-    blocker: &str,
-) -> Result<Value, AllocError>
-    ensures { IfOk result (λ v.
-        view v ≡ object (buried_members (name_text name.entry) line blocker.now)) }
-{
-    match name {
-        Some(name) => {
-            json!(in alloc; {"blocker": blocker, "box": name, "line": line,
-                "outcome": "refused", "reason": "Buried"})
-        }
-        None => {
-            json!(in alloc; {"blocker": blocker, "line": line,
-                "outcome": "refused", "reason": "Buried"})
-        }
-    }
+    let told = LineMembers {
+        blocker: Some(blocker),
+        name,
+        line,
+        outcome: "refused",
+        reason: Some("Buried"),
+        slot: None,
+    };
+    send_members(&told, out)
 }

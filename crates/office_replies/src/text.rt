@@ -13,7 +13,7 @@ pub fn text_of(alloc: Global, bytes: &[u8]) -> Result<String, AllocError>
 }
 
 /// The bytes as a text, if each is of ASCII.
-fn as_ascii(bytes: &[u8]) -> Option<&str>
+pub(crate) fn as_ascii(bytes: &[u8]) -> Option<&str>
     ensures { IfSome result (λ text. text.now ≡ encode_utf8_all bytes.now) }
 {
     if !bytes.is_ascii() {

@@ -2,7 +2,7 @@
 use Rattle.std.proofs.Common.{◌≡◌, ◌+◌, ◌-◌, ◌≤◌, length, drop, false}
 use Rattle.std.specs.Option.{option_map}
 use Rattle.edi_segments.specs.Parts.{separator_of}
-use Rattle.edi_segments.proofs.part.separator_at.Given as goal
+use Rattle.edi_segments.proofs.part.separator_behind_releases.Given as goal
 
 abbrev pub invariant-loop-at : goal.invariant-loop-at
 invariant-loop-at l = record {
