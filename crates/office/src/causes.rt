@@ -1,6 +1,6 @@
 use crate::cause::{NAMELESS, cause_of};
-use crate::faults::Faults;
 use office_replies::Worst;
+use office_tables::TableFault;
 
 /// What a person was told of why answers are `not now`: once, and again when it changes.
 #[derive(Clone, Copy)]
@@ -15,15 +15,16 @@ impl<'a> Causes<'a> {
         Causes { path, told: None }
     }
 
-    /// The cause that has to be told behind an answer of that desk.
-    pub(crate) fn behind<F: Faults>(
+    /// The cause that has to be told behind an answer, with the fault for which the last one was `not now`.
+    pub(crate) fn behind(
         &mut self,
         rt: &HostRuntime,
         worst: Worst,
-        desk: &F,
+        fault: Option<&TableFault>,
+        is_nameless: bool,
     ) -> Option<&'static str> {
-        match (worst, desk.last_fault()) {
-            (Worst::NotNow, _) if desk.is_nameless() => self.again(NAMELESS),
+        match (worst, fault) {
+            (Worst::NotNow, _) if is_nameless => self.again(NAMELESS),
             (Worst::NotNow, Some(fault)) => self.again(cause_of(rt, self.path, fault)),
             (Worst::NotNow, None) => self.again("memory ran out: try again"),
             _ => {

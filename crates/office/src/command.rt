@@ -6,7 +6,7 @@ use crate::report::report;
 use crate::serve::serve;
 use crate::telling::{COMMAND_LINE, DONE, FAILED, print, tell};
 use office_command_line::{CommandFault, Request, read_command};
-use office_commands::demonstrate;
+use office_commands::{Service, demonstrate};
 use office_stream::Port;
 use std::alloc::Global;
 use std::io::{Read, Write};
@@ -37,7 +37,7 @@ pub(crate) fn run<R: Read, W: Write, E: Write>(
             port,
             count,
             log,
-        } => serve(rt, store, (port, count), log, writer, errors),
+        } => serve(rt, store, Service { port, count }, log, writer, errors),
         Request::Report { store, kind, key } => report(rt, store, kind, key, writer, errors),
         Request::Account { store, code, kind } => account(rt, store, code, kind, writer, errors),
         Request::Migrate { old, new } => migrate(rt, old, new, writer, errors),

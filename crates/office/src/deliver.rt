@@ -1,10 +1,9 @@
-use crate::faults::Faults;
 use crate::looked_at::is_looked_at;
 use crate::placed::Placed;
 use crate::store::open_store;
 use crate::telling::{tell_line, tell_store, tell_unread};
 use crate::watched::Watched;
-use office_commands::{TURNS, deliver_over, tell_outcome};
+use office_commands::{Faults, TURNS, deliver_over, tell_outcome};
 use office_replies::Deliver;
 use office_stream::{Port, run_stream};
 use sqlite::Unknown;

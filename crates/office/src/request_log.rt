@@ -1,5 +1,9 @@
+use crate::causes::Causes;
 use crate::clock_time::ClockTime;
-use office_http::{Seen, Watch};
+use office_commands::Notes;
+use office_http::Seen;
+use office_replies::Worst;
+use office_tables::TableFault;
 use std::cell::Cell;
 use std::str;
 use std::time::Instant;
@@ -10,33 +14,28 @@ use std::time::Instant;
 pub(crate) struct RequestLog<'a> {
     rt: &'a HostRuntime,
     is_on: bool,
+    begun: Cell<Option<Instant>>,
     microseconds: Cell<u128>,
     answered: Cell<Option<String>>,
+    causes: Cell<Causes<'a>>,
 }
 
 impl<'a> RequestLog<'a> {
-    pub(crate) fn new(rt: &'a HostRuntime, is_on: bool) -> RequestLog<'a> {
+    /// The log of a server over the store at a path, which is written only if it is on.
+    pub(crate) fn new(rt: &'a HostRuntime, is_on: bool, path: &'a str) -> RequestLog<'a> {
         RequestLog {
             rt,
             is_on,
+            begun: Cell::new(None),
             microseconds: Cell::new(0),
             answered: Cell::new(None),
+            causes: Cell::new(Causes::new(path)),
         }
     }
 
-    /// Whether lines are written.
-    pub(crate) fn is_on(&self) -> bool {
-        self.is_on
-    }
-
-    /// Tells why an answer is `not now`.
-    pub(crate) fn tell_cause(&self, cause: &str) {
-        let _ = eprintln!(self.rt; "{} not now: {cause}", ClockTime::now(self.rt));
-    }
-
     /// Notes how long the office has worked on a request.
-    pub(crate) fn note_time(&self, begun: Option<Instant>) {
-        let spent = match begun {
+    fn note_time(&self) {
+        let spent = match self.begun.get() {
             Some(begun) => begun.elapsed(self.rt).ok(),
             None => None,
         };
@@ -46,7 +45,7 @@ impl<'a> RequestLog<'a> {
     }
 
     /// Notes how a delivery or an account was answered, by the body.
-    pub(crate) fn note_answer(&self, body: &str) {
+    fn note_answer(&self, body: &str) {
         let answer = text_behind(body, "\"answer\":\"");
         let partner = text_behind(body, "\"partner\":\"");
         let number = text_behind(body, "\"number\":");
@@ -58,6 +57,16 @@ impl<'a> RequestLog<'a> {
             format!(in self.rt.alloc(); " {partner}/{number} {answer}")
         };
         self.answered.set(text.ok());
+    }
+
+    /// Tells why an answer is `not now`, if it is so for another cause than before.
+    fn tell_cause(&self, worst: Worst, fault: Option<&TableFault>, is_nameless: bool) {
+        let mut causes = self.causes.get();
+        let cause = causes.behind(self.rt, worst, fault, is_nameless);
+        self.causes.set(causes);
+        if let Some(cause) = cause {
+            let _ = eprintln!(self.rt; "{} not now: {cause}", ClockTime::now(self.rt));
+        }
     }
 
     /// Writes the line of a connection, of which that was seen.
@@ -75,8 +84,26 @@ impl<'a> RequestLog<'a> {
     }
 }
 
-impl Watch for &RequestLog<'_> {
-    fn served(&mut self, seen: &Seen<'_>) {
+impl Notes for RequestLog<'_> {
+    fn begun(&self) {
+        self.begun.set(Instant::now(self.rt).ok());
+    }
+
+    fn answered(&self, body: &str, worst: Worst, fault: Option<&TableFault>, is_nameless: bool) {
+        if self.is_on {
+            self.note_time();
+            self.note_answer(body);
+            self.tell_cause(worst, fault, is_nameless);
+        }
+    }
+
+    fn looked(&self) {
+        if self.is_on {
+            self.note_time();
+        }
+    }
+
+    fn served(&self, seen: &Seen<'_>) {
         if self.is_on {
             self.tell(
                 word(seen.method),

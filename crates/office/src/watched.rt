@@ -1,8 +1,8 @@
 ghost use Rattle.std.specs.Prelude.{◌≡◌, ℕ, List};
 
 use crate::causes::Causes;
-use crate::faults::Faults;
 use crate::tally::Tally;
+use office_commands::Faults;
 use office_replies::{Deliver, Response};
 use std::alloc::Global;
 
@@ -38,7 +38,10 @@ impl<'a, D: Deliver + Faults> Watched<'a, D> {
         ensures { self.new.desk ≡ self.old.desk }
     {
         self.tally.count(response);
-        let cause = self.causes.behind(self.rt, response.worst(), &self.desk);
+        let (fault, is_nameless) = (self.desk.last_fault(), self.desk.is_nameless());
+        let cause = self
+            .causes
+            .behind(self.rt, response.worst(), fault, is_nameless);
         if let Some(cause) = cause {
             let _ = eprintln!(self.rt; "not now: {cause}");
         }

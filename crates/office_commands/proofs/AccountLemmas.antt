@@ -31,7 +31,7 @@ writer_by old new (Ok worst) kept flushed failed = (kept, flushed)
 writer_by old new (Err fault) kept flushed failed = failed.1
 
 module _ (one other : SetupContent) (says : SaysSame one other) where
-  account_alike : (es : List Event) (code kind : List ℕ) (answer : AccountAnswer) → AnswersAccount one es code kind answer → AnswersAccount other es code kind answer
+  pub account_alike : (es : List Event) (code kind : List ℕ) (answer : AccountAnswer) → AnswersAccount one es code kind answer → AnswersAccount other es code kind answer
   account_alike es code kind answer =
       subst (λ (partners : List _). Says (account_answer partners code kind) code answer) (now_alike one other says es).partners
 

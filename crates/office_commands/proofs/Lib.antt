@@ -6,3 +6,5 @@ mod NowAlike
 mod ReportLemmas
 mod AccountLemmas
 mod LookingLemmas
+mod ServingLemmas
+mod MigratingLemmas

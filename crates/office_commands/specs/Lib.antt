@@ -6,3 +6,5 @@ pub mod Delivering
 pub mod Accounts
 pub mod Reporting
 pub mod Looking
+pub mod Serving
+pub mod Migrating

@@ -1,6 +1,6 @@
 //! How the program opens a store in files, and what it does with it over whatever is read and written: it takes
-//! interchanges, adds accounts, and prints reports. And the demonstration, which takes interchanges to a terminal whose
-//! tables are in memory.
+//! interchanges, adds accounts, prints reports, serves requests, and brings an older store to this version. And the
+//! demonstration, which takes interchanges to a terminal whose tables are in memory.
 #![tactic(auto)]
 
 mod account;
@@ -9,17 +9,33 @@ mod deliver;
 mod demo;
 mod demo_fault;
 pub mod demo_setup;
+mod faults;
+mod migration;
+mod migration_fault;
+mod named;
+mod noted;
+mod notes;
 pub mod open_demo;
 pub mod open_desk;
 mod opening;
 mod report;
+mod service;
+mod serving;
 mod telling;
+mod watching;
 
 pub use account::account_over;
 pub use command::demonstrate;
 pub use deliver::{TURNS, deliver_over, deliver_to};
 pub use demo::run_demo;
 pub use demo_fault::DemoFault;
+pub use faults::Faults;
+pub use migration::migrate_over;
+pub use migration_fault::MigrationFault;
+pub use named::Named;
+pub use notes::Notes;
 pub use opening::{make_store, open_found, open_store, open_there};
 pub use report::{report_on, report_over};
+pub use service::Service;
+pub use serving::serve_over;
 pub use telling::{tell_fault, tell_outcome};

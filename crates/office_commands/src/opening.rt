@@ -46,6 +46,8 @@ pub fn open_there<S: Start>(
     start: S,
 ) -> Result<Connection<FileStore<FileFrom<S>>>, TableFault>
     ensures idle { IfOk result (λ conn. conn.in_transaction ≡ false) }
+    ensures settled { IfOk result (λ conn. HasCleanDisk (file_state conn) →
+        (file_state conn).now ≡ (file_state conn).committed) }
     ensures found { IfOk result (λ conn. HasCleanDisk (file_state conn) → ShowsHeld (image_at S.Start) conn) }
 {
     if !is_there(rt, path) {
@@ -79,6 +81,8 @@ pub fn open_found<S: Start>(
     start: S,
 ) -> Result<Connection<FileStore<FileFrom<S>>>, TableFault>
     ensures idle { IfOk result (λ conn. conn.in_transaction ≡ false) }
+    ensures settled { IfOk result (λ conn. HasCleanDisk (file_state conn) →
+        (file_state conn).now ≡ (file_state conn).committed) }
     ensures found { IfOk result (λ conn. HasCleanDisk (file_state conn) → ShowsHeld (image_at S.Start) conn) }
     ensures empty { IfOk result (λ conn. HasCleanDisk (file_state conn) → (image_at S.Start).db ≡ [] →
         (file_state conn).committed.schema ≡ no_schema) }

@@ -14,7 +14,7 @@ use std::os::unix::fs::MetadataExt;
 /// system is gone, what comes is answered `not now`: a file without a name would keep it, and nobody could open that again.
 /// Reports go on, so that what was answered can still be read.
 #[derive(Drop)]
-pub(crate) struct Named<D> {
+pub struct Named<D> {
     desk: D,
     file: Option<File>,
     is_nameless: bool,
@@ -23,7 +23,9 @@ pub(crate) struct Named<D> {
 impl<D: Deliver + Faults> Named<D> {
     /// A desk over the store that was just opened at that path. The file is held open beside it, and only asked for its
     /// names: closing it earlier would give up the store's lock.
-    pub(crate) fn new(desk: D, rt: &HostRuntime, path: &str) -> Named<D> {
+    pub(crate) fn new(desk: D, rt: &HostRuntime, path: &str) -> Named<D>
+        ensures { result.desk ≡ desk }
+    {
         Named {
             desk,
             file: File::open(rt, path).ok(),

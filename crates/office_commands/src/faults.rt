@@ -1,9 +1,9 @@
-use crate::store::Store;
 use office_desk::Desk;
 use office_tables::TableFault;
+use sqlite::Alter;
 
 /// What tells why it last answered `not now`.
-pub(crate) trait Faults {
+pub trait Faults {
     /// The fault for which it last did so.
     fn last_fault(&self) -> Option<&TableFault>;
 
@@ -11,7 +11,7 @@ pub(crate) trait Faults {
     fn is_nameless(&self) -> bool;
 }
 
-impl Faults for Desk<Store> {
+impl<S: Alter> Faults for Desk<S> {
     fn last_fault(&self) -> Option<&TableFault> {
         Desk::last_fault(self)
     }

@@ -1,0 +1,241 @@
+-- Requests that are served over a store in files.
+use Rattle.std.proofs.Common.{◌≡◌, ◌⊎◌, ◌≤◌, inl, inr, ℕ, Bool, List, [], ◌∷◌, ◌++◌, length, Option, Some, Result, Ok, Err, refl, sym, ap, subst, ◌∙◌}
+use Rattle.std.proofs.KnownBytes.{Appends-trans}
+use Rattle.std.specs.Io.KnownBytes.{Appends}
+use Rattle.sqlite_disk.specs.declared.Disk.{Ghosts}
+use Rattle.sqlite.specs.Files.{over_files}
+use Rattle.sqlite.specs.Held.{state}
+use Rattle.sqlite.specs.Recovery.{Image}
+use Rattle.sqlite.specs.Tree.{Trees}
+use Rattle.sqlite.specs.declared.FileStore.{FileStore}
+use Rattle.office_replies.specs.Adding.{with_added}
+use Rattle.office_replies.specs.Delivering.{with_answered}
+use Rattle.office_replies.specs.Events.{Event, delivered, added}
+use Rattle.office_replies.specs.declared.account_answer.AccountAnswer.{AccountAnswer}
+use Rattle.office_replies.specs.declared.account_answer.AccountAnswer.TheVariants as account_answer
+use Rattle.office_replies.specs.declared.response.Response.{Response}
+use Rattle.office_replies.specs.declared.response.Response.TheVariants as response
+use Rattle.office_queries.specs.Looking.{Tells}
+use Rattle.office_queries.specs.declared.not_now.NotNow.{NotNow}
+use Rattle.office_queries.specs.declared.query.Query.{Query}
+use Rattle.office_setup.specs.Setups.{SetupContent}
+use Rattle.office_history.specs.After.{SaysSame}
+use Rattle.office_stream.specs.Fronts.{AppendsFront}
+use Rattle.office_stream.proofs.Writing.{front_behind}
+use Rattle.office_http.specs.Steps.{Step, delivery, account, report, with_step, events_after, StepLeads, StepsLead}
+use Rattle.office_desk.specs.Answers.{AnswersNext}
+use Rattle.office_desk.specs.Accounts.{AnswersAccount}
+use Rattle.office_desk.specs.Calls.{Leads, Enrols, Looks}
+use Rattle.office_desk.specs.Crashes.{IsAfter}
+use Rattle.office_desk.specs.Desks.{IsSound, StandsFor}
+use Rattle.office_desk.specs.Reports.{DeskTells, TellsAfter}
+use Rattle.office_desk.specs.declared.desk.Desk.{Desk}
+use Rattle.office_commands.specs.Delivering.{BeginsAt, OpensOn, StandsAlike}
+use Rattle.office_commands.specs.Ending.{Prints}
+use Rattle.office_commands.specs.Serving.{EndsServing, listening_line, served_line, IsServed, AreServed, put_off, HasNoEvent, MayBeThere, HoldsServed, LeadsNamed, EnrolsNamed, AreServedBy, IsServedOver}
+use Rattle.office_commands.proofs.AccountLemmas.{account_alike}
+use Rattle.office_commands.proofs.ReportLemmas.{after_alike}
+use Rattle.office_commands.proofs.StreamLemmas.{answer_alike, stand_alike}
+
+-- ---- what stands around a desk
+
+-- steps of what a desk stands in are steps of the desk
+pub inner_steps : {W D : Type 0} (inner : W → D) (leads : D → List ℕ → Response → D → Type 0) (enrols : D → List ℕ → List ℕ → AccountAnswer → D → Type 0)
+    (looks : D → Query → Result (Option (List ℕ)) NotNow → D → Type 0) (old : W) (steps : List Step) (new : W)
+    → StepsLead (λ o text given n. leads (inner o) text given (inner n)) (λ o code kind given n. enrols (inner o) code kind given (inner n)) (λ o query found n. looks (inner o) query found (inner n)) old steps new
+    → StepsLead leads enrols looks (inner old) steps (inner new)
+inner_steps inner leads enrols looks old [] new same = ap inner same
+inner_steps inner leads enrols looks old (delivery text given ∷ steps) new (next, led, rest) = (inner next, led, inner_steps inner leads enrols looks next steps new rest)
+inner_steps inner leads enrols looks old (account code kind given ∷ steps) new (next, led, rest) = (inner next, led, inner_steps inner leads enrols looks next steps new rest)
+inner_steps inner leads enrols looks old (report query found ∷ steps) new (next, led, rest) = (inner next, led, inner_steps inner leads enrols looks next steps new rest)
+
+-- from what a desk was to what it is, by whatever stood around it
+pub served_by : {D : Type 0} (leads : D → List ℕ → Response → D → Type 0) (enrols : D → List ℕ → List ℕ → AccountAnswer → D → Type 0)
+    (looks : D → Query → Result (Option (List ℕ)) NotNow → D → Type 0) (count : ℕ) (opened first last end : D) → first ≡ opened → end ≡ last → (steps : List Step) → length steps ≤ count
+    → StepsLead (LeadsNamed leads) (EnrolsNamed enrols) looks first steps last → AreServedBy leads enrols looks count opened end
+served_by {D} leads enrols looks count opened first last end begins ends steps few led = record {
+  steps = steps;
+  few = few;
+  led = subst (λ (at : D). StepsLead (LeadsNamed leads) (EnrolsNamed enrols) looks opened steps at) (sym ends)
+      (subst (λ (at : D). StepsLead (LeadsNamed leads) (EnrolsNamed enrols) looks at steps last) begins led);
+}
+
+-- ---- set-ups that say the same
+
+module _ (one other : SetupContent) (says : SaysSame one other) where
+  told_alike : (es : List Event) (query : Query) (found : Result (Option (List ℕ)) NotNow) → Tells (TellsAfter one es query) found → Tells (TellsAfter other es query) found
+  told_alike es query (Ok found) told = after_alike one other says es query found told
+  told_alike es query (Err refusal) told = tt
+
+  step_alike : (es : List Event) (step : Step) → IsServed one es step → IsServed other es step
+  step_alike es (delivery text given) served = elim served [ inl is ↦ inl (answer_alike one other says es text given is) | inr off ↦ inr off ]
+  step_alike es (account code kind given) served = elim served [ inl is ↦ inl (account_alike one other says es code kind given is) | inr off ↦ inr off ]
+  step_alike es (report query found) served = told_alike es query found served
+
+  served_alike : (es : List Event) (steps : List Step) → AreServed one es steps → AreServed other es steps
+  served_alike es [] served = tt
+  served_alike es (step ∷ steps) served = (step_alike es step served.0, served_alike (with_step es step) steps served.1)
+
+-- ---- one step
+
+-- the rows after those events, or with one more that is pending
+abbrev LeftBy : SetupContent → List Event → (Event → Type 0) → Trees → Type 0
+LeftBy content es Pends db = IsAfter content es db ⊎ ((event : Event) × Pends event × IsAfter content (es ++ event ∷ []) db)
+
+-- what is pending behind a step: what was before, if the step is no event, or the step
+abbrev PendsBehind : (Event → Type 0) → Step → Event → Type 0
+PendsBehind Pends step event = (Pends event × ((es : List Event) → with_step es step ≡ es)) ⊎ (put_off step ≡ Some event)
+
+told_of : {D : Type 0} {g : Ghosts D} (content : SetupContent) (es : List Event) (desk : Desk (FileStore D g) over_files) → StandsFor over_files content es desk → (query : Query)
+    (found : Result (Option (List ℕ)) NotNow) → Tells (DeskTells over_files desk query) found → Tells (TellsAfter content es query) found
+told_of content es desk stands query (Ok found) told = told.after content es stands
+told_of content es desk stands query (Err refusal) told = tt
+
+module _ {D : Type 0} {g : Ghosts D} where
+  abbrev Files : Type 0
+  Files = Desk (FileStore D g) over_files
+
+  abbrev LedBy : Files → Step → Files → Type 0
+  LedBy = StepLeads (LeadsNamed (Leads over_files)) (EnrolsNamed (Enrols over_files)) (Looks over_files)
+
+  sound_step : (old : Files) (step : Step) (new : Files) → LedBy old step new → IsSound over_files new → IsSound over_files old
+  sound_step old (delivery text given) new led sound = elim led [ inl call ↦ call.stays sound | inr off ↦ subst (IsSound over_files) off.1 sound ]
+  sound_step old (account code kind given) new led sound = elim led [ inl call ↦ call.stays sound | inr off ↦ subst (IsSound over_files) off.1 sound ]
+  sound_step old (report query found) new call sound = call.stays sound
+
+  stand_step : (content : SetupContent) (es : List Event) (old : Files) (step : Step) (new : Files) → LedBy old step new → IsSound over_files new → StandsFor over_files content es old
+      → IsServed content es step × StandsFor over_files content (with_step es step) new
+  stand_step content es old (delivery text given) new led sound stands = elim led [
+    | inl call ↦ (let done = call.delivers sound content es stands in (inl done.0, done.1))
+    | inr off ↦ (inr off.0, subst (λ (r : Response). StandsFor over_files content (with_answered es text r) new) (sym off.0) (subst (StandsFor over_files content es) (sym off.1) stands))
+  ]
+  stand_step content es old (account code kind given) new led sound stands = elim led [
+    | inl call ↦ (let done = call.adds sound content es stands in (inl done.0, done.1))
+    | inr off ↦ (inr off.0, subst (λ (r : AccountAnswer). StandsFor over_files content (with_added es code kind r) new) (sym off.0) (subst (StandsFor over_files content es) (sym off.1) stands))
+  ]
+  stand_step content es old (report query found) new call sound stands =
+      (told_of content es old stands query found (call.told sound), call.same sound content es stands)
+
+  module _ (content : SetupContent) (es : List Event) (old new : Files) (Pends : Event → Type 0)
+      (was : (db : Trees) → (state over_files old.conn).may_leave db → LeftBy content es Pends db) (db : Trees) (left : (state over_files new.conn).may_leave db) where
+    -- a step that is no event and leaves nothing else
+    left_less : (step : Step) → ((es : List Event) → with_step es step ≡ es) → (state over_files old.conn).may_leave db → LeftBy content (with_step es step) (PendsBehind Pends step) db
+    left_less step none before =
+        subst (λ (events : List Event). LeftBy content events (PendsBehind Pends step) db) (sym (none es)) (elim (was db before) [
+          | inl after ↦ inl after
+          | inr more ↦ inr (more.0, inl (more.1, none), more.2)
+        ])
+
+    left_same : new ≡ old → (state over_files old.conn).may_leave db
+    left_same same = subst (λ (desk : Files). (state over_files desk.conn).may_leave db) same left
+
+    left_delivery : (text : List ℕ) (given : Response) → LedBy old (delivery text given) new → IsSound over_files new → StandsFor over_files content es old
+        → LeftBy content (with_answered es text given) (PendsBehind Pends (delivery text given)) db
+    left_delivery text given (inr off) sound stands = left_less (delivery text given) (λ events. ap (with_answered events text) off.0) (left_same off.1)
+    left_delivery text response.NotNow (inl call) sound stands = elim (call.crash (call.stays sound) sound.0 content es stands db left) [
+      | inl after ↦ inl after
+      | inr more ↦ inr (delivered text, inr refl, more)
+    ]
+    left_delivery text (response.Taken body) (inl call) sound stands = inl (call.crash (call.stays sound) sound.0 content es stands db left)
+    left_delivery text (response.Repeat body) (inl call) sound stands = inl (call.crash (call.stays sound) sound.0 content es stands db left)
+    left_delivery text (response.Waiting body) (inl call) sound stands = inl (call.crash (call.stays sound) sound.0 content es stands db left)
+    left_delivery text (response.Clash body) (inl call) sound stands = inl (call.crash (call.stays sound) sound.0 content es stands db left)
+    left_delivery text (response.Refused fault) (inl call) sound stands = inl (call.crash (call.stays sound) sound.0 content es stands db left)
+    left_delivery text (response.RefusedWithContrl fault body) (inl call) sound stands = inl (call.crash (call.stays sound) sound.0 content es stands db left)
+
+    left_account : (code kind : List ℕ) (given : AccountAnswer) → LedBy old (account code kind given) new → IsSound over_files new → StandsFor over_files content es old
+        → LeftBy content (with_added es code kind given) (PendsBehind Pends (account code kind given)) db
+    left_account code kind given (inr off) sound stands = left_less (account code kind given) (λ events. ap (with_added events code kind) off.0) (left_same off.1)
+    left_account code kind account_answer.NotNow (inl call) sound stands = elim (call.crash (call.stays sound) sound.0 content es stands db left) [
+      | inl after ↦ inl after
+      | inr more ↦ inr (added code kind, inr refl, more)
+    ]
+    left_account code kind (account_answer.Added id body) (inl call) sound stands = inl (call.crash (call.stays sound) sound.0 content es stands db left)
+    left_account code kind (account_answer.Known id body) (inl call) sound stands = inl (call.crash (call.stays sound) sound.0 content es stands db left)
+    left_account code kind (account_answer.Refused fault) (inl call) sound stands = inl (call.crash (call.stays sound) sound.0 content es stands db left)
+
+    left_step : (step : Step) → LedBy old step new → IsSound over_files new → StandsFor over_files content es old → LeftBy content (with_step es step) (PendsBehind Pends step) db
+    left_step (delivery text given) led sound stands = left_delivery text given led sound stands
+    left_step (account code kind given) led sound stands = left_account code kind given led sound stands
+    left_step (report query found) call sound stands =
+        left_less (report query found) (λ events. refl) (call.crash (call.stays sound) sound.0 stands.has.schema db left)
+
+  -- ---- steps, one behind the other
+
+  abbrev AllLed : Files → List Step → Files → Type 0
+  AllLed = StepsLead (LeadsNamed (Leads over_files)) (EnrolsNamed (Enrols over_files)) (Looks over_files)
+
+  sound_first : (old : Files) (steps : List Step) (new : Files) → AllLed old steps new → IsSound over_files new → IsSound over_files old
+  sound_first old [] new same sound = subst (IsSound over_files) same sound
+  sound_first old (step ∷ steps) new (next, led, rest) sound = sound_step old step next led (sound_first next steps new rest sound)
+
+  stand_steps : (content : SetupContent) (es : List Event) (old : Files) (steps : List Step) (new : Files) → AllLed old steps new → IsSound over_files new → StandsFor over_files content es old
+      → AreServed content es steps × StandsFor over_files content (events_after es steps) new
+  stand_steps content es old [] new same sound stands = (tt, subst (StandsFor over_files content es) (sym same) stands)
+  stand_steps content es old (step ∷ steps) new (next, led, rest) sound stands =
+      let there = sound_first next steps new rest sound in
+      let one = stand_step content es old step next led there stands in
+      let more = stand_steps content (with_step es step) next steps new rest sound one.1 in
+      ((one.0, more.0), more.1)
+
+  -- what is pending behind steps
+  abbrev PendsAfter : (Event → Type 0) → List Step → Event → Type 0
+  PendsAfter Pends steps event = (Pends event × HasNoEvent steps) ⊎ MayBeThere steps event
+
+  one_before : (Pends : Event → Type 0) (step : Step) (steps : List Step) (event : Event) → PendsAfter (PendsBehind Pends step) steps event → PendsAfter Pends (step ∷ steps) event
+  one_before Pends step steps event (inl (inl pends, none)) = inl (pends.0, λ es. none (with_step es step) ∙ pends.1 es)
+  one_before Pends step steps event (inl (inr off, none)) = inr (inl (off, none))
+  one_before Pends step steps event (inr there) = inr (inr there)
+
+  left_steps : (content : SetupContent) (es : List Event) (old : Files) (steps : List Step) (new : Files) → AllLed old steps new → IsSound over_files new → StandsFor over_files content es old
+      → (Pends : Event → Type 0) → ((db : Trees) → (state over_files old.conn).may_leave db → LeftBy content es Pends db)
+      → (db : Trees) → (state over_files new.conn).may_leave db → LeftBy content (events_after es steps) (PendsAfter Pends steps) db
+  left_steps content es old [] new same sound stands Pends was db left = elim (was db (subst (λ (desk : Files). (state over_files desk.conn).may_leave db) same left)) [
+    | inl after ↦ inl after
+    | inr more ↦ inr (more.0, inl (more.1, λ events. refl), more.2)
+  ]
+  left_steps content es old (step ∷ steps) new (next, led, rest) sound stands Pends was db left =
+      let there = sound_first next steps new rest sound in
+      let one = stand_step content es old step next led there stands in
+      let then = left_steps content (with_step es step) next steps new rest sound one.1 (PendsBehind Pends step)
+      (λ found leaves. left_step content es old next Pends was found leaves step led there stands) db left in
+      elim then [
+        | inl after ↦ inl after
+        | inr more ↦ inr (more.0, one_before Pends step steps more.0 more.1, more.2)
+      ]
+
+  none_pends : (steps : List Step) (event : Event) → PendsAfter (λ _. ⊥) steps event → MayBeThere steps event
+  none_pends steps event (inl never) = absurd never.0
+  none_pends steps event (inr there) = there
+
+  -- requests that were served of a desk that was opened on files
+  pub served_over : (image : Image) (count : ℕ) (opened desk : Files) → OpensOn image opened → AreServedBy (Leads over_files) (Enrols over_files) (Looks over_files) count opened desk
+      → IsServedOver image count desk
+  served_over image count opened desk opens served = record {
+    opened = opened;
+    opens = opens;
+    served = served;
+    answered = λ sound content es begins.
+        let at = opens.events (sound_first opened served.steps desk served.led sound) content es begins in
+        let done = stand_steps at.opening es opened served.steps desk served.led sound at.stands in
+        (served_alike at.opening content at.opening_says es served.steps done.0, stand_alike at.opening content at.opening_says (events_after es served.steps) desk done.1);
+    leaves = λ sound content es begins.
+        let at = opens.events (sound_first opened served.steps desk served.led sound) content es begins in
+        record {
+          opening = at.opening;
+          says = at.opening_says;
+          leaves = λ db left. elim (left_steps at.opening es opened served.steps desk served.led sound at.stands (λ _. ⊥) (λ found leaves. inl (at.leaves found leaves)) db left) [
+            | inl after ↦ inl after
+            | inr more ↦ inr (more.0, none_pends served.steps more.0 more.1, more.2)
+          ];
+        };
+  }
+
+-- ---- what is printed
+
+pub ends_by : (port count : ℕ) (failed failed' flushed' : Bool) (a b c : Option (List ℕ)) (text : List ℕ) (status : ℕ) → text ≡ served_line count → Appends a b (listening_line port)
+    → Prints failed failed' flushed' b c text 0 status → EndsServing port count flushed' a c status
+ends_by port count failed failed' flushed' a b c text status is one (inl (zero, more, same, flushed)) =
+    inl (zero, Appends-trans a b c (listening_line port) (served_line count) one (subst (Appends b c) is more), flushed)
+ends_by port count failed failed' flushed' a b c text status is one (inr (three, more, fails)) =
+    inr (three, front_behind a b c (listening_line port) (served_line count) one (subst (AppendsFront b c) is more))

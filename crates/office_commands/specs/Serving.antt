@@ -1,0 +1,119 @@
+-- What requests that are served leave of an office whose files held the rows after some events.
+use Rattle.std.specs.Prelude.{◌≡◌, ◌⊎◌, ◌≤◌, ℕ, Bool, true, List, [], ◌∷◌, ◌++◌, length, Option, None, Some, Result, codes, decimal}
+use Rattle.std.specs.Io.KnownBytes.{Appends}
+use Rattle.sqlite_disk.specs.declared.Disk.{Ghosts}
+use Rattle.sqlite.specs.Files.{over_files}
+use Rattle.sqlite.specs.Held.{state}
+use Rattle.sqlite.specs.Recovery.{Image}
+use Rattle.sqlite.specs.State.{State}
+use Rattle.sqlite.specs.Tree.{Trees}
+use Rattle.sqlite.specs.declared.FileStore.{FileStore}
+use Rattle.office_replies.specs.Events.{Event, delivered, added}
+use Rattle.office_replies.specs.declared.account_answer.AccountAnswer.{AccountAnswer}
+use Rattle.office_replies.specs.declared.account_answer.AccountAnswer.TheVariants as account_answer
+use Rattle.office_replies.specs.declared.response.Response.{Response}
+use Rattle.office_replies.specs.declared.response.Response.TheVariants as response
+use Rattle.office_queries.specs.Looking.{Tells}
+use Rattle.office_queries.specs.declared.not_now.NotNow.{NotNow as Unreported}
+use Rattle.office_queries.specs.declared.query.Query.{Query}
+use Rattle.office_setup.specs.Setups.{SetupContent}
+use Rattle.office_history.specs.After.{SaysSame}
+use Rattle.office_stream.specs.Fronts.{AppendsFront}
+use Rattle.office_http.specs.Steps.{Step, delivery, account, report, with_step, events_after, StepsLead}
+use Rattle.office_desk.specs.Accounts.{AnswersAccount}
+use Rattle.office_desk.specs.Answers.{AnswersNext}
+use Rattle.office_desk.specs.Calls.{Leads, Enrols, Looks}
+use Rattle.office_desk.specs.Crashes.{IsAfter}
+use Rattle.office_desk.specs.Desks.{IsSound}
+use Rattle.office_desk.specs.Reports.{TellsAfter}
+use Rattle.office_desk.specs.declared.desk.Desk.{Desk}
+use Rattle.office_commands.specs.Delivering.{BeginsAt, OpensOn, StandsAlike}
+
+-- ---- the answers
+
+-- after those events it is answered as the office answers it, or `not now`; what is told is what the rows after them tell
+abbrev pub IsServed : SetupContent → List Event → Step → Type 0
+IsServed content es (delivery text given) = AnswersNext content es text given ⊎ (given ≡ response.NotNow)
+IsServed content es (account code kind given) = AnswersAccount content es code kind given ⊎ (given ≡ account_answer.NotNow)
+IsServed content es (report query found) = Tells (TellsAfter content es query) found
+
+-- each is answered so at its place
+abbrev pub AreServed : SetupContent → List Event → List Step → Type 0
+AreServed content es [] = Unit {0}
+AreServed content es (step ∷ steps) = IsServed content es step × AreServed content (with_step es step) steps
+
+-- ---- what a crash leaves
+
+-- the event that was asked for, where the answer was `not now`
+abbrev pub put_off : Step → Option Event
+put_off (delivery text response.NotNow) = Some (delivered text)
+put_off (account code kind account_answer.NotNow) = Some (added code kind)
+put_off other = None
+
+-- there is no event among them
+abbrev pub HasNoEvent : List Step → Type 0
+HasNoEvent steps = (es : List Event) → events_after es steps ≡ es
+
+-- it was asked for and answered `not now`, and no event came behind it
+abbrev pub MayBeThere : List Step → Event → Type 0
+MayBeThere [] event = ⊥
+MayBeThere (step ∷ steps) event = ((put_off step ≡ Some event) × HasNoEvent steps) ⊎ MayBeThere steps event
+
+-- a store holds the rows after the events that were answered, and perhaps one that was put off behind them, whole
+abbrev pub HoldsServed : SetupContent → List Event → List Step → Trees → Type 0
+HoldsServed content es steps db =
+    IsAfter content (events_after es steps) db
+    ⊎ ((event : Event) × MayBeThere steps event × IsAfter content (events_after es steps ++ event ∷ []) db)
+
+-- a crash leaves that alone, for an opening set-up that says the same
+pub record LeavesServed (content : SetupContent) (es : List Event) (steps : List Step) (s : State) : Type 0 where
+  pub opening : SetupContent
+  pub says : SaysSame opening content
+  pub leaves : (db : Trees) → s.may_leave db → HoldsServed opening es steps db
+
+-- ---- what was done with a desk
+
+-- a text was delivered to the desk; or it was answered `not now` without the desk, since the store's file has no name
+abbrev pub LeadsNamed : {D : Type 0} → (D → List ℕ → Response → D → Type 0) → D → List ℕ → Response → D → Type 0
+LeadsNamed leads old text given new = leads old text given new ⊎ ((given ≡ response.NotNow) × (new ≡ old))
+
+-- so for an account
+abbrev pub EnrolsNamed : {D : Type 0} → (D → List ℕ → List ℕ → AccountAnswer → D → Type 0) →
+    D → List ℕ → List ℕ → AccountAnswer → D → Type 0
+EnrolsNamed enrols old code kind given new = enrols old code kind given new ⊎ ((given ≡ account_answer.NotNow) × (new ≡ old))
+
+-- At most so many requests were served, and each did to the desk what the desk says of a call, or nothing and was answered
+-- `not now`.
+pub record AreServedBy {D : Type 0} (leads : D → List ℕ → Response → D → Type 0)
+    (enrols : D → List ℕ → List ℕ → AccountAnswer → D → Type 0)
+    (looks : D → Query → Result (Option (List ℕ)) Unreported → D → Type 0) (count : ℕ) (old new : D) : Type 0 where
+  pub steps : List Step
+  pub few : length steps ≤ count
+  pub led : StepsLead (LeadsNamed leads) (EnrolsNamed enrols) looks old steps new
+
+module _ {D : Type 0} {g : Ghosts D} where
+  -- So many requests at most were served from a desk that was opened on those files. If it is sound in the end, then from
+  -- whatever events the files held the rows, each was answered at its place, and what was answered outlasts a crash.
+  pub record IsServedOver (image : Image) (count : ℕ) (desk : Desk (FileStore D g) over_files) : Type 0 where
+    pub opened : Desk (FileStore D g) over_files
+    pub opens : OpensOn image opened
+    pub served : AreServedBy (Leads over_files) (Enrols over_files) (Looks over_files) count opened desk
+    pub answered : IsSound over_files desk → (content : SetupContent) (es : List Event) → BeginsAt image content es →
+        AreServed content es served.steps × StandsAlike content (events_after es served.steps) desk
+    pub leaves : IsSound over_files desk → (content : SetupContent) (es : List Event) → BeginsAt image content es →
+        LeavesServed content es served.steps (state over_files desk.conn)
+
+-- ---- what is printed
+
+-- a line as soon as it listens at a port, and one when so many connections were served
+abbrev pub listening_line : ℕ → List ℕ
+listening_line port = codes "listening 127.0.0.1:" ++ (decimal port ++ codes "\n")
+
+abbrev pub served_line : ℕ → List ℕ
+served_line count = codes "served " ++ (decimal count ++ codes "\n")
+
+-- both lines were printed and flushed, with 0, or a front of them, with 3
+abbrev pub EndsServing : (port count : ℕ) (flushed' : Bool) (written written' : Option (List ℕ)) → (status : ℕ) → Type 0
+EndsServing port count flushed' written written' status =
+    ((status ≡ 0) × Appends written written' (listening_line port ++ served_line count) × (flushed' ≡ true))
+    ⊎ ((status ≡ 3) × AppendsFront written written' (listening_line port ++ served_line count))

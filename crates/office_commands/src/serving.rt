@@ -1,0 +1,133 @@
+ghost use Rattle.std.specs.Prelude.{◌≡◌, IfOk, IfSome, OnErr, None, string_bytes};
+ghost use Rattle.std.specs.Io.KnownBytes.{Appends};
+ghost use Rattle.sqlite.specs.WalFiles.{image_at};
+ghost use Rattle.office_http.specs.Served.{AtMost};
+ghost use Rattle.office_stream.specs.Fronts.{AppendsFront};
+ghost use Rattle.office_commands.specs.Serving.{AreServedBy, EndsServing, IsServedOver, listening_line, served_line};
+
+use crate::faults::Faults;
+use crate::named::Named;
+use crate::noted::Noted;
+use crate::notes::Notes;
+use crate::opening::open_store;
+use crate::service::Service;
+use crate::telling::{print, tell};
+use crate::watching::Watching;
+use office_desk::Desk;
+use office_http::serve_on;
+use office_queries::Report;
+use office_replies::AddAccount;
+use office_stream::Port;
+use office_tables::TableFault;
+use sqlite::{FileFrom, FileStore, Start};
+use std::io::Write;
+use std::net::TcpListener;
+
+/// Serves the store in the file at a path over HTTP: one request of each connection, until so many were accepted. It
+/// prints a line as soon as it listens, and one in the end, and answers the exit status and the desk as it was left: 0, or
+/// 3 if it can't listen or printing failed. A fault is that of the store: then it did not listen, and told nothing.
+pub fn serve_over<S: Start, N: Notes, W: Write, E: Write>(
+    rt: &HostRuntime,
+    path: &str,
+    start: S,
+    service: Service,
+    notes: &N,
+    writer: &mut Port<W>,
+    errors: &mut Port<E>,
+) -> Result<(u8, Named<Desk<FileStore<FileFrom<S>>>>), TableFault>
+    // From whatever events the files held the rows, each request is answered by that office at its place, or `not now`,
+    // and what was answered outlasts a crash. And what each did to the desk, whatever the files held.
+    ensures ok { IfOk result (λ ended. IsServedOver (image_at S.Start) service.count ended.1.desk) }
+    ensures ends { IfOk result (λ ended. EndsServing service.port service.count writer.new.flushed
+        (W.contents writer.old.inner) (W.contents writer.new.inner) ended.0) }
+    ensures err { OnErr result ((writer.new ≡ writer.old) × (errors.new ≡ errors.old)) }
+{
+    let desk = open_store(rt, path, start)?;
+    Ok(serve_named(
+        rt, path, desk, service, notes, writer, errors,
+    ))
+}
+
+/// Serves what a desk over the store at a path answers, whatever desk it is, and gives it back as it was left.
+fn serve_named<D: Report + AddAccount + Faults, N: Notes, W: Write, E: Write>(
+    rt: &HostRuntime,
+    path: &str,
+    desk: D,
+    service: Service,
+    notes: &N,
+    writer: &mut Port<W>,
+    errors: &mut Port<E>,
+) -> (u8, Named<D>)
+    ensures served { AreServedBy D.leads D.enrols D.looks service.count desk.entry result.1.desk }
+    ensures ends { EndsServing service.port service.count writer.new.flushed
+        (W.contents writer.old.inner) (W.contents writer.new.inner) result.0 }
+{
+    let named = Named::new(desk, rt, path);
+    let mut noted = Noted::new(named, notes);
+    let status = serve_at(rt, &mut noted, service, notes, writer, errors);
+    (status, noted.into_desk())
+}
+
+/// Listens at a port of this machine, and answers one request of each connection.
+fn serve_at<D: Report + AddAccount, N: Notes, W: Write, E: Write>(
+    rt: &HostRuntime,
+    desk: &mut D,
+    service: Service,
+    notes: &N,
+    writer: &mut Port<W>,
+    errors: &mut Port<E>,
+) -> u8
+    ensures steps { AtMost D.is_sound D.stands D.answers D.added D.leads D.enrols D.looks service.count desk.old desk.new }
+    ensures ends { EndsServing service.port service.count writer.new.flushed
+        (W.contents writer.old.inner) (W.contents writer.new.inner) result }
+{
+    match listen(rt, service, writer, errors) {
+        Some((listener, served)) => {
+            let mut watching = Watching::new(notes);
+            serve_on(
+                rt.alloc(),
+                rt,
+                &listener,
+                service.count,
+                desk,
+                &mut watching,
+            );
+            print(writer, served.as_str(), 0)
+        }
+        None => 3,
+    }
+}
+
+/// Listens at a port of this machine, and prints that it does. The text is what is to be printed in the end. None if it
+/// can't listen, which is told, or printing failed.
+fn listen<W: Write, E: Write>(
+    rt: &HostRuntime,
+    service: Service,
+    writer: &mut Port<W>,
+    errors: &mut Port<E>,
+) -> Option<(TcpListener, String)>
+    ensures listens { IfSome result (λ begun. (string_bytes begun.1 ≡ served_line service.count)
+        × Appends (W.contents writer.old.inner) (W.contents writer.new.inner) (listening_line service.port)) }
+    ensures front { result ≡ None → AppendsFront (W.contents writer.old.inner) (W.contents writer.new.inner)
+        (listening_line service.port) }
+{
+    let alloc = rt.alloc();
+    let Service { port, count } = service;
+    let (Ok(address), Ok(listening), Ok(served)) = (
+        format!(in alloc; "127.0.0.1:{port}"),
+        format!(in alloc; "listening 127.0.0.1:{port}\n"),
+        format!(in alloc; "served {count}\n"),
+    ) else {
+        tell(errors, "store: Memory\n");
+        return None;
+    };
+    let Ok(listener) = TcpListener::bind(rt, address.as_str()) else {
+        tell(errors, "cannot listen\n");
+        return None;
+    };
+    if print(writer, listening.as_str(), 0) == 0 {
+        Some((listener, served))
+    } else {
+        None
+    }
+}
