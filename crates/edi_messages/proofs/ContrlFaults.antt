@@ -12,7 +12,7 @@ use Rattle.edi_segments.specs.Spelling.{segments_text}
 use Rattle.edi_segments.specs.Written.{IsWritableSegment}
 use Rattle.edi_syntax.specs.Header.{sender, recipient, control_number, preparation, names_partners, is_printable_element}
 use Rattle.edi_syntax.specs.Messages.{Message}
-use Rattle.edi_syntax.specs.Envelope.{header_of, trailer_of, messages_of, has_envelope, is_of_group}
+use Rattle.edi_syntax.specs.Envelope.{header_of, trailer_of, messages_of, has_envelope, is_of_functional_group}
 use Rattle.edi_syntax.specs.Faults.{header_fault_of}
 use Rattle.edi_syntax.proofs.FaultLemmas.{header_found, body_found}
 use Rattle.edi_messages.specs.Contrl.{unb, unh, uci, ucm, unt, unz, answer_segments, contrl_text, rejection_text, IsReadAs, ContrlsAreWithoutFault}
@@ -50,19 +50,19 @@ answer_envelope : (header : Content) (between : List Content) → NamesPartners 
 answer_envelope header between h =
     rw (ap (has_tag (codes "UNZ")) (last between unh header (length between + 2)), answer_names header h) refl
 
-answer_ungrouped : (header : Content) (between : List Content) → list_any is_of_group between ≡ false → list_any is_of_group (answer_segments header between) ≡ false
+answer_ungrouped : (header : Content) (between : List Content) → list_any is_of_functional_group between ≡ false → list_any is_of_functional_group (answer_segments header between) ≡ false
 answer_ungrouped header between none =
     let n = length between + 2 in
-    list_any-append is_of_group between (unt n ∷ unz header ∷ []) ∙ ap (λ (some : Bool). some || false) none
+    list_any-append is_of_functional_group between (unt n ∷ unz header ∷ []) ∙ ap (λ (some : Bool). some || false) none
 
 answer_header : (header : Content) (between : List Content) → NamesPartners header → is_none (control_number header) ≡ false → is_none (preparation header) ≡ false
-    → list_any is_of_group between ≡ false → header_fault_of (answer_segments header between) ≡ None
+    → list_any is_of_functional_group between ≡ false → header_fault_of (answer_segments header between) ≡ None
 answer_header header between named numbered dated ungrouped =
     rw (answer_envelope header between named, answer_ungrouped header between ungrouped, numbered, dated) refl
 
 -- ---- the whole
 
-ucms_ungrouped : (verdicts : List Verdict) (messages : List Message) → list_any is_of_group (map ucm (zip verdicts messages)) ≡ false
+ucms_ungrouped : (verdicts : List Verdict) (messages : List Message) → list_any is_of_functional_group (map ucm (zip verdicts messages)) ≡ false
 ucms_ungrouped [] messages = refl
 ucms_ungrouped (verdict ∷ verdicts) [] = refl
 ucms_ungrouped (verdict ∷ verdicts) (message ∷ messages) = ucms_ungrouped verdicts messages
@@ -74,7 +74,7 @@ length_answer header between =
 
 -- an answer with these segments behind UCI
 answer_without_fault : (segments : List Content) (verdict : Verdict) (more : List Content) → header_fault_of segments ≡ None
-    → AreInner more → list_any is_of_group more ≡ false → AllByRecursion IsWritableSegment more
+    → AreInner more → list_any is_of_functional_group more ≡ false → AllByRecursion IsWritableSegment more
     → length (segments_text (answer_segments (header_of segments) (uci (header_of segments) verdict ∷ more))) ≤ most_bytes
     → IsReadAs (answer_segments (header_of segments) (uci (header_of segments) verdict ∷ more)) (segments_text (answer_segments (header_of segments) (uci (header_of segments) verdict ∷ more)))
 answer_without_fault segments verdict more none inner ungrouped writable short =

@@ -9,7 +9,7 @@ use Rattle.edi_segments.specs.declared.syntax_fault.SyntaxFault.{SyntaxFault}
 use Rattle.edi_segments.specs.declared.syntax_fault.SyntaxFault.TheVariants.{TooLong, Service, Segment, NoEnvelope, Group, Version, Number, Moment, Test, MessageFrame, SegmentCount, MessageReference, Empty, ControlCount, ControlReference}
 use Rattle.edi_syntax.specs.Header.{preparation, is_printable_element, is_known_syntax}
 use Rattle.edi_syntax.specs.Messages.{Message, begins_message, ends_message, message_from, messages_in, before_trailer, trailer_in, are_messages, is_counted, is_referenced}
-use Rattle.edi_syntax.specs.Envelope.{header_of, behind_header, last_of, is_of_group}
+use Rattle.edi_syntax.specs.Envelope.{header_of, behind_header, last_of, is_of_functional_group}
 use Rattle.edi_syntax.specs.Faults.{applies_to}
 
 -- ---- values
@@ -74,7 +74,7 @@ same_last [] (b ∷ written) c d before same = absurd same
 same_last (a ∷ read) [] c d before same = absurd same
 same_last (a ∷ read) (b ∷ written) c d before (same, others) = same_last read written a b same others
 
-same_group : (read written : List Content) → AreSameSegments read written → list_any is_of_group read ≡ list_any is_of_group written
+same_group : (read written : List Content) → AreSameSegments read written → list_any is_of_functional_group read ≡ list_any is_of_functional_group written
 same_group [] [] same = refl
 same_group [] (b ∷ written) same = absurd same
 same_group (a ∷ read) [] same = absurd same

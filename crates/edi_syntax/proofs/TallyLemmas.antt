@@ -4,7 +4,7 @@ use Rattle.std.specs.List.{list_all, list_any}
 use Rattle.std.proofs.lemmas.Bool.{cases_Bool, false≢true}
 use Rattle.edi_segments.specs.Text.{Content, has_tag}
 use Rattle.edi_syntax.specs.Messages.{begins_message, ends_message, is_inner, before_trailer, trailer_in, messages_in, are_messages, is_counted, is_referenced}
-use Rattle.edi_syntax.specs.Envelope.{last_of, is_of_group}
+use Rattle.edi_syntax.specs.Envelope.{last_of, is_of_functional_group}
 use Rattle.edi_syntax.specs.TallyValues.{tally_in}
 use Rattle.edi_syntax.specs.Tallies.{IsTally}
 use Rattle.edi_syntax.specs.declared.tally.Tally.{Tally}
@@ -16,7 +16,7 @@ pub record AtTrailer (segments : List Content) (trailer : Content) (more : List 
   pub trailer_is : trailer_in segments ≡ trailer
   pub framed : are_messages true segments ≡ are_messages false more
   pub others : messages_in segments ≡ messages_in more
-  pub group : list_any is_of_group segments ≡ list_any is_of_group more
+  pub group : list_any is_of_functional_group segments ≡ list_any is_of_functional_group more
   pub last : (before : Content) → last_of before segments ≡ last_of trailer more
 
 at : (trailer : Content) (more : List Content) → ends_message trailer ≡ true → AtTrailer (trailer ∷ more) trailer more
@@ -42,7 +42,7 @@ pub record Within (segments : List Content) (segment : Content) (more : List Con
   pub trailer_is : trailer_in segments ≡ trailer_in more
   pub framed : are_messages true segments ≡ are_messages true more
   pub others : messages_in segments ≡ messages_in more
-  pub group : list_any is_of_group segments ≡ (is_of_group segment || list_any is_of_group more)
+  pub group : list_any is_of_functional_group segments ≡ (is_of_functional_group segment || list_any is_of_functional_group more)
   pub last : (before : Content) → last_of before segments ≡ last_of segment more
 
 inside : (segment : Content) (more : List Content) → is_inner segment ≡ true → Within (segment ∷ more) segment more
@@ -65,7 +65,7 @@ within segments segment more is inner = rw is (inside segment more inner)
 pub record AtEnd (segments : List Content) (trailer : Content) : Type 0 where
   pub framed : are_messages false segments ≡ true
   pub none : messages_in segments ≡ []
-  pub group : list_any is_of_group segments ≡ false
+  pub group : list_any is_of_functional_group segments ≡ false
   pub last : (before : Content) → last_of before segments ≡ trailer
 
 pub at_end : (segments : List Content) (trailer : Content) (more : List Content) → segments ≡ trailer ∷ more → more ≡ [] → has_tag (codes "UNZ") trailer ≡ true → AtEnd segments trailer

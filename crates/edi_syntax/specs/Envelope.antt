@@ -36,8 +36,8 @@ has_envelope segments =
     && names_partners (header_of segments)
 
 -- a segment of a functional group
-abbrev pub is_of_group : Content → Bool
-is_of_group segment = has_tag (codes "UNG") segment || has_tag (codes "UNE") segment
+abbrev pub is_of_functional_group : Content → Bool
+is_of_functional_group segment = has_tag (codes "UNG") segment || has_tag (codes "UNE") segment
 
 -- 0036: the trailer says how many messages there are
 abbrev pub counts_messages : List Content → Bool

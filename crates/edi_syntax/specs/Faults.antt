@@ -12,7 +12,7 @@ use Rattle.edi_segments.specs.declared.syntax_fault.SyntaxFault.{SyntaxFault}
 use Rattle.edi_segments.specs.declared.syntax_fault.SyntaxFault.TheVariants.{TooLong, Service, Segment, NoEnvelope, Group, Version, Number, Moment, Test, MessageFrame, SegmentCount, MessageReference, Empty, ControlCount, ControlReference}
 use Rattle.edi_syntax.specs.Header.{test_indicator, control_number, preparation, is_known_syntax}
 use Rattle.edi_syntax.specs.Messages.{are_messages, is_counted, is_referenced}
-use Rattle.edi_syntax.specs.Envelope.{header_of, behind_header, messages_of, has_envelope, is_of_group, counts_messages, repeats_reference}
+use Rattle.edi_syntax.specs.Envelope.{header_of, behind_header, messages_of, has_envelope, is_of_functional_group, counts_messages, repeats_reference}
 
 -- ---- each fault
 
@@ -23,7 +23,7 @@ applies_to segments TooLong = false
 applies_to segments Service = false
 applies_to segments Segment = false
 applies_to segments NoEnvelope = not (has_envelope segments)
-applies_to segments Group = list_any is_of_group segments
+applies_to segments Group = list_any is_of_functional_group segments
 applies_to segments Version = not (is_known_syntax (header_of segments))
 applies_to segments Number = is_none (control_number (header_of segments))
 applies_to segments Moment = is_none (preparation (header_of segments))

@@ -5,7 +5,7 @@ use Rattle.edi_segments.specs.Text.{Content}
 use Rattle.edi_segments.specs.Segment.{content}
 use Rattle.edi_segments.specs.Checks.{checked_left, are_all}
 use Rattle.edi_segments.specs.declared.checked_segments.CheckedSegments.{CheckedSegments}
-use Rattle.edi_syntax.specs.Envelope.{last_of, is_of_group}
+use Rattle.edi_syntax.specs.Envelope.{last_of, is_of_functional_group}
 use Rattle.edi_syntax.specs.TallyValues.{tally_in}
 use Rattle.edi_syntax.specs.declared.survey.Survey.{Survey}
 
@@ -13,5 +13,5 @@ use Rattle.edi_syntax.specs.declared.survey.Survey.{Survey}
 pub record IsSurvey (header : Content) (rest : CheckedSegments) (survey : Survey) : Type 0 where
   pub all : are_all rest ≡ true
   pub last : content survey.trailer ≡ last_of header (checked_left rest)
-  pub group : survey.has_group ≡ list_any is_of_group (header ∷ checked_left rest)
+  pub group : survey.has_functional_group ≡ list_any is_of_functional_group (header ∷ checked_left rest)
   pub tally : survey.tally ≡ tally_in (checked_left rest)

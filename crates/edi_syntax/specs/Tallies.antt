@@ -5,7 +5,7 @@ use Rattle.edi_segments.specs.Text.{Content}
 use Rattle.edi_segments.specs.Segment.{content}
 use Rattle.edi_segments.specs.Checks.{checked_left, are_all}
 use Rattle.edi_segments.specs.declared.checked_segments.CheckedSegments.{CheckedSegments}
-use Rattle.edi_syntax.specs.Envelope.{last_of, is_of_group}
+use Rattle.edi_syntax.specs.Envelope.{last_of, is_of_functional_group}
 use Rattle.edi_syntax.specs.Messages.{before_trailer, trailer_in, messages_in, are_messages, is_counted, is_referenced}
 use Rattle.edi_syntax.specs.declared.tally.Tally.{Tally}
 use Rattle.edi_syntax.specs.declared.tallied.Tallied.{Tallied}
@@ -21,8 +21,8 @@ pub record EndsMessage (behind : CheckedSegments) (end : MessageEnd) : Type 0 wh
   pub fewer : length (checked_left end.rest) ≤ length (checked_left behind)
   pub last : (before : Content) →
       last_of before (checked_left behind) ≡ last_of (content end.trailer) (checked_left end.rest)
-  pub group : list_any is_of_group (checked_left behind)
-      ≡ (end.has_group || list_any is_of_group (checked_left end.rest))
+  pub group : list_any is_of_functional_group (checked_left behind)
+      ≡ (end.has_functional_group || list_any is_of_functional_group (checked_left end.rest))
   pub all : are_all behind ≡ are_all end.rest
 
 -- what the messages come to, of which nothing but a UNZ stands behind
@@ -36,6 +36,6 @@ pub record IsTally (segments : List Content) (tally : Tally) : Type 0 where
 pub record IsTallied (header : Content) (segments : CheckedSegments) (found : Tallied) : Type 0 where
   pub tally : IsTally (checked_left segments) found.tally
   pub last : content found.trailer ≡ last_of header (checked_left segments)
-  pub group : found.has_group ≡ list_any is_of_group (header ∷ checked_left segments)
+  pub group : found.has_functional_group ≡ list_any is_of_functional_group (header ∷ checked_left segments)
   pub all : are_all segments ≡ are_all found.rest
   pub done : checked_left found.rest ≡ []

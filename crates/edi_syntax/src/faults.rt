@@ -2,7 +2,7 @@ ghost use Rattle.std.specs.Prelude.{◌≡◌, ◌∷◌, ◌≤◌, ◌||◌, [
 ghost use Rattle.std.specs.List.{list_any, find};
 ghost use Rattle.edi_segments.specs.Segment.{content, segments_left};
 ghost use Rattle.edi_syntax.specs.Messages.{messages_in};
-ghost use Rattle.edi_syntax.specs.Envelope.{last_of, has_envelope, is_of_group};
+ghost use Rattle.edi_syntax.specs.Envelope.{last_of, has_envelope, is_of_functional_group};
 ghost use Rattle.edi_syntax.specs.TallyValues.{tally_in};
 ghost use Rattle.edi_syntax.specs.Faults.{applies_to, header_fault_of, body_fault_of};
 
@@ -16,15 +16,15 @@ pub(crate) fn header_fault(
     header: Segment<'_>,
     rest: Segments<'_>,
     trailer: Segment<'_>,
-    has_group: bool,
+    has_functional_group: bool,
 ) -> Option<SyntaxFault>
     requires last { content trailer ≡ last_of (content header) (segments_left rest) }
-    requires group { has_group ≡ list_any is_of_group (content header ∷ segments_left rest) }
+    requires group { has_functional_group ≡ list_any is_of_functional_group (content header ∷ segments_left rest) }
     ensures { result ≡ header_fault_of (content header.entry ∷ segments_left rest.entry) }
 {
     if !(header.has_tag(b"UNB") && trailer.has_tag(b"UNZ") && names_partners(&header)) {
         Some(SyntaxFault::NoEnvelope)
-    } else if has_group {
+    } else if has_functional_group {
         Some(SyntaxFault::Group)
     } else if !is_known_syntax(&header) {
         Some(SyntaxFault::Version)

@@ -72,7 +72,7 @@ impl<'a> Head<'a> {
             return Err(SyntaxFault::Segment);
         };
         let rest = rest.accepted();
-        match header_fault(header, rest, survey.trailer, survey.has_group) {
+        match header_fault(header, rest, survey.trailer, survey.has_functional_group) {
             Some(fault) => Err(fault),
             None => Ok(Head {
                 header,

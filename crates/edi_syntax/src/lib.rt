@@ -5,7 +5,7 @@ pub mod envelope;
 mod faults;
 pub mod frame;
 pub mod frames;
-mod group;
+mod functional_group;
 pub mod head;
 mod header;
 pub mod laws;

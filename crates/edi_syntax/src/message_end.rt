@@ -5,7 +5,7 @@ ghost use Rattle.edi_segments.specs.Checks.{checked_left};
 ghost use Rattle.edi_syntax.specs.Messages.{are_messages, is_inner};
 ghost use Rattle.edi_syntax.specs.Tallies.{EndsMessage};
 
-use super::group::is_of_group;
+use super::functional_group::is_of_functional_group;
 use super::service_tag::may_be_of_service;
 use edi_segments::{CheckedSegments, Segment};
 
@@ -17,7 +17,7 @@ pub struct MessageEnd<'t, 'a> {
     /// How many segments stand between header and trailer.
     pub(crate) between: u64,
     /// A segment behind the header, up to the trailer, is of a functional group.
-    pub(crate) has_group: bool,
+    pub(crate) has_functional_group: bool,
     /// What stands behind the trailer.
     pub(crate) rest: CheckedSegments<'t, 'a>,
 }
@@ -31,20 +31,20 @@ pub(crate) fn message_end<'t, 'a>(behind: CheckedSegments<'t, 'a>) -> Option<Mes
 {
     let mut rest = behind;
     let mut between = 0u64;
-    let mut has_group = false;
+    let mut has_functional_group = false;
     while let Some(segment) = rest.next_segment() {
         if segment.has_tag(b"UNT") {
             return Some(MessageEnd {
                 trailer: segment,
                 between,
-                has_group,
+                has_functional_group,
                 rest,
             });
         }
         if !is_inner(segment) {
             return None;
         }
-        has_group = has_group || is_of_group(segment);
+        has_functional_group = has_functional_group || is_of_functional_group(segment);
         between += 1;
     }
     None

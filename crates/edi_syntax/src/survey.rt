@@ -3,10 +3,10 @@ ghost use Rattle.edi_segments.specs.Interchange.{most_bytes};
 ghost use Rattle.std.specs.List.{list_any};
 ghost use Rattle.edi_segments.specs.Segment.{content, segments_left};
 ghost use Rattle.edi_segments.specs.Checks.{checked_left, are_all};
-ghost use Rattle.edi_syntax.specs.Envelope.{last_of, is_of_group};
+ghost use Rattle.edi_syntax.specs.Envelope.{last_of, is_of_functional_group};
 ghost use Rattle.edi_syntax.specs.Surveys.{IsSurvey};
 
-use super::group::is_of_group;
+use super::functional_group::is_of_functional_group;
 use super::tally::{Tally, tally_of};
 use edi_segments::{CheckedSegments, Segment, Segments};
 
@@ -16,7 +16,7 @@ pub(crate) struct Survey<'a> {
     /// The last segment, or the header if there is no other.
     pub(crate) trailer: Segment<'a>,
     /// A segment is of a functional group.
-    pub(crate) has_group: bool,
+    pub(crate) has_functional_group: bool,
     /// What the messages come to, if there are messages alone and a UNZ behind them.
     pub(crate) tally: Option<Tally>,
 }
@@ -34,7 +34,7 @@ pub(crate) fn look_through<'a>(
             if found.rest.is_at_end() {
                 Some(Survey {
                     trailer: found.trailer,
-                    has_group: found.has_group,
+                    has_functional_group: found.has_functional_group,
                     tally: Some(found.tally),
                 })
             } else {
@@ -45,10 +45,10 @@ pub(crate) fn look_through<'a>(
             if !rest.are_all() {
                 return None;
             }
-            let (trailer, has_group) = ends(header, rest.accepted());
+            let (trailer, has_functional_group) = ends(header, rest.accepted());
             Some(Survey {
                 trailer,
-                has_group,
+                has_functional_group,
                 tally: None,
             })
         }
@@ -58,14 +58,14 @@ pub(crate) fn look_through<'a>(
 /// The last segment, or the header if there is no other, and whether one of them is of a functional group.
 fn ends<'a>(header: Segment<'a>, rest: Segments<'a>) -> (Segment<'a>, bool)
     ensures last { content result.0 ≡ last_of (content header.entry) (segments_left rest.entry) }
-    ensures group { result.1 ≡ list_any is_of_group (content header.entry
+    ensures group { result.1 ≡ list_any is_of_functional_group (content header.entry
         ∷ segments_left rest.entry) }
 {
     let mut last = header;
-    let mut has_group = is_of_group(header);
+    let mut has_functional_group = is_of_functional_group(header);
     for segment in rest {
         last = segment;
-        has_group = has_group || is_of_group(segment);
+        has_functional_group = has_functional_group || is_of_functional_group(segment);
     }
-    (last, has_group)
+    (last, has_functional_group)
 }

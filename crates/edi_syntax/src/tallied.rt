@@ -9,7 +9,7 @@ pub(crate) struct Tallied<'t, 'a> {
     /// The last segment.
     pub(crate) trailer: Segment<'a>,
     /// A segment is of a functional group.
-    pub(crate) has_group: bool,
+    pub(crate) has_functional_group: bool,
     /// What stands behind the trailer: nothing, or what is no segment.
     pub(crate) rest: CheckedSegments<'t, 'a>,
 }

@@ -5,7 +5,7 @@ ghost use Rattle.edi_segments.specs.Checks.{checked_left};
 ghost use Rattle.edi_syntax.specs.Messages.{are_messages, is_reference, is_printable_identity, is_referenced, message_of_ends};
 ghost use Rattle.edi_syntax.specs.Tallies.{IsTallied};
 
-use super::group::is_of_group;
+use super::functional_group::is_of_functional_group;
 use super::message_end::message_end;
 use super::numbers::is_count;
 use super::tallied::Tallied;
@@ -32,7 +32,7 @@ pub(crate) fn tally_of<'t, 'a>(
         ≡ false) (IsTallied (content header.entry) segments.entry) }
 {
     let mut rest = segments;
-    let mut has_group = is_of_group(header);
+    let mut has_functional_group = is_of_functional_group(header);
     let mut tally = Tally {
         are_counted: true,
         are_referenced: true,
@@ -44,7 +44,7 @@ pub(crate) fn tally_of<'t, 'a>(
                 Some(Tallied {
                     tally,
                     trailer: segment,
-                    has_group,
+                    has_functional_group,
                     rest,
                 })
             } else {
@@ -58,7 +58,7 @@ pub(crate) fn tally_of<'t, 'a>(
             are_referenced: tally.are_referenced && is_referenced(segment, end.trailer),
             messages: tally.messages + 1,
         };
-        has_group = has_group || end.has_group;
+        has_functional_group = has_functional_group || end.has_functional_group;
         rest = end.rest;
     }
     None

@@ -10,6 +10,9 @@ use std::alloc::Global;
 use std::cmp::min;
 use std::io::{Read, Result};
 
+/// How many bytes are asked for at once.
+pub(crate) const ROOM: usize = 4096;
+
 /// Reads a body of that size, whose front was read already.
 pub(crate) fn read_delivery<R: Read>(
     alloc: Global,
@@ -27,7 +30,7 @@ pub(crate) fn read_delivery<R: Read>(
     let Ok(mut body) = Vec::from_slice(alloc, &front[..min(front.len(), size)]) else {
         return Ok(Request::Refused(Refusal::NotNow));
     };
-    let mut buffer = [0; 4096];
+    let mut buffer = [0; ROOM];
     'reads: while body.len() < size {
         let count = reader.read(&mut buffer)?;
         if count == 0 {
@@ -51,7 +54,7 @@ pub(crate) fn skip_body<R: Read>(reader: &mut Port<R>, front: &[u8], size: usize
     ensures fails { OnErr result (reader.new.failed ≡ true) }
 {
     let mut left = size.saturating_sub(front.len());
-    let mut buffer = [0; 4096];
+    let mut buffer = [0; ROOM];
     'skips: while left > 0 {
         let count = reader.read(&mut buffer)?;
         if count == 0 {

@@ -1,5 +1,6 @@
 ghost use Rattle.office_http.specs.Served.{AtMost};
 
+use crate::body::ROOM;
 use crate::overheard::Overheard;
 use crate::seen::Seen;
 use crate::serve::serve_one;
@@ -13,6 +14,9 @@ use std::alloc::Global;
 use std::io::Read;
 use std::net::{Shutdown, TcpListener, TcpStream};
 use std::rt::Clock;
+
+/// How often at most what a peer still sends behind its request is read.
+const PARTING_READS: u32 = 1024;
 
 /// Accepts so many connections, one after the other, and answers one request of each. A connection that fails is passed
 /// over, and so is one whose first byte doesn't come within two seconds, whose request isn't whole within ten, or which
@@ -66,8 +70,8 @@ fn serve_stream<C: Clock, D: Report + AddAccount, H: Watch>(
 /// Reads what the peer still sends behind its request, up to 4 MiB and until a second brings nothing or the response's
 /// time is over, since closing a connection with unread input could take the response away from the peer.
 fn drain<C: Clock>(mut stream: TimedReader<'_, C>) {
-    let mut buffer = [0; 4096];
-    for _ in 0..1024 {
+    let mut buffer = [0; ROOM];
+    for _ in 0..PARTING_READS {
         match stream.read(&mut buffer) {
             Ok(count) if count > 0 => {}
             _ => return,

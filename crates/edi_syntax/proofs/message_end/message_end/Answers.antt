@@ -4,10 +4,10 @@ use Rattle.std.specs.List.{list_any}
 use Rattle.edi_segments.specs.Segment.{content}
 use Rattle.edi_segments.specs.Checks.{checked_left}
 use Rattle.edi_syntax.specs.Messages.{ends_message, is_inner}
-use Rattle.edi_syntax.specs.Envelope.{is_of_group}
+use Rattle.edi_syntax.specs.Envelope.{is_of_functional_group}
 use Rattle.edi_syntax.proofs.TallyLemmas.{at_trailer, within}
 use Rattle.edi_syntax.proofs.message_end.message_end.Goals as goal
-use Rattle.edi_syntax.proofs.message_end.message_end.Goals.{then-has_group, else-has_group}
+use Rattle.edi_syntax.proofs.message_end.message_end.Goals.{then-has_functional_group, else-has_functional_group}
 
 pub loop-segment-init : goal.loop-segment-init
 loop-segment-init c = record {
@@ -35,7 +35,7 @@ returns-then-has_tag c =
       few = omega (arith, i.few);
       fewer = omega (arith, i.few, ap length left);
       last = λ before. (i.last before).1 ∙ found.last (i.last before).0;
-      group = i.group ∙ ap (λ (b : Bool). c.loop-segment.has_group || b) found.group;
+      group = i.group ∙ ap (λ (b : Bool). c.loop-segment.has_functional_group || b) found.group;
       all = i.all ∙ c.in-Some.ensures.all;
     }
 
@@ -45,11 +45,11 @@ loop-segment-preserved c =
     let left = c.in-Some.ensures.left in
     let inner : is_inner (content c.in-Some.segment) ≡ true = sym c.is_inner.ensures ∙ c.if-not-is_inner.false in
     let found = within (checked_left c.loop-segment.rest) (content c.in-Some.segment) (checked_left c.next_segment.new.self) left inner in
-    let rest = list_any is_of_group (checked_left c.next_segment.new.self) in
-    let group : (c.loop-segment.has_group || (is_of_group (content c.in-Some.segment) || rest)) ≡ (c.if-has_group.has_group || rest) =
-    elim c.if-has_group.branch [
-      | then-has_group w ↦ rw (w.has_group-is, w.if-has_group.true) refl
-      | else-has_group w ↦ rw (w.has_group-is, w.if-has_group.false, w.is_of_group-has_group.ensures) refl
+    let rest = list_any is_of_functional_group (checked_left c.next_segment.new.self) in
+    let group : (c.loop-segment.has_functional_group || (is_of_functional_group (content c.in-Some.segment) || rest)) ≡ (c.if-has_functional_group.has_functional_group || rest) =
+    elim c.if-has_functional_group.branch [
+      | then-has_functional_group w ↦ rw (w.has_functional_group-is, w.if-has_functional_group.true) refl
+      | else-has_functional_group w ↦ rw (w.has_functional_group-is, w.if-has_functional_group.false, w.is_of_functional_group-has_functional_group.ensures) refl
     ] in
     record {
       between = omega (arith, i.between, ap length found.before);
@@ -58,6 +58,6 @@ loop-segment-preserved c =
       others = i.others ∙ found.others;
       few = omega (arith, i.few, ap length left);
       last = λ before. (content c.in-Some.segment, (i.last before).1 ∙ found.last (i.last before).0);
-      group = i.group ∙ ap (λ (b : Bool). c.loop-segment.has_group || b) found.group ∙ group;
+      group = i.group ∙ ap (λ (b : Bool). c.loop-segment.has_functional_group || b) found.group ∙ group;
       all = i.all ∙ c.in-Some.ensures.all;
     }

@@ -6,7 +6,7 @@ use Rattle.std.proofs.lemmas.List.{nil_from_length}
 use Rattle.edi_segments.specs.Segment.{content}
 use Rattle.edi_segments.specs.Checks.{checked_left}
 use Rattle.edi_syntax.specs.Messages.{Message, is_counted, is_referenced}
-use Rattle.edi_syntax.specs.Envelope.{is_of_group}
+use Rattle.edi_syntax.specs.Envelope.{is_of_functional_group}
 use Rattle.edi_syntax.proofs.TallyLemmas.{at_end, and_true, or_false}
 use Rattle.edi_syntax.proofs.tally.tally_of.Goals as goal
 
@@ -18,7 +18,7 @@ loop-segment-init c = record {
   messages = omega arith;
   few = omega (arith, c.requires);
   last = (content c.args.header, refl);
-  group = ap (λ (b : Bool). b || list_any is_of_group (checked_left c.args.segments)) (sym c.is_of_group-has_group.ensures);
+  group = ap (λ (b : Bool). b || list_any is_of_functional_group (checked_left c.args.segments)) (sym c.is_of_functional_group-has_functional_group.ensures);
   all = refl;
 }
 
@@ -36,7 +36,7 @@ returns-then-is_at_end c =
         messages = omega (arith, i.messages, ap length found.none);
       };
       last = sym (i.last.1 ∙ found.last i.last.0);
-      group = sym (i.group ∙ ap (λ (b : Bool). c.loop-segment.has_group || b) found.group ∙ or_false c.loop-segment.has_group);
+      group = sym (i.group ∙ ap (λ (b : Bool). c.loop-segment.has_functional_group || b) found.group ∙ or_false c.loop-segment.has_functional_group);
       all = i.all ∙ c.in-Some.ensures.all;
       done = none;
     }

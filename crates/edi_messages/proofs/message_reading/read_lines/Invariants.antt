@@ -3,7 +3,7 @@ use Rattle.edi_syntax.specs.Frames.{message_segments_left}
 use Rattle.edi_messages.specs.Message.{lines_of}
 use Rattle.edi_messages.specs.Spans.{purpose_spanned}
 use Rattle.edi_messages.specs.Owned.{line_content}
-use Rattle.edi_messages.proofs.reading.read_lines.Given as goal
+use Rattle.edi_messages.proofs.message_reading.read_lines.Given as goal
 
 abbrev pub invariant-loop-segment : goal.invariant-loop-segment
 invariant-loop-segment l =

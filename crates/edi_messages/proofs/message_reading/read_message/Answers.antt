@@ -1,6 +1,6 @@
 -- What was found is of the message.
 use Rattle.std.proofs.Common.{refl}
-use Rattle.edi_messages.proofs.reading.read_message.Goals as goal
+use Rattle.edi_messages.proofs.message_reading.read_message.Goals as goal
 
 pub returns-in-Some-clause-err : goal.returns-in-Some-clause-err
 returns-in-Some-clause-err c = rw (← c.look_through-survey.ensures, ← c.message_fault.ensures, c.in-Some.is) refl

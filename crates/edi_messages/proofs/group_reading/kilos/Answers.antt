@@ -2,7 +2,7 @@
 use Rattle.std.proofs.Common.{sym, ◌∙◌, arith}
 use Rattle.edi_segments.specs.Segment.{value}
 use Rattle.edi_messages.proofs.Weights.{number_short}
-use Rattle.edi_messages.proofs.read.kilos.Goals as goal
+use Rattle.edi_messages.proofs.group_reading.kilos.Goals as goal
 
 pub overflow_cast-result : goal.overflow_cast-result
 overflow_cast-result c =
