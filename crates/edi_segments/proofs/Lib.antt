@@ -11,3 +11,4 @@ pub mod BreakLemmas
 pub mod WriterLemmas
 pub mod ReaderLemmas
 pub mod PlacedLemmas
+pub mod PlainLemmas
