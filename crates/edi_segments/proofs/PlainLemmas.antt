@@ -1,5 +1,5 @@
 -- A text with no release character among its bytes is the value that it spells.
-use Rattle.std.proofs.Common.{◌≡◌, ◌≢◌, ℕ, ◌+◌, ◌<◌, ◌≤◌, Bool, true, false, ◌||◌, nat_eq, List, [], ◌∷◌, length, Option, Some, None, refl, sym, ap, ◌∙◌, inl, inr, arith}
+use Rattle.std.proofs.Common.{◌≡◌, ◌≢◌, ℕ, suc, ◌<◌, ◌≤◌, Bool, true, false, ◌||◌, nat_eq, List, [], ◌∷◌, length, Option, Some, None, refl, sym, ap, ◌∙◌, inl, inr, arith}
 use Rattle.std.specs.List.{list_all, list_any}
 use Rattle.std.specs.Str.{bytes_eq}
 use Rattle.std.proofs.lemmas.Slice.Eq.{bytes_eq-Decides}
@@ -44,8 +44,8 @@ whole_value s released [] h = refl
 whole_value s released (b ∷ text) h =
     let t = token_of s released b in
     elim (cases_Bool (releases t)) [
-      | inl e ↦ (let l : length (value_of s true text) ≡ 1 + length text = rw e at h in let most = length-value s text true in absurd (omega (arith, l, most)))
-      | inr e ↦ (let l : 1 + length (value_of s false text) ≡ 1 + length text = rw e at h in rw e (ap (λ (u : List ℕ). b ∷ u) (whole_value s false text (omega (arith, l)))))
+      | inl e ↦ (let l : length (value_of s true text) ≡ suc (length text) = rw e at h in let most = length-value s text true in absurd (omega (arith, l, most)))
+      | inr e ↦ (let l : suc (length (value_of s false text)) ≡ suc (length text) = rw e at h in rw e (ap (λ (u : List ℕ). b ∷ u) (whole_value s false text (omega (arith, l)))))
     ]
 
 -- a value that is shorter than its text

@@ -1,5 +1,5 @@
 -- A value is never longer than its text, and is the text if it is as long.
-use Rattle.std.proofs.Common.{◌≡◌, length, sym, ap, ◌∙◌, arith, rules}
+use Rattle.std.proofs.Common.{◌≡◌, false, length, sym, ap, ◌∙◌, arith, rules}
 use Rattle.std.proofs.lemmas.Bool.{false≢true}
 use Rattle.edi_segments.specs.Segment.{value}
 use Rattle.edi_segments.proofs.PartLemmas.{length-value}

@@ -1,4 +1,4 @@
-use Rattle.std.proofs.Common.{sym, ◌∙◌}
+use Rattle.std.proofs.Common.{false, sym, ◌∙◌}
 use Rattle.edi_segments.specs.Characters.{is_printable}
 use Rattle.edi_segments.proofs.PlainLemmas.{value_all}
 use Rattle.edi_segments.proofs.component.Component.is_printable.Goals as goal

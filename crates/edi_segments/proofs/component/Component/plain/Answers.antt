@@ -1,5 +1,5 @@
 -- A value as long as its text is the text, and one that is shorter has a release character before it.
-use Rattle.std.proofs.Common.{◌≡◌, Bool, true, false, not, nat_eq, length, sym, ◌∙◌}
+use Rattle.std.proofs.Common.{◌≡◌, Bool, true, false, not, nat_eq, length, refl, sym, ◌∙◌}
 use Rattle.std.proofs.lemmas.Bool.{not-true, eqb-true, eqb-false}
 use Rattle.edi_segments.specs.Segment.{value}
 use Rattle.edi_segments.proofs.PlainLemmas.{plain_value, whole_value, short_value}
@@ -7,7 +7,7 @@ use Rattle.edi_segments.proofs.component.Component.plain.Goals as goal
 use Rattle.edi_segments.proofs.component.Component.plain.Goals.{in-Some, in-None}
 
 is_so : (b : Bool) → not b ≡ false → b ≡ true
-is_so true h = h
+is_so true h = refl
 is_so false h = sym h
 
 pub returns-then-is_plain-clause-some : goal.returns-then-is_plain-clause-some
