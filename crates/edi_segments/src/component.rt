@@ -9,7 +9,7 @@ ghost use Rattle.std.proofs.Props.{props};
 use super::bytes::{Bytes, are_bytes, are_same};
 use super::plain::{are_printable, has_release};
 use super::service::Service;
-use super::spelling::write_byte;
+use super::spelling::{write_byte, write_value};
 use std::alloc::AllocError;
 
 /// The value of a component, as its spelling in the text.
@@ -121,6 +121,17 @@ impl<'a> Component<'a> {
         ensures equal { IsTrue result ↔ (value self.now ≡ value other.now) }
         ensures test { result ≡ bytes_eq (value self.now) (value other.now) }
     {
+        match (self.plain(), other.plain()) {
+            (Some(bytes), Some(others)) => bytes == others,
+            _ => self.has_same_bytes(other),
+        }
+    }
+
+    /// The same, also if release characters stand in the texts.
+    fn has_same_bytes(&self, other: &Component<'_>) -> bool
+        ensures equal { IsTrue result ↔ (value self.now ≡ value other.now) }
+        ensures test { result ≡ bytes_eq (value self.now) (value other.now) }
+    {
         are_same(self.bytes(), other.bytes())
     }
 
@@ -172,6 +183,17 @@ impl<'a> Component<'a> {
     /// Writes the value anew at the end, under the default service characters. If memory is refused the vector is as
     /// it was.
     pub fn spell_into(&self, out: &mut Vec<u8>) -> Result<(), AllocError>
+        ensures ok { OnOk result (out.new.items ≡ out.old.items ++ spelling (value self.now)) }
+        ensures err { OnErr result (out.new.items ≡ out.old.items) }
+    {
+        match self.plain() {
+            Some(bytes) => write_value(bytes, out),
+            None => self.spell_by_bytes(out),
+        }
+    }
+
+    /// The same, also if release characters stand in the text.
+    fn spell_by_bytes(&self, out: &mut Vec<u8>) -> Result<(), AllocError>
         ensures ok { OnOk result (out.new.items ≡ out.old.items ++ spelling (value self.now)) }
         ensures err { OnErr result (out.new.items ≡ out.old.items) }
     {

@@ -1,4 +1,4 @@
-use Rattle.std.proofs.Common.{◌≡◌, ℕ, Option, sym, ap, ◌∙◌}
+use Rattle.std.proofs.Common.{ℕ, Option, sym, ap, ◌∙◌}
 use Rattle.std.specs.List.{list_any}
 use Rattle.edi_segments.specs.Characters.{is_release}
 use Rattle.edi_segments.proofs.PlainLemmas.{releases_one}
