@@ -12,3 +12,4 @@ pub mod SpelledLemmas
 pub mod WriterLemmas
 pub mod ReaderLemmas
 pub mod PlacedLemmas
+pub mod PlainLemmas
