@@ -1,6 +1,6 @@
 -- The first separator of all, if no release character stands before it.
 use Rattle.edi_segments.proofs.FirstSeparators.{none_is, first_is, plain_before, plain_at_front}
-use Rattle.std.proofs.Common.{suc, ◌-◌, ◌≡◌, sym, ◌∙◌, arith}
+use Rattle.std.proofs.Common.{◌-◌, sym, ◌∙◌, arith}
 use Rattle.edi_segments.proofs.part.separator_at.Goals as goal
 
 pub returns-then-bytes-at-clause-found : goal.returns-then-bytes-at-clause-found
