@@ -46,7 +46,12 @@ pub(crate) fn split_once_of_many<'a>(
     ensures { option_map
         (λ found. (found.0.now, found.1.now)) result ≡ split_of service separator bytes.now }
 {
-    let at = separator_at(service, separator, bytes, len_before_of_many(separator, bytes))?;
+    let at = separator_at(
+        service,
+        separator,
+        bytes,
+        len_before_of_many(separator, bytes),
+    )?;
     Some((&bytes[..at], &bytes[at + 1..]))
 }
 
