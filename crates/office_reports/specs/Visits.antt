@@ -1,5 +1,5 @@
 -- The report on a container's visits (our own).
-use Rattle.std.specs.Prelude.{ℕ, zero, suc, ◌==◌, Bool, List, [], ◌∷◌, ◌++◌, map, filter, slice_index_or, if◌then◌else◌, codes, decimal, ◌-ℤ◌, Option, None, Some}
+use Rattle.std.specs.Prelude.{ℕ, zero, suc, ◌==◌, List, [], ◌∷◌, ◌++◌, map, filter, slice_index_or, if◌then◌else◌, codes, decimal, ◌-ℤ◌, Option, None, Some}
 use Rattle.std.specs.Fmt.{signed_decimal}
 use Rattle.std.specs.List.{flat_map, list_any}
 use Rattle.box6346.specs.declared.box_number.BoxNumber.{BoxNumber}
