@@ -18,6 +18,20 @@ fn own_text(alloc: Global, component: Component<'_>) -> Result<String, AllocErro
     requires { IsTrue (list_all is_printable (value component)) }
     ensures { IfOk result (λ text. string_bytes text ≡ value component.entry) }
 {
+    let Some(bytes) = component.plain() else {
+        return own_text_by_bytes(alloc, component);
+    };
+    match str::from_utf8(bytes) {
+        Ok(text) => String::from_str(alloc, text),
+        Err(_) => own_text_by_bytes(alloc, component),
+    }
+}
+
+/// The same, also if release characters stand in the text.
+fn own_text_by_bytes(alloc: Global, component: Component<'_>) -> Result<String, AllocError>
+    requires { IsTrue (list_all is_printable (value component)) }
+    ensures { IfOk result (λ text. string_bytes text ≡ value component.entry) }
+{
     let mut text = String::with_capacity(alloc, component.len())?;
     for byte in component.bytes() {
         text.push(char::from(byte))?;

@@ -8,6 +8,8 @@ pub mod FirstSeparators
 pub mod AdviceLemmas
 pub mod TestLemmas
 pub mod BreakLemmas
+pub mod SpelledLemmas
 pub mod WriterLemmas
 pub mod ReaderLemmas
 pub mod PlacedLemmas
+pub mod PlainLemmas

@@ -13,3 +13,4 @@ pub mod Placed
 pub mod Values
 pub mod ValueEnds
 pub mod Checks
+pub mod Plain

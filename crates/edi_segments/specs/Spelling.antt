@@ -1,6 +1,6 @@
 -- Segments written under the default service characters: releases before service characters alone, no empty components
 -- or elements at an end, no line breaks.
-use Rattle.std.specs.Prelude.{◌≡◌, ℕ, Bool, true, false, ◌==◌, List, [], ◌∷◌, ◌++◌, length, take, codes, IsTrue, if◌then◌else◌}
+use Rattle.std.specs.Prelude.{◌≡◌, ℕ, Bool, true, false, not, ◌==◌, List, [], ◌∷◌, ◌++◌, length, take, codes, IsTrue, if◌then◌else◌}
 use Rattle.edi_segments.specs.Bytes.{colon, plus_sign, question_mark, apostrophe}
 use Rattle.std.specs.List.{list_all, flat_map}
 use Rattle.edi_segments.specs.Characters.{is_data_byte}
@@ -11,6 +11,10 @@ use Rattle.edi_segments.specs.Text.{Content, IsTag}
 -- the byte, behind the release character if it would serve otherwise
 abbrev pub spelled_byte : ℕ → List ℕ
 spelled_byte b = if is_service default_service b then question_mark ∷ b ∷ [] else b ∷ []
+
+-- the byte serves nowhere, and is spelled as it is
+abbrev pub stands_for_itself : ℕ → Bool
+stands_for_itself b = not (is_service default_service b)
 
 -- the spelling of a value
 abbrev pub spelling : List ℕ → List ℕ

@@ -11,6 +11,7 @@ pub mod interchange;
 pub mod laws;
 mod part;
 pub mod placed_value;
+mod plain;
 mod reader;
 pub mod segment;
 pub mod segment_check;

@@ -5,6 +5,7 @@ ghost use Rattle.edi_segments.specs.Parts.{parts_of, separator_of, split_of};
 ghost use Rattle.std.specs.Prelude.{false};
 
 use super::service::Service;
+use memchr::memchr;
 
 /// The part at the index, of those between the separators. One that isn't there is empty.
 pub(crate) fn part<'a>(service: Service, separator: u8, bytes: &'a [u8], index: usize) -> &'a [u8]
@@ -32,16 +33,34 @@ pub(crate) fn split_once<'a>(
     ensures { option_map
         (λ found. (found.0.now, found.1.now)) result ≡ split_of service separator bytes.now }
 {
-    let at = separator_at(service, separator, bytes)?;
+    let at = separator_at(service, separator, bytes, len_before(separator, bytes))?;
     Some((&bytes[..at], &bytes[at + 1..]))
 }
 
-/// Where the first separator stands that is not released.
-fn separator_at(service: Service, separator: u8, bytes: &[u8]) -> Option<usize>
+/// The same, of bytes that go on far behind the separator.
+pub(crate) fn split_once_of_many<'a>(
+    service: Service,
+    separator: u8,
+    bytes: &'a [u8],
+) -> Option<(&'a [u8], &'a [u8])>
+    ensures { option_map
+        (λ found. (found.0.now, found.1.now)) result ≡ split_of service separator bytes.now }
+{
+    let at = separator_at(
+        service,
+        separator,
+        bytes,
+        len_before_of_many(separator, bytes),
+    )?;
+    Some((&bytes[..at], &bytes[at + 1..]))
+}
+
+/// Where the first separator stands that is not released, of which the first of all has so many bytes before it.
+fn separator_at(service: Service, separator: u8, bytes: &[u8], at: usize) -> Option<usize>
+    requires { at ≡ position_or_len (λ b. b == separator) bytes.now }
     ensures found { result ≡ separator_of service separator false bytes.now }
     ensures within { IfSome result (λ n. n < length bytes.now) }
 {
-    let at = len_before(separator, bytes);
     if bytes.len() <= at {
         return None;
     }
@@ -52,6 +71,17 @@ fn separator_at(service: Service, separator: u8, bytes: &[u8]) -> Option<usize>
         return separator_behind_releases(service, separator, bytes);
     }
     Some(at)
+}
+
+/// How many bytes stand before the first separator, released or not, of bytes that go on far behind it: all if there is
+/// none.
+fn len_before_of_many(separator: u8, bytes: &[u8]) -> usize
+    ensures { result ≡ position_or_len (λ b. b == separator) bytes.now }
+{
+    match memchr(separator, bytes) {
+        Some(at) => at,
+        None => bytes.len(),
+    }
 }
 
 /// How many bytes stand before the first separator, released or not: all if there is none.

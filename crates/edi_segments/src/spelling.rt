@@ -2,7 +2,7 @@ ghost use Rattle.std.specs.Prelude.{◌≡◌, ◌++◌, ◌∷◌, ℕ, List, [
 ghost use Rattle.std.specs.List.{list_all};
 ghost use Rattle.edi_segments.specs.Tokens.{is_service};
 ghost use Rattle.edi_segments.specs.Advice.{default_service};
-ghost use Rattle.edi_segments.specs.Spelling.{spelled_byte, spelling, is_empty_value, composite, IsWritable};
+ghost use Rattle.edi_segments.specs.Spelling.{spelled_byte, spelling, stands_for_itself, is_empty_value, composite, IsWritable};
 
 use super::spell::Spell;
 use std::alloc::AllocError;
@@ -16,8 +16,28 @@ pub fn write_component(value: &[u8], out: &mut Vec<u8>) -> Result<(), AllocError
     write_value(value, out)
 }
 
-/// Writes any bytes as a value is written.
+/// Writes any bytes as a value is written: by one copy, where none of them serves.
+#[tactic(auto, using(crate::proofs::SpelledLemmas::spelled_as_it_is))]
 pub(crate) fn write_value(value: &[u8], out: &mut Vec<u8>) -> Result<(), AllocError>
+    ensures ok { OnOk result (out.new.items ≡ out.old.items ++ spelling value.now) }
+    ensures err { OnErr result (out.new.items ≡ out.old.items) }
+{
+    if serves_nowhere(value) {
+        out.extend_from_slice(value)
+    } else {
+        write_bytes(value, out)
+    }
+}
+
+/// None of the bytes is a default service character.
+fn serves_nowhere(value: &[u8]) -> bool
+    ensures { result ≡ list_all stands_for_itself value.now }
+{
+    value.iter().all(|byte| !serves(*byte))
+}
+
+/// Writes the bytes one by one.
+fn write_bytes(value: &[u8], out: &mut Vec<u8>) -> Result<(), AllocError>
     ensures ok { OnOk result (out.new.items ≡ out.old.items ++ spelling value.now) }
     ensures err { OnErr result (out.new.items ≡ out.old.items) }
 {

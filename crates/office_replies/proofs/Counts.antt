@@ -8,10 +8,10 @@ use Rattle.office_replies.specs.declared.line_report.LineReport.{LineReport}
 use Rattle.office_replies.specs.declared.message_report.MessageReport.{MessageReport}
 use Rattle.office_replies.specs.Lines.{lines_from}
 use Rattle.office_replies.specs.Messages.{report_content, report_data}
-use Rattle.office_replies.specs.Sent.{optional_member, optional_count, slot_members, number_members, reason_members, box_members, members_told}
+use Rattle.office_replies.specs.Sent.{optional_member, optional_count, slot_members, number_members, box_members, members_told}
 
 optional_len : (key : List ℕ) (text : Option (List ℕ)) (rest : Members) → members_len (optional_member key text rest) ≡ optional_count text + members_len rest
-optional_len key None rest = refl
+optional_len key None rest = omega arith
 optional_len key (Some text) rest = omega arith
 
 pub told_len : (told : LineMembers) → members_len (members_told told) ≡ 2 + optional_count (option_map (λ text. text.now) told.blocker) + optional_count (option_map (λ text. text.now) told.name) + optional_count (option_map (λ text. text.now) told.reason) + optional_count (option_map (λ text. text.now) told.slot)

@@ -1,5 +1,5 @@
 -- What is sent of the JSON of a reply, member by member.
-use Rattle.std.specs.Prelude.{◌≡◌, ℕ, List, Option, None, Some, codes, option_map}
+use Rattle.std.specs.Prelude.{ℕ, List, Option, None, Some, codes, option_map}
 use Rattle.serde.specs.Event.{Log}
 use Rattle.serde_json.specs.Data.{number, unsigned, Members, member, no_members}
 use Rattle.serde_json.specs.Events.{SendsMembers}

@@ -45,7 +45,7 @@ fn member_count(told: &LineMembers<'_>) -> usize
 
 /// How many members an optional text is.
 fn count_of(text: Option<&str>) -> usize
-    ensures count { result ≡ optional_count (option_map (λ t. t.now) text) }
+    ensures count { result ≡ optional_count (option_map (λ t. t.now) text.entry) }
     ensures most { result ≤ 1 }
 {
     match text {
@@ -56,7 +56,7 @@ fn count_of(text: Option<&str>) -> usize
 
 /// Sends a member whose value is a text, if there is one.
 fn send_optional<S: Serializer>(key: &str, text: Option<&str>, out: &mut S) -> Result<(), S::Error>
-    ensures { OnOk result (SendsFirst (optional_member key.now (option_map (λ t. t.now) text))
+    ensures { OnOk result (SendsFirst (optional_member key.now (option_map (λ t. t.now) text.entry))
         (S.written out.old) (S.written out.new)) }
 {
     match text {

@@ -45,7 +45,7 @@ fn send_outcome<S: Serializer>(
     outcome: Outcome,
     out: &mut S,
 ) -> Result<(), S::Error>
-    ensures { OnOk result (SendsValue (object (outcome_members (option_map (λ t. t.now) name) line outcome))
+    ensures { OnOk result (SendsValue (object (outcome_members (option_map (λ t. t.now) name.entry) line outcome))
         (S.written out.old) (S.written out.new)) }
 {
     match outcome {
@@ -65,7 +65,7 @@ fn send_done<'a, S: Serializer>(
     slot: &'a str,
     out: &mut S,
 ) -> Result<(), S::Error>
-    ensures { OnOk result (SendsValue (object (done_members (option_map (λ t. t.now) name) line slot.now))
+    ensures { OnOk result (SendsValue (object (done_members (option_map (λ t. t.now) name.entry) line slot.now))
         (S.written out.old) (S.written out.new)) }
 {
     let told = LineMembers {
@@ -87,7 +87,7 @@ fn send_settled<'a, S: Serializer>(
     out: &mut S,
 ) -> Result<(), S::Error>
     ensures { OnOk result
-        (SendsValue (object (settled_members (option_map (λ t. t.now) name) line outcome.now))
+        (SendsValue (object (settled_members (option_map (λ t. t.now) name.entry) line outcome.now))
         (S.written out.old) (S.written out.new)) }
 {
     let told = LineMembers {
@@ -107,7 +107,7 @@ fn send_refusal<S: Serializer>(
     reason: Reason,
     out: &mut S,
 ) -> Result<(), S::Error>
-    ensures { OnOk result (SendsValue (object (refusal_members (option_map (λ t. t.now) name) line reason))
+    ensures { OnOk result (SendsValue (object (refusal_members (option_map (λ t. t.now) name.entry) line reason))
         (S.written out.old) (S.written out.new)) }
 {
     match reason {
@@ -126,7 +126,7 @@ fn send_refused<'a, S: Serializer>(
     out: &mut S,
 ) -> Result<(), S::Error>
     ensures { OnOk result
-        (SendsValue (object (refused_members (option_map (λ t. t.now) name) line reason.now))
+        (SendsValue (object (refused_members (option_map (λ t. t.now) name.entry) line reason.now))
         (S.written out.old) (S.written out.new)) }
 {
     let told = LineMembers {
@@ -147,7 +147,7 @@ fn send_buried<'a, S: Serializer>(
     out: &mut S,
 ) -> Result<(), S::Error>
     ensures { OnOk result
-        (SendsValue (object (buried_members (option_map (λ t. t.now) name) line blocker.now))
+        (SendsValue (object (buried_members (option_map (λ t. t.now) name.entry) line blocker.now))
         (S.written out.old) (S.written out.new)) }
 {
     let told = LineMembers {

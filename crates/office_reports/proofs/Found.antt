@@ -5,12 +5,12 @@ use Rattle.std.specs.List.{list_any}
 use Rattle.box6346.specs.declared.box_number.BoxNumber.{BoxNumber}
 use Rattle.terminal_core.specs.declared.visit.Visit.{Visit}
 use Rattle.terminal_core.specs.Rows.{VisitContent, visit_content}
-use Rattle.terminal_core.specs.State.{TerminalState}
+use Rattle.terminal_core.specs.State.{TerminalState, is_visit_of}
 use Rattle.office_setup.specs.Setups.{SetupContent}
 use Rattle.terminal_core.specs.declared.source.Source.{Source}
 use Rattle.office_reports.specs.Names.{line}
 use Rattle.office_reports.specs.Tickets.{is_told_by, entry_lines, exit_lines, told_lines}
-use Rattle.office_reports.specs.Visits.{is_visit_of, visits_text, visit_report}
+use Rattle.office_reports.specs.Visits.{visits_text, visit_report}
 
 -- what rows have, their contents have
 pub any_content : (p : VisitContent → Bool) (rows : List Visit) → list_any (λ visit. p (visit_content visit)) rows ≡ list_any p (map visit_content rows)

@@ -1,8 +1,7 @@
 -- The report on a container's visits (our own).
-use Rattle.std.specs.Prelude.{ℕ, zero, suc, ◌==◌, Bool, List, [], ◌∷◌, ◌++◌, map, filter, slice_index_or, if◌then◌else◌, codes, decimal, ◌-ℤ◌, Option, None, Some}
+use Rattle.std.specs.Prelude.{ℕ, zero, suc, ◌==◌, List, [], ◌∷◌, ◌++◌, map, filter, slice_index_or, if◌then◌else◌, codes, decimal, ◌-ℤ◌, Option, None, Some}
 use Rattle.std.specs.Fmt.{signed_decimal}
 use Rattle.std.specs.List.{flat_map, list_any}
-use Rattle.std.specs.Str.{bytes_eq}
 use Rattle.box6346.specs.declared.box_number.BoxNumber.{BoxNumber}
 use Rattle.edi_moments.specs.Moments.{CivilMoment, day_number, moment_text}
 use Rattle.terminal_core.specs.declared.departure.Departure.{Departure}
@@ -10,7 +9,7 @@ use Rattle.terminal_core.specs.declared.source.Source.{Source}
 use Rattle.terminal_core.specs.declared.way.Way.{Way}
 use Rattle.terminal_core.specs.declared.way.Way.TheVariants.{Gate, Ship}
 use Rattle.terminal_core.specs.Rows.{VisitContent}
-use Rattle.terminal_core.specs.State.{TerminalState}
+use Rattle.terminal_core.specs.State.{TerminalState, is_visit_of}
 use Rattle.office_setup.specs.Setups.{SetupContent}
 use Rattle.office_reports.specs.Names.{load_name, slot_name, phrase, line}
 
@@ -55,9 +54,6 @@ abbrev pub visit_line : SetupContent → VisitContent → List ℕ
 visit_line setup visit =
     line (phrase (arrival_words setup visit) ∷ booking_words visit.booking ++ gross_words visit.kilos
     ++ codes "OUT" ∷ phrase (departure_words setup visit.arrival.moment visit.departure) ∷ [])
-
-abbrev pub is_visit_of : BoxNumber → VisitContent → Bool
-is_visit_of container visit = bytes_eq visit.container container
 
 abbrev pub visit_lines : SetupContent → BoxNumber → List VisitContent → List ℕ
 visit_lines setup container visits = flat_map (visit_line setup) (filter (is_visit_of container) visits)

@@ -1,17 +1,17 @@
 -- The first separator of all, if no release character stands before it.
 use Rattle.edi_segments.proofs.FirstSeparators.{none_is, first_is, plain_before, plain_at_front}
-use Rattle.std.proofs.Common.{suc, ◌-◌, ◌≡◌, sym, ◌∙◌, arith}
+use Rattle.std.proofs.Common.{◌-◌, sym, ◌∙◌, arith}
 use Rattle.edi_segments.proofs.part.separator_at.Goals as goal
 
 pub returns-then-bytes-at-clause-found : goal.returns-then-bytes-at-clause-found
 returns-then-bytes-at-clause-found c =
-    none_is c.args.service c.args.separator c.len_before-at.result c.args.bytes.now c.len_before-at.ensures c.if-bytes-at.true
+    none_is c.args.service c.args.separator c.args.at c.args.bytes.now c.requires c.if-bytes-at.true
 
 pub returns-then-at-eq0-clause-found : goal.returns-then-at-eq0-clause-found
 returns-then-at-eq0-clause-found c =
-    first_is c.args.service c.args.separator c.len_before-at.result c.args.bytes.now c.len_before-at.ensures c.if-bytes-at.false (plain_at_front c.args.service c.args.bytes.now c.len_before-at.result c.if-at-eq0.true)
+    first_is c.args.service c.args.separator c.args.at c.args.bytes.now c.requires c.if-bytes-at.false (plain_at_front c.args.service c.args.bytes.now c.args.at c.if-at-eq0.true)
 
 pub returns-clause-found : goal.returns-clause-found
 returns-clause-found c =
-    first_is c.args.service c.args.separator c.len_before-at.result c.args.bytes.now c.len_before-at.ensures c.if-bytes-at.false
-    (plain_before c.args.service c.args.bytes.now c.len_before-at.result (c.len_before-at.result - 1) (omega arith) (sym c.releases.ensures ∙ c.if-releases.false))
+    first_is c.args.service c.args.separator c.args.at c.args.bytes.now c.requires c.if-bytes-at.false
+    (plain_before c.args.service c.args.bytes.now c.args.at (c.args.at - 1) (omega arith) (sym c.releases.ensures ∙ c.if-releases.false))

@@ -1,6 +1,5 @@
 use Rattle.std.proofs.Common.{◌≡◌, ◌∙◌, ◌++◌, ℕ, List, ap, ap₂, codes, string_bytes, append_assoc}
 use Rattle.std.proofs.lemmas.Result.{IfOk-weaker}
-use Rattle.serde_json.specs.Written.{compact_text}
 use Rattle.office_replies.specs.Bodies.{answer_text, joined_head}
 use Rattle.office_replies.proofs.Joined.{answer_text-data}
 use Rattle.office_replies.proofs.body.answered.Goals as goal

@@ -1,4 +1,4 @@
-use Rattle.std.proofs.Common.{◌≡◌, [], length, drop, Some, sym, ◌∙◌, subst, arith, rules}
+use Rattle.std.proofs.Common.{◌≡◌, [], drop, Some, sym, subst, arith}
 use Rattle.std.proofs.lemmas.List.{drop_all}
 use Rattle.std.proofs.lemmas.Result.{on_ok_weaker}
 use Rattle.serde.specs.Event.{Logs, seq_begins}
@@ -14,8 +14,7 @@ returns g c =
     let first = g.S.Serializer.written c.begin_seq.new.self in
     let end = g.S.Serializer.written c.end_seq.new.self in
     let last = g.S.Serializer.written c.loop-report.out in
-    let len : c.len.result ≡ length all = search rules in
-    let begun = subst (λ n. Logs (g.S.Serializer.written c.args.out.now) first (seq_begins (Some n))) (len ∙ sym (lines_len 1 all)) c.in_ok-begin_seq.ensures in
+    let begun = subst (λ n. Logs (g.S.Serializer.written c.args.out.now) first (seq_begins (Some n))) (sym (lines_len 1 all)) c.in_ok-begin_seq.ensures in
     let none : drop c.loop-report.report-index all ≡ [] = drop_all c.loop-report.report-index all (omega arith) in
     on_ok_weaker c.end_seq.result (λ ended. (
       first,

@@ -1,7 +1,8 @@
 use Rattle.std.proofs.Common.{string_bytes}
 use Rattle.terminal_core.specs.Rows.{visit_content}
 use Rattle.office_setup.specs.Setups.{setup_content}
-use Rattle.office_reports.specs.Visits.{is_visit_of, visit_line}
+use Rattle.terminal_core.specs.State.{is_visit_of}
+use Rattle.office_reports.specs.Visits.{visit_line}
 use Rattle.office_reports.proofs.Rows.{HasLines}
 use Rattle.office_reports.proofs.visits.push_visits.Given as goal
 

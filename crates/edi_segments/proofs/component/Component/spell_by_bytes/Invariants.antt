@@ -2,7 +2,7 @@
 use Rattle.std.proofs.Common.{◌≡◌, ◌++◌}
 use Rattle.edi_segments.specs.Segment.{value, bytes_left}
 use Rattle.edi_segments.specs.Spelling.{spelling}
-use Rattle.edi_segments.proofs.component.Component.spell_into.Given as goal
+use Rattle.edi_segments.proofs.component.Component.spell_by_bytes.Given as goal
 
 abbrev pub invariant-loop-byte : goal.invariant-loop-byte
 invariant-loop-byte l = record {

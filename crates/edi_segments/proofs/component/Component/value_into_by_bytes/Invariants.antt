@@ -1,7 +1,7 @@
 -- what was written and what is left are the value
 use Rattle.std.proofs.Common.{◌≡◌, ◌++◌}
 use Rattle.edi_segments.specs.Segment.{value, bytes_left}
-use Rattle.edi_segments.proofs.component.Component.value_into.Given as goal
+use Rattle.edi_segments.proofs.component.Component.value_into_by_bytes.Given as goal
 
 abbrev pub invariant-loop-byte : goal.invariant-loop-byte
 invariant-loop-byte l = record {

@@ -1,6 +1,6 @@
 use Rattle.std.proofs.Common.{◌≡◌, ◌++◌, ◌≤◌, length, take}
 use Rattle.edi_segments.specs.Segment.{value, bytes_left}
-use Rattle.edi_segments.proofs.component.Component.fixed.Given as goal
+use Rattle.edi_segments.proofs.component.Component.fixed_by_bytes.Given as goal
 
 abbrev pub invariant-loop-byte : goal.invariant-loop-byte
 invariant-loop-byte g l = record {

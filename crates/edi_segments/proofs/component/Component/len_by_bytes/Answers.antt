@@ -2,8 +2,8 @@
 use Rattle.std.proofs.Common.{◌≡◌, get_or, arith}
 use Rattle.edi_segments.specs.Tokens.{token_of, releases}
 use Rattle.edi_segments.proofs.PartLemmas.{length_value_more, length_value_past}
-use Rattle.edi_segments.proofs.component.Component.len.Goals as goal
-use Rattle.edi_segments.proofs.component.Component.len.Goals.{then-not-released, else-not-released}
+use Rattle.edi_segments.proofs.component.Component.len_by_bytes.Goals as goal
+use Rattle.edi_segments.proofs.component.Component.len_by_bytes.Goals.{then-not-released, else-not-released}
 
 pub loop-byte-preserved : goal.loop-byte-preserved
 loop-byte-preserved c =

@@ -1,7 +1,7 @@
 use Rattle.std.proofs.Common.{◌≡◌, ◌↔◌, IsTrue}
 use Rattle.edi_segments.specs.Segment.{value}
 use Rattle.edi_segments.proofs.TestLemmas.{test_of_same}
-use Rattle.edi_segments.proofs.component.Component.has_same_value.Goals as goal
+use Rattle.edi_segments.proofs.component.Component.has_same_bytes.Goals as goal
 
 pub returns-clause-test : goal.returns-clause-test
 returns-clause-test c =

@@ -1,7 +1,7 @@
 -- the bytes that were counted and those that are left
 use Rattle.std.proofs.Common.{◌≡◌, ◌+◌, ◌≤◌, length, drop, false}
 use Rattle.edi_segments.specs.Parts.{value_of}
-use Rattle.edi_segments.proofs.component.Component.len.Given as goal
+use Rattle.edi_segments.proofs.component.Component.len_by_bytes.Given as goal
 
 abbrev pub invariant-loop-byte : goal.invariant-loop-byte
 invariant-loop-byte l = record {
