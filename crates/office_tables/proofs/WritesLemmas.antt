@@ -21,20 +21,6 @@ writes_of change old new value survives made = record {
   fault = tt;
 }
 
--- a statement that failed
-pub writes_failed : {T : Type 0} (change : Rows → Rows) (old new : State) (sql : List ℕ) (params : Row) (error : Error) (fault : TableFault) → Survives old new (λ _. ⊥)
-    → (HasCleanDisk new → IsTrue old.in_transaction → ExecutesInside 0 sql params old new (Err error)) → IsOfStore fault → Writes {T = T} change old new (Err fault)
-writes_failed {T = T} change old new sql params error fault survives ran of_store = record {
-  steps = λ clean inside. tt;
-  keeps = λ clean inside. kept (ran clean inside);
-  survives = survives;
-  fault = of_store;
-}
-  where
-    kept : ExecutesInside 0 sql params old new (Err error) → KeepsCommit old new
-    kept (inl stopped) = stops_keep old new stopped.1
-    kept (inr ended) = stops_keep old new (inl ended.2)
-
 -- one call, and then another
 module _ {X Y : Type 0} (f g : Rows → Rows) (a b c : State) (x : X) (result : Result Y TableFault) where
   pub writes_then : Writes f a b (Ok x) → Writes g b c result → Writes (λ rows. g (f rows)) a c result
@@ -83,31 +69,5 @@ writes_same f g old new result same p = record {
   steps = λ clean inside. on_ok result (steps_same f g old new same) (p.steps clean inside);
   keeps = p.keeps;
   survives = p.survives;
-  fault = p.fault;
-}
-
--- where a call fails nothing follows
-pub writes_stopped : {X Y : Type 0} (f g : Rows → Rows) (a b : State) (fault : TableFault) → Writes {T = X} f a b (Err fault) → Writes {T = Y} g a b (Err fault)
-writes_stopped f g a b fault p = record { steps = λ clean inside. tt; keeps = p.keeps; survives = p.survives; fault = p.fault }
-
--- what was written of a list, where no call failed
-pub writes_all : {T : Type 0} (change : Rows → Rows) (old new : State) (value : T) → (HasCleanDisk new → IsTrue old.in_transaction → IsTrue old.is_open → Steps change old new) → Survives old new (λ _. ⊥) → WritesIfOpen change old new (Ok value)
-writes_all change old new value steps survives = record {
-  steps = steps;
-  keeps = λ clean inside was. record { was_open = λ _. was; committed = λ _. (steps clean inside was).committed };
-  survives = survives;
-  fault = tt;
-}
-
--- what was written of a list, where the next call failed
-pub all_stopped : {X Y : Type 0} (f g whole : Rows → Rows) (a b c : State) (fault : TableFault) → (HasCleanDisk b → IsTrue a.in_transaction → IsTrue a.is_open → Steps f a b) → Survives a b (λ _. ⊥)
-    → Writes {T = X} g b c (Err fault) → WritesIfOpen {T = Y} whole a c (Err fault)
-all_stopped f g whole a b c fault steps survives p = record {
-  steps = λ clean inside was. tt;
-  keeps = λ clean inside was.
-      let early : HasCleanDisk b = omega (arith, p.survives.clean) in
-      let first = steps early inside was in
-      steps_keep f a b c was first (p.keeps clean first.inside);
-  survives = quiet_then a b c survives p.survives;
   fault = p.fault;
 }
