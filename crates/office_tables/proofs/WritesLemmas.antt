@@ -1,19 +1,16 @@
 -- Calls that write in a transaction, one after the other.
-use Rattle.std.proofs.Common.{◌≡◌, inl, inr, ℕ, List, IsTrue, Result, Ok, Err, true, arith}
-use Rattle.sqlite.specs.Order.{Row}
-use Rattle.sqlite.specs.declared.error.Error.{Error}
-use Rattle.sqlite.specs.State.{State, HasCleanDisk, Shows, Survives, KeepsCommit, ExecutesInside}
+use Rattle.std.proofs.Common.{◌≡◌, IsTrue, Result, Ok, true, arith}
+use Rattle.sqlite.specs.State.{State, HasCleanDisk, Shows, Survives}
 use Rattle.office_rows.specs.Rows.{Rows}
 use Rattle.office_rows.specs.Stored.{HasRows}
-use Rattle.office_rows.specs.Steps.{Steps}
-use Rattle.office_rows.proofs.StepLemmas.{steps_on, steps_then, steps_same, steps_keep, stops_keep, keep_then, quiet_then, on_ok}
+use Rattle.office_rows.proofs.StepLemmas.{steps_on, steps_then, steps_same, keep_then, quiet_then, on_ok}
 use Rattle.office_tables.specs.declared.table_fault.TableFault.{TableFault}
-use Rattle.office_tables.specs.Faults.{IsOfStore}
 use Rattle.office_tables.specs.Writes.{Writes, WritesIfOpen}
 
 -- a statement that was made
 pub writes_of : {T : Type 0} (change : Rows → Rows) (old new : State) (value : T) → Survives old new (λ _. ⊥)
-    → (HasCleanDisk new → IsTrue old.in_transaction → Shows old new new.now old.committed true × ((rows : Rows) → HasRows rows old.now → HasRows (change rows) new.now)) → Writes change old new (Ok value)
+    → (HasCleanDisk new → IsTrue old.in_transaction → Shows old new new.now old.committed true × ((rows : Rows) → HasRows rows old.now → HasRows (change rows) new.now))
+    → Writes change old new (Ok value)
 writes_of change old new value survives made = record {
   steps = λ clean inside. steps_on change old new (made clean inside).0 (made clean inside).1;
   keeps = λ clean inside. record { was_open = λ _. (made clean inside).0.was_open; committed = λ _. (made clean inside).0.committed_is };
@@ -64,7 +61,8 @@ module _ {X Y : Type 0} (f g : Rows → Rows) (a b c : State) (x : X) (result : 
   }
 
 -- what comes to the same rows
-pub writes_same : {T : Type 0} (f g : Rows → Rows) (old new : State) (result : Result T TableFault) → ((rows : Rows) → f rows ≡ g rows) → Writes f old new result → Writes g old new result
+pub writes_same : {T : Type 0} (f g : Rows → Rows) (old new : State) (result : Result T TableFault) → ((rows : Rows) → f rows ≡ g rows) → Writes f old new result
+    → Writes g old new result
 writes_same f g old new result same p = record {
   steps = λ clean inside. on_ok result (steps_same f g old new same) (p.steps clean inside);
   keeps = p.keeps;
