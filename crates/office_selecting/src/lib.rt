@@ -5,7 +5,7 @@ mod selecting;
 mod waiting;
 
 pub use selecting::{
-    select_bare_visits, select_blocks, select_interchange, select_interchanges, select_lines,
-    select_partners, select_places, select_settings, select_visits,
+    select_blocks, select_interchange, select_lines, select_partners, select_places,
+    select_settings,
 };
 pub use waiting::select_waiting;

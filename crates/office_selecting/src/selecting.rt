@@ -3,14 +3,14 @@ ghost use Rattle.sqlite.specs.Held.{state};
 ghost use Rattle.sqlite.specs.Given.{IsPlain};
 ghost use Rattle.sqlite.specs.Listing.{understood};
 ghost use Rattle.sqlite.specs.State.{HasCleanDisk, IsUnchanged, Shown};
-ghost use Rattle.office_rows.specs.Tables.{partner, interchange, visit, place, listed, setting, block, office_schema};
+ghost use Rattle.office_rows.specs.Tables.{partner, interchange, place, listed, setting, block, office_schema};
 ghost use Rattle.std.specs.List.Sorted.{IsPermutation};
-ghost use Rattle.office_rows.specs.Layouts.{Layout, IsOfficeSchema, bare_schema, schema_in};
+ghost use Rattle.office_rows.specs.Layouts.{Layout, IsOfficeSchema, schema_in};
 ghost use Rattle.office_rows.specs.Rows.{Interchange};
 ghost use Rattle.office_rows.specs.Values.{interchange_values, kept_values};
 ghost use Rattle.office_rows.specs.Effects.{is_pair};
 ghost use Rattle.office_rows.specs.Stored.{Holds};
-ghost use Rattle.office_rows.specs.Bare.{with_weights, weighed_in};
+ghost use Rattle.office_rows.specs.Bare.{weighed_in};
 ghost use Rattle.office_rows.specs.Shown.{ShowsTable};
 ghost use Rattle.office_selecting.specs.Reads.{OnlyReads, OnlyShows, WritesNothing};
 ghost use Rattle.office_selecting.specs.Settings.{HasNoSettings, HasSettings, setting_in};
@@ -53,26 +53,6 @@ pub fn select_partners<S: Alter>(conn: &mut Connection<S>) -> Result<Vec<Row>, T
     select(conn, "SELECT id, code, kind, next FROM partner ORDER BY id")
 }
 
-/// The rows of all interchanges that are kept, without their bodies, by partner and number.
-pub fn select_interchanges<S: Alter>(conn: &mut Connection<S>) -> Result<Vec<Row>, TableFault>
-    ensures shown { HasCleanDisk (state S.Store conn.new) → (layout : Layout) →
-        (state S.Store conn.old).now.schema ≡ schema_in layout → IfOk result (λ answer.
-        ShowsTable interchange (0 ∷ 1 ∷ 3 ∷ []) (0 ∷ 1 ∷ []) (weighed_in layout (state S.Store conn.old).now)
-        answer.items) }
-    ensures same { HasCleanDisk (state S.Store conn.new) → (state S.Store conn.old).now.schema ≡ office_schema →
-        OnOk result (IsUnchanged (state S.Store conn.old) (state S.Store conn.new)) }
-    ensures reads { OnlyReads (state S.Store conn.old) (state S.Store conn.new) }
-    ensures unchanged { HasCleanDisk (state S.Store conn.new) →
-        OnOk result (IsUnchanged (state S.Store conn.old) (state S.Store conn.new)) }
-    ensures unwritten { WritesNothing (state S.Store conn.old) (state S.Store conn.new) }
-    ensures fault { IfErr result IsOfStore }
-{
-    select(
-        conn,
-        "SELECT partner, number, reply FROM interchange ORDER BY partner, number",
-    )
-}
-
 /// The body and the reply of the interchange of this partner and number.
 pub fn select_interchange<S: Alter>(
     conn: &mut Connection<S>,
@@ -93,44 +73,6 @@ pub fn select_interchange<S: Alter>(
         "SELECT body, reply FROM interchange WHERE partner = ?1 AND number = ?2",
         &[integer(partner), integer(number)],
     )?)
-}
-
-/// The rows of all visits, by their numbers.
-pub fn select_visits<S: Alter>(conn: &mut Connection<S>) -> Result<Vec<Row>, TableFault>
-    ensures shown { HasCleanDisk (state S.Store conn.new) → (state S.Store conn.old).now.schema ≡ office_schema
-        → IfOk result (λ answer.
-        ShowsTable visit (0 ∷ 1 ∷ 2 ∷ 3 ∷ 4 ∷ 5 ∷ 6 ∷ 7 ∷ 8 ∷ 9 ∷ 10 ∷ 11 ∷ 12 ∷ 13 ∷ 14 ∷ []) (0 ∷ [])
-        (state S.Store conn.old).now answer.items) }
-    ensures same { HasCleanDisk (state S.Store conn.new) → (state S.Store conn.old).now.schema ≡ office_schema →
-        OnOk result (IsUnchanged (state S.Store conn.old) (state S.Store conn.new)) }
-    ensures reads { OnlyReads (state S.Store conn.old) (state S.Store conn.new) }
-    ensures unchanged { HasCleanDisk (state S.Store conn.new) →
-        OnOk result (IsUnchanged (state S.Store conn.old) (state S.Store conn.new)) }
-    ensures unwritten { WritesNothing (state S.Store conn.old) (state S.Store conn.new) }
-    ensures fault { IfErr result IsOfStore }
-{
-    select(
-        conn,
-        "SELECT visit, box, size, laden, booking, in_by, in_partner, in_number, in_at, in_slot, out_by, out_partner, out_number, out_at, kilos FROM visit ORDER BY visit",
-    )
-}
-
-/// The rows of all visits of a store of version 1 or 2, by their numbers, each with a weight of 0.
-pub fn select_bare_visits<S: Alter>(conn: &mut Connection<S>) -> Result<Vec<Row>, TableFault>
-    ensures shown { HasCleanDisk (state S.Store conn.new) → (state S.Store conn.old).now.schema ≡ bare_schema
-        → IfOk result (λ answer. ShowsTable visit
-        (0 ∷ 1 ∷ 2 ∷ 3 ∷ 4 ∷ 5 ∷ 6 ∷ 7 ∷ 8 ∷ 9 ∷ 10 ∷ 11 ∷ 12 ∷ 13 ∷ 14 ∷ []) (0 ∷ [])
-        (with_weights (state S.Store conn.old).now) answer.items) }
-    ensures reads { OnlyReads (state S.Store conn.old) (state S.Store conn.new) }
-    ensures unchanged { HasCleanDisk (state S.Store conn.new) →
-        OnOk result (IsUnchanged (state S.Store conn.old) (state S.Store conn.new)) }
-    ensures unwritten { WritesNothing (state S.Store conn.old) (state S.Store conn.new) }
-    ensures fault { IfErr result IsOfStore }
-{
-    select(
-        conn,
-        "SELECT visit, box, size, laden, booking, in_by, in_partner, in_number, in_at, in_slot, out_by, out_partner, out_number, out_at, 0 AS kilos FROM visit ORDER BY visit",
-    )
 }
 
 /// The rows of all containers in the yard, by their numbers.
