@@ -1,10 +1,9 @@
-use Rattle.std.proofs.Common.{◌≡◌, [], false, Ok, IfErr, OnOk, refl, ◌∙◌, rules, arith}
+use Rattle.std.proofs.Common.{◌≡◌, [], false, Ok, IfErr, refl, ◌∙◌, rules, arith}
 use Rattle.std.proofs.lemmas.Result.{err_from_is_err_and}
 use Rattle.sqlite.specs.Held.{state}
 use Rattle.sqlite.specs.Given.{HasGiven}
 use Rattle.sqlite.specs.State.{HasCleanDisk, IsUnchanged, FailsToQuery, Survives, CommitsShowing}
 use Rattle.office_selecting.proofs.ReadLemmas.{writes_nothing_failed}
-use Rattle.office_selecting.specs.Reads.{WritesNothing}
 use Rattle.office_loading.specs.Decoded.{FailsShown, ReadsShown}
 use Rattle.office_loading.proofs.ChainLemmas.{◌then◌}
 use Rattle.office_loading.proofs.StreamLemmas.{only_reads, begins_quietly, moves_quietly, begun_shows, stands_first, stands_next, row_refused, all_read}
@@ -33,7 +32,7 @@ each-init g c =
     let old = state g.S.Store c.args.conn.now in
     let new = state g.S.Store c.in_ok-rows.rows.conn.now in
     let begun : HasCleanDisk new → HasGiven g.S.Store c.args.query.now [] c.in_ok-rows.rows.conn.now [] × IsUnchanged old new =
-        λ clean. begun_shows g.S.Store c.args.query.now [] c.args.conn.now c.in_ok-rows.rows.conn.now c.requires (made.begun clean) in (
+    λ clean. begun_shows g.S.Store c.args.query.now [] c.args.conn.now c.in_ok-rows.rows.conn.now c.requires (made.begun clean) in (
       refl,
       made.mode,
       begins_quietly c.args.query.now [] old new c.requires (λ clean. (begun clean).1) made.survives,
@@ -48,7 +47,7 @@ returns-in_default-clause-read g c clean =
     let was = c.each.invariant.3 (omega (arith, moved.survives.clean)) in
     let done = rw (c.in_ok-row.was, c.in_default.is) at (moved.ok late) in
     let read : ReadsShown g.T.Record.says g.T.Record.is_said c.args.query.now (state g.S.Store c.args.conn.now) (state g.S.Store now) (Ok c.each.records) =
-        all_read g.S.Store g.T.Record.says c.args.query.now c.args.conn.now c.each.rows.conn.now now c.each.records.items was c.requires _ g.T.Record.is_said c.each.records refl done in
+    all_read g.S.Store g.T.Record.says c.args.query.now c.args.conn.now c.each.rows.conn.now now c.each.records.items was c.requires _ g.T.Record.is_said c.each.records refl done in
     search rules
 
 pub returns-in_err-record-clause-read : goal.returns-in_err-record-clause-read
@@ -61,7 +60,7 @@ returns-in_err-record-clause-read g c clean =
     let same = rw c.in_ok-row.was at (moved.same late) in
     let p = err_from_is_err_and c.from_residual-in_err-record.result c.from_residual-in_err-record.ensures.1 in
     let refused : FailsShown g.T.Record.is_said c.args.query.now (state g.S.Store c.args.conn.now) (state g.S.Store now) c.in_err-record.field-0.0 =
-        row_refused g.S.Store g.T.Record.says c.args.query.now c.args.conn.now c.each.rows.conn.now now c.each.records.items was g.T.Record.is_said c.in-Some.row.now one same c.in_err-record.field-0.0 c.in_err-record.ensures in
+    row_refused g.S.Store g.T.Record.says c.args.query.now c.args.conn.now c.each.rows.conn.now now c.each.records.items was g.T.Record.is_said c.in-Some.row.now one same c.in_err-record.field-0.0 c.in_err-record.ensures in
     let read : ReadsShown g.T.Record.says g.T.Record.is_said c.args.query.now (state g.S.Store c.args.conn.now) (state g.S.Store now) c.from_residual-in_err-record.result = rw (p.1, p.2) refused in
     search rules
 
