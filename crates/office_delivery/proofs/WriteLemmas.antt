@@ -1,5 +1,5 @@
 -- Writing a list in turn, and committing what was written.
-use Rattle.std.proofs.Common.{◌≡◌, ℕ, ◌+◌, List, [], ◌∷◌, ◌++◌, IsTrue, false, map, fold, refl, sym, ap, ◌∙◌}
+use Rattle.std.proofs.Common.{◌≡◌, ℕ, ◌+◌, List, [], ◌∷◌, ◌++◌, IsTrue, false, Result, Ok, map, fold, refl, sym, ap, ◌∙◌}
 use Rattle.std.proofs.lemmas.List.{map-append}
 use Rattle.std.proofs.lemmas.List.Sums.{fold_push}
 use Rattle.sqlite.specs.State.{State, Shows}
@@ -10,6 +10,9 @@ use Rattle.office_rows.specs.Effects.{with_kept, with_reply, with_next, with_cha
 use Rattle.office_rows.specs.Steps.{Steps}
 use Rattle.office_rows.proofs.StepLemmas.{steps_then, steps_same, stores}
 use Rattle.office_tables.specs.Kept.{with_kept_reply}
+use Rattle.office_tables.specs.declared.table_fault.TableFault.{TableFault}
+use Rattle.office_tables.specs.Writes.{Writes, WritesIfOpen}
+use Rattle.office_tables.proofs.WritesLemmas.{writes_then, writes_then_if_open, writes_same}
 use Rattle.office_history.specs.Cascade.{TakenContent, with_changes, with_interchange, with_interchanges, with_run}
 use Rattle.office_delivery.specs.Writing.{Commits, IsWhole}
 
@@ -58,17 +61,22 @@ changes_then_reply partner number reply (c ∷ changes) rows =
     ap (with_changes changes) (change_then_reply partner number reply c rows) ∙ changes_then_reply partner number reply changes (with_change c rows)
 
 -- kept with its reply, and then what it changed, and then the number behind it
-pub steps_first : (partner : ℕ) (text : List ℕ) (taken : TakenContent) (a b c d : State) → Steps (with_kept_reply partner taken.number text taken.reply) a b → Steps (with_changes taken.changes) b c
-    → Steps (with_next partner (taken.number + 1)) c d → Steps (λ rows. with_interchange partner taken (with_kept partner taken.number text rows)) a d
-steps_first partner text taken a b c d kept changed next =
+pub writes_first : {X Y Z : Type 0} (partner : ℕ) (text : List ℕ) (taken : TakenContent) (a b c d : State) (x : X) (y : Y) (result : Result Z TableFault)
+    → Writes (with_kept_reply partner taken.number text taken.reply) a b (Ok x) → WritesIfOpen (with_changes taken.changes) b c (Ok y)
+    → Writes (with_next partner (taken.number + 1)) c d result → Writes (λ rows. with_interchange partner taken (with_kept partner taken.number text rows)) a d result
+writes_first partner text taken a b c d x y result kept changed next =
     let number = taken.number in
-    let whole = steps_then (λ rows. with_changes taken.changes (with_kept_reply partner number text taken.reply rows)) (with_next partner (number + 1)) a c d
-    (steps_then (with_kept_reply partner number text taken.reply) (with_changes taken.changes) a b c kept changed) next in
-    steps_same _ _ a d (λ rows. ap (with_next partner (number + 1)) (changes_then_reply partner number taken.reply taken.changes (with_kept partner number text rows))) whole
+    let both = writes_then_if_open (with_kept_reply partner number text taken.reply) (with_changes taken.changes) a b c x (Ok y) kept changed in
+    let whole = writes_then (λ rows. with_changes taken.changes (with_kept_reply partner number text taken.reply rows)) (with_next partner (number + 1)) a c d y result both next in
+    writes_same (λ rows. with_next partner (number + 1) (with_changes taken.changes (with_kept_reply partner number text taken.reply rows)))
+    (λ rows. with_interchange partner taken (with_kept partner number text rows)) a d result
+    (λ rows. ap (with_next partner (number + 1)) (changes_then_reply partner number taken.reply taken.changes (with_kept partner number text rows))) whole
 
 -- a run whose first text is taken at once, and then those behind it
-pub steps_run : (partner number : ℕ) (text : List ℕ) (taken behind : List TakenContent) (first : TakenContent) (a b c : State) → first.number ≡ number → taken ≡ first ∷ behind
-    → Steps (λ rows. with_interchange partner first (with_kept partner first.number text rows)) a b → Steps (with_interchanges partner behind) b c → Steps (with_run partner number text taken) a c
-steps_run partner number text taken behind first a b c same is one more =
-    steps_same _ _ a c (λ rows i. with_run partner (same i) text (sym is i) rows)
-    (steps_then (λ rows. with_interchange partner first (with_kept partner first.number text rows)) (with_interchanges partner behind) a b c one more)
+pub writes_run : {X Y : Type 0} (partner number : ℕ) (text : List ℕ) (taken behind : List TakenContent) (first : TakenContent) (a b c : State) (x : X) (result : Result Y TableFault)
+    → first.number ≡ number → taken ≡ first ∷ behind → Writes (λ rows. with_interchange partner first (with_kept partner first.number text rows)) a b (Ok x)
+    → WritesIfOpen (with_interchanges partner behind) b c result → Writes (with_run partner number text taken) a c result
+writes_run partner number text taken behind first a b c x result same is one more =
+    writes_same (λ rows. with_interchanges partner behind (with_interchange partner first (with_kept partner first.number text rows))) (with_run partner number text taken) a c result
+    (λ rows i. with_run partner (same i) text (sym is i) rows)
+    (writes_then_if_open (λ rows. with_interchange partner first (with_kept partner first.number text rows)) (with_interchanges partner behind) a b c x result one more)

@@ -1,12 +1,10 @@
-ghost use Rattle.std.specs.Prelude.{◌≡◌, ◌<◌, All, OnOk, IfErr, IsTrue, map};
+ghost use Rattle.std.specs.Prelude.{◌≡◌, ◌<◌, All, map};
 ghost use Rattle.sqlite.specs.Held.{state};
-ghost use Rattle.sqlite.specs.State.{HasCleanDisk, Survives, KeepsCommit};
 ghost use Rattle.terminal_core.specs.Rows.{change_content};
 ghost use Rattle.office_rows.specs.Effects.{with_kept};
-ghost use Rattle.office_rows.specs.Steps.{Steps};
-ghost use Rattle.office_tables.specs.Faults.{IsOfStore};
 ghost use Rattle.office_history.specs.Cascade.{with_changes, with_interchange, with_interchanges, with_run};
 ghost use Rattle.office_delivery.specs.Taken.{taken_content, taken_contents};
+ghost use Rattle.office_tables.specs.Writes.{Writes, WritesIfOpen};
 
 use crate::taken::Taken;
 use office_changes::{apply, mark_taken};
@@ -25,13 +23,8 @@ pub(crate) fn write_all<S: Alter>(
 ) -> Result<(), TableFault>
     requires { All (λ t. t.number < 1000000000) taken.now }
     ensures same_reference { tx.new.conn.ghost_name ≡ tx.old.conn.ghost_name }
-    ensures steps { HasCleanDisk (state S.Store tx.new.conn.now) → IsTrue (state S.Store tx.old.conn.now).in_transaction
-        → OnOk result (Steps (with_run partner number text.now (taken_contents taken.now))
-        (state S.Store tx.old.conn.now) (state S.Store tx.new.conn.now)) }
-    ensures keeps { HasCleanDisk (state S.Store tx.new.conn.now) → IsTrue (state S.Store tx.old.conn.now).in_transaction
-        → KeepsCommit (state S.Store tx.old.conn.now) (state S.Store tx.new.conn.now) }
-    ensures survives { Survives (state S.Store tx.old.conn.now) (state S.Store tx.new.conn.now) (λ _. ⊥) }
-    ensures fault { IfErr result IsOfStore }
+    ensures writes { Writes (with_run partner number text.now (taken_contents taken.now))
+        (state S.Store tx.old.conn.now) (state S.Store tx.new.conn.now) result }
 {
     match taken.split_first() {
         Some((first, behind)) if first.number == number => {
@@ -54,14 +47,9 @@ fn write_first<S: Alter>(
 ) -> Result<(), TableFault>
     requires { taken.now.number < 1000000000 }
     ensures same_reference { tx.new.conn.ghost_name ≡ tx.old.conn.ghost_name }
-    ensures steps { HasCleanDisk (state S.Store tx.new.conn.now) → IsTrue (state S.Store tx.old.conn.now).in_transaction
-        → OnOk result (Steps (λ rows. with_interchange partner (taken_content taken.now)
+    ensures writes { Writes (λ rows. with_interchange partner (taken_content taken.now)
         (with_kept partner taken.now.number text.now rows)) (state S.Store tx.old.conn.now)
-        (state S.Store tx.new.conn.now)) }
-    ensures keeps { HasCleanDisk (state S.Store tx.new.conn.now) → IsTrue (state S.Store tx.old.conn.now).in_transaction
-        → KeepsCommit (state S.Store tx.old.conn.now) (state S.Store tx.new.conn.now) }
-    ensures survives { Survives (state S.Store tx.old.conn.now) (state S.Store tx.new.conn.now) (λ _. ⊥) }
-    ensures fault { IfErr result IsOfStore }
+        (state S.Store tx.new.conn.now) result }
 {
     keep_taken(tx, partner, taken.number, text, taken.reply.as_str())?;
     apply_all(tx, &taken.changes)?;
@@ -76,15 +64,8 @@ fn write_interchanges<S: Alter>(
 ) -> Result<(), TableFault>
     requires { All (λ t. t.number < 1000000000) taken.now }
     ensures same_reference { tx.new.conn.ghost_name ≡ tx.old.conn.ghost_name }
-    ensures steps { HasCleanDisk (state S.Store tx.new.conn.now) →
-        IsTrue (state S.Store tx.old.conn.now).in_transaction → IsTrue (state S.Store tx.old.conn.now).is_open
-        → OnOk result (Steps (with_interchanges partner (taken_contents taken.now)) (state S.Store tx.old.conn.now)
-        (state S.Store tx.new.conn.now)) }
-    ensures keeps { HasCleanDisk (state S.Store tx.new.conn.now) →
-        IsTrue (state S.Store tx.old.conn.now).in_transaction → IsTrue (state S.Store tx.old.conn.now).is_open
-        → KeepsCommit (state S.Store tx.old.conn.now) (state S.Store tx.new.conn.now) }
-    ensures survives { Survives (state S.Store tx.old.conn.now) (state S.Store tx.new.conn.now) (λ _. ⊥) }
-    ensures fault { IfErr result IsOfStore }
+    ensures writes { WritesIfOpen (with_interchanges partner (taken_contents taken.now)) (state S.Store tx.old.conn.now)
+        (state S.Store tx.new.conn.now) result }
 {
     for item in taken {
         write_interchange(tx, partner, item)?;
@@ -100,15 +81,8 @@ fn write_interchange<S: Alter>(
 ) -> Result<(), TableFault>
     requires { taken.now.number < 1000000000 }
     ensures same_reference { tx.new.conn.ghost_name ≡ tx.old.conn.ghost_name }
-    ensures steps { HasCleanDisk (state S.Store tx.new.conn.now) →
-        IsTrue (state S.Store tx.old.conn.now).in_transaction → IsTrue (state S.Store tx.old.conn.now).is_open
-        → OnOk result (Steps (with_interchange partner (taken_content taken.now)) (state S.Store tx.old.conn.now)
-        (state S.Store tx.new.conn.now)) }
-    ensures keeps { HasCleanDisk (state S.Store tx.new.conn.now) →
-        IsTrue (state S.Store tx.old.conn.now).in_transaction → IsTrue (state S.Store tx.old.conn.now).is_open
-        → KeepsCommit (state S.Store tx.old.conn.now) (state S.Store tx.new.conn.now) }
-    ensures survives { Survives (state S.Store tx.old.conn.now) (state S.Store tx.new.conn.now) (λ _. ⊥) }
-    ensures fault { IfErr result IsOfStore }
+    ensures writes { WritesIfOpen (with_interchange partner (taken_content taken.now)) (state S.Store tx.old.conn.now)
+        (state S.Store tx.new.conn.now) result }
 {
     apply_all(tx, &taken.changes)?;
     mark_taken(tx, partner, taken.number, taken.reply.as_str())
@@ -117,15 +91,8 @@ fn write_interchange<S: Alter>(
 /// The row of each change, one after the other.
 fn apply_all<S: Alter>(tx: &mut Transaction<'_, S>, changes: &[Change]) -> Result<(), TableFault>
     ensures same_reference { tx.new.conn.ghost_name ≡ tx.old.conn.ghost_name }
-    ensures steps { HasCleanDisk (state S.Store tx.new.conn.now) →
-        IsTrue (state S.Store tx.old.conn.now).in_transaction → IsTrue (state S.Store tx.old.conn.now).is_open
-        → OnOk result (Steps (with_changes (map change_content changes.now)) (state S.Store tx.old.conn.now)
-        (state S.Store tx.new.conn.now)) }
-    ensures keeps { HasCleanDisk (state S.Store tx.new.conn.now) →
-        IsTrue (state S.Store tx.old.conn.now).in_transaction → IsTrue (state S.Store tx.old.conn.now).is_open
-        → KeepsCommit (state S.Store tx.old.conn.now) (state S.Store tx.new.conn.now) }
-    ensures survives { Survives (state S.Store tx.old.conn.now) (state S.Store tx.new.conn.now) (λ _. ⊥) }
-    ensures fault { IfErr result IsOfStore }
+    ensures writes { WritesIfOpen (with_changes (map change_content changes.now)) (state S.Store tx.old.conn.now)
+        (state S.Store tx.new.conn.now) result }
 {
     for change in changes {
         apply(tx, change)?;

@@ -1,5 +1,5 @@
 -- Why the next numbers can't be read.
-use Rattle.std.proofs.Common.{◌≡◌, ◌<◌, ◌^◌, List, [], ◌∷◌, map, Contains, sym, ap, subst, ◌∙◌}
+use Rattle.std.proofs.Common.{◌≡◌, ◌^◌, List, [], ◌∷◌, Contains, sym, ap, subst, ◌∙◌}
 use Rattle.std.proofs.lemmas.List.Sorted.{IsPermutation-trans, IsPermutation-sym, Contains-permutation}
 use Rattle.sqlite.specs.Order.{Row, column}
 use Rattle.sqlite.specs.Effect.{Database}
@@ -13,7 +13,7 @@ use Rattle.office_rows.specs.Shown.{columns_at, ShowsTable}
 use Rattle.office_rows.proofs.Listed.{unmapped}
 use Rattle.office_tables.specs.declared.table_fault.TableFault.{TableFault}
 use Rattle.office_tables.specs.declared.table_fault.TableFault.TheVariants.{Store, Damaged, Version, Memory}
-use Rattle.office_tables.specs.Faults.{IsOfStore, IsOfStoreOr}
+use Rattle.office_tables.specs.Faults.{IsOfStoreOr}
 use Rattle.office_loading.specs.Decoded.{Said, FailsOne}
 use Rattle.office_loading.specs.Columns.{SaysNumber}
 use Rattle.office_loading.specs.Tables.{HasHighNext, ShowsPartners}

@@ -1,13 +1,9 @@
 -- The settings of version 1 and 2, and reads one after the other under any schema.
-use Rattle.std.proofs.Common.{◌≡◌, ◌⊎◌, inl, inr, ℕ, Bool, true, false, not, ◌&&◌, ◌||◌, List, [], ◌∷◌, map, codes, IsUtf8, Result, Ok, Err, refl, sym, ap, ap₂, subst, ◌∙◌}
-use Rattle.std.specs.Prelude.{Vec}
+use Rattle.std.proofs.Common.{◌≡◌, inl, inr, ℕ, Bool, true, false, ◌||◌, List, [], ◌∷◌, Err, refl, ap, subst, ◌∙◌}
 use Rattle.std.specs.List.{AllByRecursion, list_any}
-use Rattle.std.specs.Str.{bytes_eq}
-use Rattle.std.proofs.lemmas.Bool.{and_parts, cases_Bool}
 use Rattle.sqlite.specs.Order.{Row}
 use Rattle.sqlite.specs.Effect.{Database}
 use Rattle.sqlite.specs.State.{State, HasCleanDisk, IsUnchanged}
-use Rattle.sqlite.specs.Schema.{Schema}
 use Rattle.terminal_core.specs.declared.version.Version.TheVariants.{First, Second}
 use Rattle.office_rows.specs.Tables.{setting}
 use Rattle.office_rows.specs.Rows.{Setting}
@@ -15,7 +11,7 @@ use Rattle.office_rows.specs.Opening.{version_text}
 use Rattle.office_rows.specs.Opened.{OpenedRows, Shows}
 use Rattle.office_rows.specs.Layouts.{bare_schema}
 use Rattle.office_rows.specs.Bare.{with_weights}
-use Rattle.office_rows.specs.Migrated.{migrated_setting, migrated_settings}
+use Rattle.office_rows.specs.Migrated.{migrated_settings}
 use Rattle.office_rows.specs.Shown.{ShowsTable}
 use Rattle.office_tables.specs.declared.table_fault.TableFault.{TableFault}
 use Rattle.office_tables.specs.declared.table_fault.TableFault.TheVariants.{Store, Damaged, Version, Memory}

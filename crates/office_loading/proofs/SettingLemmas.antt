@@ -1,5 +1,5 @@
 -- The settings of an office.
-use Rattle.std.proofs.Common.{◌≡◌, ℕ, ◌<◌, ◌^◌, true, List, [], ◌∷◌, map, None, codes, decimal, inl, inr, refl, ◌∙◌, arith, Less, Equal}
+use Rattle.std.proofs.Common.{◌≡◌, ℕ, ◌<◌, ◌^◌, true, List, [], ◌∷◌, map, None, decimal, inl, inr, refl, ◌∙◌, arith, Less, Equal}
 use Rattle.std.specs.Prelude.{IsUtf8}
 use Rattle.std.specs.List.{AllByRecursion, list_all}
 use Rattle.std.specs.Ordering.{nat_cmp, ordering_then}

@@ -13,7 +13,7 @@ use Rattle.sqlite_rules.specs.Lists.{Has}
 use Rattle.sqlite_rules.proofs.ListLemmas.{has_contained, contains_had, some_has, some_from}
 use Rattle.office_rows.specs.Tables.{setting}
 use Rattle.office_rows.specs.Rows.{Setting}
-use Rattle.office_rows.specs.Opening.{setting as setting_of, tables_version}
+use Rattle.office_rows.specs.Opening.{setting as setting_of}
 use Rattle.office_rows.specs.Values.{setting_values}
 use Rattle.office_rows.specs.Stored.{columns_of}
 use Rattle.office_rows.specs.Shown.{columns_at, ShowsTable}

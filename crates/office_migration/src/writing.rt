@@ -4,13 +4,14 @@ ghost use Rattle.sqlite.specs.State.{HasCleanDisk, Survives, KeepsCommit};
 ghost use Rattle.terminal_core.specs.Rows.{visit_content};
 ghost use Rattle.office_rows.specs.Rows.{listing_content};
 ghost use Rattle.office_rows.specs.Opening.{with_settings, with_partners, with_visits, with_places, with_lines};
-ghost use Rattle.office_rows.specs.Steps.{Steps, Turns};
+ghost use Rattle.office_rows.specs.Steps.{Turns};
 ghost use Rattle.office_rows.specs.Stored.{HasRows, HasEmpty};
 ghost use Rattle.office_rows.specs.Tables.{office_tables};
 ghost use Rattle.office_checks.specs.Contents.{setting_content, partner_content, place_content, opened_rows};
 ghost use Rattle.office_tables.specs.Opened.{AreMissing};
 ghost use Rattle.office_migration.specs.Copies.{without_interchanges};
 ghost use Rattle.office_tables.specs.Faults.{IsOfStore};
+ghost use Rattle.office_tables.specs.Writes.{WritesIfOpen};
 
 use office_checks::{OpenedTables, PartnerRow, Setting};
 use office_tables::{
@@ -26,14 +27,8 @@ pub(crate) fn write_settings<S: Alter>(
     rows: &[Setting],
 ) -> Result<(), TableFault>
     ensures same_reference { tx.new.conn.ghost_name ≡ tx.old.conn.ghost_name }
-    ensures steps { HasCleanDisk (state S.Store tx.new.conn.now) →
-        IsTrue (state S.Store tx.old.conn.now).in_transaction → IsTrue (state S.Store tx.old.conn.now).is_open
-        → OnOk result (Steps (with_settings (map setting_content rows.now)) (state S.Store tx.old.conn.now) (state S.Store tx.new.conn.now)) }
-    ensures keeps { HasCleanDisk (state S.Store tx.new.conn.now) →
-        IsTrue (state S.Store tx.old.conn.now).in_transaction → IsTrue (state S.Store tx.old.conn.now).is_open
-        → KeepsCommit (state S.Store tx.old.conn.now) (state S.Store tx.new.conn.now) }
-    ensures survives { Survives (state S.Store tx.old.conn.now) (state S.Store tx.new.conn.now) (λ _. ⊥) }
-    ensures fault { IfErr result IsOfStore }
+    ensures writes { WritesIfOpen (with_settings (map setting_content rows.now)) (state S.Store tx.old.conn.now)
+        (state S.Store tx.new.conn.now) result }
 {
     for row in rows {
         insert_setting(tx, row.name.as_str(), row.value.as_bytes())?;
@@ -47,14 +42,8 @@ pub(crate) fn write_partners<S: Alter>(
     rows: &[PartnerRow],
 ) -> Result<(), TableFault>
     ensures same_reference { tx.new.conn.ghost_name ≡ tx.old.conn.ghost_name }
-    ensures steps { HasCleanDisk (state S.Store tx.new.conn.now) →
-        IsTrue (state S.Store tx.old.conn.now).in_transaction → IsTrue (state S.Store tx.old.conn.now).is_open
-        → OnOk result (Steps (with_partners (map partner_content rows.now)) (state S.Store tx.old.conn.now) (state S.Store tx.new.conn.now)) }
-    ensures keeps { HasCleanDisk (state S.Store tx.new.conn.now) →
-        IsTrue (state S.Store tx.old.conn.now).in_transaction → IsTrue (state S.Store tx.old.conn.now).is_open
-        → KeepsCommit (state S.Store tx.old.conn.now) (state S.Store tx.new.conn.now) }
-    ensures survives { Survives (state S.Store tx.old.conn.now) (state S.Store tx.new.conn.now) (λ _. ⊥) }
-    ensures fault { IfErr result IsOfStore }
+    ensures writes { WritesIfOpen (with_partners (map partner_content rows.now)) (state S.Store tx.old.conn.now)
+        (state S.Store tx.new.conn.now) result }
 {
     for row in rows {
         insert_account(tx, row.id, row.code.as_str(), row.kind, row.next)?;
@@ -68,14 +57,8 @@ pub(crate) fn write_visits<S: Alter>(
     rows: &[Visit],
 ) -> Result<(), TableFault>
     ensures same_reference { tx.new.conn.ghost_name ≡ tx.old.conn.ghost_name }
-    ensures steps { HasCleanDisk (state S.Store tx.new.conn.now) →
-        IsTrue (state S.Store tx.old.conn.now).in_transaction → IsTrue (state S.Store tx.old.conn.now).is_open
-        → OnOk result (Steps (with_visits (map visit_content rows.now)) (state S.Store tx.old.conn.now) (state S.Store tx.new.conn.now)) }
-    ensures keeps { HasCleanDisk (state S.Store tx.new.conn.now) →
-        IsTrue (state S.Store tx.old.conn.now).in_transaction → IsTrue (state S.Store tx.old.conn.now).is_open
-        → KeepsCommit (state S.Store tx.old.conn.now) (state S.Store tx.new.conn.now) }
-    ensures survives { Survives (state S.Store tx.old.conn.now) (state S.Store tx.new.conn.now) (λ _. ⊥) }
-    ensures fault { IfErr result IsOfStore }
+    ensures writes { WritesIfOpen (with_visits (map visit_content rows.now)) (state S.Store tx.old.conn.now)
+        (state S.Store tx.new.conn.now) result }
 {
     for row in rows {
         insert_visit(tx, row)?;
@@ -89,14 +72,8 @@ pub(crate) fn write_places<S: Alter>(
     rows: &[Place],
 ) -> Result<(), TableFault>
     ensures same_reference { tx.new.conn.ghost_name ≡ tx.old.conn.ghost_name }
-    ensures steps { HasCleanDisk (state S.Store tx.new.conn.now) →
-        IsTrue (state S.Store tx.old.conn.now).in_transaction → IsTrue (state S.Store tx.old.conn.now).is_open
-        → OnOk result (Steps (with_places (map place_content rows.now)) (state S.Store tx.old.conn.now) (state S.Store tx.new.conn.now)) }
-    ensures keeps { HasCleanDisk (state S.Store tx.new.conn.now) →
-        IsTrue (state S.Store tx.old.conn.now).in_transaction → IsTrue (state S.Store tx.old.conn.now).is_open
-        → KeepsCommit (state S.Store tx.old.conn.now) (state S.Store tx.new.conn.now) }
-    ensures survives { Survives (state S.Store tx.old.conn.now) (state S.Store tx.new.conn.now) (λ _. ⊥) }
-    ensures fault { IfErr result IsOfStore }
+    ensures writes { WritesIfOpen (with_places (map place_content rows.now)) (state S.Store tx.old.conn.now)
+        (state S.Store tx.new.conn.now) result }
 {
     for row in rows {
         insert_place(tx, row.container, row.visit, row.slot)?;
@@ -110,14 +87,8 @@ pub(crate) fn write_lines<S: Alter>(
     rows: &[Listing],
 ) -> Result<(), TableFault>
     ensures same_reference { tx.new.conn.ghost_name ≡ tx.old.conn.ghost_name }
-    ensures steps { HasCleanDisk (state S.Store tx.new.conn.now) →
-        IsTrue (state S.Store tx.old.conn.now).in_transaction → IsTrue (state S.Store tx.old.conn.now).is_open
-        → OnOk result (Steps (with_lines (map listing_content rows.now)) (state S.Store tx.old.conn.now) (state S.Store tx.new.conn.now)) }
-    ensures keeps { HasCleanDisk (state S.Store tx.new.conn.now) →
-        IsTrue (state S.Store tx.old.conn.now).in_transaction → IsTrue (state S.Store tx.old.conn.now).is_open
-        → KeepsCommit (state S.Store tx.old.conn.now) (state S.Store tx.new.conn.now) }
-    ensures survives { Survives (state S.Store tx.old.conn.now) (state S.Store tx.new.conn.now) (λ _. ⊥) }
-    ensures fault { IfErr result IsOfStore }
+    ensures writes { WritesIfOpen (with_lines (map listing_content rows.now)) (state S.Store tx.old.conn.now)
+        (state S.Store tx.new.conn.now) result }
 {
     for row in rows {
         insert_listing(

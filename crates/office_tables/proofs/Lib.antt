@@ -5,3 +5,4 @@ pub mod MadeLemmas
 pub mod MadeTexts
 pub mod KeyLemmas
 pub mod PairLemmas
+pub mod WritesLemmas

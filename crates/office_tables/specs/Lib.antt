@@ -2,3 +2,4 @@ pub mod Faults
 pub mod Opened
 pub mod Answers
 pub mod Kept
+pub mod Writes

@@ -1,9 +1,7 @@
-ghost use Rattle.std.specs.Prelude.{◌≡◌, ◌<◌, ◌≤◌, ◌+◌, [], ◌∷◌, length, slice_get, Some, codes, decimal, OnOk, IfErr, IsTrue};
+ghost use Rattle.std.specs.Prelude.{◌≡◌, ◌<◌, ◌≤◌, ◌+◌, [], ◌∷◌, length, slice_get, Some, codes, decimal};
 ghost use Rattle.sqlite.specs.Held.{state};
-ghost use Rattle.sqlite.specs.State.{HasCleanDisk, Survives, KeepsCommit};
-ghost use Rattle.office_rows.specs.Steps.{Steps};
 ghost use Rattle.office_rows.specs.Opening.{with_blocks};
-ghost use Rattle.office_tables.specs.Faults.{IsOfStore};
+ghost use Rattle.office_tables.specs.Writes.{Writes, WritesIfOpen};
 
 use crate::table_fault::TableFault;
 use crate::values::{characters, integer};
@@ -16,14 +14,8 @@ pub fn insert_blocks<S: Alter>(
     blocks: &[Block],
 ) -> Result<(), TableFault>
     ensures same_reference { tx.new.conn.ghost_name ≡ tx.old.conn.ghost_name }
-    ensures steps { HasCleanDisk (state S.Store tx.new.conn.now) →
-        IsTrue (state S.Store tx.old.conn.now).in_transaction → IsTrue (state S.Store tx.old.conn.now).is_open
-        → OnOk result (Steps (with_blocks blocks.now) (state S.Store tx.old.conn.now) (state S.Store tx.new.conn.now)) }
-    ensures keeps { HasCleanDisk (state S.Store tx.new.conn.now) →
-        IsTrue (state S.Store tx.old.conn.now).in_transaction → IsTrue (state S.Store tx.old.conn.now).is_open
-        → KeepsCommit (state S.Store tx.old.conn.now) (state S.Store tx.new.conn.now) }
-    ensures survives { Survives (state S.Store tx.old.conn.now) (state S.Store tx.new.conn.now) (λ _. ⊥) }
-    ensures fault { IfErr result IsOfStore }
+    ensures writes { WritesIfOpen (with_blocks blocks.now) (state S.Store tx.old.conn.now)
+        (state S.Store tx.new.conn.now) result }
 {
     for block in blocks {
         insert_block(tx, *block)?;
@@ -33,13 +25,8 @@ pub fn insert_blocks<S: Alter>(
 
 fn insert_block<S: Alter>(tx: &mut Transaction<'_, S>, block: Block) -> Result<(), TableFault>
     ensures same_reference { tx.new.conn.ghost_name ≡ tx.old.conn.ghost_name }
-    ensures steps { HasCleanDisk (state S.Store tx.new.conn.now) → IsTrue (state S.Store tx.old.conn.now).in_transaction
-        → OnOk result (Steps (with_blocks (block ∷ [])) (state S.Store tx.old.conn.now)
-        (state S.Store tx.new.conn.now)) }
-    ensures keeps { HasCleanDisk (state S.Store tx.new.conn.now) → IsTrue (state S.Store tx.old.conn.now).in_transaction
-        → KeepsCommit (state S.Store tx.old.conn.now) (state S.Store tx.new.conn.now) }
-    ensures survives { Survives (state S.Store tx.old.conn.now) (state S.Store tx.new.conn.now) (λ _. ⊥) }
-    ensures fault { IfErr result IsOfStore }
+    ensures writes { Writes (with_blocks (block ∷ [])) (state S.Store tx.old.conn.now)
+        (state S.Store tx.new.conn.now) result }
 {
     let letter = [block.letter];
     tx.execute(

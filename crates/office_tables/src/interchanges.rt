@@ -1,14 +1,13 @@
-ghost use Rattle.std.specs.Prelude.{◌≡◌, [], ◌∷◌, false, OnOk, IfErr, IsTrue};
+ghost use Rattle.std.specs.Prelude.{◌≡◌, [], ◌∷◌, false, OnOk, IsTrue};
 ghost use Rattle.std.specs.List.{list_any};
 ghost use Rattle.sqlite.specs.Held.{state};
-ghost use Rattle.sqlite.specs.State.{HasCleanDisk, Survives, KeepsCommit};
+ghost use Rattle.sqlite.specs.State.{HasCleanDisk};
 ghost use Rattle.office_rows.specs.Effects.{is_pair, with_kept, with_reply};
 ghost use Rattle.office_rows.specs.Opening.{interchange, with_interchanges};
 ghost use Rattle.office_rows.specs.Rows.{Rows};
-ghost use Rattle.office_rows.specs.Steps.{Steps};
 ghost use Rattle.office_rows.specs.Stored.{HasRows};
-ghost use Rattle.office_tables.specs.Faults.{IsOfStore};
 ghost use Rattle.office_tables.specs.Kept.{with_kept_reply};
+ghost use Rattle.office_tables.specs.Writes.{Writes};
 
 use crate::table_fault::TableFault;
 use crate::values::{characters, integer};
@@ -23,13 +22,8 @@ pub fn keep<S: Alter>(
     body: &[u8],
 ) -> Result<(), TableFault>
     ensures same_reference { tx.new.conn.ghost_name ≡ tx.old.conn.ghost_name }
-    ensures steps { HasCleanDisk (state S.Store tx.new.conn.now) → IsTrue (state S.Store tx.old.conn.now).in_transaction
-        → OnOk result (Steps (with_kept partner number body.now) (state S.Store tx.old.conn.now)
-        (state S.Store tx.new.conn.now)) }
-    ensures keeps { HasCleanDisk (state S.Store tx.new.conn.now) → IsTrue (state S.Store tx.old.conn.now).in_transaction
-        → KeepsCommit (state S.Store tx.old.conn.now) (state S.Store tx.new.conn.now) }
-    ensures survives { Survives (state S.Store tx.old.conn.now) (state S.Store tx.new.conn.now) (λ _. ⊥) }
-    ensures fault { IfErr result IsOfStore }
+    ensures writes { Writes (with_kept partner number body.now) (state S.Store tx.old.conn.now)
+        (state S.Store tx.new.conn.now) result }
 {
     tx.execute(
         "INSERT INTO interchange (partner, number, body, reply) VALUES (?1, ?2, ?3, '')",
@@ -51,13 +45,8 @@ pub fn keep_taken<S: Alter>(
     reply: &str,
 ) -> Result<(), TableFault>
     ensures same_reference { tx.new.conn.ghost_name ≡ tx.old.conn.ghost_name }
-    ensures steps { HasCleanDisk (state S.Store tx.new.conn.now) → IsTrue (state S.Store tx.old.conn.now).in_transaction
-        → OnOk result (Steps (with_kept_reply partner number body.now reply.now) (state S.Store tx.old.conn.now)
-        (state S.Store tx.new.conn.now)) }
-    ensures keeps { HasCleanDisk (state S.Store tx.new.conn.now) → IsTrue (state S.Store tx.old.conn.now).in_transaction
-        → KeepsCommit (state S.Store tx.old.conn.now) (state S.Store tx.new.conn.now) }
-    ensures survives { Survives (state S.Store tx.old.conn.now) (state S.Store tx.new.conn.now) (λ _. ⊥) }
-    ensures fault { IfErr result IsOfStore }
+    ensures writes { Writes (with_kept_reply partner number body.now reply.now) (state S.Store tx.old.conn.now)
+        (state S.Store tx.new.conn.now) result }
 {
     insert_interchange(tx, u32::from(partner), number, body, reply)
 }
@@ -71,16 +60,11 @@ pub fn insert_interchange<'a, S: Alter>(
     reply: &'a str,
 ) -> Result<(), TableFault>
     ensures same_reference { tx.new.conn.ghost_name ≡ tx.old.conn.ghost_name }
-    ensures steps { HasCleanDisk (state S.Store tx.new.conn.now) → IsTrue (state S.Store tx.old.conn.now).in_transaction
-        → OnOk result (Steps (with_interchanges (interchange partner number body.now reply.now ∷ []))
-        (state S.Store tx.old.conn.now) (state S.Store tx.new.conn.now)) }
+    ensures writes { Writes (with_interchanges (interchange partner number body.now reply.now ∷ []))
+        (state S.Store tx.old.conn.now) (state S.Store tx.new.conn.now) result }
     ensures new { HasCleanDisk (state S.Store tx.new.conn.now) → IsTrue (state S.Store tx.old.conn.now).in_transaction
         → OnOk result ((rows : Rows) → HasRows rows (state S.Store tx.old.conn.now).now →
         list_any (is_pair partner number) rows.interchanges ≡ false) }
-    ensures keeps { HasCleanDisk (state S.Store tx.new.conn.now) → IsTrue (state S.Store tx.old.conn.now).in_transaction
-        → KeepsCommit (state S.Store tx.old.conn.now) (state S.Store tx.new.conn.now) }
-    ensures survives { Survives (state S.Store tx.old.conn.now) (state S.Store tx.new.conn.now) (λ _. ⊥) }
-    ensures fault { IfErr result IsOfStore }
 {
     tx.execute(
         "INSERT INTO interchange (partner, number, body, reply) VALUES (?1, ?2, ?3, ?4)",
@@ -102,13 +86,8 @@ pub fn set_reply<S: Alter>(
     reply: &str,
 ) -> Result<(), TableFault>
     ensures same_reference { tx.new.conn.ghost_name ≡ tx.old.conn.ghost_name }
-    ensures steps { HasCleanDisk (state S.Store tx.new.conn.now) → IsTrue (state S.Store tx.old.conn.now).in_transaction
-        → OnOk result (Steps (with_reply partner number reply.now) (state S.Store tx.old.conn.now)
-        (state S.Store tx.new.conn.now)) }
-    ensures keeps { HasCleanDisk (state S.Store tx.new.conn.now) → IsTrue (state S.Store tx.old.conn.now).in_transaction
-        → KeepsCommit (state S.Store tx.old.conn.now) (state S.Store tx.new.conn.now) }
-    ensures survives { Survives (state S.Store tx.old.conn.now) (state S.Store tx.new.conn.now) (λ _. ⊥) }
-    ensures fault { IfErr result IsOfStore }
+    ensures writes { Writes (with_reply partner number reply.now) (state S.Store tx.old.conn.now)
+        (state S.Store tx.new.conn.now) result }
 {
     tx.execute(
         "UPDATE interchange SET reply = ?3 WHERE partner = ?1 AND number = ?2",

@@ -1,12 +1,10 @@
-ghost use Rattle.std.specs.Prelude.{◌≡◌, [], ◌∷◌, OnOk, IfErr, IsTrue};
+ghost use Rattle.std.specs.Prelude.{◌≡◌, [], ◌∷◌};
 ghost use Rattle.sqlite.specs.Held.{state};
-ghost use Rattle.sqlite.specs.State.{HasCleanDisk, Survives, KeepsCommit};
 ghost use Rattle.edi_messages.specs.Owned.{call_content};
 ghost use Rattle.terminal_core.specs.Rows.{listed_on, line_done, unlisted};
 ghost use Rattle.office_rows.specs.Effects.{with_change};
 ghost use Rattle.office_rows.specs.Opening.{listing, with_lines};
-ghost use Rattle.office_rows.specs.Steps.{Steps};
-ghost use Rattle.office_tables.specs.Faults.{IsOfStore};
+ghost use Rattle.office_tables.specs.Writes.{Writes};
 
 use crate::codes::{side_code, state_code};
 use crate::table_fault::TableFault;
@@ -25,13 +23,8 @@ pub fn insert_line<'a, S: Alter>(
     port: &'a str,
 ) -> Result<(), TableFault>
     ensures same_reference { tx.new.conn.ghost_name ≡ tx.old.conn.ghost_name }
-    ensures steps { HasCleanDisk (state S.Store tx.new.conn.now) → IsTrue (state S.Store tx.old.conn.now).in_transaction
-        → OnOk result (Steps (with_change (listed_on (call_content call.now) side container port.now))
-        (state S.Store tx.old.conn.now) (state S.Store tx.new.conn.now)) }
-    ensures keeps { HasCleanDisk (state S.Store tx.new.conn.now) → IsTrue (state S.Store tx.old.conn.now).in_transaction
-        → KeepsCommit (state S.Store tx.old.conn.now) (state S.Store tx.new.conn.now) }
-    ensures survives { Survives (state S.Store tx.old.conn.now) (state S.Store tx.new.conn.now) (λ _. ⊥) }
-    ensures fault { IfErr result IsOfStore }
+    ensures writes { Writes (with_change (listed_on (call_content call.now) side container port.now))
+        (state S.Store tx.old.conn.now) (state S.Store tx.new.conn.now) result }
 {
     insert_listing(tx, call, side, container, port, LineState::Pending)
 }
@@ -46,13 +39,8 @@ pub fn insert_listing<'a, S: Alter>(
     line_state: LineState,
 ) -> Result<(), TableFault>
     ensures same_reference { tx.new.conn.ghost_name ≡ tx.old.conn.ghost_name }
-    ensures steps { HasCleanDisk (state S.Store tx.new.conn.now) → IsTrue (state S.Store tx.old.conn.now).in_transaction
-        → OnOk result (Steps (with_lines (listing (call_content call.now) side container port.now line_state ∷ []))
-        (state S.Store tx.old.conn.now) (state S.Store tx.new.conn.now)) }
-    ensures keeps { HasCleanDisk (state S.Store tx.new.conn.now) → IsTrue (state S.Store tx.old.conn.now).in_transaction
-        → KeepsCommit (state S.Store tx.old.conn.now) (state S.Store tx.new.conn.now) }
-    ensures survives { Survives (state S.Store tx.old.conn.now) (state S.Store tx.new.conn.now) (λ _. ⊥) }
-    ensures fault { IfErr result IsOfStore }
+    ensures writes { Writes (with_lines (listing (call_content call.now) side container port.now line_state ∷ []))
+        (state S.Store tx.old.conn.now) (state S.Store tx.new.conn.now) result }
 {
     let container = container.text();
     tx.execute(
@@ -77,13 +65,8 @@ pub fn set_done<S: Alter>(
     container: BoxNumber,
 ) -> Result<(), TableFault>
     ensures same_reference { tx.new.conn.ghost_name ≡ tx.old.conn.ghost_name }
-    ensures steps { HasCleanDisk (state S.Store tx.new.conn.now) → IsTrue (state S.Store tx.old.conn.now).in_transaction
-        → OnOk result (Steps (with_change (line_done (call_content call.now) side container))
-        (state S.Store tx.old.conn.now) (state S.Store tx.new.conn.now)) }
-    ensures keeps { HasCleanDisk (state S.Store tx.new.conn.now) → IsTrue (state S.Store tx.old.conn.now).in_transaction
-        → KeepsCommit (state S.Store tx.old.conn.now) (state S.Store tx.new.conn.now) }
-    ensures survives { Survives (state S.Store tx.old.conn.now) (state S.Store tx.new.conn.now) (λ _. ⊥) }
-    ensures fault { IfErr result IsOfStore }
+    ensures writes { Writes (with_change (line_done (call_content call.now) side container))
+        (state S.Store tx.old.conn.now) (state S.Store tx.new.conn.now) result }
 {
     let container = container.text();
     tx.execute(
@@ -106,13 +89,8 @@ pub fn delete_line<S: Alter>(
     container: BoxNumber,
 ) -> Result<(), TableFault>
     ensures same_reference { tx.new.conn.ghost_name ≡ tx.old.conn.ghost_name }
-    ensures steps { HasCleanDisk (state S.Store tx.new.conn.now) → IsTrue (state S.Store tx.old.conn.now).in_transaction
-        → OnOk result (Steps (with_change (unlisted (call_content call.now) side container))
-        (state S.Store tx.old.conn.now) (state S.Store tx.new.conn.now)) }
-    ensures keeps { HasCleanDisk (state S.Store tx.new.conn.now) → IsTrue (state S.Store tx.old.conn.now).in_transaction
-        → KeepsCommit (state S.Store tx.old.conn.now) (state S.Store tx.new.conn.now) }
-    ensures survives { Survives (state S.Store tx.old.conn.now) (state S.Store tx.new.conn.now) (λ _. ⊥) }
-    ensures fault { IfErr result IsOfStore }
+    ensures writes { Writes (with_change (unlisted (call_content call.now) side container))
+        (state S.Store tx.old.conn.now) (state S.Store tx.new.conn.now) result }
 {
     let container = container.text();
     tx.execute(

@@ -1,11 +1,9 @@
-ghost use Rattle.std.specs.Prelude.{◌≡◌, OnOk, IfErr, IsTrue};
+ghost use Rattle.std.specs.Prelude.{◌≡◌};
 ghost use Rattle.sqlite.specs.Held.{state};
-ghost use Rattle.sqlite.specs.State.{HasCleanDisk, Survives, KeepsCommit};
 ghost use Rattle.terminal_core.specs.Rows.{visit_content, visit_opened, visit_closed};
 ghost use Rattle.office_rows.specs.Values.{out_by, out_partner, out_number, out_at};
 ghost use Rattle.office_rows.specs.Effects.{with_change};
-ghost use Rattle.office_rows.specs.Steps.{Steps};
-ghost use Rattle.office_tables.specs.Faults.{IsOfStore};
+ghost use Rattle.office_tables.specs.Writes.{Writes};
 
 use crate::codes::{laden_code, way_code};
 use crate::table_fault::TableFault;
@@ -16,13 +14,8 @@ use terminal_core::{Departure, Visit};
 /// Writes the row of a visit, with its exit if it has one.
 pub fn insert_visit<S: Alter>(tx: &mut Transaction<'_, S>, visit: &Visit) -> Result<(), TableFault>
     ensures same_reference { tx.new.conn.ghost_name ≡ tx.old.conn.ghost_name }
-    ensures steps { HasCleanDisk (state S.Store tx.new.conn.now) → IsTrue (state S.Store tx.old.conn.now).in_transaction
-        → OnOk result (Steps (with_change (visit_opened (visit_content visit.now))) (state S.Store tx.old.conn.now)
-        (state S.Store tx.new.conn.now)) }
-    ensures keeps { HasCleanDisk (state S.Store tx.new.conn.now) → IsTrue (state S.Store tx.old.conn.now).in_transaction
-        → KeepsCommit (state S.Store tx.old.conn.now) (state S.Store tx.new.conn.now) }
-    ensures survives { Survives (state S.Store tx.old.conn.now) (state S.Store tx.new.conn.now) (λ _. ⊥) }
-    ensures fault { IfErr result IsOfStore }
+    ensures writes { Writes (with_change (visit_opened (visit_content visit.now))) (state S.Store tx.old.conn.now)
+        (state S.Store tx.new.conn.now) result }
 {
     match visit.departure {
         None => insert_columns(tx, visit, 0, 0, 0, &[]),
@@ -51,13 +44,8 @@ fn insert_columns<'a, S: Alter>(
     requires number { out_number ≡ Rattle.office_rows.specs.Values.out_number visit.now.departure }
     requires at { out_at.now ≡ Rattle.office_rows.specs.Values.out_at visit.now.departure }
     ensures same_reference { tx.new.conn.ghost_name ≡ tx.old.conn.ghost_name }
-    ensures steps { HasCleanDisk (state S.Store tx.new.conn.now) → IsTrue (state S.Store tx.old.conn.now).in_transaction
-        → OnOk result (Steps (with_change (visit_opened (visit_content visit.now))) (state S.Store tx.old.conn.now)
-        (state S.Store tx.new.conn.now)) }
-    ensures keeps { HasCleanDisk (state S.Store tx.new.conn.now) → IsTrue (state S.Store tx.old.conn.now).in_transaction
-        → KeepsCommit (state S.Store tx.old.conn.now) (state S.Store tx.new.conn.now) }
-    ensures survives { Survives (state S.Store tx.old.conn.now) (state S.Store tx.new.conn.now) (λ _. ⊥) }
-    ensures fault { IfErr result IsOfStore }
+    ensures writes { Writes (with_change (visit_opened (visit_content visit.now))) (state S.Store tx.old.conn.now)
+        (state S.Store tx.new.conn.now) result }
 {
     let container = visit.container.text();
     let size = visit.size_type.text();
@@ -93,13 +81,8 @@ pub fn set_exit<S: Alter>(
     departure: Departure,
 ) -> Result<(), TableFault>
     ensures same_reference { tx.new.conn.ghost_name ≡ tx.old.conn.ghost_name }
-    ensures steps { HasCleanDisk (state S.Store tx.new.conn.now) → IsTrue (state S.Store tx.old.conn.now).in_transaction
-        → OnOk result (Steps (with_change (visit_closed visit departure)) (state S.Store tx.old.conn.now)
-        (state S.Store tx.new.conn.now)) }
-    ensures keeps { HasCleanDisk (state S.Store tx.new.conn.now) → IsTrue (state S.Store tx.old.conn.now).in_transaction
-        → KeepsCommit (state S.Store tx.old.conn.now) (state S.Store tx.new.conn.now) }
-    ensures survives { Survives (state S.Store tx.old.conn.now) (state S.Store tx.new.conn.now) (λ _. ⊥) }
-    ensures fault { IfErr result IsOfStore }
+    ensures writes { Writes (with_change (visit_closed visit departure)) (state S.Store tx.old.conn.now)
+        (state S.Store tx.new.conn.now) result }
 {
     let at = departure.moment.digits();
     tx.execute(

@@ -21,11 +21,11 @@ returns-clause-crash g c =
     let P = IsWhole change (state g.S.Store old) in
     let begins : c.transaction-tx.result.conn.now ≡ begun = c.transaction-tx.ensures.begun in
     let commits : (db : _) → HasCleanDisk (state g.S.Store last) → db ≡ (state g.S.Store last).now.trees → P db = λ db clean is.
-    let steps : Steps change (state g.S.Store begun) (state g.S.Store last) = rw begins at (c.in_ok-write_all.ensures.steps clean (rw begins refl)) in
-    let keeps = rw begins at (c.write_all.ensures.keeps clean (rw begins refl)) in
+    let steps : Steps change (state g.S.Store begun) (state g.S.Store last) = rw begins at (c.in_ok-write_all.ensures.writes.steps clean (rw begins refl)) in
+    let keeps = rw begins at (c.write_all.ensures.writes.keeps clean (rw begins refl)) in
     let settled = c.is_autocommit-is_idle.ensures.settled (c.is_autocommit-is_idle.ensures.value ∙ ap not c.requires.idle) (keeps.was_open steps.is_open) in
     whole change (state g.S.Store old) (state g.S.Store begun) (state g.S.Store last) db settled steps is in
-    let inside = survives_begin g.S.Store old (state g.S.Store last) _ (rw begins at c.write_all.ensures.survives) in
+    let inside = survives_begin g.S.Store old (state g.S.Store last) _ (rw begins at c.write_all.ensures.writes.survives) in
     let all = survives_then (state g.S.Store old) (state g.S.Store last) (state g.S.Store end) _ _ P (λ _ db none. absurd none)
     (λ clean db is. commits db (omega (arith, c.commit.ensures.survives.clean)) is) inside c.commit.ensures.survives in
     let same : end ≡ c.conn-2-1.given.0 = search rules in
@@ -42,8 +42,8 @@ returns-clause-ok g c clean =
     let same : end ≡ c.conn-2-1.given.0 = search rules in
     let ended : HasCleanDisk (state g.S.Store end) = subst (λ h. HasCleanDisk (state g.S.Store h)) (sym same) clean in
     let before : HasCleanDisk (state g.S.Store last) = omega (arith, c.commit.ensures.survives.clean) in
-    let steps : Steps change (state g.S.Store begun) (state g.S.Store last) = rw begins at (c.in_ok-write_all.ensures.steps before (rw begins refl)) in
-    let keeps = rw begins at (c.write_all.ensures.keeps before (rw begins refl)) in
+    let steps : Steps change (state g.S.Store begun) (state g.S.Store last) = rw begins at (c.in_ok-write_all.ensures.writes.steps before (rw begins refl)) in
+    let keeps = rw begins at (c.write_all.ensures.writes.keeps before (rw begins refl)) in
     let settled = c.is_autocommit-is_idle.ensures.settled (c.is_autocommit-is_idle.ensures.value ∙ ap not c.requires.idle) (keeps.was_open steps.is_open) in
     subst (λ h. OnOk c.commit.result (Commits change (state g.S.Store old) (state g.S.Store h))) same
     (on_ok c.commit.result (committed change (state g.S.Store old) (state g.S.Store begun) (state g.S.Store last) (state g.S.Store end) settled steps

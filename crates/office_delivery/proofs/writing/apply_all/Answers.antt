@@ -20,8 +20,8 @@ loop-change-preserved g c =
     record {
       same = search rules;
       steps = λ clean inside was.
-          let early : HasCleanDisk mid = omega (arith, c.apply.ensures.survives.clean) in
+          let early : HasCleanDisk mid = omega (arith, c.apply.ensures.writes.survives.clean) in
           let first = c.loop-change.invariant.steps early inside was in
-          steps_more change_content with_change (take i all) (take (i + 1) all) item old mid new more first (c.in_ok-apply.ensures.steps clean first.inside);
-      survives = quiet_then old mid new c.loop-change.invariant.survives c.apply.ensures.survives;
+          steps_more change_content with_change (take i all) (take (i + 1) all) item old mid new more first (c.in_ok-apply.ensures.writes.steps clean first.inside);
+      survives = quiet_then old mid new c.loop-change.invariant.survives c.apply.ensures.writes.survives;
     }

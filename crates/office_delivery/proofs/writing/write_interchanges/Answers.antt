@@ -20,8 +20,8 @@ loop-item-preserved g c =
     record {
       same = search rules;
       steps = λ clean inside was.
-          let early : HasCleanDisk mid = omega (arith, c.write_interchange.ensures.survives.clean) in
+          let early : HasCleanDisk mid = omega (arith, c.write_interchange.ensures.writes.survives.clean) in
           let first = c.loop-item.invariant.steps early inside was in
-          steps_more taken_content (with_interchange c.args.partner) (take i all) (take (i + 1) all) item old mid new more first (c.in_ok-write_interchange.ensures.steps clean first.inside first.is_open);
-      survives = quiet_then old mid new c.loop-item.invariant.survives c.write_interchange.ensures.survives;
+          steps_more taken_content (with_interchange c.args.partner) (take i all) (take (i + 1) all) item old mid new more first (c.in_ok-write_interchange.ensures.writes.steps clean first.inside first.is_open);
+      survives = quiet_then old mid new c.loop-item.invariant.survives c.write_interchange.ensures.writes.survives;
     }

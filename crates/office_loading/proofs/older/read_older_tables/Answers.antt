@@ -1,19 +1,18 @@
-use Rattle.std.proofs.Common.{◌≡◌, Ok, map, [], ◌∷◌, sym, ap, subst, ◌∙◌}
+use Rattle.std.proofs.Common.{Ok, map, ap, subst}
 use Rattle.std.specs.List.{AllByRecursion}
 use Rattle.std.proofs.lemmas.Result.{err_from_is_err_and}
 use Rattle.sqlite.specs.Effect.{Database}
 use Rattle.sqlite.specs.Held.{state}
-use Rattle.sqlite.specs.State.{HasCleanDisk}
 use Rattle.terminal_core.specs.Rows.{visit_content}
 use Rattle.office_rows.specs.Rows.{listing_content}
 use Rattle.office_rows.specs.Opened.{OpenedRows, ShowsNumbers}
-use Rattle.office_rows.specs.Layouts.{bare, bare_schema}
+use Rattle.office_rows.specs.Layouts.{bare}
 use Rattle.office_rows.specs.Bare.{with_weights}
 use Rattle.office_checks.specs.Contents.{partner_content, number_content, place_content}
 use Rattle.office_loading.specs.Decoded.{itself}
 use Rattle.office_loading.specs.Fits.{FitsPartner, FitsNumber, FitsVisit, FitsPlace, FitsLine, FitsBlock}
 use Rattle.office_loading.specs.Tables.{FailsTable, ReadsTable, ShowsPartners, ShowsVisits, ShowsPlaces, ShowsLines, ShowsBlocks}
-use Rattle.office_loading.proofs.ChainLemmas.{◌then◌, clean_first, unchanged_then, same_items}
+use Rattle.office_loading.proofs.ChainLemmas.{◌then◌, clean_first, same_items}
 use Rattle.office_checks.specs.declared.opened_tables.OpenedTables.{OpenedTables}
 use Rattle.office_loading.proofs.OlderLemmas.{Follows, follows, of_first, one_fails_older, older_settings_fail, shown_with, fault_tells_older}
 use Rattle.office_loading.proofs.older.read_older_tables.Goals as goal

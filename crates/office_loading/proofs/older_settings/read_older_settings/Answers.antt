@@ -1,9 +1,7 @@
-use Rattle.std.proofs.Common.{◌≡◌, Ok, Err, true, false, not, ◌&&◌, [], ◌∷◌, map, refl, sym, ap, ap₂, ◌∙◌}
+use Rattle.std.proofs.Common.{◌≡◌, Ok, Err, true, false, [], ◌∷◌, map, refl, sym, ap, ◌∙◌}
 use Rattle.std.proofs.lemmas.Result.{err_from_is_err_and}
 use Rattle.sqlite.specs.Held.{state}
-use Rattle.terminal_core.specs.declared.version.Version.TheVariants.{First, Second}
 use Rattle.office_rows.specs.Tables.{setting}
-use Rattle.office_rows.specs.Opening.{version_text}
 use Rattle.office_rows.specs.Values.{setting_values}
 use Rattle.office_checks.specs.Contents.{setting_content}
 use Rattle.office_loading.specs.Columns.{is_older, SaysSetting}

@@ -1,10 +1,9 @@
-use Rattle.std.proofs.Common.{◌≡◌, [], false, Ok, IfErr, OnOk, refl, ◌∙◌, rules, arith}
+use Rattle.std.proofs.Common.{◌≡◌, [], false, Ok, IfErr, refl, ◌∙◌, rules, arith}
 use Rattle.std.proofs.lemmas.Result.{err_from_is_err_and}
 use Rattle.sqlite.specs.Held.{state}
 use Rattle.sqlite.specs.Given.{HasGiven}
 use Rattle.sqlite.specs.State.{HasCleanDisk, IsUnchanged, FailsToQuery, Survives, CommitsShowing}
 use Rattle.office_selecting.proofs.ReadLemmas.{writes_nothing_failed}
-use Rattle.office_selecting.specs.Reads.{WritesNothing}
 use Rattle.office_loading.specs.Decoded.{FailsShown, ReadsShown}
 use Rattle.office_loading.proofs.ChainLemmas.{◌then◌}
 use Rattle.office_loading.proofs.StreamLemmas.{only_reads, begins_quietly, moves_quietly, begun_shows, stands_first, stands_next, row_refused, all_read}

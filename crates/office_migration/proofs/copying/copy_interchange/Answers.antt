@@ -17,4 +17,4 @@ returns-clause-steps g c clean inside =
     let pair : HasCleanDisk (state g.S.Store c.select_interchange.new.conn) → from.now.schema ≡ bare_schema → IsOfPair (from.now.trees 2) c.args.partner c.args.number one = λ here is interchanges held.
     let found = c.in_ok-kept.ensures.one _ (rw (c.deref.ensures.value) (c.in_ok-rows.ensures.shown here (bare, is) interchanges held)) in
     one_written c.args.partner c.args.number interchanges kept reply c.reply_of-reply.ensures found.0 found.1 found.2 found.3 in
-    on_ok c.insert_interchange.result (λ steps. (one, pair, steps)) (rw c.as_slice.ensures.value at (c.insert_interchange.ensures.steps clean inside))
+    on_ok c.insert_interchange.result (λ steps. (one, pair, steps)) (rw c.as_slice.ensures.value at (c.insert_interchange.ensures.writes.steps clean inside))

@@ -23,9 +23,9 @@ loop-row-preserved g c =
     record {
       same = search rules;
       steps = λ clean inside was.
-          let early : HasCleanDisk mid = omega (arith, c.insert_listing.ensures.survives.clean) in
+          let early : HasCleanDisk mid = omega (arith, c.insert_listing.ensures.writes.survives.clean) in
           let first = c.loop-row.invariant.steps early inside was in
-          let second : Steps (with_lines (one ∷ [])) mid new = rw c.as_str.ensures.value at (c.in_ok-insert_listing.ensures.steps clean first.inside) in
+          let second : Steps (with_lines (one ∷ [])) mid new = rw c.as_str.ensures.value at (c.in_ok-insert_listing.ensures.writes.steps clean first.inside) in
           subst (λ l. Steps (with_lines l) old new) (sym more) (more_lines old mid new (map listing_content (take i all)) (one ∷ []) first second);
-      survives = quiet_then old mid new c.loop-row.invariant.survives c.insert_listing.ensures.survives;
+      survives = quiet_then old mid new c.loop-row.invariant.survives c.insert_listing.ensures.writes.survives;
     }

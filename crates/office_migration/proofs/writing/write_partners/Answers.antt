@@ -23,9 +23,9 @@ loop-row-preserved g c =
     record {
       same = search rules;
       steps = λ clean inside was.
-          let early : HasCleanDisk mid = omega (arith, c.insert_account.ensures.survives.clean) in
+          let early : HasCleanDisk mid = omega (arith, c.insert_account.ensures.writes.survives.clean) in
           let first = c.loop-row.invariant.steps early inside was in
-          let second : Steps (with_partners (one ∷ [])) mid new = rw c.as_str.ensures.value at (c.in_ok-insert_account.ensures.steps clean first.inside) in
+          let second : Steps (with_partners (one ∷ [])) mid new = rw c.as_str.ensures.value at (c.in_ok-insert_account.ensures.writes.steps clean first.inside) in
           subst (λ l. Steps (with_partners l) old new) (sym more) (more_partners old mid new (map partner_content (take i all)) (one ∷ []) first second);
-      survives = quiet_then old mid new c.loop-row.invariant.survives c.insert_account.ensures.survives;
+      survives = quiet_then old mid new c.loop-row.invariant.survives c.insert_account.ensures.writes.survives;
     }

@@ -23,9 +23,9 @@ loop-row-preserved g c =
     record {
       same = search rules;
       steps = λ clean inside was.
-          let early : HasCleanDisk mid = omega (arith, c.insert_place.ensures.survives.clean) in
+          let early : HasCleanDisk mid = omega (arith, c.insert_place.ensures.writes.survives.clean) in
           let first = c.loop-row.invariant.steps early inside was in
-          let second : Steps (with_places (one ∷ [])) mid new = c.in_ok-insert_place.ensures.steps clean first.inside in
+          let second : Steps (with_places (one ∷ [])) mid new = c.in_ok-insert_place.ensures.writes.steps clean first.inside in
           subst (λ l. Steps (with_places l) old new) (sym more) (more_places old mid new (map place_content (take i all)) (one ∷ []) first second);
-      survives = quiet_then old mid new c.loop-row.invariant.survives c.insert_place.ensures.survives;
+      survives = quiet_then old mid new c.loop-row.invariant.survives c.insert_place.ensures.writes.survives;
     }

@@ -23,9 +23,9 @@ loop-row-preserved g c =
     record {
       same = search rules;
       steps = λ clean inside was.
-          let early : HasCleanDisk mid = omega (arith, c.insert_setting.ensures.survives.clean) in
+          let early : HasCleanDisk mid = omega (arith, c.insert_setting.ensures.writes.survives.clean) in
           let first = c.loop-row.invariant.steps early inside was in
-          let second : Steps (with_settings (one ∷ [])) mid new = rw (c.as_str.ensures.value, c.as_bytes.ensures.value) at (c.in_ok-insert_setting.ensures.steps clean first.inside) in
+          let second : Steps (with_settings (one ∷ [])) mid new = rw (c.as_str.ensures.value, c.as_bytes.ensures.value) at (c.in_ok-insert_setting.ensures.writes.steps clean first.inside) in
           subst (λ l. Steps (with_settings l) old new) (sym more) (more_settings old mid new (map setting_content (take i all)) (one ∷ []) first second);
-      survives = quiet_then old mid new c.loop-row.invariant.survives c.insert_setting.ensures.survives;
+      survives = quiet_then old mid new c.loop-row.invariant.survives c.insert_setting.ensures.writes.survives;
     }

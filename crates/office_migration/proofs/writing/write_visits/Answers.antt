@@ -23,9 +23,9 @@ loop-row-preserved g c =
     record {
       same = search rules;
       steps = λ clean inside was.
-          let early : HasCleanDisk mid = omega (arith, c.insert_visit.ensures.survives.clean) in
+          let early : HasCleanDisk mid = omega (arith, c.insert_visit.ensures.writes.survives.clean) in
           let first = c.loop-row.invariant.steps early inside was in
-          let second : Steps (with_visits (one ∷ [])) mid new = c.in_ok-insert_visit.ensures.steps clean first.inside in
+          let second : Steps (with_visits (one ∷ [])) mid new = c.in_ok-insert_visit.ensures.writes.steps clean first.inside in
           subst (λ l. Steps (with_visits l) old new) (sym more) (more_visits old mid new (map visit_content (take i all)) (one ∷ []) first second);
-      survives = quiet_then old mid new c.loop-row.invariant.survives c.insert_visit.ensures.survives;
+      survives = quiet_then old mid new c.loop-row.invariant.survives c.insert_visit.ensures.writes.survives;
     }

@@ -17,9 +17,9 @@ loop-block-preserved g c =
     record {
       same = search rules;
       steps = λ clean inside was.
-          let early : HasCleanDisk mid = omega (arith, c.insert_block.ensures.survives.clean) in
+          let early : HasCleanDisk mid = omega (arith, c.insert_block.ensures.writes.survives.clean) in
           let first = c.loop-block.invariant.steps early inside was in
-          let second = c.in_ok-insert_block.ensures.steps clean first.inside in
+          let second = c.in_ok-insert_block.ensures.writes.steps clean first.inside in
           subst (λ l. Steps (with_blocks l) old new) (sym (take_more c.args.blocks.now i _ c.loop-block-test.true)) (more_blocks old mid new (take i c.args.blocks.now) _ first second);
-      survives = quiet_then old mid new c.loop-block.invariant.survives c.insert_block.ensures.survives;
+      survives = quiet_then old mid new c.loop-block.invariant.survives c.insert_block.ensures.writes.survives;
     }

@@ -5,18 +5,19 @@ use Rattle.office_rows.specs.Values.{interchange_values}
 use Rattle.office_rows.specs.Opening.{interchange, with_interchanges}
 use Rattle.office_rows.proofs.Writing as texts
 use Rattle.office_rows.proofs.Written.{inserted_whole}
-use Rattle.office_rows.proofs.StepLemmas.{steps_on}
 use Rattle.office_tables.proofs.PairLemmas.{new_pair}
+use Rattle.office_tables.proofs.WritesLemmas.{writes_of}
 use Rattle.office_tables.proofs.interchanges.insert_interchange.Goals as goal
 
-pub returns-clause-steps : goal.returns-clause-steps
-returns-clause-steps g c clean inside =
+pub returns-clause-writes : goal.returns-clause-writes
+returns-clause-writes g c =
     let old = state g.S.Store c.args.tx.now.conn.now in
     let new = state g.S.Store c.execute.new.self.conn.now in
     let one = interchange c.args.partner c.args.number c.args.body.now c.args.reply.now in
+    writes_of (with_interchanges (one ∷ [])) old new _ c.execute.ensures.survives (λ clean inside.
     let ran = c.in_ok-execute.ensures.runs clean inside in
     let h : Executes texts.insert_whole (interchange_values one) old new (Ok c.in_ok-execute.field-0) = rw (c.integer.ensures, c.integer-2.ensures, c.characters.ensures, c.as_bytes.ensures.value) at ran.0 in
-    steps_on (with_interchanges (one ∷ [])) old new ran.1 (λ rows has. inserted_whole old new rows c.in_ok-execute.field-0 has one h)
+    (ran.1, λ rows has. inserted_whole old new rows c.in_ok-execute.field-0 has one h))
 
 pub returns-clause-new : goal.returns-clause-new
 returns-clause-new g c clean inside rows has =

@@ -2,8 +2,15 @@ use Rattle.sqlite.specs.Held.{state}
 use Rattle.office_tables.proofs.PairLemmas.{steps_kept}
 use Rattle.office_tables.proofs.interchanges.keep_taken.Goals as goal
 
-pub returns-clause-steps : goal.returns-clause-steps
-returns-clause-steps g c clean inside =
+pub returns-clause-writes : goal.returns-clause-writes
+returns-clause-writes g c =
     let a = c.args in
-    rw c.from.ensures at (steps_kept c.from.result a.number a.body.now a.reply.now (state g.S.Store a.tx.now.conn.now) (state g.S.Store c.insert_interchange.new.tx.conn.now) c.insert_interchange.result
-    (c.insert_interchange.ensures.steps clean inside) (c.insert_interchange.ensures.new clean inside))
+    let it = c.insert_interchange.ensures in
+    record {
+      steps = λ clean inside.
+          rw c.from.ensures at (steps_kept c.from.result a.number a.body.now a.reply.now (state g.S.Store a.tx.now.conn.now) (state g.S.Store c.insert_interchange.new.tx.conn.now) c.insert_interchange.result
+          (it.writes.steps clean inside) (it.new clean inside));
+      keeps = it.writes.keeps;
+      survives = it.writes.survives;
+      fault = it.writes.fault;
+    }

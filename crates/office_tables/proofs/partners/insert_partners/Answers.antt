@@ -29,9 +29,9 @@ loop-account-preserved g c =
       same = search rules;
       id = omega (arith, c.loop-account.invariant.id);
       steps = λ clean inside was.
-          let early : HasCleanDisk mid = omega (arith, c.add_partner.ensures.survives.clean) in
+          let early : HasCleanDisk mid = omega (arith, c.add_partner.ensures.writes.survives.clean) in
           let first = c.loop-account.invariant.steps early inside was in
-          let second : Steps (with_partners (one ∷ [])) mid new = rw c.as_str.ensures.value at (c.in_ok-add_partner.ensures.steps clean first.inside) in
+          let second : Steps (with_partners (one ∷ [])) mid new = rw c.as_str.ensures.value at (c.in_ok-add_partner.ensures.writes.steps clean first.inside) in
           subst (λ l. Steps (with_partners l) old new) (sym more) (more_partners old mid new (partners_from 1 (account_contents (take i all))) (one ∷ []) first second);
-      survives = quiet_then old mid new c.loop-account.invariant.survives c.add_partner.ensures.survives;
+      survives = quiet_then old mid new c.loop-account.invariant.survives c.add_partner.ensures.writes.survives;
     }

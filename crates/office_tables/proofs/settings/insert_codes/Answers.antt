@@ -21,9 +21,9 @@ loop-place-preserved g c =
     record {
       same = search rules;
       steps = λ clean inside was.
-          let early : HasCleanDisk mid = omega (arith, c.insert_setting.ensures.survives.clean) in
+          let early : HasCleanDisk mid = omega (arith, c.insert_setting.ensures.writes.survives.clean) in
           let first = c.loop-place.invariant.steps early inside was in
-          let second = c.in_ok-insert_setting.ensures.steps clean first.inside in
+          let second = c.in_ok-insert_setting.ensures.writes.steps clean first.inside in
           subst (λ l. Steps (with_settings l) old new) (sym more) (more_settings old mid new (take i all) (setting n v ∷ []) first second);
-      survives = quiet_then old mid new c.loop-place.invariant.survives c.insert_setting.ensures.survives;
+      survives = quiet_then old mid new c.loop-place.invariant.survives c.insert_setting.ensures.writes.survives;
     }

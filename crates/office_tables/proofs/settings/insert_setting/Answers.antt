@@ -5,14 +5,15 @@ use Rattle.office_rows.specs.Values.{setting_values}
 use Rattle.office_rows.specs.Opening.{setting, with_settings}
 use Rattle.office_rows.proofs.Writing as texts
 use Rattle.office_rows.proofs.Written.{inserted_setting}
-use Rattle.office_rows.proofs.StepLemmas.{steps_on}
+use Rattle.office_tables.proofs.WritesLemmas.{writes_of}
 use Rattle.office_tables.proofs.settings.insert_setting.Goals as goal
 
-pub returns-clause-steps : goal.returns-clause-steps
-returns-clause-steps g c clean inside =
+pub returns-clause-writes : goal.returns-clause-writes
+returns-clause-writes g c =
     let old = state g.S.Store c.args.tx.now.conn.now in
     let new = state g.S.Store c.execute.new.self.conn.now in
     let one = setting c.args.name.now c.args.value.now in
+    writes_of (with_settings (one ∷ [])) old new _ c.execute.ensures.survives (λ clean inside.
     let ran = c.in_ok-execute.ensures.runs clean inside in
     let h : Executes texts.insert_setting (setting_values one) old new (Ok c.in_ok-execute.field-0) = rw (c.characters.ensures, c.as_bytes.ensures.value, c.characters-2.ensures) at ran.0 in
-    steps_on (with_settings (one ∷ [])) old new ran.1 (λ rows has. inserted_setting old new rows c.in_ok-execute.field-0 has one h)
+    (ran.1, λ rows has. inserted_setting old new rows c.in_ok-execute.field-0 has one h))
