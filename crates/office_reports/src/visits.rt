@@ -6,7 +6,7 @@ ghost use Rattle.office_setup.specs.Setups.{setup_content};
 ghost use Rattle.office_reports.specs.Names.{phrase, line};
 ghost use Rattle.terminal_core.specs.State.{is_visit_of};
 ghost use Rattle.office_reports.specs.Visits.{way_name, code_of, passage_words, arrival_words, booking_words, departure_words};
-ghost use Rattle.office_reports.specs.Visits.{visit_line, visit_lines, is_visit_of, visit_report};
+ghost use Rattle.office_reports.specs.Visits.{visit_line, visit_lines, visit_report};
 
 use crate::texts::{load_name, moment_text, number_text, phrase, push_line, size_text, slot_text};
 use box6346::BoxNumber;
