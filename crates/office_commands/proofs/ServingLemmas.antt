@@ -91,19 +91,29 @@ told_of : {D : Type 0} {g : Ghosts D} (content : SetupContent) (es : List Event)
 told_of content es desk stands query (Ok found) told = told.after content es stands
 told_of content es desk stands query (Err refusal) told = tt
 
-module _ {D : Type 0} {g : Ghosts D} where
-  abbrev Files : Type 0
-  Files = Desk (FileStore D g) over_files
+-- what is pending behind steps
+abbrev PendsAfter : (Event → Type 0) → List Step → Event → Type 0
+PendsAfter Pends steps event = (Pends event × HasNoEvent steps) ⊎ MayBeThere steps event
 
-  abbrev LedBy : Files → Step → Files → Type 0
+one_before : (Pends : Event → Type 0) (step : Step) (steps : List Step) (event : Event) → PendsAfter (PendsBehind Pends step) steps event → PendsAfter Pends (step ∷ steps) event
+one_before Pends step steps event (inl (inl pends, none)) = inl (pends.0, λ es. none (with_step es step) ∙ pends.1 es)
+one_before Pends step steps event (inl (inr off, none)) = inr (inl (off, none))
+one_before Pends step steps event (inr there) = inr (inr there)
+
+none_pends : (steps : List Step) (event : Event) → PendsAfter (λ _. ⊥) steps event → MayBeThere steps event
+none_pends steps event (inl never) = absurd never.0
+none_pends steps event (inr there) = there
+
+module _ {D : Type 0} {g : Ghosts D} where
+  abbrev LedBy : Desk (FileStore D g) over_files → Step → Desk (FileStore D g) over_files → Type 0
   LedBy = StepLeads (LeadsNamed (Leads over_files)) (EnrolsNamed (Enrols over_files)) (Looks over_files)
 
-  sound_step : (old : Files) (step : Step) (new : Files) → LedBy old step new → IsSound over_files new → IsSound over_files old
+  sound_step : (old : Desk (FileStore D g) over_files) (step : Step) (new : Desk (FileStore D g) over_files) → LedBy old step new → IsSound over_files new → IsSound over_files old
   sound_step old (delivery text given) new led sound = elim led [ inl call ↦ call.stays sound | inr off ↦ subst (IsSound over_files) off.1 sound ]
   sound_step old (account code kind given) new led sound = elim led [ inl call ↦ call.stays sound | inr off ↦ subst (IsSound over_files) off.1 sound ]
   sound_step old (report query found) new call sound = call.stays sound
 
-  stand_step : (content : SetupContent) (es : List Event) (old : Files) (step : Step) (new : Files) → LedBy old step new → IsSound over_files new → StandsFor over_files content es old
+  stand_step : (content : SetupContent) (es : List Event) (old : Desk (FileStore D g) over_files) (step : Step) (new : Desk (FileStore D g) over_files) → LedBy old step new → IsSound over_files new → StandsFor over_files content es old
       → IsServed content es step × StandsFor over_files content (with_step es step) new
   stand_step content es old (delivery text given) new led sound stands = elim led [
     | inl call ↦ (let done = call.delivers sound content es stands in (inl done.0, done.1))
@@ -116,7 +126,7 @@ module _ {D : Type 0} {g : Ghosts D} where
   stand_step content es old (report query found) new call sound stands =
       (told_of content es old stands query found (call.told sound), call.same sound content es stands)
 
-  module _ (content : SetupContent) (es : List Event) (old new : Files) (Pends : Event → Type 0)
+  module _ (content : SetupContent) (es : List Event) (old new : Desk (FileStore D g) over_files) (Pends : Event → Type 0)
       (was : (db : Trees) → (state over_files old.conn).may_leave db → LeftBy content es Pends db) (db : Trees) (left : (state over_files new.conn).may_leave db) where
     -- a step that is no event and leaves nothing else
     left_less : (step : Step) → ((es : List Event) → with_step es step ≡ es) → (state over_files old.conn).may_leave db → LeftBy content (with_step es step) (PendsBehind Pends step) db
@@ -127,7 +137,7 @@ module _ {D : Type 0} {g : Ghosts D} where
         ])
 
     left_same : new ≡ old → (state over_files old.conn).may_leave db
-    left_same same = subst (λ (desk : Files). (state over_files desk.conn).may_leave db) same left
+    left_same same = subst (λ (desk : Desk (FileStore D g) over_files). (state over_files desk.conn).may_leave db) same left
 
     left_delivery : (text : List ℕ) (given : Response) → LedBy old (delivery text given) new → IsSound over_files new → StandsFor over_files content es old
         → LeftBy content (with_answered es text given) (PendsBehind Pends (delivery text given)) db
@@ -162,14 +172,14 @@ module _ {D : Type 0} {g : Ghosts D} where
 
   -- ---- steps, one behind the other
 
-  abbrev AllLed : Files → List Step → Files → Type 0
+  abbrev AllLed : Desk (FileStore D g) over_files → List Step → Desk (FileStore D g) over_files → Type 0
   AllLed = StepsLead (LeadsNamed (Leads over_files)) (EnrolsNamed (Enrols over_files)) (Looks over_files)
 
-  sound_first : (old : Files) (steps : List Step) (new : Files) → AllLed old steps new → IsSound over_files new → IsSound over_files old
+  sound_first : (old : Desk (FileStore D g) over_files) (steps : List Step) (new : Desk (FileStore D g) over_files) → AllLed old steps new → IsSound over_files new → IsSound over_files old
   sound_first old [] new same sound = subst (IsSound over_files) same sound
   sound_first old (step ∷ steps) new (next, led, rest) sound = sound_step old step next led (sound_first next steps new rest sound)
 
-  stand_steps : (content : SetupContent) (es : List Event) (old : Files) (steps : List Step) (new : Files) → AllLed old steps new → IsSound over_files new → StandsFor over_files content es old
+  stand_steps : (content : SetupContent) (es : List Event) (old : Desk (FileStore D g) over_files) (steps : List Step) (new : Desk (FileStore D g) over_files) → AllLed old steps new → IsSound over_files new → StandsFor over_files content es old
       → AreServed content es steps × StandsFor over_files content (events_after es steps) new
   stand_steps content es old [] new same sound stands = (tt, subst (StandsFor over_files content es) (sym same) stands)
   stand_steps content es old (step ∷ steps) new (next, led, rest) sound stands =
@@ -178,19 +188,10 @@ module _ {D : Type 0} {g : Ghosts D} where
       let more = stand_steps content (with_step es step) next steps new rest sound one.1 in
       ((one.0, more.0), more.1)
 
-  -- what is pending behind steps
-  abbrev PendsAfter : (Event → Type 0) → List Step → Event → Type 0
-  PendsAfter Pends steps event = (Pends event × HasNoEvent steps) ⊎ MayBeThere steps event
-
-  one_before : (Pends : Event → Type 0) (step : Step) (steps : List Step) (event : Event) → PendsAfter (PendsBehind Pends step) steps event → PendsAfter Pends (step ∷ steps) event
-  one_before Pends step steps event (inl (inl pends, none)) = inl (pends.0, λ es. none (with_step es step) ∙ pends.1 es)
-  one_before Pends step steps event (inl (inr off, none)) = inr (inl (off, none))
-  one_before Pends step steps event (inr there) = inr (inr there)
-
-  left_steps : (content : SetupContent) (es : List Event) (old : Files) (steps : List Step) (new : Files) → AllLed old steps new → IsSound over_files new → StandsFor over_files content es old
+  left_steps : (content : SetupContent) (es : List Event) (old : Desk (FileStore D g) over_files) (steps : List Step) (new : Desk (FileStore D g) over_files) → AllLed old steps new → IsSound over_files new → StandsFor over_files content es old
       → (Pends : Event → Type 0) → ((db : Trees) → (state over_files old.conn).may_leave db → LeftBy content es Pends db)
       → (db : Trees) → (state over_files new.conn).may_leave db → LeftBy content (events_after es steps) (PendsAfter Pends steps) db
-  left_steps content es old [] new same sound stands Pends was db left = elim (was db (subst (λ (desk : Files). (state over_files desk.conn).may_leave db) same left)) [
+  left_steps content es old [] new same sound stands Pends was db left = elim (was db (subst (λ (desk : Desk (FileStore D g) over_files). (state over_files desk.conn).may_leave db) same left)) [
     | inl after ↦ inl after
     | inr more ↦ inr (more.0, inl (more.1, λ events. refl), more.2)
   ]
@@ -204,12 +205,8 @@ module _ {D : Type 0} {g : Ghosts D} where
         | inr more ↦ inr (more.0, one_before Pends step steps more.0 more.1, more.2)
       ]
 
-  none_pends : (steps : List Step) (event : Event) → PendsAfter (λ _. ⊥) steps event → MayBeThere steps event
-  none_pends steps event (inl never) = absurd never.0
-  none_pends steps event (inr there) = there
-
   -- requests that were served of a desk that was opened on files
-  pub served_over : (image : Image) (count : ℕ) (opened desk : Files) → OpensOn image opened → AreServedBy (Leads over_files) (Enrols over_files) (Looks over_files) count opened desk
+  pub served_over : (image : Image) (count : ℕ) (opened desk : Desk (FileStore D g) over_files) → OpensOn image opened → AreServedBy (Leads over_files) (Enrols over_files) (Looks over_files) count opened desk
       → IsServedOver image count desk
   served_over image count opened desk opens served = record {
     opened = opened;

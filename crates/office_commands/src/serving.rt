@@ -43,9 +43,7 @@ pub fn serve_over<S: Start, N: Notes, W: Write, E: Write>(
     ensures err { OnErr result ((writer.new ≡ writer.old) × (errors.new ≡ errors.old)) }
 {
     let desk = open_store(rt, path, start)?;
-    Ok(serve_named(
-        rt, path, desk, service, notes, writer, errors,
-    ))
+    Ok(serve_named(rt, path, desk, service, notes, writer, errors))
 }
 
 /// Serves what a desk over the store at a path answers, whatever desk it is, and gives it back as it was left.
@@ -58,7 +56,7 @@ fn serve_named<D: Report + AddAccount + Faults, N: Notes, W: Write, E: Write>(
     writer: &mut Port<W>,
     errors: &mut Port<E>,
 ) -> (u8, Named<D>)
-    ensures served { AreServedBy D.leads D.enrols D.looks service.count desk.entry result.1.desk }
+    ensures served { AreServedBy D.leads D.enrols D.looks service.count desk result.1.desk }
     ensures ends { EndsServing service.port service.count writer.new.flushed
         (W.contents writer.old.inner) (W.contents writer.new.inner) result.0 }
 {
