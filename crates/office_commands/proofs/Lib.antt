@@ -7,4 +7,3 @@ mod ReportLemmas
 mod AccountLemmas
 mod LookingLemmas
 mod ServingLemmas
-mod MigratingLemmas

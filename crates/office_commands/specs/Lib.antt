@@ -7,4 +7,3 @@ pub mod Accounts
 pub mod Reporting
 pub mod Looking
 pub mod Serving
-pub mod Migrating

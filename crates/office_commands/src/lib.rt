@@ -1,6 +1,6 @@
 //! How the program opens a store in files, and what it does with it over whatever is read and written: it takes
-//! interchanges, adds accounts, prints reports, serves requests, and brings an older store to this version. And the
-//! demonstration, which takes interchanges to a terminal whose tables are in memory.
+//! interchanges, adds accounts, prints reports and serves requests. And the demonstration, which takes interchanges to a
+//! terminal whose tables are in memory.
 #![tactic(auto)]
 
 mod account;
@@ -10,8 +10,6 @@ mod demo;
 mod demo_fault;
 pub mod demo_setup;
 mod faults;
-mod migration;
-mod migration_fault;
 mod named;
 mod noted;
 mod notes;
@@ -30,8 +28,6 @@ pub use deliver::{TURNS, deliver_over, deliver_to};
 pub use demo::run_demo;
 pub use demo_fault::DemoFault;
 pub use faults::Faults;
-pub use migration::migrate_over;
-pub use migration_fault::MigrationFault;
 pub use named::Named;
 pub use notes::Notes;
 pub use opening::{make_store, open_found, open_store, open_there};
