@@ -73,11 +73,11 @@ impl<'a> RequestLog<'a> {
     fn tell(&self, method: &str, target: &str, status: u16, bytes: u64) {
         let time = ClockTime::now(self.rt);
         let spent = self.microseconds.replace(0);
-        let answered = self.answered.replace(None);
-        let about = match &answered {
-            Some(text) => text.as_str(),
-            None => "",
+        let answered = match self.answered.replace(None) {
+            Some(text) => text,
+            None => String::new(self.rt.alloc()),
         };
+        let about = answered.as_str();
         let _ = eprintln!(self.rt;
             "{time} {method} {target} {status} {bytes} bytes {spent} us{about}"
         );
