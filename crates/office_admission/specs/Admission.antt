@@ -33,7 +33,7 @@ abbrev pub by_header : Parties → Content → Option SyntaxFault → Result (�
 by_header parties header (Some fault) = Err (Syntax fault)
 by_header parties header None = by_recipient parties header (sender_of parties header)
 
--- Admitted: the partner and the number of a text, or the first refusal: its syntax fault, UnknownSender, WrongRecipient
+-- the partner and the number of a text, or the first refusal: its syntax fault, UnknownSender, WrongRecipient
 abbrev pub admission : Parties → List ℕ → Result (ℕ × ℕ) Fault
 admission parties text = by_header parties (header_of (segments_in text)) (fault_of text)
 

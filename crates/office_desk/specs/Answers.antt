@@ -47,7 +47,7 @@ answer_at content es sent (Ok place) =
     told_answer (code_of (parties_in (content_after content es)) place.0) place.1
     (told_of content es place.0 place.1 sent)
 
--- AnswerOf: the answer to a text that is delivered after those events, by the accounts so far
+-- the answer to a text that is delivered after those events, by the accounts so far
 abbrev pub answer_to : SetupContent → List Event → List ℕ → AnswerContent
 answer_to content es sent =
     answer_at content es sent (admission (parties_in (content_after content es)) (interchange_of sent))

@@ -1,4 +1,4 @@
--- Rows(es): the rows after a list of events.
+-- The rows after a list of events.
 use Rattle.std.specs.Prelude.{◌≡◌, ℕ, ◌+◌, ◌≤◌, List, [], ◌∷◌, map, find, count_by, Option, None, Some}
 use Rattle.std.specs.Option.{option_and_then}
 use Rattle.std.specs.FinMap as finite_map

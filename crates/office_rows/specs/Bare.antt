@@ -9,7 +9,7 @@ use Rattle.sqlite_catalog.specs.Listing.{Lists}
 use Rattle.office_rows.specs.Layouts.{Layout, bare, weighed, bare_schema}
 use Rattle.office_rows.specs.Rows.{Rows}
 use Rattle.office_rows.specs.Values.{number}
-use Rattle.office_rows.specs.Stored.{AreRows, HasRows}
+use Rattle.office_rows.specs.Stored.{AreRows}
 
 -- ---- rows without weights
 
@@ -26,10 +26,6 @@ pub record HasBareRows (rows : Rows) (db : Database) : Type 0 where
   pub schema : db.schema ≡ bare_schema
   pub lists : Lists (db.trees catalog_tree) bare_schema
   pub rows_are : AreRows rows (weighed_trees db.trees)
-
-abbrev pub HasRowsIn : Layout → Rows → Database → Type 0
-HasRowsIn bare rows db = HasBareRows rows db
-HasRowsIn weighed rows db = HasRows rows db
 
 -- ---- as tables with weights
 

@@ -239,7 +239,7 @@ taken_of_by version machine partner segments None = nothing_taken machine
 taken_of_by version machine partner segments (Some kind) =
     taken_at_by version machine partner kind segments (preparation (header_of segments))
 
--- Take: the interchange of a partner, counted from 1. A text that is not admitted for that partner changes nothing.
+-- the interchange of a partner, counted from 1. A text that is not admitted for that partner changes nothing.
 abbrev pub interchange_taken_by : Version → MachineState → ℕ → List ℕ → MachineState × List ℕ
 interchange_taken_by version machine partner text =
     if is_for partner (admission machine.parties text)

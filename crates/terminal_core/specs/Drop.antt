@@ -58,7 +58,7 @@ pub record Dropped : Type 0 where
 abbrev pub dropped_lines : Lines → CallContent → Side → Lines
 dropped_lines lines call side = without_lines_of call side (open_containers lines call side) lines
 
--- Drop: the open lines of the call's list are gone, and there is a change for each, by their containers' numbers
+-- the open lines of the call's list are gone, and there is a change for each, by their containers' numbers
 abbrev pub drop : TerminalState → CallContent → Side → Dropped
 drop state call side = record {
   state = record state { lines = dropped_lines state.lines call side };
