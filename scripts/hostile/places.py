@@ -4,10 +4,12 @@ import shutil
 import socket
 import sqlite3
 import struct
+import subprocess
 import tempfile
 from contextlib import closing
 
 from .books import Different, expect, prefilled
+from .full import Mounted
 from .working import Delivering, Served, post, run
 
 NO_STORE = ('', 'store: Store\n', 3)
@@ -118,6 +120,26 @@ def try_removed(program, seed, counted):
         counted['the folder removed while serve works: not now'] += 5
 
 
+def try_unmounted(program, seed, counted):
+    """The file system of the store is unmounted while a process works on it, as `umount -l` does: the system keeps it for
+    that process, and doesn't tell. What is answered is in effect there, and no other process finds a store."""
+    with tempfile.TemporaryDirectory(prefix='kill9-') as folder, Mounted(folder) as mounted:
+        if not mounted.is_there:
+            counted['not run: a file system can only be mounted by root'] = 1
+            return
+        book = prefilled(program, folder, seed, BEFORE)
+        with Served(program, book.store) as worker:
+            for _turn in range(2):
+                lines = []
+                worker.answers(book.upcoming(5), lines.append)
+                expect('not now', 0, book.take(lines))
+                if mounted.is_there:
+                    subprocess.run(['umount', '-l', folder], check=True)
+                    mounted.is_there = False
+            expect('report, unmounted', NO_STORE, run(program, 'report', book.store, 'yard'))
+        counted['the file system unmounted while serve works: answered; report: store: Store'] += 1
+
+
 def try_copies(program, seed, counted):
     """A copy while nothing runs opens and goes on by itself; a copy of the file without its log; other names."""
     with tempfile.TemporaryDirectory(prefix='kill9-') as folder, tempfile.TemporaryDirectory(prefix='kill9-') as other:
@@ -184,7 +206,7 @@ def try_hanging_up(program, seed, counted):
 
 def try_all(program, seed, counted):
     """Each kind."""
-    for trial in (try_read_only, try_gone, try_removed, try_copies, try_leaving, try_hanging_up):
+    for trial in (try_read_only, try_gone, try_removed, try_unmounted, try_copies, try_leaving, try_hanging_up):
         try:
             trial(program, seed, counted)
         except Different as fault:
