@@ -1,13 +1,14 @@
 ghost use Rattle.std.specs.Prelude.{◌≡◌, ◌==◌};
 ghost use Rattle.std.specs.List.{list_all, list_any};
-ghost use Rattle.edi_segments.specs.Characters.{is_printable, is_release};
+ghost use Rattle.edi_segments.specs.Characters.{is_printable};
+ghost use Rattle.edi_segments.specs.Parts.{has_release};
 
 use super::service::Service;
 
 /// A release character stands in the text.
 #[tactic(auto, using(crate::proofs::PlainLemmas::releases_never))]
 pub(crate) fn has_release(service: Service, text: &[u8]) -> bool
-    ensures { result ≡ list_any (is_release service.release) text.now }
+    ensures { result ≡ has_release service text.now }
 {
     match service.release {
         Some(release) => has_byte(release, text),
