@@ -54,9 +54,10 @@ impl<'a> Component<'a> {
         Bytes::new(self.service, self.text)
     }
 
-    /// The bytes of the value where they stand in the text, if no release character is among them.
+    /// The value as it stands in the text, if no release character stands there. If it is not given, one does.
     pub fn plain(&self) -> Option<&'a [u8]>
         ensures some { IfSome result (λ bytes. bytes.now ≡ value self.now) }
+        ensures unreleased { IfSome result (λ bytes. has_release self.now.service self.now.text.now ≡ false) }
         ensures none { IfNone result (has_release self.now.service self.now.text.now ≡ true) }
     {
         let is_plain = match self.known_len {
