@@ -7,7 +7,8 @@ ghost use Rattle.std.specs.Str.{bytes_eq};
 ghost use Rattle.std.proofs.Props.{props};
 
 use super::bytes::{Bytes, are_bytes, are_same};
-use super::plain::{are_printable, has_release};
+use super::characters::{are_printable, is_printable};
+use super::plain::has_release;
 use super::service::Service;
 use super::spelling::{write_byte, write_value};
 use std::alloc::AllocError;
@@ -147,7 +148,7 @@ impl<'a> Component<'a> {
         ensures { result ≡ list_all is_printable (value self.now) }
     {
         for byte in self.bytes() {
-            if byte < 32 || byte > 126 {
+            if !is_printable(byte) {
                 return false;
             }
         }

@@ -1,6 +1,5 @@
 ghost use Rattle.std.specs.Prelude.{◌≡◌, ◌==◌};
-ghost use Rattle.std.specs.List.{list_all, list_any};
-ghost use Rattle.edi_segments.specs.Characters.{is_printable};
+ghost use Rattle.std.specs.List.{list_any};
 ghost use Rattle.edi_segments.specs.Parts.{has_release};
 
 use super::service::Service;
@@ -26,16 +25,4 @@ fn has_byte(byte: u8, text: &[u8]) -> bool
         }
     }
     false
-}
-
-/// Each byte of the text is one from space to tilde.
-pub(crate) fn are_printable(text: &[u8]) -> bool
-    ensures { result ≡ list_all is_printable text.now }
-{
-    for byte in text {
-        if *byte < 32 || *byte > 126 {
-            return false;
-        }
-    }
-    true
 }
