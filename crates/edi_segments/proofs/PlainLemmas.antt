@@ -3,7 +3,7 @@ use Rattle.std.proofs.Common.{◌≡◌, ◌≢◌, ℕ, suc, ◌<◌, Bool, tru
 use Rattle.std.specs.List.{list_all, list_any}
 use Rattle.std.specs.Str.{bytes_eq}
 use Rattle.std.proofs.lemmas.Slice.Eq.{bytes_eq-Decides}
-use Rattle.std.proofs.lemmas.Bool.{or_parts, and_parts, and_from, eq-eqb, cases_Bool, false≢true}
+use Rattle.std.proofs.lemmas.Bool.{or_parts, or_from, and_parts, and_from, eq-eqb, cases_Bool, false≢true}
 use Rattle.edi_segments.specs.Characters.{is_release}
 use Rattle.edi_segments.specs.Tokens.{token_of, releases}
 use Rattle.edi_segments.specs.Parts.{value_of}
@@ -46,6 +46,20 @@ whole_value s released (b ∷ text) h =
     elim (cases_Bool (releases t)) [
       | inl e ↦ (let l : length (value_of s true text) ≡ suc (length text) = rw e at h in let most = length-value s text true in absurd (omega (arith, l, most)))
       | inr e ↦ (let l : suc (length (value_of s false text)) ≡ suc (length text) = rw e at h in rw e (ap (λ (u : List ℕ). b ∷ u) (whole_value s false text (omega (arith, l)))))
+    ]
+
+release_hides : (s : Service) (b : ℕ) → is_release s.release b ≡ true → releases (token_of s false b) ≡ true
+unfolding token_of
+release_hides s b is = rw is refl
+
+-- In the text of a value that is as long as it, no release character stands.
+pub whole_unreleased : (s : Service) (text : List ℕ) → length (value_of s false text) ≡ length text → list_any (is_release s.release) text ≡ false
+unfolding value_of
+whole_unreleased s [] h = refl
+whole_unreleased s (b ∷ text) h =
+    elim (cases_Bool (is_release s.release b)) [
+      | inl is ↦ (let hides = release_hides s b is in let l : length (value_of s true text) ≡ suc (length text) = rw hides at h in let most = length-value s text true in absurd (omega (arith, l, most)))
+      | inr other ↦ (let shows = no_release s b (token_of s false b) (token_means s b) other in let l : suc (length (value_of s false text)) ≡ suc (length text) = rw shows at h in or_from _ _ other (whole_unreleased s text (omega (arith, l))))
     ]
 
 -- a value that is shorter than its text

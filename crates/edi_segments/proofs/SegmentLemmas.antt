@@ -7,12 +7,16 @@ use Rattle.std.proofs.lemmas.List.{take_at, drop_at, take-append-drop, take-take
 use Rattle.edi_segments.specs.Characters.{is_tag_byte}
 use Rattle.edi_segments.specs.Tokens.{token_of, releases}
 use Rattle.edi_segments.specs.Text.{Content, ElementsText, SegmentText}
-use Rattle.edi_segments.specs.Reading.{elements_of, stays_inside, are_elements, with_end, end_of, begins_elements, body_len, content_of, segment_at}
+use Rattle.edi_segments.specs.Reading.{elements_of, stays_inside, are_elements, with_end, end_of, begins_elements, body_len, content_of}
 use Rattle.edi_segments.specs.declared.service.Service.{Service}
 use Rattle.edi_segments.specs.declared.token.Token.{Token}
 use Rattle.edi_segments.specs.declared.token.Token.TheVariants.{Data, Release, Component, Element, Terminator, Invalid}
 use Rattle.edi_segments.proofs.TokenLemmas.{MeansUnreleased, token_means, released_means, element_token, terminator_token}
 use Rattle.edi_segments.proofs.ReadingLemmas.{Reads, sound, complete}
+
+-- the segment at the front, and the bytes behind its terminator
+abbrev pub segment_at : Service → List ℕ → Option (Content × List ℕ)
+segment_at s bytes = option_map (λ n. (content_of s (take n bytes), drop (n + 1) bytes)) (body_len s bytes)
 
 pub mapped_suc : (o : Option ℕ) (n : ℕ) → option_map suc o ≡ Some n → (m : ℕ) × (o ≡ Some m) × (n ≡ suc m)
 mapped_suc None n e = absurd cc

@@ -13,4 +13,3 @@ pub mod Placed
 pub mod Values
 pub mod ValueEnds
 pub mod Checks
-pub mod Plain

@@ -1,6 +1,8 @@
 -- The parts of a segment, as places in its text.
 use Rattle.std.specs.Prelude.{ℕ, suc, Bool, false, not, ◌&&◌, ◌==◌, List, [], ◌∷◌, take, drop, ◌+◌, Option, None, Some, if◌then◌else◌}
 use Rattle.std.specs.Option.{option_map}
+use Rattle.std.specs.List.{list_any}
+use Rattle.edi_segments.specs.Characters.{is_release}
 use Rattle.edi_segments.specs.Tokens.{token_of, releases}
 use Rattle.edi_segments.specs.declared.service.Service.{Service}
 
@@ -31,6 +33,10 @@ separator_of s separator released (b ∷ bytes) =
 abbrev pub split_of : Service → ℕ → List ℕ → Option (List ℕ × List ℕ)
 split_of s separator bytes =
     option_map (λ n. (take n bytes, drop (n + 1) bytes)) (separator_of s separator false bytes)
+
+-- a release character stands in the text
+abbrev pub has_release : Service → List ℕ → Bool
+has_release s text = list_any (is_release s.release) text
 
 -- the value that bytes spell: without the release characters
 unfoldable pub value_of : Service → Bool → List ℕ → List ℕ

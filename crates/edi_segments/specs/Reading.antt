@@ -96,10 +96,6 @@ body_len s bytes =
 abbrev pub content_of : Service → List ℕ → Content
 content_of s body = record { tag = take 3 body; elements = drop 1 (elements_of s false (drop 3 body)) }
 
--- the segment at the front, and the bytes behind its terminator
-abbrev pub segment_at : Service → List ℕ → Option (Content × List ℕ)
-segment_at s bytes = option_map (λ n. (content_of s (take n bytes), drop (n + 1) bytes)) (body_len s bytes)
-
 -- how many CR and LF stand at the front
 abbrev pub breaks_len : List ℕ → ℕ
 breaks_len [] = 0

@@ -1,6 +1,6 @@
 -- Segments written under the default service characters: releases before service characters alone, no empty components
 -- or elements at an end, no line breaks.
-use Rattle.std.specs.Prelude.{◌≡◌, ℕ, Bool, true, false, not, ◌==◌, List, [], ◌∷◌, ◌++◌, length, take, codes, IsTrue, if◌then◌else◌}
+use Rattle.std.specs.Prelude.{◌≡◌, ℕ, Bool, true, false, ◌==◌, List, [], ◌∷◌, ◌++◌, length, take, codes, IsTrue, if◌then◌else◌}
 use Rattle.edi_segments.specs.Bytes.{colon, plus_sign, question_mark, apostrophe}
 use Rattle.std.specs.List.{list_all, flat_map}
 use Rattle.edi_segments.specs.Characters.{is_data_byte}
@@ -11,10 +11,6 @@ use Rattle.edi_segments.specs.Text.{Content, IsTag}
 -- the byte, behind the release character if it would serve otherwise
 abbrev pub spelled_byte : ℕ → List ℕ
 spelled_byte b = if is_service default_service b then question_mark ∷ b ∷ [] else b ∷ []
-
--- the byte serves nowhere, and is spelled as it is
-abbrev pub stands_for_itself : ℕ → Bool
-stands_for_itself b = not (is_service default_service b)
 
 -- the spelling of a value
 abbrev pub spelling : List ℕ → List ℕ
@@ -48,12 +44,9 @@ segments_text segments = flat_map segment_text segments
 
 -- ---- what may be written
 
--- a byte that may stand in data
+-- all bytes may stand in data
 abbrev pub IsWritable : List ℕ → Type 0
 IsWritable value = IsTrue (list_all is_data_byte value)
-
-abbrev pub AreWritable : List (List ℕ) → Type 0
-AreWritable values = IsTrue (list_all (list_all is_data_byte) values)
 
 -- the tag of a segment that isn't an advice
 abbrev pub IsSegmentTag : List ℕ → Type 0

@@ -1,5 +1,6 @@
 ghost use Rattle.std.specs.Prelude.{◌≡◌};
-ghost use Rattle.edi_segments.specs.Characters.{are_service_characters, are_separators, may_serve, is_data_byte, is_tag_byte, is_break};
+ghost use Rattle.std.specs.List.{list_all};
+ghost use Rattle.edi_segments.specs.Characters.{are_service_characters, are_separators, may_serve, is_data_byte, is_tag_byte, is_break, is_printable};
 
 /// The byte may stand in data, unless it is a service character.
 pub fn is_data(byte: u8) -> bool
@@ -20,6 +21,20 @@ pub fn is_break(byte: u8) -> bool
     ensures { result ≡ is_break byte }
 {
     byte == b'\r' || byte == b'\n'
+}
+
+/// The byte is one from space to tilde.
+pub fn is_printable(byte: u8) -> bool
+    ensures { result ≡ is_printable byte }
+{
+    32 <= byte && byte <= 126
+}
+
+/// Each byte is one from space to tilde.
+pub fn are_printable(bytes: &[u8]) -> bool
+    ensures { result ≡ list_all is_printable bytes.now }
+{
+    bytes.iter().all(|byte| is_printable(*byte))
 }
 
 /// The separators and the release character, if one is used, may be used together.

@@ -1,5 +1,5 @@
 ghost use Rattle.std.specs.Prelude.{◌≡◌, ◌↔◌, ◌++◌, ℕ, length, IsTrue, IfSome, IfNone, OnOk, OnErr, false, true};
-ghost use Rattle.edi_segments.specs.Parts.{value_of};
+ghost use Rattle.edi_segments.specs.Parts.{has_release, value_of};
 ghost use Rattle.edi_segments.specs.Characters.{is_printable};
 ghost use Rattle.edi_segments.specs.Spelling.{spelling};
 ghost use Rattle.std.specs.List.{list_all};
@@ -7,7 +7,8 @@ ghost use Rattle.std.specs.Str.{bytes_eq};
 ghost use Rattle.std.proofs.Props.{props};
 
 use super::bytes::{Bytes, are_bytes, are_same};
-use super::plain::{are_printable, has_release};
+use super::characters::{are_printable, is_printable};
+use super::plain::has_release;
 use super::service::Service;
 use super::spelling::{write_byte, write_value};
 use std::alloc::AllocError;
@@ -23,7 +24,6 @@ pub struct Component<'a> {
 
 impl<'a> Component<'a> {
     ghost use Rattle.edi_segments.specs.Segment.{value, bytes_left, fixed};
-    ghost use Rattle.edi_segments.specs.Plain.{has_release};
 
     pub(crate) fn new(service: Service, text: &'a [u8]) -> Component<'a>
         ensures { value result ≡ value_of service false text.now }
@@ -55,10 +55,11 @@ impl<'a> Component<'a> {
         Bytes::new(self.service, self.text)
     }
 
-    /// The bytes of the value where they stand in the text, if no release character is among them.
+    /// The value as it stands in the text, if no release character stands there. If it is not given, one does.
     pub fn plain(&self) -> Option<&'a [u8]>
         ensures some { IfSome result (λ bytes. bytes.now ≡ value self.now) }
-        ensures none { IfNone result (has_release self.now ≡ true) }
+        ensures unreleased { IfSome result (λ bytes. has_release self.now.service self.now.text.now ≡ false) }
+        ensures none { IfNone result (has_release self.now.service self.now.text.now ≡ true) }
     {
         let is_plain = match self.known_len {
             Some(len) => len == self.text.len(),
@@ -142,12 +143,12 @@ impl<'a> Component<'a> {
         are_printable(self.text) || self.is_printable_by_bytes()
     }
 
-    /// The same, also if a release character is none of those.
+    /// The same, also if the release character itself can't be printed.
     fn is_printable_by_bytes(&self) -> bool
         ensures { result ≡ list_all is_printable (value self.now) }
     {
         for byte in self.bytes() {
-            if byte < 32 || byte > 126 {
+            if !is_printable(byte) {
                 return false;
             }
         }

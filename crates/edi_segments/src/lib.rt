@@ -28,6 +28,7 @@ mod value_end;
 pub mod values;
 
 pub use bytes::Bytes;
+pub use characters::{are_printable, is_printable};
 pub use checked_segments::CheckedSegments;
 pub use component::Component;
 pub use components::Components;

@@ -33,12 +33,11 @@ pub(crate) fn split_once<'a>(
     ensures { option_map
         (λ found. (found.0.now, found.1.now)) result ≡ split_of service separator bytes.now }
 {
-    let at = separator_at(service, separator, bytes, len_before(separator, bytes))?;
-    Some((&bytes[..at], &bytes[at + 1..]))
+    split_from(service, separator, bytes, len_before(separator, bytes))
 }
 
-/// The same, of bytes that go on far behind the separator.
-pub(crate) fn split_once_of_many<'a>(
+/// The same, of the rest of a text, which goes on far behind the separator.
+pub(crate) fn split_once_in_rest<'a>(
     service: Service,
     separator: u8,
     bytes: &'a [u8],
@@ -46,16 +45,32 @@ pub(crate) fn split_once_of_many<'a>(
     ensures { option_map
         (λ found. (found.0.now, found.1.now)) result ≡ split_of service separator bytes.now }
 {
-    let at = separator_at(
+    split_from(
         service,
         separator,
         bytes,
-        len_before_of_many(separator, bytes),
-    )?;
+        len_before_in_rest(separator, bytes),
+    )
+}
+
+/// What stands before and behind the first separator that is not released. `at` bytes stand before the first one,
+/// released or not: all, if there is none.
+fn split_from<'a>(
+    service: Service,
+    separator: u8,
+    bytes: &'a [u8],
+    at: usize,
+) -> Option<(&'a [u8], &'a [u8])>
+    requires { at ≡ position_or_len (λ b. b == separator) bytes.now }
+    ensures { option_map
+        (λ found. (found.0.now, found.1.now)) result ≡ split_of service separator bytes.now }
+{
+    let at = separator_at(service, separator, bytes, at)?;
     Some((&bytes[..at], &bytes[at + 1..]))
 }
 
-/// Where the first separator stands that is not released, of which the first of all has so many bytes before it.
+/// Where the first separator stands that is not released. `at` bytes stand before the first one, released or not: all,
+/// if there is none.
 fn separator_at(service: Service, separator: u8, bytes: &[u8], at: usize) -> Option<usize>
     requires { at ≡ position_or_len (λ b. b == separator) bytes.now }
     ensures found { result ≡ separator_of service separator false bytes.now }
@@ -73,9 +88,9 @@ fn separator_at(service: Service, separator: u8, bytes: &[u8], at: usize) -> Opt
     Some(at)
 }
 
-/// How many bytes stand before the first separator, released or not, of bytes that go on far behind it: all if there is
-/// none.
-fn len_before_of_many(separator: u8, bytes: &[u8]) -> usize
+/// How many bytes stand before the first separator, released or not, in the rest of a text, which goes on far behind
+/// it: all if there is none.
+fn len_before_in_rest(separator: u8, bytes: &[u8]) -> usize
     ensures { result ≡ position_or_len (λ b. b == separator) bytes.now }
 {
     match memchr(separator, bytes) {

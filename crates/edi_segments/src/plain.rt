@@ -1,13 +1,13 @@
 ghost use Rattle.std.specs.Prelude.{◌≡◌, ◌==◌};
-ghost use Rattle.std.specs.List.{list_all, list_any};
-ghost use Rattle.edi_segments.specs.Characters.{is_printable, is_release};
+ghost use Rattle.std.specs.List.{list_any};
+ghost use Rattle.edi_segments.specs.Parts.{has_release};
 
 use super::service::Service;
 
 /// A release character stands in the text.
 #[tactic(auto, using(crate::proofs::PlainLemmas::releases_never))]
 pub(crate) fn has_release(service: Service, text: &[u8]) -> bool
-    ensures { result ≡ list_any (is_release service.release) text.now }
+    ensures { result ≡ has_release service text.now }
 {
     match service.release {
         Some(release) => has_byte(release, text),
@@ -25,16 +25,4 @@ fn has_byte(byte: u8, text: &[u8]) -> bool
         }
     }
     false
-}
-
-/// Each byte of the text is one from space to tilde.
-pub(crate) fn are_printable(text: &[u8]) -> bool
-    ensures { result ≡ list_all is_printable text.now }
-{
-    for byte in text {
-        if *byte < 32 || *byte > 126 {
-            return false;
-        }
-    }
-    true
 }

@@ -7,7 +7,7 @@ ghost use Rattle.edi_segments.specs.Reading.{end_of, begins_elements, body_len, 
 ghost use Rattle.edi_segments.specs.Segment.{content};
 
 use super::characters::{is_break, is_tag_byte};
-use super::part::split_once_of_many;
+use super::part::split_once_in_rest;
 use super::segment::Segment;
 use super::service::Service;
 use super::token::Token;
@@ -72,7 +72,7 @@ pub(crate) fn next_of_segments<'a>(
     if bytes.len() < 3 {
         return None;
     }
-    let (before, behind) = split_once_of_many(service, service.terminator, &bytes[3..])?;
+    let (before, behind) = split_once_in_rest(service, service.terminator, &bytes[3..])?;
     let segment = Segment::new(service, &bytes[..3 + before.len()]);
     Some((segment, &behind[len_of_breaks(behind)..]))
 }

@@ -1,8 +1,8 @@
-ghost use Rattle.std.specs.Prelude.{◌≡◌, ◌++◌, ◌∷◌, ℕ, List, [], OnOk, OnErr, map, take, drop, if◌then◌else◌};
+ghost use Rattle.std.specs.Prelude.{◌≡◌, not, ◌++◌, ◌∷◌, ℕ, List, [], OnOk, OnErr, map, take, drop, if◌then◌else◌};
 ghost use Rattle.std.specs.List.{list_all};
 ghost use Rattle.edi_segments.specs.Tokens.{is_service};
 ghost use Rattle.edi_segments.specs.Advice.{default_service};
-ghost use Rattle.edi_segments.specs.Spelling.{spelled_byte, spelling, stands_for_itself, is_empty_value, composite, IsWritable};
+ghost use Rattle.edi_segments.specs.Spelling.{spelled_byte, spelling, is_empty_value, composite, IsWritable};
 
 use super::spell::Spell;
 use std::alloc::AllocError;
@@ -31,7 +31,7 @@ pub(crate) fn write_value(value: &[u8], out: &mut Vec<u8>) -> Result<(), AllocEr
 
 /// None of the bytes is a default service character.
 fn serves_nowhere(value: &[u8]) -> bool
-    ensures { result ≡ list_all stands_for_itself value.now }
+    ensures { result ≡ list_all (λ b. not (is_service default_service b)) value.now }
 {
     value.iter().all(|byte| !serves(*byte))
 }

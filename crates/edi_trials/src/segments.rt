@@ -65,6 +65,13 @@ fn tells_what_a_value_is_like(rt: HostRuntime) -> Result<(), Fail> {
     assert!(rt; !segment.component(1, 4).is_printable());
     assert!(rt; segment.component(1, 1).fixed::<2>() == Some(*b"BN"));
     assert!(rt; segment.component(1, 1).fixed::<3>().is_none());
+    assert!(rt; segment.component(1, 1).plain() == Some(b"BN".as_slice()));
+    assert!(rt; segment.component(1, 2).plain().is_none());
+    assert!(rt;
+        segment
+            .component(1, 1)
+            .has_same_value(&segment.component(1, 1))
+    );
     assert!(rt; spelled(rt.alloc(), &segment)?.as_slice() == b"':\x80A?+B".as_slice());
     Ok(())
 }

@@ -1,8 +1,8 @@
 ghost use Rattle.std.specs.Prelude.{◌≡◌, ◌↔◌, IsTrue};
-ghost use Rattle.std.specs.List.{list_all};
 ghost use Rattle.edi_messages.specs.Forms.{is_name_if_any};
 ghost use Rattle.edi_messages.specs.Texts.{is_name};
-ghost use Rattle.edi_segments.specs.Characters.{is_printable};
+
+use edi_segments::are_printable;
 
 /// Whether a text is a name: 1 to 35 bytes from space to tilde.
 pub(crate) fn is_name(text: &str) -> bool
@@ -10,18 +10,6 @@ pub(crate) fn is_name(text: &str) -> bool
 {
     let bytes = text.as_bytes();
     1 <= bytes.len() && bytes.len() <= 35 && are_printable(bytes)
-}
-
-fn are_printable(bytes: &[u8]) -> bool
-    ensures { result ≡ list_all is_printable bytes.now }
-{
-    bytes.iter().all(|byte| is_printable(*byte))
-}
-
-fn is_printable(byte: u8) -> bool
-    ensures { result ≡ is_printable byte }
-{
-    32 <= byte && byte <= 126
 }
 
 /// Whether a text is a name, or empty.

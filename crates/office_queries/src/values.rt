@@ -1,12 +1,11 @@
 ghost use Rattle.std.specs.Prelude.{◌≡◌, IfOk, option_map, string_bytes};
-ghost use Rattle.std.specs.List.{list_all};
 ghost use Rattle.edi_messages.specs.Texts.{is_name};
-ghost use Rattle.edi_segments.specs.Characters.{is_printable};
 ghost use Rattle.edi_syntax.specs.Numbers.{number_of};
 ghost use Rattle.office_queries.specs.Keys.{box_in, control_number_of, name_in, name_of, number_in, side_in, side_of};
 
 use crate::escapes::decode;
 use box6346::BoxNumber;
+use edi_segments::are_printable;
 use std::alloc::{AllocError, Global};
 use terminal_core::Side;
 
@@ -36,18 +35,6 @@ fn is_name(bytes: &[u8]) -> bool
     ensures { result ≡ is_name bytes.now }
 {
     1 <= bytes.len() && bytes.len() <= 35 && are_printable(bytes)
-}
-
-fn are_printable(bytes: &[u8]) -> bool
-    ensures { result ≡ list_all is_printable bytes.now }
-{
-    bytes.iter().all(|byte| is_printable(*byte))
-}
-
-fn is_printable(byte: u8) -> bool
-    ensures { result ≡ is_printable byte }
-{
-    32 <= byte && byte <= 126
 }
 
 /// The control reference that a part names.

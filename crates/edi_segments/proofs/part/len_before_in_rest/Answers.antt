@@ -2,7 +2,7 @@
 use Rattle.std.proofs.Common.{◌≡◌, ℕ, ◌<◌, nat_eq, length, get_or, sym, false, inl, inr, arith}
 use Rattle.std.proofs.lemmas.Bool.{cases_Bool}
 use Rattle.std.proofs.lemmas.List.Sums.{position_or_len_is}
-use Rattle.edi_segments.proofs.part.len_before_of_many.Goals as goal
+use Rattle.edi_segments.proofs.part.len_before_in_rest.Goals as goal
 
 pub returns-in-Some : goal.returns-in-Some
 returns-in-Some c =

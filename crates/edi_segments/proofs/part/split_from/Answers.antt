@@ -2,7 +2,7 @@
 use Rattle.std.proofs.Common.{◌+◌, take, drop, ap}
 use Rattle.std.specs.Option.{option_map}
 use Rattle.std.proofs.lemmas.List.{take_rest}
-use Rattle.edi_segments.proofs.part.split_once.Goals as goal
+use Rattle.edi_segments.proofs.part.split_from.Goals as goal
 
 pub returns : goal.returns
 returns c =
