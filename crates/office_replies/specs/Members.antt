@@ -1,16 +1,10 @@
 -- The members of a line's JSON, in the byte order of their keys: blocker, box, line, outcome, reason, slot.
-use Rattle.std.specs.Prelude.{ℕ, List, Option, Some, None, String, string_bytes, codes, option_map}
-use Rattle.std.specs.Borrow.{Bor}
-use Rattle.std.specs.declared.alloc.Global.{Global}
+use Rattle.std.specs.Prelude.{ℕ, List, Option, Some, None, codes}
 use Rattle.serde_json.specs.Data.{number, unsigned, string, Members, member, no_members}
 
 -- a member whose value is a text
 abbrev pub text_member : List ℕ → List ℕ → Members → Members
 text_member key text rest = member key (string text) rest
-
--- the text of a name that is lent
-abbrev pub name_text : Option (Bor (String Global)) → Option (List ℕ)
-name_text name = option_map (λ n. string_bytes n.now) name
 
 -- the container, if its number is known, and then the line's number
 abbrev pub box_and_line : Option (List ℕ) → ℕ → Members → Members
