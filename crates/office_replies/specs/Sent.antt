@@ -1,4 +1,4 @@
--- What is sent of the JSON of a reply, member by member.
+-- What is sent of the JSON of a reply, member by member: what the code relies on, and no caller has to read.
 use Rattle.std.specs.Prelude.{ℕ, List, Option, None, Some, codes, option_map}
 use Rattle.serde.specs.Event.{Log}
 use Rattle.serde_json.specs.Data.{number, unsigned, Members, member, no_members}
@@ -39,9 +39,3 @@ box_members told = optional_member (codes "box") (option_map (λ text. text.now)
 -- the members of a line
 abbrev pub members_told : LineMembers → Members
 members_told told = optional_member (codes "blocker") (option_map (λ text. text.now) told.blocker) (box_members told)
-
--- the members of a message that is rejected for a fault of that name
-abbrev pub rejected_members : List ℕ → List ℕ → Members
-rejected_members reference fault =
-    text_member (codes "fault") fault
-    (text_member (codes "reference") reference (text_member (codes "result") (codes "rejected") no_members))
