@@ -4,16 +4,11 @@ use Rattle.serde.specs.Event.{Log}
 use Rattle.serde_json.specs.Data.{number, unsigned, Members, member, no_members}
 use Rattle.serde_json.specs.Events.{SendsMembers}
 use Rattle.office_replies.specs.declared.line_members.LineMembers.{LineMembers}
-use Rattle.office_replies.specs.Members.{text_member}
+use Rattle.office_replies.specs.Members.{text_member, optional_member}
 
 -- whatever members end an object well from here end it well, behind those that were sent, from the start
 abbrev pub SendsFirst : (Members → Members) → Log → Log → Type 0
 SendsFirst first old new = (rest : Members) (end : Log) → SendsMembers rest new end → SendsMembers (first rest) old end
-
--- a member whose value is a text, if there is one
-abbrev pub optional_member : List ℕ → Option (List ℕ) → Members → Members
-optional_member key None rest = rest
-optional_member key (Some text) rest = text_member key text rest
 
 -- how many members that is
 abbrev pub optional_count : Option (List ℕ) → ℕ
