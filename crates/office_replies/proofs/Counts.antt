@@ -8,7 +8,8 @@ use Rattle.office_replies.specs.declared.line_report.LineReport.{LineReport}
 use Rattle.office_replies.specs.declared.message_report.MessageReport.{MessageReport}
 use Rattle.office_replies.specs.Lines.{lines_from}
 use Rattle.office_replies.specs.Messages.{report_content, report_data}
-use Rattle.office_replies.specs.Sent.{optional_member, optional_count, slot_members, number_members, box_members, members_told}
+use Rattle.office_replies.specs.Members.{optional_member}
+use Rattle.office_replies.specs.Sent.{optional_count, slot_members, number_members, box_members, members_told}
 
 optional_len : (key : List ℕ) (text : Option (List ℕ)) (rest : Members) → members_len (optional_member key text rest) ≡ optional_count text + members_len rest
 optional_len key None rest = omega arith

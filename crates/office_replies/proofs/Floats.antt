@@ -8,32 +8,34 @@ use Rattle.terminal_core.specs.declared.reason.Reason.{Reason}
 use Rattle.terminal_core.specs.declared.reason.Reason.TheVariants.{Form, CheckDigit, Size, Moment, SlotText, AlreadyIn, NotIn, AlreadyListed, NotListed, ListLineDone, Buried, NoSlot, SlotKind, Taken, OnAir, OnEmpty, NoRoom, VisitLimit}
 use Rattle.office_replies.specs.declared.line_report.LineReport.{LineReport}
 use Rattle.office_replies.specs.Members.{refused_members}
-use Rattle.office_replies.specs.Lines.{refusal_members, outcome_members, lines_from}
+use Rattle.office_replies.specs.Lines.{written_line, refusal_members, outcome_members, lines_from}
 use Rattle.office_replies.specs.Messages.{VerdictContent, accepted, rejected, ReportContent, verdict_data, report_data, reply_data}
 
-refused_has_no_float : (name : Option (List ℕ)) (line : ℕ) (reason : List ℕ) → members_have_float (refused_members name line reason) ≡ false
-refused_has_no_float None line reason = refl
-refused_has_no_float (Some name) line reason = refl
+refused_has_no_float : (blocker name : Option (List ℕ)) (line : ℕ) (reason : List ℕ) → members_have_float (refused_members blocker name line reason) ≡ false
+refused_has_no_float None None line reason = refl
+refused_has_no_float None (Some name) line reason = refl
+refused_has_no_float (Some blocker) None line reason = refl
+refused_has_no_float (Some blocker) (Some name) line reason = refl
 
 refusal_has_no_float : (name : Option (List ℕ)) (line : ℕ) (reason : Reason) → members_have_float (refusal_members name line reason) ≡ false
-refusal_has_no_float name line (Buried blocker) = refused_has_no_float name line _
-refusal_has_no_float name line Form = refused_has_no_float name line _
-refusal_has_no_float name line CheckDigit = refused_has_no_float name line _
-refusal_has_no_float name line Size = refused_has_no_float name line _
-refusal_has_no_float name line Moment = refused_has_no_float name line _
-refusal_has_no_float name line SlotText = refused_has_no_float name line _
-refusal_has_no_float name line AlreadyIn = refused_has_no_float name line _
-refusal_has_no_float name line NotIn = refused_has_no_float name line _
-refusal_has_no_float name line AlreadyListed = refused_has_no_float name line _
-refusal_has_no_float name line NotListed = refused_has_no_float name line _
-refusal_has_no_float name line ListLineDone = refused_has_no_float name line _
-refusal_has_no_float name line NoSlot = refused_has_no_float name line _
-refusal_has_no_float name line SlotKind = refused_has_no_float name line _
-refusal_has_no_float name line Taken = refused_has_no_float name line _
-refusal_has_no_float name line OnAir = refused_has_no_float name line _
-refusal_has_no_float name line OnEmpty = refused_has_no_float name line _
-refusal_has_no_float name line NoRoom = refused_has_no_float name line _
-refusal_has_no_float name line VisitLimit = refused_has_no_float name line _
+refusal_has_no_float name line (Buried blocker) = refused_has_no_float (Some (written_line blocker)) name line _
+refusal_has_no_float name line Form = refused_has_no_float None name line _
+refusal_has_no_float name line CheckDigit = refused_has_no_float None name line _
+refusal_has_no_float name line Size = refused_has_no_float None name line _
+refusal_has_no_float name line Moment = refused_has_no_float None name line _
+refusal_has_no_float name line SlotText = refused_has_no_float None name line _
+refusal_has_no_float name line AlreadyIn = refused_has_no_float None name line _
+refusal_has_no_float name line NotIn = refused_has_no_float None name line _
+refusal_has_no_float name line AlreadyListed = refused_has_no_float None name line _
+refusal_has_no_float name line NotListed = refused_has_no_float None name line _
+refusal_has_no_float name line ListLineDone = refused_has_no_float None name line _
+refusal_has_no_float name line NoSlot = refused_has_no_float None name line _
+refusal_has_no_float name line SlotKind = refused_has_no_float None name line _
+refusal_has_no_float name line Taken = refused_has_no_float None name line _
+refusal_has_no_float name line OnAir = refused_has_no_float None name line _
+refusal_has_no_float name line OnEmpty = refused_has_no_float None name line _
+refusal_has_no_float name line NoRoom = refused_has_no_float None name line _
+refusal_has_no_float name line VisitLimit = refused_has_no_float None name line _
 
 outcome_has_no_float : (name : Option (List ℕ)) (line : ℕ) (outcome : Outcome) → members_have_float (outcome_members name line outcome) ≡ false
 outcome_has_no_float None line (Done slot) = refl

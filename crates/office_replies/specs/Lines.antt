@@ -1,5 +1,5 @@
 -- The JSON of a line of a message.
-use Rattle.std.specs.Prelude.{ℕ, ◌+◌, List, [], ◌∷◌, Option, encode_utf8_all}
+use Rattle.std.specs.Prelude.{ℕ, ◌+◌, List, [], ◌∷◌, Option, None, Some, encode_utf8_all}
 use Rattle.std.specs.Option.{option_map}
 use Rattle.serde_json.specs.Data.{Data, object, Members}
 use Rattle.box6346.specs.SlotName.{slot_text}
@@ -9,7 +9,7 @@ use Rattle.terminal_core.specs.declared.reason.Reason.{Reason}
 use Rattle.terminal_core.specs.declared.reason.Reason.TheVariants.{Buried}
 use Rattle.std.specs.Prelude.{codes}
 use Rattle.office_replies.specs.Names.{reason_name}
-use Rattle.office_replies.specs.Members.{done_members, settled_members, refused_members, buried_members}
+use Rattle.office_replies.specs.Members.{settled_members, refused_members}
 use Rattle.office_replies.specs.declared.line_report.LineReport.{LineReport}
 
 -- bytes as text, each as the character of its number: ASCII stays as it is
@@ -17,13 +17,13 @@ abbrev pub written_line : List ℕ → List ℕ
 written_line bytes = encode_utf8_all bytes
 
 abbrev pub refusal_members : Option (List ℕ) → ℕ → Reason → Members
-refusal_members name line (Buried blocker) = buried_members name line (written_line blocker)
-refusal_members name line reason = refused_members name line (reason_name reason)
+refusal_members name line (Buried blocker) = refused_members (Some (written_line blocker)) name line (codes "Buried")
+refusal_members name line reason = refused_members None name line (reason_name reason)
 
 abbrev pub outcome_members : Option (List ℕ) → ℕ → Outcome → Members
-outcome_members name line (Done slot) = done_members name line (written_line (slot_text slot))
-outcome_members name line Gone = settled_members name line (codes "gone")
-outcome_members name line Listed = settled_members name line (codes "listed")
+outcome_members name line (Done slot) = settled_members name line (codes "done") (Some (written_line (slot_text slot)))
+outcome_members name line Gone = settled_members name line (codes "gone") None
+outcome_members name line Listed = settled_members name line (codes "listed") None
 outcome_members name line (Refused reason) = refusal_members name line reason
 
 -- a line, counted from 1 in its message

@@ -30,21 +30,26 @@ verdict_content (verdict.Rejected rejection) = rejected rejection.fault rejectio
 abbrev pub report_content : MessageReport → ReportContent
 report_content report = record { reference = string_bytes report.reference; verdict = verdict_content report.verdict }
 
-abbrev pub line_members : List ℕ → List LineReport → Members
-line_members reference lines =
+-- the members that each message has that is accepted
+abbrev pub common_members : List ℕ → List LineReport → Members
+common_members reference lines =
     member (codes "lines") (array (items_of (lines_from 1 lines)))
     (text_member (codes "reference") reference (text_member (codes "result") (codes "accepted") no_members))
 
 abbrev pub accepted_members : List ℕ → Option ℕ → List LineReport → Members
-accepted_members reference None lines = line_members reference lines
+accepted_members reference None lines = common_members reference lines
 accepted_members reference (Some count) lines =
-    member (codes "dropped") (number (unsigned count)) (line_members reference lines)
+    member (codes "dropped") (number (unsigned count)) (common_members reference lines)
+
+-- of a message that is rejected for a fault of that name
+abbrev pub rejected_members : List ℕ → List ℕ → Members
+rejected_members reference fault =
+    text_member (codes "fault") fault
+    (text_member (codes "reference") reference (text_member (codes "result") (codes "rejected") no_members))
 
 abbrev pub verdict_data : List ℕ → VerdictContent → Data
 verdict_data reference (accepted dropped lines) = object (accepted_members reference dropped lines)
-verdict_data reference (rejected fault code) =
-    object (text_member (codes "fault") (message_fault_name fault)
-    (text_member (codes "reference") reference (text_member (codes "result") (codes "rejected") no_members)))
+verdict_data reference (rejected fault code) = object (rejected_members reference (message_fault_name fault))
 
 abbrev pub report_data : ReportContent → Data
 report_data report = verdict_data report.reference report.verdict

@@ -1,19 +1,14 @@
--- What is sent of the JSON of a reply, member by member.
+-- What is sent of the JSON of a reply, member by member: what the code relies on, and no caller has to read.
 use Rattle.std.specs.Prelude.{ℕ, List, Option, None, Some, codes, option_map}
 use Rattle.serde.specs.Event.{Log}
 use Rattle.serde_json.specs.Data.{number, unsigned, Members, member, no_members}
 use Rattle.serde_json.specs.Events.{SendsMembers}
 use Rattle.office_replies.specs.declared.line_members.LineMembers.{LineMembers}
-use Rattle.office_replies.specs.Members.{text_member}
+use Rattle.office_replies.specs.Members.{text_member, optional_member}
 
 -- whatever members end an object well from here end it well, behind those that were sent, from the start
 abbrev pub SendsFirst : (Members → Members) → Log → Log → Type 0
 SendsFirst first old new = (rest : Members) (end : Log) → SendsMembers rest new end → SendsMembers (first rest) old end
-
--- a member whose value is a text, if there is one
-abbrev pub optional_member : List ℕ → Option (List ℕ) → Members → Members
-optional_member key None rest = rest
-optional_member key (Some text) rest = text_member key text rest
 
 -- how many members that is
 abbrev pub optional_count : Option (List ℕ) → ℕ
@@ -39,9 +34,3 @@ box_members told = optional_member (codes "box") (option_map (λ text. text.now)
 -- the members of a line
 abbrev pub members_told : LineMembers → Members
 members_told told = optional_member (codes "blocker") (option_map (λ text. text.now) told.blocker) (box_members told)
-
--- the members of a message that is rejected for a fault of that name
-abbrev pub rejected_members : List ℕ → List ℕ → Members
-rejected_members reference fault =
-    text_member (codes "fault") fault
-    (text_member (codes "reference") reference (text_member (codes "result") (codes "rejected") no_members))

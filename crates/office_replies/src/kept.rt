@@ -7,7 +7,7 @@ use serde_json::to_string;
 use std::alloc::{AllocError, Global};
 
 /// The text that is kept of an interchange that was taken: its CONTRL, and what became of its
-/// messages.
+/// messages. AllocError if memory was refused, and for a slot whose block is no character of ASCII: no plan has one.
 pub fn reply(alloc: Global, contrl: &str, messages: &[MessageReport]) -> Result<String, AllocError>
     ensures { IfOk result (λ s. string_bytes s ≡ reply_text contrl.now messages.now) }
 {

@@ -1,7 +1,8 @@
 ghost use Rattle.std.specs.Prelude.{◌≡◌, ◌≤◌, OnOk, option_map};
 ghost use Rattle.serde_json.specs.Data.{object};
 ghost use Rattle.serde_json.specs.Events.{SendsValue, members_len};
-ghost use Rattle.office_replies.specs.Sent.{SendsFirst, optional_count, optional_member, members_told};
+ghost use Rattle.office_replies.specs.Members.{optional_member};
+ghost use Rattle.office_replies.specs.Sent.{SendsFirst, optional_count, members_told};
 
 use crate::sending::{send_number, send_text};
 use serde::Serializer;

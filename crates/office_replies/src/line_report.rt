@@ -3,7 +3,7 @@ ghost use Rattle.std.specs.Option.{option_map};
 ghost use Rattle.serde_json.specs.Data.{object};
 ghost use Rattle.serde_json.specs.Events.{SendsValue};
 ghost use Rattle.office_replies.specs.Lines.{line_data, outcome_members, refusal_members};
-ghost use Rattle.office_replies.specs.Members.{buried_members, done_members, refused_members, settled_members};
+ghost use Rattle.office_replies.specs.Members.{refused_members, settled_members};
 
 use crate::line_members::{LineMembers, send_members};
 use crate::names::reason_name;
@@ -50,44 +50,26 @@ fn send_outcome<S: Serializer>(
 {
     match outcome {
         Outcome::Done(slot) => match as_ascii(&slot.text()) {
-            Some(slot) => send_done(name, line, slot, out),
+            Some(slot) => send_settled(name, line, "done", Some(slot), out),
             None => Err(out.custom("a slot's name of other characters")),
         },
-        Outcome::Gone => send_settled(name, line, "gone", out),
-        Outcome::Listed => send_settled(name, line, "listed", out),
+        Outcome::Gone => send_settled(name, line, "gone", None, out),
+        Outcome::Listed => send_settled(name, line, "listed", None, out),
         Outcome::Refused(reason) => send_refusal(name, line, reason, out),
     }
 }
 
-fn send_done<'a, S: Serializer>(
-    name: Option<&'a str>,
-    line: u64,
-    slot: &'a str,
-    out: &mut S,
-) -> Result<(), S::Error>
-    ensures { OnOk result (SendsValue (object (done_members (option_map (λ t. t.now) name.entry) line slot.now))
-        (S.written out.old) (S.written out.new)) }
-{
-    let told = LineMembers {
-        blocker: None,
-        name,
-        line,
-        outcome: "done",
-        reason: None,
-        slot: Some(slot),
-    };
-    send_members(&told, out)
-}
-
-/// Sends an outcome that has nothing more to say.
+/// Sends an outcome that is no refusal, with the container's slot, if it got one.
 fn send_settled<'a, S: Serializer>(
     name: Option<&'a str>,
     line: u64,
     outcome: &'a str,
+    slot: Option<&'a str>,
     out: &mut S,
 ) -> Result<(), S::Error>
     ensures { OnOk result
-        (SendsValue (object (settled_members (option_map (λ t. t.now) name.entry) line outcome.now))
+        (SendsValue (object (settled_members (option_map (λ t. t.now) name.entry) line outcome.now
+        (option_map (λ t. t.now) slot.entry)))
         (S.written out.old) (S.written out.new)) }
 {
     let told = LineMembers {
@@ -96,11 +78,12 @@ fn send_settled<'a, S: Serializer>(
         line,
         outcome,
         reason: None,
-        slot: None,
+        slot,
     };
     send_members(&told, out)
 }
 
+/// Sends why a line is refused.
 fn send_refusal<S: Serializer>(
     name: Option<&str>,
     line: u64,
@@ -112,50 +95,32 @@ fn send_refusal<S: Serializer>(
 {
     match reason {
         Reason::Buried(blocker) => match as_ascii(&blocker.text()) {
-            Some(blocker) => send_buried(name, line, blocker, out),
+            Some(blocker) => send_refused(Some(blocker), name, line, "Buried", out),
             None => Err(out.custom("a container's number of other characters")),
         },
-        _ => send_refused(name, line, reason_name(reason), out),
+        _ => send_refused(None, name, line, reason_name(reason), out),
     }
 }
 
+/// Sends a refusal, with the container that stands on the line's, if one does.
 fn send_refused<'a, S: Serializer>(
+    blocker: Option<&'a str>,
     name: Option<&'a str>,
     line: u64,
     reason: &'a str,
     out: &mut S,
 ) -> Result<(), S::Error>
     ensures { OnOk result
-        (SendsValue (object (refused_members (option_map (λ t. t.now) name.entry) line reason.now))
+        (SendsValue (object (refused_members (option_map (λ t. t.now) blocker.entry)
+        (option_map (λ t. t.now) name.entry) line reason.now))
         (S.written out.old) (S.written out.new)) }
 {
     let told = LineMembers {
-        blocker: None,
+        blocker,
         name,
         line,
         outcome: "refused",
         reason: Some(reason),
-        slot: None,
-    };
-    send_members(&told, out)
-}
-
-fn send_buried<'a, S: Serializer>(
-    name: Option<&'a str>,
-    line: u64,
-    blocker: &'a str,
-    out: &mut S,
-) -> Result<(), S::Error>
-    ensures { OnOk result
-        (SendsValue (object (buried_members (option_map (λ t. t.now) name.entry) line blocker.now))
-        (S.written out.old) (S.written out.new)) }
-{
-    let told = LineMembers {
-        blocker: Some(blocker),
-        name,
-        line,
-        outcome: "refused",
-        reason: Some("Buried"),
         slot: None,
     };
     send_members(&told, out)

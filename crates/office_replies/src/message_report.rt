@@ -3,8 +3,7 @@ ghost use Rattle.serde_json.specs.Data.{array, object};
 ghost use Rattle.serde_json.specs.Events.{SendsMembers, SendsValue};
 ghost use Rattle.serde_json.specs.View.{items_of};
 ghost use Rattle.office_replies.specs.Lines.{lines_from};
-ghost use Rattle.office_replies.specs.Messages.{accepted_members, line_members, message_data, messages_data};
-ghost use Rattle.office_replies.specs.Sent.{rejected_members};
+ghost use Rattle.office_replies.specs.Messages.{accepted_members, common_members, message_data, messages_data, rejected_members};
 
 use crate::line_report::{LineReport, send_line};
 use crate::message_verdict::MessageVerdict;
@@ -75,22 +74,22 @@ fn send_accepted<S: Serializer>(
         Some(count) => {
             out.begin_map(Some(4))?;
             send_number("dropped", count as u64, out)?;
-            send_line_members(reference, lines, out)
+            send_common_members(reference, lines, out)
         }
         None => {
             out.begin_map(Some(3))?;
-            send_line_members(reference, lines, out)
+            send_common_members(reference, lines, out)
         }
     }
 }
 
 /// Sends the members that each message has that is accepted, and the object's end.
-fn send_line_members<S: Serializer>(
+fn send_common_members<S: Serializer>(
     reference: &str,
     lines: &[LineReport],
     out: &mut S,
 ) -> Result<(), S::Error>
-    ensures { OnOk result (SendsMembers (line_members reference.now lines.now)
+    ensures { OnOk result (SendsMembers (common_members reference.now lines.now)
         (S.written out.old) (S.written out.new)) }
 {
     out.key("lines")?;

@@ -1,4 +1,5 @@
-ghost use Rattle.std.specs.Prelude.{◌≡◌, IfOk, IfSome, string_bytes, encode_utf8_all};
+ghost use Rattle.std.specs.Prelude.{◌≡◌, IfNone, IfOk, IfSome, string_bytes, encode_utf8_all};
+ghost use Rattle.std.specs.Str.{IsAscii};
 
 use std::alloc::{AllocError, Global};
 
@@ -14,7 +15,8 @@ pub fn text_of(alloc: Global, bytes: &[u8]) -> Result<String, AllocError>
 
 /// The bytes as a text, if each is of ASCII.
 pub(crate) fn as_ascii(bytes: &[u8]) -> Option<&str>
-    ensures { IfSome result (λ text. text.now ≡ encode_utf8_all bytes.now) }
+    ensures text { IfSome result (λ text. text.now ≡ encode_utf8_all bytes.now) }
+    ensures none { IfNone result (¬ IsAscii bytes.now) }
 {
     if !bytes.is_ascii() {
         return None;
