@@ -5,7 +5,7 @@ demo:
 	@echo "(an unproved build: 'make build' leaves the proved one)"
 	@scripts/demo
 
-# The gate: every proof from nothing, the edits that must fail, every test, the program as two compilers build it, and that
+# The gate: every proof, the edits that must fail, every test, the program as two compilers build it, and that
 # program beside a plain slow model.
 test:
 	scripts/gate
@@ -44,8 +44,9 @@ program:
 picture:
 	scripts/picture
 
-# The program killed 1,000 times while deliveries are under way, without room, on files that are read-only or gone, and by
-# twos on one store, beside the model: once it is built.
+# The program killed 1,000 times while deliveries are under way, and killed or refused at each call of the system; what a loss
+# of power may leave; no room, files that are read-only or gone, two on one store, single bits turned over. Beside the model:
+# once it is built.
 kill9:
 	scripts/kill9
 
@@ -61,6 +62,6 @@ clients:
 fuzz:
 	scripts/fuzz $(or $(COUNT),1000000) $(SEED)
 
-# What the office costs, in one table, with a plain C program over libsqlite3 beside it: some fifteen minutes.
+# What the office costs, in one table, with a plain C program over libsqlite3 beside it.
 bench: build
 	bench/bench

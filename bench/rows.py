@@ -327,7 +327,7 @@ def lookups(stores, client):
 
 
 def long_gone(stores, client):
-    """A container that left, over as many visits as that: that of the newest visit, and that of the oldest."""
+    """A container that left, among that many visits (VISITS): the newest visit's, and the oldest's."""
     with tempfile.TemporaryDirectory(prefix='bench-', dir=IN_MEMORY) as folder:
         store = stores.new('office-gone', folder=folder)
         office = Stream(stores.office, 'deliver', store, '-')
