@@ -35,6 +35,10 @@ pub whole_interchange : (old new : State) (layout : Layout) → old.now.schema �
 whole_interchange old new bare has = whole_answer texts.select_interchange old new bare_schema has _ _ bare_texts.select_interchange_is.0
 whole_interchange old new weighed has = whole_answer texts.select_interchange old new office_schema has _ _ texts.select_interchange_is.0
 
+pub whole_listed : (old new : State) (layout : Layout) → old.now.schema ≡ schema_in layout → GoesOn texts.select_listed old new
+whole_listed old new bare has = whole_answer texts.select_listed old new bare_schema has _ _ bare_texts.select_listed_is.0
+whole_listed old new weighed has = whole_answer texts.select_listed old new office_schema has _ _ texts.select_listed_is.0
+
 has_front : {X : Type 0} (xs ys : List X) (x : X) → Has xs x → Has (xs ++ ys) x
 has_front [] ys x has = absurd has
 has_front (z ∷ xs) ys x (inl same) = inl same
