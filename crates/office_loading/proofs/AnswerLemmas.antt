@@ -54,7 +54,7 @@ module _ {X : Type 0} (Z : Type 0) (says : Row → X → Type 0) (is_said : Row 
   from_shown (Err Damaged) h =
       let more = whole h.0 h.1 h.2 in
       let answer = h.0 ++ more.0 in
-      decoded answer (lists answer more.1) (Err Damaged) (h.3.0, contains_had answer h.3.0 (has_front h.0 more.0 h.3.0 (has_contained h.0 h.3.0 h.3.1)), h.3.2)
+      decoded answer (lists answer more.1) (Err Damaged) (h.3, contains_had answer h.3 (has_front h.0 more.0 h.3 (has_contained h.0 h.3 h.4)), h.5)
   from_shown (Err Memory) h = failed Memory h
   from_shown (Err Version) h = absurd h
   from_shown (Err (Store error)) h = failed (Store error) h

@@ -20,8 +20,9 @@ use Rattle.sqlite_rules.proofs.ListLemmas.{contains_had}
 use Rattle.office_rows.proofs.StepLemmas.{stops_keep}
 use Rattle.office_tables.specs.declared.table_fault.TableFault.{TableFault}
 use Rattle.office_tables.specs.declared.table_fault.TableFault.TheVariants.{Store, Damaged, Version, Memory}
+use Rattle.office_tables.specs.Faults.{IsOfStoreOr}
 use Rattle.office_selecting.specs.Reads.{OnlyReads, OnlyShows, WritesNothing}
-use Rattle.office_loading.specs.Decoded.{Fails, FailsShown, ReadsShown}
+use Rattle.office_loading.specs.Decoded.{Fails, ShowsUnsaid, ReadsShown}
 use Rattle.office_loading.proofs.ChainLemmas.{unchanged_then}
 use Rattle.office_loading.proofs.DecodeLemmas.{zip_push}
 
@@ -104,11 +105,11 @@ module _ {S T : Type 0} (g : store.Ghosts S) (says : Row → T → Type 0) (sql 
       said = subst (AllZip says (s.given ++ row ∷ [])) (sym pushed) (zip_push says s.given read row one s.said says_it);
     }
 
-    pub row_refused : (is_said : Row → Type 0) (row : Row) → Advances g old new (Some row) → IsUnchanged (state g old) (state g new) → (fault : TableFault) → Fails is_said row fault → FailsShown is_said sql (state g first) (state g new) fault
+    pub row_refused : (is_said : Row → Type 0) (row : Row) → Advances g old new (Some row) → IsUnchanged (state g old) (state g new) → (fault : TableFault) → Fails is_said row fault → IsOfStoreOr (ShowsUnsaid is_said sql (state g first) (state g new)) fault
     row_refused is_said row moved same Damaged h =
         let given = s.given ++ row ∷ [] in
         let all = unchanged_then _ _ _ s.same same in
-        (given, begins_from sql [] (state g first) (state g new) given all (given_begin g sql [] new given (moved sql [] s.given s.has)), all, (row, contains_had given row (has_last s.given row), h))
+        (given, begins_from sql [] (state g first) (state g new) given all (given_begin g sql [] new given (moved sql [] s.given s.has)), all, row, contains_had given row (has_last s.given row), h)
     row_refused is_said row moved same Memory h = h
     row_refused is_said row moved same Version h = h
     row_refused is_said row moved same (Store error) h = absurd h
