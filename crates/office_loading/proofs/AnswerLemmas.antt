@@ -35,6 +35,10 @@ pub whole_interchange : (old new : State) (layout : Layout) → old.now.schema �
 whole_interchange old new bare has = whole_answer texts.select_interchange old new bare_schema has _ _ bare_texts.select_interchange_is.0
 whole_interchange old new weighed has = whole_answer texts.select_interchange old new office_schema has _ _ texts.select_interchange_is.0
 
+pub whole_listed : (old new : State) (layout : Layout) → old.now.schema ≡ schema_in layout → GoesOn texts.select_listed old new
+whole_listed old new bare has = whole_answer texts.select_listed old new bare_schema has _ _ bare_texts.select_listed_is.0
+whole_listed old new weighed has = whole_answer texts.select_listed old new office_schema has _ _ texts.select_listed_is.0
+
 has_front : {X : Type 0} (xs ys : List X) (x : X) → Has xs x → Has (xs ++ ys) x
 has_front [] ys x has = absurd has
 has_front (z ∷ xs) ys x (inl same) = inl same
@@ -50,7 +54,7 @@ module _ {X : Type 0} (Z : Type 0) (says : Row → X → Type 0) (is_said : Row 
   from_shown (Err Damaged) h =
       let more = whole h.0 h.1 h.2 in
       let answer = h.0 ++ more.0 in
-      decoded answer (lists answer more.1) (Err Damaged) (h.3.0, contains_had answer h.3.0 (has_front h.0 more.0 h.3.0 (has_contained h.0 h.3.0 h.3.1)), h.3.2)
+      decoded answer (lists answer more.1) (Err Damaged) (h.3, contains_had answer h.3 (has_front h.0 more.0 h.3 (has_contained h.0 h.3 h.4)), h.5)
   from_shown (Err Memory) h = failed Memory h
   from_shown (Err Version) h = absurd h
   from_shown (Err (Store error)) h = failed (Store error) h

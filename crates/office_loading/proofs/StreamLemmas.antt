@@ -1,5 +1,5 @@
 -- What reading the rows of a query one at a time leaves, and what it has read.
-use Rattle.std.proofs.Common.{◌≡◌, ◌⊎◌, ℕ, List, [], ◌∷◌, ◌++◌, false, None, Some, Result, Ok, Err, inl, inr, refl, sym, subst}
+use Rattle.std.proofs.Common.{◌≡◌, ℕ, List, [], ◌∷◌, ◌++◌, false, None, Some, Result, Ok, Err, inl, inr, refl, sym, subst}
 use Rattle.std.specs.Prelude.{Vec}
 use Rattle.std.specs.List.{AllZip}
 use Rattle.sqlite.specs.Order.{Row}
@@ -9,8 +9,7 @@ use Rattle.sqlite.specs.Tree.{Trees}
 use Rattle.sqlite.specs.Held.{Held, state}
 use Rattle.sqlite.specs.Given.{Returns, HasGiven, HasBegun, Advances}
 use Rattle.sqlite.specs.Listing.{understood, reads_listing, IsSourceOf}
-use Rattle.sqlite.specs.State.{State, HasCleanDisk, IsUnchanged, KeepsCommit, Fails, Shown, ShowsRows, Begins, Survives, CommitsShowing}
-use Rattle.sqlite.specs.declared.error.Error.{Error}
+use Rattle.sqlite.specs.State.{State, HasCleanDisk, IsUnchanged, Shown, ShowsRows, Begins, Survives, CommitsShowing}
 use Rattle.sqlite.proofs.Callers.{given_begin}
 use Rattle.sqlite.proofs.StateLemmas.{survives_weaker}
 use Rattle.sqlite_trees.specs.declared.store.Store as store
@@ -21,8 +20,9 @@ use Rattle.sqlite_rules.proofs.ListLemmas.{contains_had}
 use Rattle.office_rows.proofs.StepLemmas.{stops_keep}
 use Rattle.office_tables.specs.declared.table_fault.TableFault.{TableFault}
 use Rattle.office_tables.specs.declared.table_fault.TableFault.TheVariants.{Store, Damaged, Version, Memory}
+use Rattle.office_tables.specs.Faults.{IsOfStoreOr}
 use Rattle.office_selecting.specs.Reads.{OnlyReads, OnlyShows, WritesNothing}
-use Rattle.office_loading.specs.Decoded.{Fails as FailsRow, FailsShown, ReadsShown}
+use Rattle.office_loading.specs.Decoded.{Fails, ShowsUnsaid, ReadsShown}
 use Rattle.office_loading.proofs.ChainLemmas.{unchanged_then}
 use Rattle.office_loading.proofs.DecodeLemmas.{zip_push}
 
@@ -45,13 +45,6 @@ begins_quietly sql params old new shows same s = record { keeps = λ clean. stop
 
 pub moves_quietly : (old new : State) → (HasCleanDisk new → IsUnchanged old new) → Survives old new (λ _. ⊥) → WritesNothing old new
 moves_quietly old new same s = record { keeps = λ clean. stops_keep old new (inl (same clean)); survives = s }
-
-pub stops_quietly : (old new : State) (e : Error) → (HasCleanDisk new → Fails old new ⊥ e ⊎ IsUnchanged old new) → Survives old new (λ _. ⊥) → WritesNothing old new
-stops_quietly old new e kept s = record { keeps = λ clean. stops (kept clean); survives = s }
-  where
-    stops : Fails old new ⊥ e ⊎ IsUnchanged old new → KeepsCommit old new
-    stops (inl failed) = stops_keep old new (inr failed.3)
-    stops (inr same) = stops_keep old new (inl same)
 
 none_returns : (r : Result Compiled CompileError) → ((c : Compiled) → r ≡ Ok c → c.returning ≡ None) → ¬ Returns r
 none_returns (Ok c) none some = absurd (let e = rw (none c refl) at some in cc)
@@ -112,11 +105,11 @@ module _ {S T : Type 0} (g : store.Ghosts S) (says : Row → T → Type 0) (sql 
       said = subst (AllZip says (s.given ++ row ∷ [])) (sym pushed) (zip_push says s.given read row one s.said says_it);
     }
 
-    pub row_refused : (is_said : Row → Type 0) (row : Row) → Advances g old new (Some row) → IsUnchanged (state g old) (state g new) → (fault : TableFault) → FailsRow is_said row fault → FailsShown is_said sql (state g first) (state g new) fault
+    pub row_refused : (is_said : Row → Type 0) (row : Row) → Advances g old new (Some row) → IsUnchanged (state g old) (state g new) → (fault : TableFault) → Fails is_said row fault → IsOfStoreOr (ShowsUnsaid is_said sql (state g first) (state g new)) fault
     row_refused is_said row moved same Damaged h =
         let given = s.given ++ row ∷ [] in
         let all = unchanged_then _ _ _ s.same same in
-        (given, begins_from sql [] (state g first) (state g new) given all (given_begin g sql [] new given (moved sql [] s.given s.has)), all, (row, contains_had given row (has_last s.given row), h))
+        (given, begins_from sql [] (state g first) (state g new) given all (given_begin g sql [] new given (moved sql [] s.given s.has)), all, row, contains_had given row (has_last s.given row), h)
     row_refused is_said row moved same Memory h = h
     row_refused is_said row moved same Version h = h
     row_refused is_said row moved same (Store error) h = absurd h

@@ -5,6 +5,7 @@ use Rattle.sqlite.specs.Order.{Row}
 use Rattle.sqlite.specs.State.{State, IsUnchanged, Begins, Shown}
 use Rattle.office_tables.specs.declared.table_fault.TableFault.{TableFault}
 use Rattle.office_tables.specs.declared.table_fault.TableFault.TheVariants.{Store, Damaged, Version, Memory}
+use Rattle.office_tables.specs.Faults.{IsOfStoreOr}
 
 -- something says what is given
 abbrev pub Said : {A C : Type 0} → (A → C → Type 0) → A → Type 0
@@ -47,17 +48,15 @@ DecodesAll says is_said given (Err fault) = FailsOne is_said given fault
 
 -- ---- all rows that a query shows
 
--- nothing says one of the first rows that it shows; or the store failed, or memory was refused
-abbrev pub FailsShown : (Row → Type 0) → List ℕ → State → State → TableFault → Type 0
-FailsShown is_said query old new Damaged =
-    (first : List Row) × Begins query [] old first × IsUnchanged old new × FailsOne is_said first Damaged
-FailsShown is_said query old new Memory = Unit {0}
-FailsShown is_said query old new Version = ⊥
-FailsShown is_said query old new (Store error) = Unit {0}
+-- nothing says one of the first rows that it shows
+abbrev pub ShowsUnsaid : (Row → Type 0) → List ℕ → State → State → Type 0
+ShowsUnsaid is_said query old new =
+    (first : List Row) × Begins query [] old first × IsUnchanged old new
+    × (one : Row) × Contains first one × ¬ is_said one
 
 -- what is read says the rows that it shows, one after the other
 abbrev pub ReadsShown : {X Z : Type 0} → (Row → X → Type 0) → (Row → Type 0) → List ℕ → State → State →
     Result (Vec X Z) TableFault → Type 0
 ReadsShown says is_said query old new (Ok read) =
     (answer : List Row) × Shown query [] old new answer × AllZip says answer read.items
-ReadsShown says is_said query old new (Err fault) = FailsShown is_said query old new fault
+ReadsShown says is_said query old new (Err fault) = IsOfStoreOr (ShowsUnsaid is_said query old new) fault

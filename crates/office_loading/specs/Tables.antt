@@ -19,6 +19,7 @@ use Rattle.office_checks.specs.Contents.{opened_rows}
 use Rattle.office_checks.specs.declared.opened_tables.OpenedTables.{OpenedTables}
 use Rattle.office_tables.specs.declared.table_fault.TableFault.{TableFault}
 use Rattle.office_tables.specs.declared.table_fault.TableFault.TheVariants.{Store, Damaged, Version, Memory}
+use Rattle.office_tables.specs.Faults.{IsOfStoreOr}
 use Rattle.office_loading.specs.Fits.{FitsPartner, FitsNumber, FitsVisit, FitsPlace, FitsLine, FitsSetting, FitsBlock}
 
 -- ---- one table
@@ -44,10 +45,7 @@ ShowsBlocks db all = ShowsTable table.block (0 ∷ 1 ∷ 2 ∷ 3 ∷ []) (0 ∷ 
 
 -- some record that the table shows doesn't fit the types of a row, or the store failed
 abbrev pub FailsTable : {C : Type 0} → (C → Type 0) → (List C → Type 0) → TableFault → Type 0
-FailsTable {C} Fits Shown Damaged = (all : List C) → Shown all → ¬ AllByRecursion Fits all
-FailsTable Fits Shown Memory = Unit {0}
-FailsTable Fits Shown (Store error) = Unit {0}
-FailsTable Fits Shown Version = ⊥
+FailsTable {C} Fits Shown fault = IsOfStoreOr ((all : List C) → Shown all → ¬ AllByRecursion Fits all) fault
 
 -- what is read is what the table shows, and fits
 abbrev pub ReadsTable : {X C Z : Type 0} → (X → C) → (C → Type 0) → (List C → Type 0) → Result (Vec X Z) TableFault →

@@ -36,5 +36,6 @@ pub(crate) fn read_shown<S: Alter, T: Record>(
         let record = T::read(row)?;
         append(&mut records, record)?;
     }
+    // There are more rows than a Vec holds.
     Err(TableFault::Memory)
 }

@@ -17,7 +17,7 @@ ghost use Rattle.office_loading.specs.Tables.{ReadsTable, ShowsPartners, ShowsVi
 use crate::record::read_all;
 use crate::streaming::read_shown;
 use office_checks::{NumberRow, PartnerRow};
-use office_selecting::{select_blocks, select_lines, select_partners, select_places};
+use office_selecting::{select_blocks, select_partners, select_places};
 use office_tables::TableFault;
 use sqlite::{Alter, Connection};
 use std::alloc::Global;
@@ -145,8 +145,11 @@ pub(crate) fn read_lines<S: Alter>(
     ensures unwritten { WritesNothing (state S.Store conn.old) (state S.Store conn.new) }
     ensures version { IfErr result (IsOfStoreOr ⊤) }
 {
-    let rows = select_lines(conn)?;
-    read_all(alloc, &rows)
+    read_shown(
+        alloc,
+        conn,
+        "SELECT vessel, voyage, side, box, port, done FROM listed ORDER BY vessel, voyage, side, box",
+    )
 }
 
 /// All blocks of the yard, by their key.

@@ -3,8 +3,9 @@ use Rattle.std.proofs.lemmas.Result.{err_from_is_err_and}
 use Rattle.sqlite.specs.Held.{state}
 use Rattle.sqlite.specs.Given.{HasGiven}
 use Rattle.sqlite.specs.State.{HasCleanDisk, IsUnchanged, FailsToQuery, Survives, CommitsShowing}
+use Rattle.office_tables.specs.Faults.{IsOfStoreOr}
 use Rattle.office_selecting.proofs.ReadLemmas.{writes_nothing_failed}
-use Rattle.office_loading.specs.Decoded.{FailsShown, ReadsShown}
+use Rattle.office_loading.specs.Decoded.{ShowsUnsaid, ReadsShown}
 use Rattle.office_loading.proofs.ChainLemmas.{◌then◌}
 use Rattle.office_loading.proofs.StreamLemmas.{only_reads, begins_quietly, moves_quietly, begun_shows, stands_first, stands_next, row_refused, all_read}
 use Rattle.office_loading.proofs.streaming.read_shown.Goals as goal
@@ -59,7 +60,7 @@ returns-in_err-record-clause-read g c clean =
     let one = rw (c.in_ok-row.was, c.in-Some.is) at (moved.ok late) in
     let same = rw c.in_ok-row.was at (moved.same late) in
     let p = err_from_is_err_and c.from_residual-in_err-record.result c.from_residual-in_err-record.ensures.1 in
-    let refused : FailsShown g.T.Record.is_said c.args.query.now (state g.S.Store c.args.conn.now) (state g.S.Store now) c.in_err-record.field-0.0 =
+    let refused : IsOfStoreOr (ShowsUnsaid g.T.Record.is_said c.args.query.now (state g.S.Store c.args.conn.now) (state g.S.Store now)) c.in_err-record.field-0.0 =
     row_refused g.S.Store g.T.Record.says c.args.query.now c.args.conn.now c.each.rows.conn.now now c.each.records.items was g.T.Record.is_said c.in-Some.row.now one same c.in_err-record.field-0.0 c.in_err-record.ensures in
     let read : ReadsShown g.T.Record.says g.T.Record.is_said c.args.query.now (state g.S.Store c.args.conn.now) (state g.S.Store now) c.from_residual-in_err-record.result = rw (p.1, p.2) refused in
     search rules

@@ -1,15 +1,32 @@
-use Rattle.office_rows.specs.Bare.{weighed_in}
 use Rattle.std.proofs.Common.{[], ◌∷◌, refl}
 use Rattle.sqlite.specs.Held.{state}
+use Rattle.terminal_core.specs.declared.listing.Listing.{Listing}
 use Rattle.office_rows.specs.Rows.{listing_content}
 use Rattle.office_rows.specs.Tables.{listed}
+use Rattle.office_rows.specs.Bare.{weighed_in}
+use Rattle.office_rows.specs.Shown.{ShowsTable}
 use Rattle.office_rows.specs.Values.{line_values}
+use Rattle.office_rows.proofs.Reading as texts
+use Rattle.office_rows.proofs.Listed.{lists_listed}
+use Rattle.office_selecting.proofs.QueryTexts.{listed_shows}
+use Rattle.office_loading.specs.Columns.{SaysLine}
+use Rattle.office_loading.specs.Decoded.{Said}
 use Rattle.office_loading.specs.Fits.{FitsLine}
-use Rattle.office_loading.proofs.TableLemmas.{reads_table}
+use Rattle.office_loading.specs.Tables.{ReadsTable, ShowsLines}
+use Rattle.office_loading.proofs.AnswerLemmas.{whole_listed, from_shown}
+use Rattle.office_loading.proofs.TableLemmas.{reads_table, store_fails}
 use Rattle.office_loading.proofs.table_reading.read_lines.Goals as goal
+
+pub read_shown-requires : goal.read_shown-requires
+read_shown-requires g c = listed_shows
 
 pub returns-clause-read : goal.returns-clause-read
 returns-clause-read g c clean layout is =
     let old = state g.S.Store c.args.conn.now in
-    reads_table (0 ∷ 1 ∷ 2 ∷ 3 ∷ 4 ∷ 5 ∷ []) (0 ∷ 1 ∷ 2 ∷ 3 ∷ 4 ∷ 5 ∷ []) (λ r. refl) listed (0 ∷ 1 ∷ 2 ∷ 3 ∷ []) (λ r. refl) (weighed_in layout old.now) c.in_ok-rows.rows.items (c.in_ok-rows.ensures.shown clean layout is) _ listing_content line_values FitsLine
-    c.deref.result.now c.deref.ensures.value c.read_all.result c.read_all.ensures
+    let new = state g.S.Store c.read_shown.new.conn in
+    let db = weighed_in layout old.now in
+    from_shown _ (λ row (read : Listing). SaysLine row (listing_content read)) (Said SaysLine) texts.select_listed old new (whole_listed old new layout is)
+    (ShowsTable listed (0 ∷ 1 ∷ 2 ∷ 3 ∷ 4 ∷ 5 ∷ []) (0 ∷ 1 ∷ 2 ∷ 3 ∷ []) db) (λ answer shown. lists_listed old new answer layout is shown)
+    (ReadsTable listing_content FitsLine (ShowsLines db))
+    (λ answer it result all. reads_table (0 ∷ 1 ∷ 2 ∷ 3 ∷ 4 ∷ 5 ∷ []) (0 ∷ 1 ∷ 2 ∷ 3 ∷ 4 ∷ 5 ∷ []) (λ r. refl) listed (0 ∷ 1 ∷ 2 ∷ 3 ∷ []) (λ r. refl) db answer it _ listing_content line_values FitsLine answer refl result all)
+    (store_fails FitsLine (ShowsLines db)) c.read_shown.result (c.read_shown.ensures.read clean)
