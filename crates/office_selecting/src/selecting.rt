@@ -3,7 +3,7 @@ ghost use Rattle.sqlite.specs.Held.{state};
 ghost use Rattle.sqlite.specs.Given.{IsPlain};
 ghost use Rattle.sqlite.specs.Listing.{understood};
 ghost use Rattle.sqlite.specs.State.{HasCleanDisk, IsUnchanged, Shown};
-ghost use Rattle.office_rows.specs.Tables.{partner, interchange, place, listed, setting, block, office_schema};
+ghost use Rattle.office_rows.specs.Tables.{partner, interchange, place, setting, block, office_schema};
 ghost use Rattle.std.specs.List.Sorted.{IsPermutation};
 ghost use Rattle.office_rows.specs.Layouts.{Layout, IsOfficeSchema, schema_in};
 ghost use Rattle.office_rows.specs.Rows.{Interchange};
@@ -89,26 +89,6 @@ pub fn select_places<S: Alter>(conn: &mut Connection<S>) -> Result<Vec<Row>, Tab
     ensures fault { IfErr result IsOfStore }
 {
     select(conn, "SELECT box, visit, slot FROM place ORDER BY box")
-}
-
-/// The rows of all lines of vessels' lists, by call, side and container.
-pub fn select_lines<S: Alter>(conn: &mut Connection<S>) -> Result<Vec<Row>, TableFault>
-    ensures shown { HasCleanDisk (state S.Store conn.new) → (layout : Layout) →
-        (state S.Store conn.old).now.schema ≡ schema_in layout → IfOk result (λ answer.
-        ShowsTable listed (0 ∷ 1 ∷ 2 ∷ 3 ∷ 4 ∷ 5 ∷ []) (0 ∷ 1 ∷ 2 ∷ 3 ∷ []) (weighed_in layout (state S.Store conn.old).now)
-        answer.items) }
-    ensures same { HasCleanDisk (state S.Store conn.new) → (state S.Store conn.old).now.schema ≡ office_schema →
-        OnOk result (IsUnchanged (state S.Store conn.old) (state S.Store conn.new)) }
-    ensures reads { OnlyReads (state S.Store conn.old) (state S.Store conn.new) }
-    ensures unchanged { HasCleanDisk (state S.Store conn.new) →
-        OnOk result (IsUnchanged (state S.Store conn.old) (state S.Store conn.new)) }
-    ensures unwritten { WritesNothing (state S.Store conn.old) (state S.Store conn.new) }
-    ensures fault { IfErr result IsOfStore }
-{
-    select(
-        conn,
-        "SELECT vessel, voyage, side, box, port, done FROM listed ORDER BY vessel, voyage, side, box",
-    )
 }
 
 /// The rows of all settings, by their names.
