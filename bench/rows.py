@@ -135,7 +135,7 @@ def counts(stores):
         cost = [counted(stores, program, store, texts[mark:]) for program in (stores.office, stores.peer) if program] + [None]
         costs.append(cost)
         rows.append(Row('gate-ins and gate-outs, instructions, %s kept' % format(mark, ','), 'thousands', *(
-            number and number / 1000 for number in cost[:2])))
+            number and number / 1000 for number in cost[:2]), 'at most 580'))
     ratios = [after and after / before for before, after in zip(*costs)]
     return rows + [Row('the latter by the former', 'times', ratios[0], ratios[1], 'at most 1.2')]
 
@@ -364,16 +364,18 @@ def yard(top):
 
 def beside_a_scanner(top, crate, wanted):
     """A megabyte beside a plain C scanner, by the bench of a crate."""
-    times = {}
+    times, counts = {}, []
     for line in printed_by(top, crate):
         name, _colon, rest = line.partition(':')
         if rest.split()[1:2] in (['us'], ['us,']):
             times[name] = float(rest.split()[0])
+        elif name == 'instructions a byte':
+            counts.append(Row('%s, a megabyte' % crate, name, float(rest.split()[0]), None, '60'))
     if 'C scanner' not in times:
         return [Row('a megabyte: crates/%s/bench.sh failed' % crate, 'us', None)]
     return [
         Row('%s, a megabyte: %s; peer: a C scanner' % (crate, name), 'us', spent, times['C scanner'], wanted.get(name, ''))
-        for name, spent in times.items() if name != 'C scanner']
+        for name, spent in times.items() if name != 'C scanner'] + counts
 
 
 def syntax(top):

@@ -3,6 +3,7 @@
 # C scanner in the same run: the crate's bench/main.rt.txt, as a program over a copy of it and those that it stands on,
 # and bench/scan.c.txt. Prints the best time of each per megabyte, and the share of the scanner's speed that it is.
 # Wanted: half of it for opening and walking in one go and for opening and reading as orders, a third of it for cutting.
+# Of edi_messages also the instructions a byte, if valgrind is there. Wanted: 60.
 # Of edi_syntax also the allocations while opening and walking, by bench/count.c.txt. Wanted: none.
 set -eu
 top=$(cd "$(dirname "$0")/../.." && pwd)
@@ -49,7 +50,18 @@ awk '
         row("cut", "cut in pieces", " (wanted: 0.33)")
         row("orders", "open and read", " (wanted: 0.50)")
     }' "$work/times"
-[ "$crate" = edi_syntax ] || exit 0
+if [ "$crate" != edi_syntax ]; then
+    command -v valgrind > /dev/null || exit 0
+    counted() {
+        valgrind --tool=callgrind --callgrind-out-file=/dev/null out/edi_bench "$work/text.edi" "$1" 2>&1 > /dev/null \
+            | sed -n 's/.*Collected : //p'
+    }
+    once=$(counted 1)
+    often=$(counted 11)
+    size=$(wc -c < "$work/text.edi")
+    echo "instructions a byte: $(awk "BEGIN { printf \"%.1f\", ($often - $once) / 10 / $size }") (wanted: 60)"
+    exit 0
+fi
 cc -O2 -shared -fPIC -x c -o "$work/count.so" "$top/crates/edi_syntax/bench/count.c.txt"
 none=$(LD_PRELOAD="$work/count.so" out/edi_bench "$work/text.edi" 0 2>&1 > /dev/null)
 some=$(LD_PRELOAD="$work/count.so" out/edi_bench "$work/text.edi" 100 2>&1 > /dev/null)
