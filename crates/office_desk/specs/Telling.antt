@@ -5,6 +5,7 @@ use Rattle.sqlite.specs.State.{State}
 use Rattle.sqlite.specs.Tree.{Trees}
 use Rattle.edi_segments.specs.Interchange.{interchange_of}
 use Rattle.partner_core.specs.Answers.{Taken}
+use Rattle.partner_core.specs.Deliveries as deliveries
 use Rattle.office_replies.specs.Events.{Event, delivered}
 use Rattle.office_replies.specs.Contents.{content_of}
 use Rattle.office_replies.specs.declared.response.Response.{Response}
@@ -20,6 +21,7 @@ use Rattle.office_history.specs.Laws.{IsFor, told_of}
 use Rattle.office_desk.specs.Answers.{told_answer}
 use Rattle.office_desk.specs.Beside.{IsBeside}
 use Rattle.office_desk.specs.declared.beside.Beside.{Beside}
+use Rattle.office_desk.specs.declared.delivery.Delivery.{Delivery}
 
 -- the text is taken, and those that become next by it, and the partner's number is raised by the length of this run;
 -- the response has the reply of the first, and the rows are committed, so that a crash leaves these alone
@@ -63,3 +65,19 @@ pub record Answers (content : SetupContent) (es : List Event) (sent : List ℕ) 
     (code : List ℕ) (response : Response) (now : SetupContent) (db : Database) (there : Option Beside) : Type 0 where
   pub answers : content_of response ≡ told_answer code number (told_of content es partner number sent)
   pub holds : Holds content (es ++ delivered sent ∷ []) now db there
+
+-- ---- of what was delivered, as the code has it
+
+-- the delivery that the definitions speak of
+abbrev pub delivery_of : Delivery → deliveries.Delivery
+delivery_of d = deliveries.delivery d.admitted.partner d.number d.text.now
+
+-- it is what was delivered, and the accounts so far admit it
+abbrev pub ComesAs : SetupContent → List Event → (sent : List ℕ) → Delivery → Type 0
+ComesAs content es sent d = Comes content es sent d.text.now d.admitted.partner d.number
+
+-- the response to it is what is to be told, and these are held behind it
+abbrev pub AnswersTo : SetupContent → List Event → (sent : List ℕ) → Delivery → Response → (now : SetupContent) →
+    Database → (there : Option Beside) → Type 0
+AnswersTo content es sent d response now db there =
+    Answers content es sent d.admitted.partner d.number d.code.now response now db there

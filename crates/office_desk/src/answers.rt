@@ -6,6 +6,7 @@ ghost use Rattle.partner_core.specs.Standings.{standing_of};
 ghost use Rattle.office_replies.specs.Contents.{content_of};
 ghost use Rattle.office_desk.specs.Answers.{told_answer};
 
+use crate::delivery::Delivery;
 use office_replies::{Response, answered, clash, waiting};
 use office_tables::Kept;
 use partner_core::{Standing, judge};
@@ -16,17 +17,15 @@ pub(crate) fn answer_used(
     alloc: Global,
     kept: Kept,
     next: u32,
-    code: &str,
-    number: u32,
-    text: &[u8],
+    delivery: &Delivery<'_>,
 ) -> Result<Response, AllocError>
-    ensures { IfOk result (λ response. content_of response ≡ told_answer code.now number
-        (answer_by (standing_of next number (Some kept.text.items) text.now) next
+    ensures { IfOk result (λ response. content_of response ≡ told_answer delivery.now.code.now delivery.now.number
+        (answer_by (standing_of next delivery.now.number (Some kept.text.items) delivery.now.text.now) next
         (option_map string_bytes kept.reply) None)) }
 {
-    match judge(next, number, Some(&kept.text), text) {
-        Standing::Known => answer_known(alloc, kept.reply, next, code, number),
-        _ => answer_clash(alloc, code, number),
+    match judge(next, delivery.number, Some(&kept.text), delivery.text) {
+        Standing::Known => answer_known(alloc, kept.reply, next, delivery),
+        _ => answer_clash(alloc, delivery),
     }
 }
 
@@ -35,34 +34,34 @@ fn answer_known(
     alloc: Global,
     reply: Option<String>,
     next: u32,
-    code: &str,
-    number: u32,
+    delivery: &Delivery<'_>,
 ) -> Result<Response, AllocError>
-    ensures { IfOk result (λ response. content_of response ≡ told_answer code.now number
+    ensures { IfOk result (λ response. content_of response ≡ told_answer delivery.now.code.now delivery.now.number
         (answer_by Known next (option_map string_bytes reply) None)) }
 {
     match reply {
-        Some(reply) => answer_repeat(alloc, &reply, code, number),
-        None => answer_waiting(alloc, next, code, number),
+        Some(reply) => answer_repeat(alloc, &reply, delivery),
+        None => answer_waiting(alloc, next, delivery),
     }
 }
 
 fn answer_repeat(
     alloc: Global,
     reply: &str,
-    code: &str,
-    number: u32,
+    delivery: &Delivery<'_>,
 ) -> Result<Response, AllocError>
-    ensures { IfOk result (λ response. content_of response ≡ told_answer code.now number (Repeat (Some reply.now))) }
+    ensures { IfOk result (λ response.
+        content_of response ≡ told_answer delivery.now.code.now delivery.now.number (Repeat (Some reply.now))) }
 {
-    let body = answered(alloc, "repeat", number, code, reply)?;
+    let body = answered(alloc, "repeat", delivery.number, delivery.code, reply)?;
     Ok(Response::Repeat(body))
 }
 
-fn answer_clash(alloc: Global, code: &str, number: u32) -> Result<Response, AllocError>
-    ensures { IfOk result (λ response. content_of response ≡ told_answer code.now number Clash) }
+fn answer_clash(alloc: Global, delivery: &Delivery<'_>) -> Result<Response, AllocError>
+    ensures { IfOk result (λ response.
+        content_of response ≡ told_answer delivery.now.code.now delivery.now.number Clash) }
 {
-    let body = clash(alloc, number, code)?;
+    let body = clash(alloc, delivery.number, delivery.code)?;
     Ok(Response::Clash(body))
 }
 
@@ -70,11 +69,11 @@ fn answer_clash(alloc: Global, code: &str, number: u32) -> Result<Response, Allo
 pub(crate) fn answer_waiting(
     alloc: Global,
     next: u32,
-    code: &str,
-    number: u32,
+    delivery: &Delivery<'_>,
 ) -> Result<Response, AllocError>
-    ensures { IfOk result (λ response. content_of response ≡ told_answer code.now number (Waiting next)) }
+    ensures { IfOk result (λ response.
+        content_of response ≡ told_answer delivery.now.code.now delivery.now.number (Waiting next)) }
 {
-    let body = waiting(alloc, next, number, code)?;
+    let body = waiting(alloc, next, delivery.number, delivery.code)?;
     Ok(Response::Waiting(body))
 }

@@ -9,6 +9,7 @@ ghost use Rattle.office_setup.specs.Setups.{SetupContent, setup_content};
 use crate::account_standing::AccountStanding;
 use crate::adding::add_new;
 use crate::beside::Beside;
+use crate::delivery::Delivery;
 use crate::judging::{asked, judge_account};
 use crate::noting::note_memory;
 use crate::reloading::{beside_of, load_beside};
@@ -226,16 +227,13 @@ impl<S: Alter + Drop> Desk<S> {
         let accounts = setup.partners.as_slice();
         let place = admitted.partner as usize - 1;
         let code = accounts[place].code.as_str();
-        let taken = take_in(
-            alloc,
-            &mut self.conn,
-            setup,
-            &mut self.beside,
+        let delivery = Delivery {
             code,
-            &admitted,
+            admitted,
             number,
             text,
-        );
+        };
+        let taken = take_in(alloc, &mut self.conn, setup, &mut self.beside, &delivery);
         match taken {
             Ok(response) => response,
             Err(fault) => {

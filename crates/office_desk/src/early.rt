@@ -9,6 +9,7 @@ ghost use Rattle.office_desk.specs.Answers.{told_answer};
 ghost use Rattle.office_delivery.specs.Writing.{Commits, IsUndone, IsWhole};
 
 use crate::answers::answer_waiting;
+use crate::delivery::Delivery;
 use office_delivery::write_early;
 use office_replies::Response;
 use office_tables::TableFault;
@@ -20,26 +21,27 @@ pub(crate) fn take_early<S: Alter>(
     alloc: Global,
     conn: &mut Connection<S>,
     next: u32,
-    code: &str,
-    partner: u16,
-    number: u32,
-    text: &[u8],
+    delivery: &Delivery<'_>,
 ) -> Result<Response, TableFault>
     requires idle { (state S.Store conn.old).in_transaction ≡ false }
     ensures idle { (state S.Store conn.new).in_transaction ≡ false }
-    ensures told { IfOk result (λ response. content_of response ≡ told_answer code.now number (Waiting next)) }
+    ensures told { IfOk result (λ response.
+        content_of response ≡ told_answer delivery.now.code.now delivery.now.number (Waiting next)) }
     ensures ok { HasCleanDisk (state S.Store conn.new) →
-        OnOk result (Commits (with_kept partner number text.now) (state S.Store conn.old) (state S.Store conn.new)) }
+        OnOk result (Commits (with_kept delivery.now.admitted.partner delivery.now.number delivery.now.text.now)
+        (state S.Store conn.old) (state S.Store conn.new)) }
     ensures err { HasCleanDisk (state S.Store conn.new) → IsTrue (state S.Store conn.new).is_open →
         OnErr result ((state S.Store conn.new).committed ≡ (state S.Store conn.old).committed) }
     ensures crash { Survives (state S.Store conn.old) (state S.Store conn.new)
-        (IsWhole (with_kept partner number text.now) (state S.Store conn.old)) }
+        (IsWhole (with_kept delivery.now.admitted.partner delivery.now.number delivery.now.text.now)
+        (state S.Store conn.old)) }
     ensures fault { IfErr result IsOfStore }
     ensures was_open { HasCleanDisk (state S.Store conn.new) → IsTrue (state S.Store conn.new).is_open →
         IsTrue (state S.Store conn.old).is_open }
     ensures clean { HasCleanDisk (state S.Store conn.new) → HasCleanDisk (state S.Store conn.old) }
 {
-    let answer = answer_waiting(alloc, next, code, number)?;
-    write_early(conn, partner, number, text)?;
+    let partner = delivery.admitted.partner;
+    let answer = answer_waiting(alloc, next, delivery)?;
+    write_early(conn, partner, delivery.number, delivery.text)?;
     Ok(answer)
 }

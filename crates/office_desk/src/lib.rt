@@ -5,6 +5,7 @@ mod account_standing;
 mod adding;
 mod answers;
 mod beside;
+mod delivery;
 mod desk;
 mod early;
 mod found;

@@ -14,7 +14,7 @@ ghost use Rattle.office_desk.specs.Noting.{IsNow};
 ghost use Rattle.office_desk.specs.Telling.{TakesNext, IsRunDone};
 
 use crate::beside::Beside;
-use office_admission::Admitted;
+use crate::delivery::Delivery;
 use office_delivery::{take_run, write_run};
 use office_replies::{Response, answered};
 use office_setup::Setup;
@@ -30,42 +30,44 @@ pub(crate) fn take_next<S: Alter>(
     conn: &mut Connection<S>,
     setup: &Setup,
     beside: Beside,
-    code: &str,
-    admitted: &Admitted<'_>,
-    number: u32,
-    text: &[u8],
+    delivery: &Delivery<'_>,
 ) -> Result<(Response, Beside), TableFault>
     requires idle { (state S.Store conn.old).in_transaction ≡ false }
     requires few { length setup.now.partners.items ≤ 999 }
-    requires number { number ≤ LAST_NUMBER }
-    requires admitted { IsAdmitted setup.now text.now admitted.now }
-    requires known { admitted.now.partner ≤ length beside.nexts.items }
+    requires number { delivery.now.number ≤ LAST_NUMBER }
+    requires admitted { IsAdmitted setup.now delivery.now.text.now delivery.now.admitted }
+    requires known { delivery.now.admitted.partner ≤ length beside.nexts.items }
     ensures idle { (state S.Store conn.new).in_transaction ≡ false }
     ensures now { IfOk result (λ taken. IsNow taken.0) }
     ensures ok { HasCleanDisk (state S.Store conn.new) → IfOk result (λ taken. (rows : Rows) →
         HasRows rows (state S.Store conn.old).now → (state S.Store conn.old).now ≡ (state S.Store conn.old).committed →
-        IsNumbered admitted.now.partner rows →
-        TakesNext rows admitted.now.partner number text.now code.now setup.now beside
-        taken.0 taken.1 (state S.Store conn.new)) }
+        IsNumbered delivery.now.admitted.partner rows →
+        TakesNext rows delivery.now.admitted.partner delivery.now.number delivery.now.text.now delivery.now.code.now
+        setup.now beside taken.0 taken.1 (state S.Store conn.new)) }
     ensures err { HasCleanDisk (state S.Store conn.new) → IsTrue (state S.Store conn.new).is_open →
         (state S.Store conn.old).now.schema ≡ office_schema →
         OnErr result ((state S.Store conn.new).committed ≡ (state S.Store conn.old).committed) }
     ensures crash { HasCleanDisk (state S.Store conn.new) → OnErr result ((rows : Rows) →
         HasRows rows (state S.Store conn.old).now → (state S.Store conn.old).now ≡ (state S.Store conn.old).committed →
-        IsNumbered admitted.now.partner rows →
+        IsNumbered delivery.now.admitted.partner rows →
         (db : Trees) → (state S.Store conn.new).may_leave db →
         (state S.Store conn.old).may_leave db
-        ⊎ IsRunDone rows admitted.now.partner number text.now (machine_of setup.now beside.terminal) db) }
+        ⊎ IsRunDone rows delivery.now.admitted.partner delivery.now.number delivery.now.text.now
+        (machine_of setup.now beside.terminal) db) }
     ensures fault { HasCleanDisk (state S.Store conn.new) → IfErr result (λ fault. (rows : Rows) →
-        HasRows rows (state S.Store conn.old).now → IsOfStoreOr (HasUnfitBehind admitted.now.partner number rows) fault) }
+        HasRows rows (state S.Store conn.old).now →
+        IsOfStoreOr (HasUnfitBehind delivery.now.admitted.partner delivery.now.number rows) fault) }
     ensures was_open { HasCleanDisk (state S.Store conn.new) → IsTrue (state S.Store conn.new).is_open →
         IsTrue (state S.Store conn.old).is_open }
     ensures clean { HasCleanDisk (state S.Store conn.new) → HasCleanDisk (state S.Store conn.old) }
 {
     let mut beside = beside;
+    let code = delivery.code;
+    let admitted = &delivery.admitted;
+    let number = delivery.number;
     let taken = take_run(alloc, conn, setup, &mut beside.terminal, admitted, number)?;
     let body = answered(alloc, "taken", number, code, taken[0].reply.as_str())?;
-    write_run(conn, admitted.partner, number, text, &taken)?;
+    write_run(conn, admitted.partner, number, delivery.text, &taken)?;
     beside.raise(admitted.partner, taken[taken.len() - 1].number + 1);
     Ok((Response::Taken(body), beside))
 }

@@ -16,42 +16,44 @@ use Rattle.office_desk.proofs.next.take_next.Goals as goal
 
 pub returns-clause-ok : goal.returns-clause-ok
 returns-clause-ok g c clean rows has settled numbered =
+    let d = c.args.delivery.now in
     let old = state g.S.Store c.args.conn.now in
     let mid = state g.S.Store c.take_run.new.conn in
     let new = state g.S.Store c.write_run.new.conn in
     let items = c.in_ok-taken.taken.items in
     let before : HasCleanDisk mid = omega (arith, c.write_run.ensures.crash.clean) in
     let same : IsSame old mid = c.in_ok-taken.ensures.same before has.schema in
-    let wrote : Commits (with_run c.args.admitted.now.partner c.args.number c.args.text.now (taken_contents items)) mid new = rw c.deref.ensures.value at (c.in_ok-write_run.ensures.ok clean) in
-    let texts = texts_with rows c.args.admitted.now.partner c.args.number c.args.text.now in
-    let taken : AreTakenFrom c.args.admitted.now.partner texts c.args.number (machine_of c.args.setup.now c.args.beside.terminal) (taken_contents items) (machine_of c.args.setup.now c.raise.new.self.terminal) =
-    subst (λ t. AreTakenFrom c.args.admitted.now.partner texts c.args.number (machine_of c.args.setup.now c.args.beside.terminal) (taken_contents items) (machine_of c.args.setup.now t)) (sym c.raise.ensures.terminal)
-    (c.in_ok-taken.ensures.taken before rows c.args.text.now has numbered c.requires.admitted) in
+    let wrote : Commits (with_run d.admitted.partner d.number d.text.now (taken_contents items)) mid new = rw c.deref.ensures.value at (c.in_ok-write_run.ensures.ok clean) in
+    let texts = texts_with rows d.admitted.partner d.number d.text.now in
+    let taken : AreTakenFrom d.admitted.partner texts d.number (machine_of c.args.setup.now c.args.beside.terminal) (taken_contents items) (machine_of c.args.setup.now c.raise.new.self.terminal) =
+    subst (λ t. AreTakenFrom d.admitted.partner texts d.number (machine_of c.args.setup.now c.args.beside.terminal) (taken_contents items) (machine_of c.args.setup.now t)) (sym c.raise.ensures.terminal)
+    (c.in_ok-taken.ensures.taken before rows d.text.now has numbered c.requires.admitted) in
     let many = length items in
     let last = c.index-2.result.now in
     let is_last : last ≡ slice_index_or items (many - 1) last = c.index-2.ensures ∙ ap (λ k. slice_index_or items (k - 1) last) (c.len.ensures ∙ sym c.deref.ensures.len ∙ ap length c.deref.ensures.value) in
-    let placed : (slice_index_or items (many - 1) last).number ≡ c.args.number + (many - 1) =
-    number_at c.args.admitted.now.partner texts c.args.number _ _ items (many - 1) last taken (omega (arith, c.in_ok-taken.ensures.first)) in
-    let after : last.number + 1 ≡ c.args.number + many = omega (arith, ap (λ (t : Taken). t.number) is_last, placed, c.in_ok-taken.ensures.first) in
-    let raised : c.raise.new.self.nexts.items ≡ slice_set c.args.beside.nexts.items (c.args.admitted.now.partner - 1) (c.args.number + many) =
-    c.raise.ensures.nexts ∙ ap (slice_set c.args.beside.nexts.items (c.args.admitted.now.partner - 1)) after in
-    takes_next rows c.args.admitted.now.partner c.args.number c.args.text.now c.args.code.now c.args.setup.now c.args.beside c.raise.new.self c.in_ok-body.body c.index.result.now items old mid new
+    let placed : (slice_index_or items (many - 1) last).number ≡ d.number + (many - 1) =
+    number_at d.admitted.partner texts d.number _ _ items (many - 1) last taken (omega (arith, c.in_ok-taken.ensures.first)) in
+    let after : last.number + 1 ≡ d.number + many = omega (arith, ap (λ (t : Taken). t.number) is_last, placed, c.in_ok-taken.ensures.first) in
+    let raised : c.raise.new.self.nexts.items ≡ slice_set c.args.beside.nexts.items (d.admitted.partner - 1) (d.number + many) =
+    c.raise.ensures.nexts ∙ ap (slice_set c.args.beside.nexts.items (d.admitted.partner - 1)) after in
+    takes_next rows d.admitted.partner d.number d.text.now d.code.now c.args.setup.now c.args.beside c.raise.new.self c.in_ok-body.body c.index.result.now items old mid new
     c.in_ok-taken.ensures.first c.index.ensures taken raised (rw c.as_str.ensures.value at c.in_ok-body.ensures.bytes) has settled same wrote
 
 pub returns-in_err-write_run-clause-crash : goal.returns-in_err-write_run-clause-crash
 returns-in_err-write_run-clause-crash g c clean = on_err c.from_residual-in_err-write_run.result (λ rows has settled numbered db left.
     let a = c.args in
+    let d = a.delivery.now in
     let old = state g.S.Store a.conn.now in
     let mid = state g.S.Store c.take_run.new.conn in
     let items = c.in_ok-taken.taken.items in
     let before : HasCleanDisk mid = omega (arith, c.write_run.ensures.crash.clean, clean) in
     let same : IsSame old mid = c.in_ok-taken.ensures.same before has.schema in
-    let wrote : mid.may_leave db ⊎ IsWhole (with_run a.admitted.now.partner a.number a.text.now (taken_contents items)) mid db = rw c.deref.ensures.value at (c.write_run.ensures.crash.crash clean db left) in
+    let wrote : mid.may_leave db ⊎ IsWhole (with_run d.admitted.partner d.number d.text.now (taken_contents items)) mid db = rw c.deref.ensures.value at (c.write_run.ensures.crash.crash clean db left) in
     either_of (reads_less old mid before has.schema c.take_run.ensures.reads db)
     (λ is. record {
       taken = taken_contents items;
       new = machine_of a.setup.now c.take_run.new.terminal;
-      are_taken = c.in_ok-taken.ensures.taken before rows a.text.now has numbered c.requires.admitted;
+      are_taken = c.in_ok-taken.ensures.taken before rows d.text.now has numbered c.requires.admitted;
       are = is rows (subst (HasRows rows) (settled ∙ sym same.committed) has);
     }) wrote)
 
