@@ -21,12 +21,10 @@ mod serve_fault;
 mod server;
 mod timed_reader;
 mod timed_writer;
-mod unwatched;
 mod watch;
 
 pub use seen::Seen;
 pub use serve::serve_one;
 pub use serve_fault::ServeFault;
 pub use server::serve_on;
-pub use unwatched::Unwatched;
 pub use watch::Watch;
