@@ -49,7 +49,7 @@ asked_over image opened desk opens code kind answer done = record {
   leaves = λ sound content es begins.
       let was = done.stays sound in
       let at = opens.events was content es begins in
-      record { opening = at.opening; says = at.opening_says; leaves = done.enrolled.crash was sound.0 at.opening es at.stands };
+      record { opening = at.opening; says = at.opening_says; holds = done.enrolled.crash was sound.0 at.opening es at.stands };
 }
 
 -- its line, or a front of it

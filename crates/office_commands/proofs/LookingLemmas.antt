@@ -23,5 +23,5 @@ looked_over image opened desk opens looked stays = record {
   leaves = λ sound content es begins.
       let was = stays sound in
       let at = opens.events was content es begins in
-      record { opening = at.opening; says = at.opening_says; leaves = λ db left. at.leaves db (looked.crash was sound.0 at.stands.has.schema db left) };
+      record { opening = at.opening; says = at.opening_says; holds = λ db left. at.leaves db (looked.crash was sound.0 at.stands.has.schema db left) };
 }

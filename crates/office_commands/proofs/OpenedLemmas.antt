@@ -1,5 +1,5 @@
 -- What a connection to files shows.
-use Rattle.std.proofs.Common.{◌≡◌, inl, inr, [], length, Result, Ok, Err, IfOk, arith, refl, ap, sym, subst}
+use Rattle.std.proofs.Common.{◌≡◌, inl, inr, [], length, true, false, Result, Ok, Err, IfOk, arith, refl, ap, sym, subst}
 use Rattle.std.proofs.Math.Logic.{∥∥₁_elim}
 use Rattle.sqlite_disk.specs.declared.Disk.{Ghosts}
 use Rattle.sqlite_catalog.specs.Listing.{Lists}
@@ -7,6 +7,7 @@ use Rattle.sqlite_catalog.proofs.ReadLemmas.{lists_once}
 use Rattle.sqlite_trees.specs.Props.{Trees-set}
 use Rattle.sqlite_trees.specs.Sound.{is_sound_list}
 use Rattle.sqlite_trees.specs.Objects.{catalog_tree}
+use Rattle.sqlite_schema.specs.Names.{same_name}
 use Rattle.sqlite.specs.Effect.{IsDatabase}
 use Rattle.sqlite.specs.Files.{IsOpened, file_state}
 use Rattle.sqlite.specs.Held.{Held}
@@ -14,7 +15,8 @@ use Rattle.sqlite.specs.Recovery.{Image}
 use Rattle.sqlite.specs.Start.{FindsIn}
 use Rattle.sqlite.specs.Tree.{Trees}
 use Rattle.sqlite.specs.declared.FileStore.{FileStore}
-use Rattle.office_rows.specs.Tables.{no_schema}
+use Rattle.office_rows.specs.Tables.{no_schema, office_schema, office_tables}
+use Rattle.office_tables.specs.Opened.{AreMissing}
 use Rattle.office_commands.specs.Opening.{ShowsHeld}
 
 -- The trees list one schema at most, so the connection has that one.
@@ -41,6 +43,11 @@ shows_none image conn opened found none =
       | inr nothing ↦ nothing.1.1
     ] in
     lists_once [] committed.schema no_schema (subst (λ rows. Lists rows committed.schema) empty sound.lists) lists_none
+
+-- the office's own tables are in its schema
+pub never_missing : AreMissing office_tables office_schema → ⊥
+unfolding same_name
+never_missing missing = let none : true ≡ false = missing.0 in absurd cc
 
 -- what follows from two facts of a result
 pub if_both : {X E : Type 0} {P Q R : X → Type 0} (r : Result X E) → ((x : X) → P x → Q x → R x) → IfOk r P → IfOk r Q → IfOk r R

@@ -1,6 +1,6 @@
 -- Requests that are served over a store in files.
-use Rattle.std.proofs.Common.{◌≡◌, ◌⊎◌, ◌≤◌, inl, inr, ℕ, Bool, List, [], ◌∷◌, ◌++◌, length, Option, Some, Result, Ok, Err, refl, sym, ap, subst, ◌∙◌}
-use Rattle.std.proofs.KnownBytes.{Appends-trans}
+use Rattle.std.proofs.Common.{◌≡◌, ◌⊎◌, ◌≤◌, inl, inr, ℕ, List, [], ◌∷◌, ◌++◌, length, Option, Some, Result, Ok, Err, refl, sym, ap, subst, ◌∙◌}
+use Rattle.std.proofs.KnownBytes.{Appends-nil, Appends-trans}
 use Rattle.std.specs.Io.KnownBytes.{Appends}
 use Rattle.sqlite_disk.specs.declared.Disk.{Ghosts}
 use Rattle.sqlite.specs.Files.{over_files}
@@ -21,7 +21,7 @@ use Rattle.office_queries.specs.declared.query.Query.{Query}
 use Rattle.office_setup.specs.Setups.{SetupContent}
 use Rattle.office_history.specs.After.{SaysSame}
 use Rattle.office_stream.specs.Fronts.{AppendsFront}
-use Rattle.office_stream.proofs.Writing.{front_behind}
+use Rattle.office_stream.specs.declared.port.Port.{Port}
 use Rattle.office_http.specs.Steps.{Step, delivery, account, report, with_step, events_after, StepLeads, StepsLead}
 use Rattle.office_desk.specs.Answers.{AnswersNext}
 use Rattle.office_desk.specs.Accounts.{AnswersAccount}
@@ -31,7 +31,7 @@ use Rattle.office_desk.specs.Desks.{IsSound, StandsFor}
 use Rattle.office_desk.specs.Reports.{DeskTells, TellsAfter}
 use Rattle.office_desk.specs.declared.desk.Desk.{Desk}
 use Rattle.office_commands.specs.Delivering.{BeginsAt, OpensOn, StandsAlike}
-use Rattle.office_commands.specs.Ending.{Prints}
+use Rattle.office_commands.specs.Ending.{Prints, Tells as TellsText}
 use Rattle.office_commands.specs.Serving.{EndsServing, listening_line, served_line, IsServed, AreServed, put_off, HasNoEvent, MayBeThere, HoldsServed, LeadsNamed, EnrolsNamed, AreServedBy, IsServedOver}
 use Rattle.office_commands.proofs.AccountLemmas.{account_alike}
 use Rattle.office_commands.proofs.ReportLemmas.{after_alike}
@@ -221,18 +221,30 @@ module _ {D : Type 0} {g : Ghosts D} where
         record {
           opening = at.opening;
           says = at.opening_says;
-          leaves = λ db left. elim (left_steps at.opening es opened served.steps desk served.led sound at.stands (λ _. ⊥) (λ found leaves. inl (at.leaves found leaves)) db left) [
+          holds = λ db left. elim (left_steps at.opening es opened served.steps desk served.led sound at.stands (λ _. ⊥) (λ found leaves. inl (at.leaves found leaves)) db left) [
             | inl after ↦ inl after
             | inr more ↦ inr (more.0, none_pends served.steps more.0 more.1, more.2)
           ];
         };
   }
 
--- ---- what is printed
+-- ---- what is printed and told
 
-pub ends_by : (port count : ℕ) (failed failed' flushed' : Bool) (a b c : Option (List ℕ)) (text : List ℕ) (status : ℕ) → text ≡ served_line count → Appends a b (listening_line port)
-    → Prints failed failed' flushed' b c text 0 status → EndsServing port count flushed' a c status
-ends_by port count failed failed' flushed' a b c text status is one (inl (zero, more, same, flushed)) =
-    inl (zero, Appends-trans a b c (listening_line port) (served_line count) one (subst (Appends b c) is more), flushed)
-ends_by port count failed failed' flushed' a b c text status is one (inr (three, more, fails)) =
-    inr (three, front_behind a b c (listening_line port) (served_line count) one (subst (AppendsFront b c) is more))
+-- nothing is told where nothing is written
+pub tells_none : {W : Type 0} (contents : W → Option (List ℕ)) (old new : Port W) → new ≡ old → TellsText new.failed (contents old.inner) (contents new.inner) []
+tells_none {W} contents old new same fine = subst (λ (port : Port W). Appends (contents old.inner) (contents port.inner) []) (sym same) (Appends-nil (contents old.inner))
+
+-- it listened and served, and printed the second line, or a front of it
+pub ends_by : {W : Type 0} (port count : ℕ) (old mid new : Port W) (a b c : Option (List ℕ)) (tells : List ℕ → Type 0) (Served : ℕ → Type 0) (text : List ℕ) (status : ℕ) → text ≡ served_line count
+    → Appends a b (listening_line port) → mid.failed ≡ old.failed → tells [] → Served count → Prints mid.failed new.failed new.flushed b c text 0 status → EndsServing port count old new a c tells Served status
+ends_by port count old mid new a b c tells Served text status is one well told served (inl (zero, more, same, flushed)) =
+    inl (zero, Appends-trans a b c (listening_line port) (served_line count) one (subst (Appends b c) is more), flushed, same ∙ well, told, served)
+ends_by port count old mid new a b c tells Served text status is one well told served (inr (three, more, fails)) =
+    inr (inl (three, fails, (b, one, subst (AppendsFront b c) is more), told, served))
+
+-- what was served of a desk, as what was served of what that is in
+pub ends_as : {W : Type 0} (port count : ℕ) (old new : Port W) (a b : Option (List ℕ)) (tells : List ℕ → Type 0) (Served Served' : ℕ → Type 0) (status : ℕ) → ((n : ℕ) → Served n → Served' n)
+    → EndsServing port count old new a b tells Served status → EndsServing port count old new a b tells Served' status
+ends_as port count old new a b tells Served Served' status on (inl (zero, writes, flushed, well, told, served)) = inl (zero, writes, flushed, well, told, on count served)
+ends_as port count old new a b tells Served Served' status on (inr (inl (three, fails, first, told, served))) = inr (inl (three, fails, first, told, on count served))
+ends_as port count old new a b tells Served Served' status on (inr (inr (three, none, served))) = inr (inr (three, none, on 0 served))

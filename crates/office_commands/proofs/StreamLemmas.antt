@@ -78,7 +78,7 @@ module _ (one other : SetupContent) (says : SaysSame one other) where
   answer_alike es sent NotNow may = subst (λ parties. MayBeNotNow parties (interchange_of sent)) (parties_same (content_after one es) (content_after other es) (now_alike one other says es)) may
 
   pub stand_alike : {D : Type 0} {g : Ghosts D} (es : List Event) (desk : Desk (FileStore D g) over_files) → StandsFor over_files one es desk → StandsAlike other es desk
-  stand_alike es desk stands = record { opening = one; says = says; stands = stands }
+  stand_alike es desk stands = record { opening = one; says = says; holds = stands }
 
 -- deliveries to a desk that was opened on files
 pub delivered_over : {D : Type 0} {g : Ghosts D} (image : Image) (opened desk : Desk (FileStore D g) over_files) → OpensOn image opened → (texts : List (List ℕ)) (responses : List Response)
@@ -93,5 +93,5 @@ delivered_over image opened desk opens texts responses done = record {
       (stand_alike at.opening content at.opening_says) (answer_alike at.opening content at.opening_says) es desk texts responses (done.answered sound at.opening es at.stands);
   leaves = λ sound content es begins.
       let at = opens.events (sound_before over_files opened desk texts responses done.led sound) content es begins in
-      record { opening = at.opening; says = at.opening_says; leaves = leaves_all over_files opened desk texts responses done.led sound at.opening es at.stands at.leaves };
+      record { opening = at.opening; says = at.opening_says; holds = leaves_all over_files opened desk texts responses done.led sound at.opening es at.stands at.leaves };
 }

@@ -14,11 +14,11 @@ use Rattle.office_stream.specs.Accounts.{AnsweredAccount, AccountCutShort}
 use Rattle.office_stream.specs.declared.port.Port.{Port}
 use Rattle.office_stream.specs.declared.stream_fault.StreamFault.{StreamFault}
 use Rattle.office_setup.specs.Setups.{SetupContent}
-use Rattle.office_history.specs.After.{SaysSame}
 use Rattle.office_desk.specs.Accounts.{AnswersAccount, LeavesAdded}
 use Rattle.office_desk.specs.Calls.{Enrols}
 use Rattle.office_desk.specs.Desks.{IsSound}
 use Rattle.office_desk.specs.declared.desk.Desk.{Desk}
+use Rattle.office_commands.specs.Alike.{Alike}
 use Rattle.office_commands.specs.Delivering.{BeginsAt, OpensOn, StandsAlike}
 use Rattle.office_commands.specs.Ending.{outcome_status}
 
@@ -29,11 +29,8 @@ AnswersAsked Done written written' (Ok worst) = AnsweredAccount Done worst writt
 AnswersAsked Done written written' (Err fault) = AccountCutShort Done written written'
 
 -- for an opening set-up that says the same, a crash leaves what it may leave behind that answer
-pub record LeavesAnswer (content : SetupContent) (es : List Event) (code kind : List ℕ) (answer : AccountAnswer)
-    (s : State) : Type 0 where
-  pub opening : SetupContent
-  pub says : SaysSame opening content
-  pub leaves : LeavesAdded opening es code kind answer s
+abbrev pub LeavesAnswer : SetupContent → List Event → (code kind : List ℕ) → AccountAnswer → State → Type 0
+LeavesAnswer content es code kind answer s = Alike content (λ opening. LeavesAdded opening es code kind answer s)
 
 -- An account was asked for under a code, of a kind, with that answer, of a desk that was opened on those files; it did to
 -- the desk what that says of it. If the desk is sound in the end, then from whatever events the files held the rows it was

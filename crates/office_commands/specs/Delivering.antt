@@ -13,12 +13,12 @@ use Rattle.office_replies.specs.declared.response.Response.{Response}
 use Rattle.office_stream.specs.Streams.{Answered}
 use Rattle.office_setup.specs.Given.{IsGiven}
 use Rattle.office_setup.specs.Setups.{SetupContent}
-use Rattle.office_history.specs.After.{SaysSame}
 use Rattle.office_desk.specs.Answers.{AnswersNext}
 use Rattle.office_desk.specs.Calls.{Leads}
 use Rattle.office_desk.specs.Crashes.{LeavesAll}
 use Rattle.office_desk.specs.Desks.{IsSound, OpensAt, StandsFor}
 use Rattle.office_desk.specs.declared.desk.Desk.{Desk}
+use Rattle.office_commands.specs.Alike.{Alike}
 use Rattle.office_commands.specs.Opening.{HoldsAfter, HoldsTables, OpensOver}
 
 -- the files hold the rows after those events, of a set-up that set-up files could give
@@ -26,19 +26,13 @@ abbrev pub BeginsAt : Image → SetupContent → List Event → Type 0
 BeginsAt image content es = IsGiven content × HoldsAfter image content es
 
 -- a desk that stands, after those events, for an opening set-up that says the same
-pub record StandsAlike {D : Type 0} {g : Ghosts D} (content : SetupContent) (es : List Event)
-    (desk : Desk (FileStore D g) over_files) : Type 0 where
-  pub opening : SetupContent
-  pub says : SaysSame opening content
-  pub stands : StandsFor over_files opening es desk
+abbrev pub StandsAlike : {D : Type 0} {g : Ghosts D} → SetupContent → List Event → Desk (FileStore D g) over_files → Type 0
+StandsAlike content es desk = Alike content (λ opening. StandsFor over_files opening es desk)
 
 -- behind those deliveries a crash leaves the rows after those that were answered, for an opening set-up that says the
 -- same
-pub record LeavesAlike (content : SetupContent) (es : List Event) (texts : List (List ℕ)) (responses : List Response)
-    (s : State) : Type 0 where
-  pub opening : SetupContent
-  pub says : SaysSame opening content
-  pub leaves : LeavesAll opening es texts responses s
+abbrev pub LeavesAlike : SetupContent → List Event → (texts : List (List ℕ)) → List Response → State → Type 0
+LeavesAlike content es texts responses s = Alike content (λ opening. LeavesAll opening es texts responses s)
 
 module _ {D : Type 0} {g : Ghosts D} where
   -- a desk that was opened on those files: over whatever they held, the rows after some events or those of any office

@@ -2,6 +2,7 @@ pub mod Opening
 pub mod Ending
 pub mod Demo
 pub mod Command
+pub mod Alike
 pub mod Delivering
 pub mod Accounts
 pub mod Reporting

@@ -1,5 +1,5 @@
 -- What requests that are served leave of an office whose files held the rows after some events.
-use Rattle.std.specs.Prelude.{◌≡◌, ◌⊎◌, ◌≤◌, ℕ, Bool, true, List, [], ◌∷◌, ◌++◌, length, Option, None, Some, Result, codes, decimal}
+use Rattle.std.specs.Prelude.{◌≡◌, ◌⊎◌, ◌≤◌, ℕ, true, List, [], ◌∷◌, ◌++◌, length, Option, None, Some, Result, codes, decimal}
 use Rattle.std.specs.Io.KnownBytes.{Appends}
 use Rattle.sqlite_disk.specs.declared.Disk.{Ghosts}
 use Rattle.sqlite.specs.Files.{over_files}
@@ -17,8 +17,8 @@ use Rattle.office_queries.specs.Looking.{Tells}
 use Rattle.office_queries.specs.declared.not_now.NotNow.{NotNow as Unreported}
 use Rattle.office_queries.specs.declared.query.Query.{Query}
 use Rattle.office_setup.specs.Setups.{SetupContent}
-use Rattle.office_history.specs.After.{SaysSame}
 use Rattle.office_stream.specs.Fronts.{AppendsFront}
+use Rattle.office_stream.specs.declared.port.Port.{Port}
 use Rattle.office_http.specs.Steps.{Step, delivery, account, report, with_step, events_after, StepsLead}
 use Rattle.office_desk.specs.Accounts.{AnswersAccount}
 use Rattle.office_desk.specs.Answers.{AnswersNext}
@@ -27,6 +27,7 @@ use Rattle.office_desk.specs.Crashes.{IsAfter}
 use Rattle.office_desk.specs.Desks.{IsSound}
 use Rattle.office_desk.specs.Reports.{TellsAfter}
 use Rattle.office_desk.specs.declared.desk.Desk.{Desk}
+use Rattle.office_commands.specs.Alike.{Alike}
 use Rattle.office_commands.specs.Delivering.{BeginsAt, OpensOn, StandsAlike}
 
 -- ---- the answers
@@ -66,10 +67,9 @@ HoldsServed content es steps db =
     ⊎ ((event : Event) × MayBeThere steps event × IsAfter content (events_after es steps ++ event ∷ []) db)
 
 -- a crash leaves that alone, for an opening set-up that says the same
-pub record LeavesServed (content : SetupContent) (es : List Event) (steps : List Step) (s : State) : Type 0 where
-  pub opening : SetupContent
-  pub says : SaysSame opening content
-  pub leaves : (db : Trees) → s.may_leave db → HoldsServed opening es steps db
+abbrev pub LeavesServed : SetupContent → List Event → List Step → State → Type 0
+LeavesServed content es steps s =
+    Alike content (λ opening. (db : Trees) → s.may_leave db → HoldsServed opening es steps db)
 
 -- ---- what was done with a desk
 
@@ -103,7 +103,7 @@ module _ {D : Type 0} {g : Ghosts D} where
     pub leaves : IsSound over_files desk → (content : SetupContent) (es : List Event) → BeginsAt image content es →
         LeavesServed content es served.steps (state over_files desk.conn)
 
--- ---- what is printed
+-- ---- what is printed and told
 
 -- a line as soon as it listens at a port, and one when so many connections were served
 abbrev pub listening_line : ℕ → List ℕ
@@ -112,8 +112,30 @@ listening_line port = codes "listening 127.0.0.1:" ++ (decimal port ++ codes "\n
 abbrev pub served_line : ℕ → List ℕ
 served_line count = codes "served " ++ (decimal count ++ codes "\n")
 
--- both lines were printed and flushed, with 0, or a front of them, with 3
-abbrev pub EndsServing : (port count : ℕ) (flushed' : Bool) (written written' : Option (List ℕ)) → (status : ℕ) → Type 0
-EndsServing port count flushed' written written' status =
-    ((status ≡ 0) × Appends written written' (listening_line port ++ served_line count) × (flushed' ≡ true))
-    ⊎ ((status ≡ 3) × AppendsFront written written' (listening_line port ++ served_line count))
+-- why it does not listen is told: the port can't be had, or memory was refused
+abbrev pub TellsDeaf : (tells : List ℕ → Type 0) → Type 0
+TellsDeaf tells = tells (codes "cannot listen\n") ⊎ tells (codes "store: Memory\n")
+
+-- Nothing is to be served: the writer failed at the first line, of which a front was printed; or it does not listen, and
+-- printed nothing.
+abbrev pub ServesNone : {W : Type 0} → (port : ℕ) (old new : Port W) (written written' : Option (List ℕ))
+    (tells : List ℕ → Type 0) → Type 0
+ServesNone port old new written written' tells =
+    ((new.failed ≡ true) × AppendsFront written written' (listening_line port) × tells [])
+    ⊎ ((new ≡ old) × TellsDeaf tells)
+
+-- the first line was printed, and a front of the second
+abbrev pub PrintsFirst : (port count : ℕ) (written written' : Option (List ℕ)) → Type 0
+PrintsFirst port count written written' =
+    (first : Option (List ℕ)) × Appends written first (listening_line port)
+    × AppendsFront first written' (served_line count)
+
+-- Both lines were printed and flushed, with 0, and at most so many requests served. Or as many, with 3, since the writer
+-- failed at the second line. Or none, with 3.
+abbrev pub EndsServing : {W : Type 0} → (port count : ℕ) (old new : Port W) (written written' : Option (List ℕ))
+    (tells : List ℕ → Type 0) (Served : ℕ → Type 0) (status : ℕ) → Type 0
+EndsServing port count old new written written' tells Served status =
+    ((status ≡ 0) × Appends written written' (listening_line port ++ served_line count) × (new.flushed ≡ true)
+    × (new.failed ≡ old.failed) × tells [] × Served count)
+    ⊎ (((status ≡ 3) × (new.failed ≡ true) × PrintsFirst port count written written' × tells [] × Served count)
+    ⊎ ((status ≡ 3) × ServesNone port old new written written' tells × Served 0))

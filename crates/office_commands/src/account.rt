@@ -4,6 +4,7 @@ ghost use Rattle.office_commands.specs.Accounts.{AccountEnds, AnswersAsked, IsAs
 ghost use Rattle.office_commands.specs.Ending.{outcome_status};
 
 use crate::opening::open_store;
+use crate::status::FAILED;
 use crate::telling::status_of;
 use office_desk::Desk;
 use office_replies::Worst;
@@ -43,6 +44,6 @@ fn outcome_status(outcome: Result<Worst, StreamFault>) -> u8
 {
     match outcome {
         Ok(worst) => status_of(worst),
-        Err(_) => 3,
+        Err(_) => FAILED,
     }
 }

@@ -4,6 +4,7 @@ ghost use Rattle.office_commands.specs.Command.{DemoEnds};
 ghost use Rattle.office_commands.specs.Ending.{Tells};
 
 use crate::demo::run_demo;
+use crate::status::FAILED;
 use crate::telling::{status_of, tell};
 use office_stream::Port;
 use std::alloc::Global;
@@ -28,7 +29,7 @@ pub fn demonstrate<R: Read, W: Write, E: Write>(
         Ok(worst) => status_of(worst),
         Err(fault) => {
             tell(errors, fault.text());
-            3
+            FAILED
         }
     }
 }

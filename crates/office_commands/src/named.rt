@@ -1,6 +1,7 @@
 ghost use Rattle.std.specs.Prelude.{◌≡◌, ◌⊎◌};
 ghost use Rattle.office_replies.specs.declared.account_answer.AccountAnswer.{AccountAnswer};
 ghost use Rattle.office_replies.specs.declared.response.Response.{Response};
+ghost use Rattle.office_commands.specs.Serving.{EnrolsNamed, LeadsNamed};
 
 use crate::faults::Faults;
 use office_queries::{NotNow, Query, Report};
@@ -64,8 +65,7 @@ impl<D: Deliver + Faults> Deliver for Named<D> {
 
     ghost added = { λ opening es code kind answer. D.added opening es code kind answer ⊎ (answer ≡ AccountAnswer.NotNow) };
 
-    ghost leads = { λ old text response new. D.leads old.desk text response new.desk
-        ⊎ ((response ≡ Response.NotNow) × (new.desk ≡ old.desk)) };
+    ghost leads = { λ old text response new. LeadsNamed D.leads old.desk text response new.desk };
 
     fn deliver(&mut self, alloc: Global, delivered: &[u8]) -> Response {
         if self.has_name() {
@@ -77,8 +77,7 @@ impl<D: Deliver + Faults> Deliver for Named<D> {
 }
 
 impl<D: AddAccount + Faults> AddAccount for Named<D> {
-    ghost enrols = { λ old code kind answer new. D.enrols old.desk code kind answer new.desk
-        ⊎ ((answer ≡ AccountAnswer.NotNow) × (new.desk ≡ old.desk)) };
+    ghost enrols = { λ old code kind answer new. EnrolsNamed D.enrols old.desk code kind answer new.desk };
 
     fn add_account(&mut self, alloc: Global, code: &[u8], kind: &[u8]) -> AccountAnswer {
         if self.has_name() {

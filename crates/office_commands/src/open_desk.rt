@@ -10,7 +10,7 @@ use sqlite::{Connection, MemStore};
 use std::alloc::Global;
 
 /// A desk over tables in memory, made for a set-up, to which nothing has been delivered. A set-up that set-up files
-/// could not give is Damaged.
+/// could not give does not open.
 pub fn open_desk(alloc: Global, setup: &Setup) -> Result<Desk<MemStore>, TableFault>
     requires few { length setup.now.partners.items ≤ 999 }
     ensures opens { IfOk result

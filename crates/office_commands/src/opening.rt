@@ -18,7 +18,7 @@ use sqlite::{Connection, Error, ErrorCode, FileFrom, FileStore, Start};
 use std::fs;
 
 /// A store that can't be opened.
-const NO_STORE: Error = Error::SqliteFailure(ErrorCode::CannotOpen);
+pub const NO_STORE: Error = Error::SqliteFailure(ErrorCode::CannotOpen);
 
 /// The desk over the store in the file at a path. It goes on from the events whose rows the file held, whatever
 /// first contents `S` stands for. No file is made, and an empty one is no store. No clause ties the contents to the
@@ -39,15 +39,13 @@ pub fn open_store<S: Start>(
 }
 
 /// A connection to the store in the file at a path, as `open_found` makes it. No file is made, and an empty one is no
-/// store.
+/// store: that is to be read in this body.
 pub fn open_there<S: Start>(
     rt: &HostRuntime,
     path: &str,
     start: S,
 ) -> Result<Connection<FileStore<FileFrom<S>>>, TableFault>
     ensures idle { IfOk result (λ conn. conn.in_transaction ≡ false) }
-    ensures settled { IfOk result (λ conn. HasCleanDisk (file_state conn) →
-        (file_state conn).now ≡ (file_state conn).committed) }
     ensures found { IfOk result (λ conn. HasCleanDisk (file_state conn) → ShowsHeld (image_at S.Start) conn) }
 {
     if !is_there(rt, path) {
@@ -57,7 +55,8 @@ pub fn open_there<S: Start>(
 }
 
 /// Makes the tables of a store with the rows of a set-up, wholly or not at all, and answers the connection to them. A
-/// file that isn't there is made. If the file was empty, a crash behind this leaves the rows after no event.
+/// file that isn't there is made, and one with an office is refused. If the file was empty, a crash behind this leaves the
+/// rows after no event.
 pub fn make_store<S: Start>(
     rt: &HostRuntime,
     path: &str,
@@ -67,6 +66,10 @@ pub fn make_store<S: Start>(
     requires few { length setup.now.partners.items ≤ 999 }
     ensures made { IfOk result (λ conn. HasCleanDisk (file_state conn) → (image_at S.Start).db ≡ [] →
         Leaves (setup_content setup.now) [] (file_state conn)) }
+
+    // The files held no office.
+    ensures new { IfOk result (λ conn. HasCleanDisk (file_state conn) → (db : Trees) →
+        HoldsTables (image_at S.Start) db → ⊥) }
 {
     let mut conn = open_found(rt, path, start)?;
     create(&mut conn, setup)?;
@@ -81,8 +84,6 @@ pub fn open_found<S: Start>(
     start: S,
 ) -> Result<Connection<FileStore<FileFrom<S>>>, TableFault>
     ensures idle { IfOk result (λ conn. conn.in_transaction ≡ false) }
-    ensures settled { IfOk result (λ conn. HasCleanDisk (file_state conn) →
-        (file_state conn).now ≡ (file_state conn).committed) }
     ensures found { IfOk result (λ conn. HasCleanDisk (file_state conn) → ShowsHeld (image_at S.Start) conn) }
     ensures empty { IfOk result (λ conn. HasCleanDisk (file_state conn) → (image_at S.Start).db ≡ [] →
         (file_state conn).committed.schema ≡ no_schema) }

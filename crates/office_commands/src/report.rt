@@ -8,6 +8,7 @@ ghost use Rattle.office_commands.specs.Looking.{LooksOver, OnlyLooks};
 ghost use Rattle.office_commands.specs.Reporting.{Reports, TellsKey, TellsHeld, in_lines};
 
 use crate::opening::open_store;
+use crate::status::{DONE, REFUSED};
 use crate::telling::print;
 use office_desk::Desk;
 use office_queries::{ReportKind, read_query};
@@ -59,9 +60,9 @@ pub fn report_on<S: Alter + Drop, W: Write>(
     match find(alloc, desk, kind, key)? {
         Some(text) => {
             let lines = in_lines(text)?;
-            Ok(print(writer, lines.as_str(), 0))
+            Ok(print(writer, lines.as_str(), DONE))
         }
-        None => Ok(print(writer, "none\n", 1)),
+        None => Ok(print(writer, "none\n", REFUSED)),
     }
 }
 

@@ -2,8 +2,8 @@ ghost use Rattle.std.specs.Prelude.{◌≡◌, IfOk, IfSome, OnErr, None, string
 ghost use Rattle.std.specs.Io.KnownBytes.{Appends};
 ghost use Rattle.sqlite.specs.WalFiles.{image_at};
 ghost use Rattle.office_http.specs.Served.{AtMost};
-ghost use Rattle.office_stream.specs.Fronts.{AppendsFront};
-ghost use Rattle.office_commands.specs.Serving.{AreServedBy, EndsServing, IsServedOver, listening_line, served_line};
+ghost use Rattle.office_commands.specs.Ending.{Tells};
+ghost use Rattle.office_commands.specs.Serving.{AreServedBy, EndsServing, IsServedOver, ServesNone, listening_line, served_line};
 
 use crate::faults::Faults;
 use crate::named::Named;
@@ -11,6 +11,7 @@ use crate::noted::Noted;
 use crate::notes::Notes;
 use crate::opening::open_store;
 use crate::service::Service;
+use crate::status::{DONE, FAILED};
 use crate::telling::{print, tell};
 use crate::watching::Watching;
 use office_desk::Desk;
@@ -25,7 +26,9 @@ use std::net::TcpListener;
 
 /// Serves the store in the file at a path over HTTP: one request of each connection, until so many were accepted. It
 /// prints a line as soon as it listens, and one in the end, and answers the exit status and the desk as it was left: 0, or
-/// 3 if it can't listen or printing failed. A fault is that of the store: then it did not listen, and told nothing.
+/// 3 if it can't listen, which is told, or printing failed. A fault is that of the store: then it did not listen, and told
+/// nothing. No clause says what the store holds behind a fault, since no desk is left: that nothing was asked of it is to
+/// be read in this body.
 pub fn serve_over<S: Start, N: Notes, W: Write, E: Write>(
     rt: &HostRuntime,
     path: &str,
@@ -35,11 +38,13 @@ pub fn serve_over<S: Start, N: Notes, W: Write, E: Write>(
     writer: &mut Port<W>,
     errors: &mut Port<E>,
 ) -> Result<(u8, Named<Desk<FileStore<FileFrom<S>>>>), TableFault>
-    // From whatever events the files held the rows, each request is answered by that office at its place, or `not now`,
-    // and what was answered outlasts a crash. And what each did to the desk, whatever the files held.
-    ensures ok { IfOk result (λ ended. IsServedOver (image_at S.Start) service.count ended.1.desk) }
-    ensures ends { IfOk result (λ ended. EndsServing service.port service.count writer.new.flushed
-        (W.contents writer.old.inner) (W.contents writer.new.inner) ended.0) }
+    // What was printed and told, and how many requests at most were served. From whatever events the files held the
+    // rows, each is answered by that office at its place, or `not now`, and what was answered outlasts a crash. And what
+    // each did to the desk, whatever the files held.
+    ensures ok { IfOk result (λ ended. EndsServing service.port service.count writer.old writer.new
+        (W.contents writer.old.inner) (W.contents writer.new.inner)
+        (Tells errors.new.failed (E.contents errors.old.inner) (E.contents errors.new.inner))
+        (λ most. IsServedOver (image_at S.Start) most ended.1.desk) ended.0) }
     ensures err { OnErr result ((writer.new ≡ writer.old) × (errors.new ≡ errors.old)) }
 {
     let desk = open_store(rt, path, start)?;
@@ -56,9 +61,10 @@ fn serve_named<D: Report + AddAccount + Faults, N: Notes, W: Write, E: Write>(
     writer: &mut Port<W>,
     errors: &mut Port<E>,
 ) -> (u8, Named<D>)
-    ensures served { AreServedBy D.leads D.enrols D.looks service.count desk result.1.desk }
-    ensures ends { EndsServing service.port service.count writer.new.flushed
-        (W.contents writer.old.inner) (W.contents writer.new.inner) result.0 }
+    ensures { EndsServing service.port service.count writer.old writer.new
+        (W.contents writer.old.inner) (W.contents writer.new.inner)
+        (Tells errors.new.failed (E.contents errors.old.inner) (E.contents errors.new.inner))
+        (λ most. AreServedBy D.leads D.enrols D.looks most desk result.1.desk) result.0 }
 {
     let named = Named::new(desk, rt, path);
     let mut noted = Noted::new(named, notes);
@@ -75,9 +81,10 @@ fn serve_at<D: Report + AddAccount, N: Notes, W: Write, E: Write>(
     writer: &mut Port<W>,
     errors: &mut Port<E>,
 ) -> u8
-    ensures steps { AtMost D.is_sound D.stands D.answers D.added D.leads D.enrols D.looks service.count desk.old desk.new }
-    ensures ends { EndsServing service.port service.count writer.new.flushed
-        (W.contents writer.old.inner) (W.contents writer.new.inner) result }
+    ensures { EndsServing service.port service.count writer.old writer.new
+        (W.contents writer.old.inner) (W.contents writer.new.inner)
+        (Tells errors.new.failed (E.contents errors.old.inner) (E.contents errors.new.inner))
+        (λ most. AtMost D.is_sound D.stands D.answers D.added D.leads D.enrols D.looks most desk.old desk.new) result }
 {
     match listen(rt, service, writer, errors) {
         Some((listener, served)) => {
@@ -90,9 +97,9 @@ fn serve_at<D: Report + AddAccount, N: Notes, W: Write, E: Write>(
                 desk,
                 &mut watching,
             );
-            print(writer, served.as_str(), 0)
+            print(writer, served.as_str(), DONE)
         }
-        None => 3,
+        None => FAILED,
     }
 }
 
@@ -105,9 +112,11 @@ fn listen<W: Write, E: Write>(
     errors: &mut Port<E>,
 ) -> Option<(TcpListener, String)>
     ensures listens { IfSome result (λ begun. (string_bytes begun.1 ≡ served_line service.count)
-        × Appends (W.contents writer.old.inner) (W.contents writer.new.inner) (listening_line service.port)) }
-    ensures front { result ≡ None → AppendsFront (W.contents writer.old.inner) (W.contents writer.new.inner)
-        (listening_line service.port) }
+        × Appends (W.contents writer.old.inner) (W.contents writer.new.inner) (listening_line service.port)
+        × (writer.new.failed ≡ writer.old.failed) × (errors.new ≡ errors.old)) }
+    ensures deaf { result ≡ None → ServesNone service.port writer.old writer.new
+        (W.contents writer.old.inner) (W.contents writer.new.inner)
+        (Tells errors.new.failed (E.contents errors.old.inner) (E.contents errors.new.inner)) }
 {
     let alloc = rt.alloc();
     let Service { port, count } = service;
@@ -123,7 +132,7 @@ fn listen<W: Write, E: Write>(
         tell(errors, "cannot listen\n");
         return None;
     };
-    if print(writer, listening.as_str(), 0) == 0 {
+    if print(writer, listening.as_str(), DONE) == DONE {
         Some((listener, served))
     } else {
         None

@@ -3,19 +3,20 @@ ghost use Rattle.std.specs.Io.KnownBytes.{Appends};
 ghost use Rattle.office_stream.specs.Fronts.{AppendsFront};
 ghost use Rattle.office_commands.specs.Ending.{Tells, Prints, status_of, store_text, stream_text, outcome_status, outcome_text};
 
+use crate::status::{DONE, FAILED, REFUSED};
 use office_replies::Worst;
 use office_stream::{Port, StreamFault};
 use office_tables::TableFault;
 use std::io::{self, Write};
 
 /// Prints a result, and answers the status that it has, or 3 if it could not be written.
-pub(crate) fn print<W: Write>(writer: &mut Port<W>, text: &str, status: u8) -> u8
+pub fn print<W: Write>(writer: &mut Port<W>, text: &str, status: u8) -> u8
     ensures { Prints writer.old.failed writer.new.failed writer.new.flushed
         (W.contents writer.old.inner) (W.contents writer.new.inner) text.now status result }
 {
     match print_whole(writer, text.as_bytes()) {
         Ok(()) => status,
-        Err(_) => 3,
+        Err(_) => FAILED,
     }
 }
 
@@ -39,7 +40,7 @@ pub fn tell_fault<E: Write>(errors: &mut Port<E>, fault: &TableFault) -> u8
     ensures status { result ≡ 3 }
 {
     tell(errors, store_text(fault));
-    3
+    FAILED
 }
 
 /// Tells why a stream was left, if it was, and answers its exit status.
@@ -52,13 +53,13 @@ pub fn tell_outcome<E: Write>(errors: &mut Port<E>, outcome: Result<Worst, Strea
         Ok(worst) => status_of(worst),
         Err(fault) => {
             tell(errors, stream_text(fault));
-            3
+            FAILED
         }
     }
 }
 
 /// Tells a text. If that fails, the exit status alone is left to tell.
-pub(crate) fn tell<E: Write>(errors: &mut Port<E>, text: &str)
+pub fn tell<E: Write>(errors: &mut Port<E>, text: &str)
     ensures { Tells errors.new.failed (E.contents errors.old.inner) (E.contents errors.new.inner) text.now }
 {
     let _ = errors.write_all(text.as_bytes());
@@ -69,9 +70,9 @@ pub(crate) fn status_of(worst: Worst) -> u8
     ensures { result ≡ status_of worst }
 {
     match worst {
-        Worst::Fine => 0,
-        Worst::Refused => 1,
-        Worst::NotNow => 3,
+        Worst::Fine => DONE,
+        Worst::Refused => REFUSED,
+        Worst::NotNow => FAILED,
     }
 }
 

@@ -1,13 +1,18 @@
-use Rattle.std.proofs.Common.{[], arith}
+use Rattle.std.proofs.Common.{◌≡◌, [], arith, subst}
+use Rattle.sqlite.specs.Effect.{Database}
 use Rattle.sqlite.specs.Files.{file_state}
 use Rattle.sqlite.specs.State.{HasCleanDisk}
 use Rattle.office_rows.specs.Opening.{opening_rows}
+use Rattle.office_rows.specs.Tables.{office_schema, office_tables}
 use Rattle.office_setup.specs.Setups.{setup_content}
+use Rattle.office_tables.specs.Opened.{AreMissing}
 use Rattle.office_history.proofs.Lawful.{opening_after}
 use Rattle.office_desk.proofs.CrashLemmas.{committed_leaves}
+use Rattle.office_commands.proofs.OpenedLemmas.{never_missing}
 use Rattle.office_commands.proofs.opening.make_store.Goals as goal
 
--- The tables are made in an empty store, so their rows are those after no delivery, and they alone are committed.
+-- The tables are made in an empty store, so their rows are those after no delivery, and they alone are committed. None of
+-- them was there before.
 pub returns : goal.returns
 returns g c = record {
   made = λ clean none.
@@ -17,4 +22,9 @@ returns g c = record {
       let made = c.in_ok-create.ensures.ok clean in
       committed_leaves content [] now (opening_rows content) (record { is_open = made.is_open; alone = made.alone })
       (made.rows (c.in_ok-conn.ensures.empty early none)) (opening_after content);
+  new = λ clean db held.
+      let was = file_state c.in_ok-conn.conn in
+      let early : HasCleanDisk was = omega (arith, c.create.ensures.crash.clean, clean) in
+      let shows : was.committed ≡ record { schema = office_schema; trees = db } = c.in_ok-conn.ensures.found early db office_schema held.held held.lists in
+      never_missing (subst (λ (d : Database). AreMissing office_tables d.schema) shows (c.in_ok-create.ensures.new clean));
 }

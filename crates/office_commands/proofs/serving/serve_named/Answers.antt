@@ -1,18 +1,43 @@
-use Rattle.std.proofs.Common.{◌∙◌, ap}
+use Rattle.std.proofs.Common.{◌∙◌, ap, inl, inr}
 use Rattle.office_commands.specs.Serving.{LeadsNamed, EnrolsNamed}
 use Rattle.office_commands.proofs.ServingLemmas.{inner_steps, served_by}
 use Rattle.office_commands.proofs.serving.serve_named.Goals as goal
 
 -- What stands around the desk asks it, or answers `not now`.
-pub returns-clause-served : goal.returns-clause-served
-returns-clause-served g c =
+pub returns : goal.returns
+returns g c =
     let before = c.new-noted.result in
     let after = c.serve_at-status.new.desk in
-    let most = c.serve_at-status.ensures.steps in
     let leads = g.D.Deliver.leads in
     let enrols = g.D.AddAccount.enrols in
     let looks = g.D.Report.looks in
-    served_by leads enrols looks c.args.service.count c.args.desk before.desk.desk after.desk.desk _
-    (ap (λ named. named.desk) c.new-noted.ensures ∙ c.new-named.ensures) (ap (λ named. named.desk) c.into_desk.ensures)
-    most.steps most.few
-    (inner_steps (λ noted. noted.desk.desk) (LeadsNamed leads) (EnrolsNamed enrols) looks before most.steps after most.led)
+    elim c.serve_at-status.ensures [
+      | inl done ↦ inl (
+        done.0,
+        done.1,
+        done.2,
+        done.3,
+        done.4,
+        served_by leads enrols looks c.args.service.count c.args.desk before.desk.desk after.desk.desk _
+            (ap (λ named. named.desk) c.new-noted.ensures ∙ c.new-named.ensures) (ap (λ named. named.desk) c.into_desk.ensures) done.5.steps done.5.few
+            (inner_steps (λ noted. noted.desk.desk) (LeadsNamed leads) (EnrolsNamed enrols) looks before done.5.steps after done.5.led),
+      )
+      | inr left ↦ (elim left [
+        | inl cut ↦ inr (inl (
+          cut.0,
+          cut.1,
+          cut.2,
+          cut.3,
+          served_by leads enrols looks c.args.service.count c.args.desk before.desk.desk after.desk.desk _
+              (ap (λ named. named.desk) c.new-noted.ensures ∙ c.new-named.ensures) (ap (λ named. named.desk) c.into_desk.ensures) cut.4.steps cut.4.few
+              (inner_steps (λ noted. noted.desk.desk) (LeadsNamed leads) (EnrolsNamed enrols) looks before cut.4.steps after cut.4.led),
+        ))
+        | inr none ↦ inr (inr (
+          none.0,
+          none.1,
+          served_by leads enrols looks 0 c.args.desk before.desk.desk after.desk.desk _
+              (ap (λ named. named.desk) c.new-noted.ensures ∙ c.new-named.ensures) (ap (λ named. named.desk) c.into_desk.ensures) none.2.steps none.2.few
+              (inner_steps (λ noted. noted.desk.desk) (LeadsNamed leads) (EnrolsNamed enrols) looks before none.2.steps after none.2.led),
+        ))
+      ])
+    ]
