@@ -4,9 +4,9 @@ use crate::init::init;
 use crate::migrate::migrate;
 use crate::report::report;
 use crate::serve::serve;
-use crate::telling::{COMMAND_LINE, DONE, FAILED, print, tell};
+use crate::telling::tell_with;
 use office_command_line::{CommandFault, Request, read_command};
-use office_commands::{Service, demonstrate};
+use office_commands::{COMMAND_LINE, DONE, FAILED, Service, demonstrate, print};
 use office_stream::Port;
 use std::alloc::Global;
 use std::io::{Read, Write};
@@ -53,11 +53,11 @@ fn refuse<W: Write, E: Write>(
     errors: &mut Port<E>,
 ) -> u8 {
     let Ok(text) = fault.to_string(alloc) else {
-        return tell(errors, "store: Memory\n", FAILED);
+        return tell_with(errors, "store: Memory\n", FAILED);
     };
     match fault {
-        CommandFault::Memory => tell(errors, text.as_str(), FAILED),
+        CommandFault::Memory => tell_with(errors, text.as_str(), FAILED),
         _ if fault.is_asked() => print(writer, text.as_str(), DONE),
-        _ => tell(errors, text.as_str(), COMMAND_LINE),
+        _ => tell_with(errors, text.as_str(), COMMAND_LINE),
     }
 }

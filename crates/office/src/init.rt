@@ -1,6 +1,7 @@
 use crate::looked_at::is_looked_at;
 use crate::store::make_store;
-use crate::telling::{DONE, REFUSED, print, tell, tell_store, tell_unread};
+use crate::telling::{tell_store, tell_unread, tell_with};
+use office_commands::{DONE, REFUSED, print};
 use office_setup_files::{SetupFault, WrongRecord, first_wrong, read_setup};
 use office_stream::Port;
 use std::alloc::{AllocError, Global};
@@ -49,9 +50,9 @@ fn refuse<E: Write>(
     errors: &mut Port<E>,
 ) -> u8 {
     let Ok(text) = format!(in rt.alloc(); "setup: {fault}\n") else {
-        return tell(errors, "setup: Memory\n", REFUSED);
+        return tell_with(errors, "setup: Memory\n", REFUSED);
     };
-    let status = tell(errors, text.as_str(), REFUSED);
+    let status = tell_with(errors, text.as_str(), REFUSED);
     if errors.flush().is_ok() && is_looked_at(rt) {
         if let Ok(place) = place_of(rt.alloc(), fault, partners, blocks) {
             let _ = errors.write_all(place.as_bytes());

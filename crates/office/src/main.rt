@@ -25,11 +25,12 @@ mod telling;
 mod watched;
 
 use command::run;
+use office_commands::{COMMAND_LINE, FAILED};
 use office_stream::{Gathered, Port};
 use std::io::ErrorKind;
 use std::process::ExitCode;
 use std::{env, io};
-use telling::{COMMAND_LINE, FAILED, tell};
+use telling::tell_with;
 
 fn main(rt: HostRuntime) -> ExitCode {
     let status = match run_words(&rt) {
@@ -57,7 +58,7 @@ fn run_words(rt: &HostRuntime) -> io::Result<u8> {
 fn tell_words(rt: &HostRuntime, kind: ErrorKind) -> u8 {
     let mut errors = Port::new(rt.stderr());
     match kind {
-        ErrorKind::InvalidData => tell(&mut errors, "a word is not UTF-8\n", COMMAND_LINE),
-        _ => tell(&mut errors, "store: Memory\n", FAILED),
+        ErrorKind::InvalidData => tell_with(&mut errors, "a word is not UTF-8\n", COMMAND_LINE),
+        _ => tell_with(&mut errors, "store: Memory\n", FAILED),
     }
 }

@@ -1,8 +1,8 @@
 ghost use Rattle.std.specs.Prelude.{◌≡◌, false};
 
 use crate::store::Store;
-use crate::telling::{DONE, print, tell_store};
-use office_commands::{open_found, open_there};
+use crate::telling::tell_store;
+use office_commands::{DONE, open_found, open_there, print};
 use office_loading::load_old;
 use office_migration::migrate as migrate_tables;
 use office_stream::Port;

@@ -86,7 +86,9 @@ impl<'a> RequestLog<'a> {
 
 impl Notes for RequestLog<'_> {
     fn begun(&self) {
-        self.begun.set(Instant::now(self.rt).ok());
+        if self.is_on {
+            self.begun.set(Instant::now(self.rt).ok());
+        }
     }
 
     fn answered(&self, body: &str, worst: Worst, fault: Option<&TableFault>, is_nameless: bool) {

@@ -1,14 +1,11 @@
-use office_commands::{make_store as make_over, open_store as open_over};
+use office_commands::{NO_STORE, make_store as make_over, open_store as open_over};
 use office_desk::Desk;
 use office_setup::{MOST_PARTNERS, Setup};
 use office_tables::TableFault;
-use sqlite::{Error, ErrorCode, File, FileStore, Unknown};
+use sqlite::{File, FileStore, Unknown};
 
 /// A store in a file of the operating system.
 pub(crate) type Store = FileStore<File>;
-
-/// A store that can't be made.
-const NO_STORE: Error = Error::SqliteFailure(ErrorCode::CannotOpen);
 
 /// The desk of a store that is there, whatever its file holds.
 pub(crate) fn open_store(rt: &HostRuntime, path: &str) -> Result<Desk<Store>, TableFault> {

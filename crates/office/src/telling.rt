@@ -1,42 +1,21 @@
 use crate::cause::cause_of;
 use crate::looked_at::is_looked_at;
-use office_commands::tell_fault;
+use office_commands::{FAILED, tell, tell_fault};
 use office_stream::Port;
 use office_tables::TableFault;
 use std::alloc::Global;
 use std::fmt;
 use std::io::Write;
 
-/// Done.
-pub(crate) const DONE: u8 = 0;
-
-/// Something was refused, or not found.
-pub(crate) const REFUSED: u8 = 1;
-
-/// The command line asks for nothing that the program does.
-pub(crate) const COMMAND_LINE: u8 = 2;
-
-/// A store, a file or a socket failed.
-pub(crate) const FAILED: u8 = 3;
-
-/// Tells a text of a fault, and gives its status. If telling fails, the status alone is left to tell.
-pub(crate) fn tell<E: Write>(errors: &mut Port<E>, text: &str, status: u8) -> u8 {
-    let _ = errors.write_all(text.as_bytes());
-    status
-}
-
-/// Prints a result, and gives its status.
-pub(crate) fn print<W: Write>(writer: &mut Port<W>, text: &str, status: u8) -> u8 {
-    let written = writer.write_all(text.as_bytes());
-    if written.is_err() || writer.flush().is_err() {
-        return FAILED;
-    }
+/// Tells a text, and gives the status that goes with it.
+pub(crate) fn tell_with<E: Write>(errors: &mut Port<E>, text: &str, status: u8) -> u8 {
+    tell(errors, text);
     status
 }
 
 /// Tells that an input file can't be read.
 pub(crate) fn tell_unread<E: Write>(errors: &mut Port<E>) -> u8 {
-    tell(errors, "cannot read\n", FAILED)
+    tell_with(errors, "cannot read\n", FAILED)
 }
 
 /// Tells why the store at a path did not do what was asked, and to a person also the cause and what to do.
