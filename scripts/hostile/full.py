@@ -9,7 +9,7 @@ import signal
 import subprocess
 import tempfile
 
-from .books import NOT_NOW, Book, Different, expect, prefilled
+from .books import NOT_NOW, Book, Different, answer, expect, prefilled
 from .working import Delivering, Served, run
 
 TRIALS = 25                 # of each kind
@@ -79,7 +79,7 @@ def with_no_room(book, worker, make_room, counted):
     expect('rows with no room', 'n', found)
     for text, line in zip(texts, more):
         if line != NOT_NOW:
-            expect('the answer to %r, sent again' % text, book.line(text), line)
+            expect('the answer to %r, sent again' % text, answer(book.office, text), line)
 
 
 def ended(book, worker, counted):

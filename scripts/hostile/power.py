@@ -12,7 +12,7 @@ import tempfile
 from model.reports import printed
 from model.rows import rows_in, rows_of
 
-from .books import Different, expect, prefilled
+from .books import Different, answer, expect, prefilled
 from .calls import STRACE, moving
 from .working import Delivering, run
 
@@ -108,7 +108,7 @@ def offices(book, texts, lines):
     every = [book.office]
     for text, line in zip(texts, lines):
         book.office = copy.deepcopy(book.office)
-        expect('the answer to %r' % text, book.line(text), line)
+        expect('the answer to %r' % text, answer(book.office, text), line)
         every.append(book.office)
     return every
 
