@@ -16,7 +16,7 @@ from model.events import Added
 from .books import Book, Different, expect
 from .working import Delivering, Served, run
 
-KILLS = 40                  # a store: some 200 deliveries, so that the log is moved into the file at least once
+KILLS = 80                  # a store: some 400 deliveries, so that the log is moved into the file at least once
 MOST = 10                   # deliveries from one kill to the next
 OPENING = 0.15              # of the kills: while the store is opened, before the first answer
 AHEAD = 12                  # texts that are sent ahead of the answers
