@@ -131,8 +131,12 @@ miscounts_equipment message =
     not (option_map_or (λ segment. is_count (control_value segment) (count_by is_equipment message.segments))
     (control message) true)
 
+-- the most containers that a message may have
+abbrev pub most_containers : ℕ
+most_containers = 999
+
 abbrev pub has_too_many : Message → Bool
-has_too_many message = nat_lt 999 (count_by is_container message.segments)
+has_too_many message = nat_lt most_containers (count_by is_container message.segments)
 
 -- whether the fault applies to the message; want of memory is no fault of it
 abbrev pub applies : Codes → Message → MessageFault → Bool

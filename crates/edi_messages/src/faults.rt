@@ -13,8 +13,8 @@ use crate::survey::Survey;
 use edi_segments::{Component, Segment};
 use edi_syntax::numbers::is_count;
 
-/// As many lines as a message may have.
-const MAX_LINES: u64 = 999;
+/// The most containers that a message may have.
+const MOST_CONTAINERS: u64 = 999;
 
 /// The lowest fault that applies to the message.
 pub(crate) fn message_fault(survey: &Survey<'_>, codes: &Codes) -> Option<MessageFault>
@@ -160,5 +160,5 @@ fn miscounts_equipment(survey: &Survey<'_>) -> bool
 fn has_too_many(survey: &Survey<'_>) -> bool
     ensures { result ≡ has_too_many (message survey.now.frame) }
 {
-    survey.containers > MAX_LINES
+    survey.containers > MOST_CONTAINERS
 }

@@ -16,6 +16,10 @@ number_of limit value =
 abbrev pub is_count : List ℕ → ℕ → Bool
 is_count value number = option_map_or (λ n. n == number) (number_of 6 value) false
 
--- a number from 1 to 999,999,999
+-- the last number that an interchange may have
+abbrev pub last_number : ℕ
+last_number = 999999999
+
+-- a number that an interchange may have
 abbrev pub as_control_number : ℕ → Option ℕ
-as_control_number number = if nat_le 1 number && nat_le number 999999999 then Some number else None
+as_control_number number = if nat_le 1 number && nat_le number last_number then Some number else None

@@ -9,6 +9,7 @@ ghost use Rattle.edi_segments.specs.Text.{component_of};
 ghost use Rattle.edi_syntax.specs.Envelope.{header_of, behind_header, last_of};
 ghost use Rattle.edi_syntax.specs.Header.{sender, recipient, control_reference, control_number, preparation};
 ghost use Rattle.edi_syntax.specs.Faults.{head_fault_of, header_fault_of, body_fault_of, segments_fault};
+ghost use Rattle.edi_syntax.specs.Numbers.{last_number};
 
 use super::envelope::Envelope;
 use super::faults::{body_fault, header_fault};
@@ -134,7 +135,7 @@ impl<'a> Head<'a> {
     pub fn number(&self) -> u32
         ensures number { control_number (header_of (head_segments self.now)) ≡ Some result }
         ensures first { 1 ≤ result }
-        ensures last { result ≤ 999999999 }
+        ensures last { result ≤ last_number }
     {
         control_number(&self.header).unwrap()
     }

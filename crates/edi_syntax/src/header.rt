@@ -7,6 +7,9 @@ use super::numbers::number_of;
 use edi_moments::Moment;
 use edi_segments::Segment;
 
+/// The last number that an interchange may have.
+pub const LAST_NUMBER: u32 = 999_999_999;
+
 /// The header names sender and recipient in bytes that can be printed.
 pub(crate) fn names_partners(header: &Segment<'_>) -> bool
     ensures { result ≡ names_partners (content header.now) }
@@ -45,7 +48,7 @@ pub(crate) fn control_number(header: &Segment<'_>) -> Option<u32>
     ensures { result ≡ control_number (content header.now) }
 {
     let number = number_of(header.component(5, 1), 14)?;
-    if number >= 1 && number <= 999_999_999 {
+    if number >= 1 && number <= LAST_NUMBER as u64 {
         Some(number as u32)
     } else {
         None

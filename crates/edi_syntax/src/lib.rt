@@ -29,5 +29,6 @@ pub use envelope::Envelope;
 pub use frame::Frame;
 pub use frames::Frames;
 pub use head::Head;
+pub use header::LAST_NUMBER;
 pub use message_segments::MessageSegments;
 pub use opening::open_envelope;

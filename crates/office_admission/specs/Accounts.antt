@@ -7,6 +7,7 @@ use Rattle.office_replies.specs.Events.{Event, delivered, migrated, added}
 use Rattle.office_replies.specs.declared.account_fault.AccountFault.{AccountFault}
 use Rattle.office_replies.specs.declared.account_fault.AccountFault.TheVariants.{Partner, Kind, Accounts}
 use Rattle.office_setup.specs.Kinds.{kind_named}
+use Rattle.office_setup.specs.Limits.{most_partners}
 use Rattle.office_setup.specs.Parties.{partner_from}
 use Rattle.office_setup.specs.PartyCodes.{is_party_code}
 use Rattle.office_setup.specs.Setups.{SetupContent}
@@ -35,7 +36,7 @@ abbrev pub by_number : List AccountPair → PartnerKind → Option ℕ → Accou
 by_number accounts kind (Some id) =
     by_own_kind id kind (with_number (map (λ (account : AccountPair). account.1) accounts) id)
 by_number accounts kind None =
-    if nat_lt (length accounts) 999 then added_as (length accounts + 1) else refused_for Accounts
+    if nat_lt (length accounts) most_partners then added_as (length accounts + 1) else refused_for Accounts
 
 abbrev pub by_kind : List AccountPair → List ℕ → Option PartnerKind → AccountContent
 by_kind accounts code None = refused_for Partner

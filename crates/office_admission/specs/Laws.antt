@@ -7,6 +7,7 @@ use Rattle.office_replies.specs.Events.{Event, delivered, added}
 use Rattle.office_replies.specs.declared.fault.Fault.{Fault}
 use Rattle.office_setup.specs.Given.{IsGiven}
 use Rattle.office_setup.specs.Kinds.{kind_named}
+use Rattle.office_setup.specs.Limits.{most_partners}
 use Rattle.office_setup.specs.Parties.{partner_from}
 use Rattle.office_setup.specs.Setups.{SetupContent, parties_in, setup_with_account}
 use Rattle.office_admission.specs.Accounts.{account_answer, added_as, content_with, content_after}
@@ -18,7 +19,7 @@ use Rattle.office_admission.specs.Deliveries.{with_delivery, deliveries_of}
 -- the account is the last of the set-up's, under the next number; its code is new, and there was room
 pub record IsAddedLast (content : SetupContent) (code kind : List ℕ) (id : ℕ) (own : PartnerKind) : Type 0 where
   pub id_is : id ≡ length content.partners + 1
-  pub room : length content.partners < 999
+  pub room : length content.partners < most_partners
   pub is_new : partner_from 1 code (parties_in content).partners ≡ None
   pub content_is : content_with content (added code kind) ≡ setup_with_account content code own
 

@@ -2,6 +2,7 @@ ghost use Rattle.std.specs.Prelude.{◌≡◌, ℕ, List, ◌+◌, ◌<◌, ◌�
 ghost use Rattle.edi_segments.specs.Interchange.{segments_in};
 ghost use Rattle.edi_syntax.specs.Envelope.{header_of};
 ghost use Rattle.office_replies.specs.declared.fault.Fault.{Fault};
+ghost use Rattle.office_setup.specs.Limits.{most_partners};
 ghost use Rattle.office_setup.specs.Parties.{parties_of};
 ghost use Rattle.office_setup.specs.declared.setup.Setup.{Setup};
 ghost use Rattle.office_admission.specs.Admission.{admission, is_for, sender_of};
@@ -19,7 +20,7 @@ use office_setup::Setup;
 /// (16), another recipient than the terminal (17). The text is what was delivered, without the CR and LF at both ends.
 /// Takes no memory.
 pub fn admit<'a>(setup: &Setup, text: &'a [u8]) -> Result<Admitted<'a>, Refusal<'a>>
-    requires { length setup.now.partners.items ≤ 999 }
+    requires { length setup.now.partners.items ≤ most_partners }
     ensures ok { IfOk result (IsAdmitted setup.now text.now) }
     ensures err { IfErr result (IsRefused setup.now text.now) }
 {
@@ -35,7 +36,7 @@ pub fn admit<'a>(setup: &Setup, text: &'a [u8]) -> Result<Admitted<'a>, Refusal<
 
 /// The interchange that a text is, if it is admitted for that partner.
 pub fn admit_for<'a>(setup: &Setup, partner: u16, text: &'a [u8]) -> Option<Admitted<'a>>
-    requires { length setup.now.partners.items ≤ 999 }
+    requires { length setup.now.partners.items ≤ most_partners }
     ensures none { IfNone result (is_for partner (admission (parties_of setup.now) text.now) ≡ false) }
     ensures admitted { IfSome result (IsAdmitted setup.now text.now) }
     ensures partner { IfSome result (λ admitted. admitted.partner ≡ partner) }
@@ -64,7 +65,7 @@ fn stranger_fault(head: Head<'_>) -> Fault
 
 /// Admits an interchange whose sender is the partner at that index, from 0, or refuses it.
 fn admit_from<'a>(setup: &Setup, index: usize, head: Head<'a>) -> Result<Admitted<'a>, Refusal<'a>>
-    requires few { length setup.now.partners.items ≤ 999 }
+    requires few { length setup.now.partners.items ≤ most_partners }
     requires index { index < length setup.now.partners.items }
     ensures ok { IfOk result (λ admitted. (text : List ℕ) → IsOpened text head.entry →
         sender_of (parties_of setup.now) (header_of (segments_in text)) ≡ Some (index + 1) →

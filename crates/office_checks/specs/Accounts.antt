@@ -3,6 +3,7 @@ use Rattle.std.specs.Prelude.{◌≡◌, ℕ, ◌≤◌, List, length, map, stri
 use Rattle.std.specs.List.{list_all}
 use Rattle.edi_messages.specs.declared.partner_kind.PartnerKind.{PartnerKind}
 use Rattle.office_setup.specs.Given.{is_party_code, AreDistinct}
+use Rattle.office_setup.specs.Limits.{most_partners}
 use Rattle.office_rows.specs.Office.{AreAccounts}
 use Rattle.office_checks.specs.Contents.{partner_content}
 use Rattle.office_checks.specs.declared.partner_row.PartnerRow.{PartnerRow}
@@ -13,7 +14,7 @@ accounts_in rows = map (λ (row : PartnerRow). (string_bytes row.code, row.kind)
 
 -- these are 1 to 999 accounts, numbered from 1 on, with codes of partners, no two alike, and next numbers
 pub record AreWholeAccounts (rows : List PartnerRow) : Type 0 where
-  pub counted : (1 ≤ length rows) × (length rows ≤ 999)
+  pub counted : (1 ≤ length rows) × (length rows ≤ most_partners)
   pub numbered : AreAccounts 1 (map partner_content rows) (accounts_in rows)
   pub coded : list_all (λ (row : PartnerRow). is_party_code (string_bytes row.code)) rows ≡ true
   pub distinct : AreDistinct (accounts_in rows)

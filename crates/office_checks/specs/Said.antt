@@ -6,6 +6,7 @@ use Rattle.terminal_core.specs.declared.restore_fault.RestoreFault.{RestoreFault
 use Rattle.terminal_core.specs.declared.restore_fault.RestoreFault.TheVariants.{Unsound, Memory}
 use Rattle.office_setup.specs.Setups.{SetupContent}
 use Rattle.office_setup.specs.Given.{is_party_code}
+use Rattle.office_setup.specs.Limits.{most_visits}
 use Rattle.office_rows.specs.Rows.{Setting}
 use Rattle.office_rows.specs.Office.{settings_by_name}
 use Rattle.office_checks.specs.declared.settings.Settings.{Settings}
@@ -44,7 +45,7 @@ set_up_with settings = record {
 pub record AreSettings (rows : List Setting) (content : SetupContent) : Type 0 where
   pub terminal : IsTrue (is_party_code content.terminal)
   pub codes : table_fault (table_texts content.codes) ≡ None
-  pub limit : (1 ≤ content.visit_limit) × (content.visit_limit ≤ 999999999)
+  pub limit : (1 ≤ content.visit_limit) × (content.visit_limit ≤ most_visits)
   pub are : rows ≡ settings_by_name content
 
 -- why settings are not read: they are those of no set-up, or memory was refused

@@ -1,6 +1,7 @@
 ghost use Rattle.std.specs.Prelude.{◌≡◌, ◌<◌, ◌≤◌, ◌+◌, ◌↔◌, ℕ, IsTrue, IfOk, true, Some, map, length, slice_get, string_bytes};
 ghost use Rattle.std.specs.List.{list_all};
 ghost use Rattle.office_setup.specs.Given.{is_party_code, AreDistinct};
+ghost use Rattle.office_setup.specs.Limits.{most_partners};
 ghost use Rattle.office_setup.specs.Setups.{account_contents};
 ghost use Rattle.office_rows.specs.Office.{AreAccounts};
 ghost use Rattle.office_checks.specs.Accounts.{accounts_in, AreWholeAccounts};
@@ -27,7 +28,7 @@ pub(crate) fn are_accounts(partners: &[PartnerRow]) -> bool
 }
 
 fn is_counted(partners: &[PartnerRow]) -> bool
-    ensures { IsTrue result ↔ ((1 ≤ length partners.now) × (length partners.now ≤ 999)) }
+    ensures { IsTrue result ↔ ((1 ≤ length partners.now) × (length partners.now ≤ most_partners)) }
 {
     1 <= partners.len() && partners.len() <= MOST_PARTNERS
 }

@@ -13,7 +13,8 @@ use crate::texts::{is_name, is_name_if_any};
 use box6346::{BoxNumber, SizeType, Slot};
 use edi_messages::Call;
 use edi_moments::Moment;
-use terminal_core::{Arrival, Departure, Listing, Side, Source, Visit};
+use edi_syntax::LAST_NUMBER;
+use terminal_core::{Arrival, Departure, LAST_PARTNER, Listing, Side, Source, Visit};
 use yard_core::Block;
 
 /// Whether each visit has its form, and those who opened and closed it are among so many partners.
@@ -64,10 +65,10 @@ fn is_sound_source(count: usize, source: Source) -> bool
     ensures { IsTrue result ↔ IsSoundSource count source }
 {
     1 <= source.partner
-        && source.partner <= 999
+        && source.partner <= LAST_PARTNER
         && source.partner as usize <= count
         && 1 <= source.number
-        && source.number <= 999_999_999
+        && source.number <= LAST_NUMBER
 }
 
 /// Whether the slot has a name that is read again.

@@ -1,5 +1,6 @@
 ghost use Rattle.std.specs.Prelude.{◌≡◌, ◌<◌, ◌≤◌, ◌+◌, ◌-◌, ◌==◌, ◌↔◌, IsTrue, map, length, take, drop, true, false};
 ghost use Rattle.std.specs.List.{range_with_len};
+ghost use Rattle.edi_syntax.specs.Numbers.{last_number};
 ghost use Rattle.office_rows.specs.Office.{taken_numbers, AreWaiting, IsKeptFor, AreKept, AreAccounts};
 ghost use Rattle.office_checks.specs.Accounts.{accounts_in};
 ghost use Rattle.office_checks.specs.Contents.{number_content, partner_content};
@@ -7,6 +8,7 @@ ghost use Rattle.office_checks.specs.Owned.{AreOwn, BeginsElse};
 
 use crate::number_row::NumberRow;
 use crate::partner_row::PartnerRow;
+use edi_syntax::LAST_NUMBER;
 
 /// Whether the interchanges that are kept are each partner's: those below its next number, which were taken, and above
 /// it those that wait.
@@ -92,7 +94,7 @@ fn are_waiting(partner: u32, next: u32, numbers: &[NumberRow]) -> bool
 fn is_waiting(partner: u32, above: u32, row: &NumberRow) -> bool
     ensures { IsTrue result ↔
         ((row.now.partner ≡ partner) × (row.now.is_taken ≡ false) × (above < row.now.number)
-        × (row.now.number ≤ 999999999)) }
+        × (row.now.number ≤ last_number)) }
 {
-    row.partner == partner && !row.is_taken && above < row.number && row.number <= 999_999_999
+    row.partner == partner && !row.is_taken && above < row.number && row.number <= LAST_NUMBER
 }

@@ -1,6 +1,7 @@
 ghost use Rattle.std.specs.Prelude.{◌≡◌, ◌≢◌, ◌<◌, ◌≤◌, ◌↔◌, ℕ, IsTrue, IfOk, IfErr, Some, None, MatchOption, map, length, slice_get, decimal};
 ghost use Rattle.edi_messages.specs.CodeText.{table_fault};
 ghost use Rattle.edi_messages.specs.Codes.{table_texts};
+ghost use Rattle.office_setup.specs.Limits.{most_visits};
 ghost use Rattle.office_checks.specs.Contents.{setting_content};
 ghost use Rattle.office_checks.specs.Said.{setting_names, names_of, values_of, code_values, set_up_with, AreSettings, RefusesSettings};
 
@@ -123,8 +124,8 @@ fn codes_of(settings: &[Setting]) -> Option<CodeTable>
 /// The limit of visits: a decimal number without leading zeros, from 1 to 999,999,999.
 fn limit_of(text: &str) -> Option<u32>
     ensures { MatchOption result
-        ((n : ℕ) → 1 ≤ n → n ≤ 999999999 → ¬ (text.now ≡ decimal n))
-        (λ n. (1 ≤ n) × (n ≤ 999999999) × (text.now ≡ decimal n)) }
+        ((n : ℕ) → 1 ≤ n → n ≤ most_visits → ¬ (text.now ≡ decimal n))
+        (λ n. (1 ≤ n) × (n ≤ most_visits) × (text.now ≡ decimal n)) }
 {
     match text.parse::<u32>() {
         Ok(limit) => {
@@ -140,7 +141,7 @@ fn limit_of(text: &str) -> Option<u32>
 
 /// Whether the number may be a limit of visits, and the text is how it is written.
 fn is_limit(number: u32, text: &str) -> bool
-    ensures { IsTrue result ↔ ((1 ≤ number) × (number ≤ 999999999) × (text.now ≡ decimal number)) }
+    ensures { IsTrue result ↔ ((1 ≤ number) × (number ≤ most_visits) × (text.now ≡ decimal number)) }
 {
     1 <= number && number <= MOST_VISITS && is_decimal(number, text)
 }

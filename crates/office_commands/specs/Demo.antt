@@ -6,6 +6,7 @@ use Rattle.edi_messages.specs.declared.code_table.CodeTable.{CodeTable}
 use Rattle.edi_messages.specs.declared.partner_kind.PartnerKind.{PartnerKind}
 use Rattle.edi_messages.specs.declared.partner_kind.PartnerKind.TheVariants.{Gate, Line, Quay, Yard}
 use Rattle.yard_core.specs.declared.block.Block.{Block}
+use Rattle.office_setup.specs.Limits.{most_visits}
 use Rattle.office_setup.specs.Setups.{SetupContent, setup_content}
 use Rattle.sqlite.specs.Steps.{over_memory}
 use Rattle.office_desk.specs.Answers.{AnswersNext}
@@ -37,7 +38,7 @@ demo_content table = record {
   codes = table;
   partners = demo_partners;
   blocks = demo_blocks;
-  visit_limit = 999999999;
+  visit_limit = most_visits;
 }
 
 -- it says what the demonstration's set-up says

@@ -1,5 +1,6 @@
 ghost use Rattle.std.specs.Prelude.{◌≤◌, length, IfOk};
 ghost use Rattle.office_setup.specs.Given.{IsGiven};
+ghost use Rattle.office_setup.specs.Limits.{most_partners};
 ghost use Rattle.office_setup.specs.Setups.{setup_content};
 ghost use Rattle.office_commands.specs.Opening.{OpensEmpty};
 
@@ -12,7 +13,7 @@ use std::alloc::Global;
 /// A desk over tables in memory, made for a set-up, to which nothing has been delivered. A set-up that set-up files
 /// could not give does not open.
 pub fn open_desk(alloc: Global, setup: &Setup) -> Result<Desk<MemStore>, TableFault>
-    requires few { length setup.now.partners.items ≤ 999 }
+    requires few { length setup.now.partners.items ≤ most_partners }
     ensures opens { IfOk result
         (λ desk. IsGiven (setup_content setup.now) → OpensEmpty (setup_content setup.now) desk) }
 {

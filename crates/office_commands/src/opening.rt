@@ -5,6 +5,7 @@ ghost use Rattle.sqlite.specs.Tree.{Trees};
 ghost use Rattle.sqlite.specs.WalFiles.{image_at};
 ghost use Rattle.office_replies.specs.Events.{Event};
 ghost use Rattle.office_setup.specs.Given.{IsGiven};
+ghost use Rattle.office_setup.specs.Limits.{most_partners};
 ghost use Rattle.office_setup.specs.Setups.{SetupContent, setup_content};
 ghost use Rattle.office_rows.specs.Tables.{no_schema};
 ghost use Rattle.office_desk.specs.Crashes.{Leaves};
@@ -63,7 +64,7 @@ pub fn make_store<S: Start>(
     start: S,
     setup: &Setup,
 ) -> Result<Connection<FileStore<FileFrom<S>>>, TableFault>
-    requires few { length setup.now.partners.items ≤ 999 }
+    requires few { length setup.now.partners.items ≤ most_partners }
     ensures made { IfOk result (λ conn. HasCleanDisk (file_state conn) → (image_at S.Start).db ≡ [] →
         Leaves (setup_content setup.now) [] (file_state conn)) }
 

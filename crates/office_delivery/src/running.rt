@@ -1,5 +1,6 @@
 ghost use Rattle.std.specs.Prelude.{◌≡◌, ℕ, List, ◌+◌, ◌++◌, [], ◌∷◌, ◌<◌, ◌≤◌, All, IfOk, IfErr, IfSome, OnOk, length};
 ghost use Rattle.std.specs.Option.{option_map};
+ghost use Rattle.office_setup.specs.Limits.{most_partners};
 ghost use Rattle.sqlite.specs.Held.{state};
 ghost use Rattle.sqlite.specs.State.{HasCleanDisk};
 ghost use Rattle.office_rows.specs.Rows.{Rows};
@@ -36,7 +37,7 @@ pub fn take_run<S: Alter>(
     admitted: &Admitted<'_>,
     number: u32,
 ) -> Result<Vec<Taken>, TableFault>
-    requires few { length setup.now.partners.items ≤ 999 }
+    requires few { length setup.now.partners.items ≤ most_partners }
     requires number { number ≤ LAST_NUMBER }
     ensures taken { HasCleanDisk (state S.Store conn.new) → IfOk result (λ taken. (rows : Rows) (text : List ℕ) →
         HasRows rows (state S.Store conn.old).now → IsNumbered admitted.now.partner rows →

@@ -1,4 +1,5 @@
 ghost use Rattle.std.specs.Prelude.{◌≡◌, ℕ, List, ◌≤◌, length, IfOk};
+ghost use Rattle.office_setup.specs.Limits.{most_partners};
 ghost use Rattle.office_admission.specs.Outcomes.{IsAdmitted};
 ghost use Rattle.office_taking.specs.Taking.{machine_of};
 ghost use Rattle.office_delivery.specs.Taken.{taken_content};
@@ -45,7 +46,7 @@ pub(crate) fn take_text(
     number: u32,
     text: &[u8],
 ) -> Result<Taken, AllocError>
-    requires { length setup.now.partners.items ≤ 999 }
+    requires { length setup.now.partners.items ≤ most_partners }
     ensures { IfOk result (λ taken. IsTaken partner number text.now (machine_of setup.now terminal.old)
         (taken_content taken) (machine_of setup.now terminal.new)) }
 {

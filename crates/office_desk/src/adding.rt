@@ -3,6 +3,7 @@ ghost use Rattle.sqlite.specs.Held.{state};
 ghost use Rattle.sqlite.specs.State.{HasCleanDisk, Survives};
 ghost use Rattle.office_replies.specs.AccountAnswers.{account_added_text};
 ghost use Rattle.office_rows.specs.Effects.{with_partner};
+ghost use Rattle.office_setup.specs.Limits.{most_partners};
 ghost use Rattle.office_setup.specs.PartyCodes.{is_party_code};
 ghost use Rattle.office_setup.specs.Setups.{setup_content, setup_with_account};
 ghost use Rattle.office_tables.specs.Faults.{IsOfStore};
@@ -31,7 +32,7 @@ pub(crate) fn add_new<S: Alter>(
 ) -> Result<String, TableFault>
     requires idle { (state S.Store conn.old).in_transaction ≡ false }
     requires code { IsTrue (is_party_code code.now) }
-    requires room { length setup.old.partners.items < 999 }
+    requires room { length setup.old.partners.items < most_partners }
     ensures idle { (state S.Store conn.new).in_transaction ≡ false }
     ensures body { IfOk result (λ body. string_bytes body ≡ account_added_text id code.now) }
     ensures setup { OnOk result

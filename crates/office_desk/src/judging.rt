@@ -2,6 +2,7 @@ ghost use Rattle.std.specs.Prelude.{◌≡◌, ◌≤◌, ◌+◌, List, Some, I
 ghost use Rattle.office_admission.specs.Accounts.{AccountPair, account_answer, added_as, by_number, by_own_kind, refused_for};
 ghost use Rattle.office_replies.specs.declared.account_fault.AccountFault.TheVariants as fault;
 ghost use Rattle.office_setup.specs.Kinds.{kind_named};
+ghost use Rattle.office_setup.specs.Limits.{most_partners};
 ghost use Rattle.office_setup.specs.Parties.{partner_from};
 ghost use Rattle.office_setup.specs.PartyCodes.{is_party_code};
 ghost use Rattle.office_setup.specs.Setups.{setup_content};
@@ -10,10 +11,7 @@ ghost use Rattle.office_desk.specs.Accounts.{standing_content};
 use crate::account_standing::AccountStanding;
 use edi_messages::PartnerKind;
 use office_replies::AccountFault;
-use office_setup::{Setup, kind_named, party_code};
-
-// As many as the accounts' ids may have digits for.
-const MOST_ACCOUNTS: usize = 999;
+use office_setup::{MOST_PARTNERS, Setup, kind_named, party_code};
 
 /// A code and a kind as they came, if they are of a partner's form.
 pub(crate) fn asked<'a>(code: &'a [u8], kind: &[u8]) -> Option<(&'a str, PartnerKind)>
@@ -28,7 +26,7 @@ pub(crate) fn asked<'a>(code: &'a [u8], kind: &[u8]) -> Option<(&'a str, Partner
 
 /// How an account stands to those of a set-up, by a code and a kind of a partner's form.
 pub(crate) fn judge_account(setup: &Setup, code: &str, kind: PartnerKind) -> AccountStanding
-    requires { length setup.now.partners.items ≤ 999 }
+    requires { length setup.now.partners.items ≤ most_partners }
     ensures { standing_content result ≡ by_number (setup_content setup.now).partners kind
         (partner_from 1 code.now (map (λ (account : AccountPair). account.0) (setup_content setup.now).partners)) }
 {
@@ -54,10 +52,10 @@ fn judge_known(own: PartnerKind, kind: PartnerKind, id: u16) -> AccountStanding
 
 /// A code that is new, where there are that many accounts.
 fn judge_new(count: usize) -> AccountStanding
-    requires { count ≤ 999 }
-    ensures { standing_content result ≡ (if nat_lt count 999 then added_as (count + 1) else refused_for fault.Accounts) }
+    requires { count ≤ most_partners }
+    ensures { standing_content result ≡ (if nat_lt count most_partners then added_as (count + 1) else refused_for fault.Accounts) }
 {
-    if count < MOST_ACCOUNTS {
+    if count < MOST_PARTNERS {
         AccountStanding::New(count as u16 + 1)
     } else {
         AccountStanding::Refused(AccountFault::Accounts)

@@ -1,4 +1,5 @@
 ghost use Rattle.std.specs.Prelude.{◌≡◌, ◌⊎◌, ◌≤◌, false, length, IfOk, IfErr, OnErr, IsTrue};
+ghost use Rattle.office_setup.specs.Limits.{most_partners};
 ghost use Rattle.sqlite.specs.Held.{state};
 ghost use Rattle.sqlite.specs.State.{HasCleanDisk};
 ghost use Rattle.sqlite.specs.Tree.{Trees};
@@ -33,7 +34,7 @@ pub(crate) fn take_next<S: Alter>(
     delivery: &Delivery<'_>,
 ) -> Result<(Response, Beside), TableFault>
     requires idle { (state S.Store conn.old).in_transaction ≡ false }
-    requires few { length setup.now.partners.items ≤ 999 }
+    requires few { length setup.now.partners.items ≤ most_partners }
     requires number { delivery.now.number ≤ LAST_NUMBER }
     requires admitted { IsAdmitted setup.now delivery.now.text.now delivery.now.admitted }
     requires known { delivery.now.admitted.partner ≤ length beside.nexts.items }

@@ -4,6 +4,7 @@ ghost use Rattle.sqlite.specs.State.{HasCleanDisk};
 ghost use Rattle.office_rows.specs.Rows.{Rows};
 ghost use Rattle.office_rows.specs.Stored.{HasRows};
 ghost use Rattle.office_rows.specs.Tables.{office_schema};
+ghost use Rattle.office_setup.specs.Limits.{most_partners};
 ghost use Rattle.office_setup.specs.Setups.{account_contents};
 ghost use Rattle.office_delivery.specs.Reading.{IsSame, OnlyReads};
 ghost use Rattle.office_lookups.specs.Partners.{partner_content};
@@ -23,7 +24,7 @@ pub(crate) fn tell_partners<S: Alter>(
     conn: &mut Connection<S>,
     accounts: &[Account],
 ) -> Result<String, TableFault>
-    requires few { length accounts.now ≤ 999 }
+    requires few { length accounts.now ≤ most_partners }
     ensures told { HasCleanDisk (state S.Store conn.new) → IfOk result (λ text. (rows : Rows) →
         HasRows rows (state S.Store conn.old).now →
         TellsPartners rows (account_contents accounts.now) (Some (string_bytes text))) }
@@ -38,7 +39,7 @@ fn look_all_up<S: Alter>(
     conn: &mut Connection<S>,
     accounts: &[Account],
 ) -> Result<Vec<Partner>, TableFault>
-    requires few { length accounts.now ≤ 999 }
+    requires few { length accounts.now ≤ most_partners }
     ensures are { HasCleanDisk (state S.Store conn.new) → IfOk result (λ partners. (rows : Rows) →
         HasRows rows (state S.Store conn.old).now →
         AreLookedUp rows 1 (account_contents accounts.now) (map partner_content partners.items)) }

@@ -2,6 +2,7 @@
 use Rattle.std.specs.Prelude.{◌≡◌, ℕ, ◌+◌, ◌<◌, ◌≤◌, List, [], ◌∷◌, ◌++◌, length, Contains, None, Some, Ok, Err}
 use Rattle.edi_messages.specs.declared.partner_kind.PartnerKind.{PartnerKind}
 use Rattle.edi_segments.specs.Interchange.{interchange_of}
+use Rattle.edi_syntax.specs.Numbers.{last_number}
 use Rattle.partner_core.specs.Deliveries.{delivery, run}
 use Rattle.partner_core.specs.Answers.{Told, answer_of, Taken, Repeat, Waiting, Clash}
 use Rattle.terminal_core.specs.Rows.{ChangeContent}
@@ -65,7 +66,7 @@ abbrev pub NumbersAreWithin : Type 0
 NumbersAreWithin =
     (content : SetupContent) (es : List Event) (rows : Rows) (partner number : ℕ) (text : List ℕ) →
     AreAfter content es rows → text_in rows partner number ≡ Some text
-    → (1 ≤ partner) × (partner ≤ length (content_after content es).partners) × (1 ≤ number) × (number ≤ 999999999)
+    → (1 ≤ partner) × (partner ≤ length (content_after content es).partners) × (1 ≤ number) × (number ≤ last_number)
 
 -- an account's next number is the one after its partner's run
 abbrev pub NextFollowsRun : Type 0

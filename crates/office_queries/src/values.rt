@@ -6,6 +6,7 @@ ghost use Rattle.office_queries.specs.Keys.{box_in, control_number_of, name_in, 
 use crate::escapes::decode;
 use box6346::BoxNumber;
 use edi_segments::are_printable;
+use edi_syntax::LAST_NUMBER;
 use std::alloc::{AllocError, Global};
 use terminal_core::Side;
 
@@ -51,7 +52,7 @@ fn control_number_of(digits: &[u8]) -> Option<u32>
     ensures { result ≡ control_number_of digits.now }
 {
     let number = number_of(digits)?;
-    if 1 <= number && number <= 999_999_999 {
+    if 1 <= number && number <= LAST_NUMBER as u64 {
         Some(number as u32)
     } else {
         None

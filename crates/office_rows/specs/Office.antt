@@ -1,6 +1,7 @@
 -- Which rows, each table by its key from the least up, are those of an office: what opened tables are checked for.
 use Rattle.std.specs.Prelude.{◌≡◌, ℕ, ◌+◌, ◌-◌, ◌<◌, ◌≤◌, true, false, List, [], ◌∷◌, ◌++◌, length, map, Contains, Option, None, Some, codes, decimal}
 use Rattle.std.specs.List.{range_with_len}
+use Rattle.edi_syntax.specs.Numbers.{last_number}
 use Rattle.edi_messages.specs.declared.partner_kind.PartnerKind.{PartnerKind}
 use Rattle.edi_messages.specs.Codes.{table_texts}
 use Rattle.terminal_core.specs.declared.departure.Departure.{Departure}
@@ -55,7 +56,7 @@ taken_numbers partner =
 abbrev pub AreWaiting : ℕ → ℕ → List Numbered → Type 0
 AreWaiting partner above [] = Unit {0}
 AreWaiting partner above (n ∷ numbers) =
-    (n.partner ≡ partner) × (n.is_taken ≡ false) × (above < n.number) × (n.number ≤ 999999999)
+    (n.partner ≡ partner) × (n.is_taken ≡ false) × (above < n.number) × (n.number ≤ last_number)
     × AreWaiting partner n.number numbers
 
 -- what is kept for a partner: the numbers below its next, and those that wait for it

@@ -6,6 +6,7 @@ use Rattle.edi_messages.specs.Codes.{table_texts}
 use Rattle.edi_messages.specs.declared.partner_kind.PartnerKind.{PartnerKind}
 use Rattle.yard_core.specs.declared.block.Block.{Block}
 use Rattle.yard_core.specs.Plan.{IsPlan}
+use Rattle.office_setup.specs.Limits.{most_partners, most_visits}
 pub use Rattle.office_setup.specs.PartyCodes.{is_party_byte, is_party_code}
 use Rattle.office_setup.specs.Setups.{SetupContent}
 
@@ -17,10 +18,10 @@ AreDistinct partners =
 
 pub record IsGiven (setup : SetupContent) : Type 0 where
   pub terminal : IsTrue (is_party_code setup.terminal)
-  pub counted : (1 ≤ length setup.partners) × (length setup.partners ≤ 999)
+  pub counted : (1 ≤ length setup.partners) × (length setup.partners ≤ most_partners)
   pub coded : All (λ (partner : List ℕ × PartnerKind). IsTrue (is_party_code partner.0)) setup.partners
   pub distinct : AreDistinct setup.partners
   pub codes : table_fault (table_texts setup.codes) ≡ None
   pub plan : IsPlan setup.blocks
   pub by_letter : IsNonDecreasingBy (λ (block : Block). block.letter) setup.blocks
-  pub limit : (1 ≤ setup.visit_limit) × (setup.visit_limit ≤ 999999999)
+  pub limit : (1 ≤ setup.visit_limit) × (setup.visit_limit ≤ most_visits)

@@ -1,4 +1,5 @@
 pub mod Kinds
+pub mod Limits
 pub mod Parties
 pub mod PartyCodes
 pub mod Accounts

@@ -1,6 +1,7 @@
 ghost use Rattle.std.specs.Prelude.{◌≡◌, ◌<◌, ◌≤◌, ◌+◌, IfOk, IfSome, IsTrue, length};
 ghost use Rattle.std.specs.Option.{option_map};
 ghost use Rattle.edi_segments.specs.Segment.{value};
+ghost use Rattle.office_setup.specs.Limits.{most_partners};
 ghost use Rattle.office_setup.specs.Parties.{partner_from, partner_codes};
 
 use crate::accounts::Accounts;
@@ -45,10 +46,10 @@ impl Setup {
         kind: PartnerKind,
     ) -> Result<Setup, AllocError>
         requires code { IsTrue (is_party_code code.now) }
-        requires room { length self.now.partners.items < 999 }
+        requires room { length self.now.partners.items < most_partners }
         ensures content { IfOk result (λ grown.
             setup_content grown ≡ setup_with_account (setup_content self.now) code.now kind) }
-        ensures few { IfOk result (λ grown. length grown.partners.items ≤ 999) }
+        ensures few { IfOk result (λ grown. length grown.partners.items ≤ most_partners) }
     {
         let grown = self.partners.with(alloc, code, kind)?;
         self.with_partners(alloc, grown)
@@ -82,7 +83,7 @@ impl Setup {
 
     /// The number of the first partner with a code, from 1.
     pub fn partner_called(&self, code: &str) -> Option<u16>
-        requires { length self.now.partners.items ≤ 999 }
+        requires { length self.now.partners.items ≤ most_partners }
         ensures { result ≡ partner_from 1 code.now (partner_codes self.now.partners.items) }
     {
         match self.partners.index_called(code) {

@@ -11,6 +11,7 @@ use Rattle.yard_core.specs.declared.block.Block.{Block}
 use Rattle.yard_core.specs.Plan.{IsPlan}
 use Rattle.office_setup.specs.Given.{is_party_code}
 use Rattle.office_setup.specs.Kinds.{kind_named}
+use Rattle.office_setup.specs.Limits.{most_partners, most_visits}
 use Rattle.office_setup.specs.Setups.{SetupContent}
 use Rattle.office_setup_files.specs.Entries.{Text, Record, Named, AreFiles, AreRows, field, section, number_said, count_said}
 use Rattle.office_setup_files.specs.declared.setup_fault.SetupFault.{SetupFault}
@@ -39,7 +40,7 @@ partner_said entry =
     else None
 
 pub record ArePartners (entries : List Named) (partners : List (Text × PartnerKind)) : Type 0 where
-  pub counted : (1 ≤ length entries) × (length entries ≤ 999)
+  pub counted : (1 ≤ length entries) × (length entries ≤ most_partners)
   pub apart : are_apart (names_of entries) ≡ true
   pub said : map partner_said entries ≡ map Some partners
 
@@ -83,7 +84,7 @@ limit_in None = None
 limit_in (Some number) = if nat_le 1 number then Some number else None
 
 abbrev pub limit_said : List Named → Option ℕ
-limit_said [] = Some 999999999
+limit_said [] = Some most_visits
 limit_said (entry ∷ []) = if bytes_eq entry.0 (codes "visits") then limit_in (number_said entry.1) else None
 limit_said (entry ∷ second ∷ others) = None
 

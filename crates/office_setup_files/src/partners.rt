@@ -3,6 +3,7 @@ ghost use Rattle.std.specs.Option.{option_map};
 ghost use Rattle.std.specs.List.{list_any};
 ghost use Rattle.std.specs.Str.{bytes_eq};
 ghost use Rattle.edi_messages.specs.declared.partner_kind.PartnerKind.{PartnerKind};
+ghost use Rattle.office_setup.specs.Limits.{most_partners};
 ghost use Rattle.office_setup.specs.Setups.{account_contents};
 ghost use Rattle.office_setup_files.specs.Entries.{entry_content};
 ghost use Rattle.office_setup_files.specs.Said.{are_apart, names_of, partner_said, ArePartners, AreNoPartners};
@@ -29,7 +30,7 @@ pub(crate) fn partners_of(
 }
 
 fn is_counted(entries: &[Entry<'_>]) -> bool
-    ensures { IsTrue result ↔ ((1 ≤ length entries.now) × (length entries.now ≤ 999)) }
+    ensures { IsTrue result ↔ ((1 ≤ length entries.now) × (length entries.now ≤ most_partners)) }
 {
     1 <= entries.len() && entries.len() <= MOST_PARTNERS
 }

@@ -6,6 +6,7 @@ ghost use Rattle.office_rows.specs.Tables.{office_tables, no_schema};
 ghost use Rattle.office_rows.specs.Stored.{HasRows, HasEmpty};
 ghost use Rattle.office_rows.specs.Steps.{Turns};
 ghost use Rattle.office_rows.specs.Opening.{opening_rows};
+ghost use Rattle.office_setup.specs.Limits.{most_partners};
 ghost use Rattle.office_setup.specs.Setups.{setup_content};
 ghost use Rattle.office_tables.specs.Opened.{Opens, IsOpening, AreMissing};
 ghost use Rattle.office_tables.specs.Faults.{IsOfStore};
@@ -23,7 +24,7 @@ use sqlite::{Alter, Connection, Transaction};
 /// It fails where anything has the name of one of them.
 pub fn create<S: Alter>(conn: &mut Connection<S>, setup: &Setup) -> Result<(), TableFault>
     requires idle { (state S.Store conn.old).in_transaction ≡ false }
-    requires counted { length setup.now.partners.items ≤ 999 }
+    requires counted { length setup.now.partners.items ≤ most_partners }
     ensures idle { (state S.Store conn.new).in_transaction ≡ false }
     ensures ok { HasCleanDisk (state S.Store conn.new) →
         OnOk result (Opens (setup_content setup.now) (state S.Store conn.old) (state S.Store conn.new)) }
@@ -46,7 +47,7 @@ pub fn create<S: Alter>(conn: &mut Connection<S>, setup: &Setup) -> Result<(), T
 
 /// The tables and their first rows, in the transaction.
 fn write_opening<S: Alter>(tx: &mut Transaction<'_, S>, setup: &Setup) -> Result<(), TableFault>
-    requires { length setup.now.partners.items ≤ 999 }
+    requires { length setup.now.partners.items ≤ most_partners }
     ensures same_reference { tx.new.conn.ghost_name ≡ tx.old.conn.ghost_name }
     ensures made { HasCleanDisk (state S.Store tx.new.conn.now) → IsTrue (state S.Store tx.old.conn.now).in_transaction
         → OnOk result (Turns (HasEmpty (take 0 office_tables)) (HasRows (opening_rows (setup_content setup.now)))

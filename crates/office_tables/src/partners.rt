@@ -2,6 +2,7 @@ ghost use Rattle.std.specs.Prelude.{◌≡◌, ◌≤◌, [], ◌∷◌, length}
 ghost use Rattle.sqlite.specs.Held.{state};
 ghost use Rattle.office_rows.specs.Effects.{with_next, with_partner};
 ghost use Rattle.office_rows.specs.Opening.{partners_from, with_partners};
+ghost use Rattle.office_setup.specs.Limits.{most_partners};
 ghost use Rattle.office_setup.specs.Setups.{account_contents};
 ghost use Rattle.office_tables.specs.Writes.{Writes, WritesIfOpen};
 
@@ -17,7 +18,7 @@ pub(crate) fn insert_partners<S: Alter>(
     tx: &mut Transaction<'_, S>,
     accounts: &[Account],
 ) -> Result<(), TableFault>
-    requires { length accounts.now ≤ 999 }
+    requires { length accounts.now ≤ most_partners }
     ensures same_reference { tx.new.conn.ghost_name ≡ tx.old.conn.ghost_name }
     ensures writes { WritesIfOpen (with_partners (partners_from 1 (account_contents accounts.now)))
         (state S.Store tx.old.conn.now) (state S.Store tx.new.conn.now) result }

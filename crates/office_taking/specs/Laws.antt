@@ -13,6 +13,7 @@ use Rattle.terminal_core.specs.State.{empty_state, IsWhole}
 use Rattle.terminal_core.specs.Forms.{IsWellFormed}
 use Rattle.terminal_core.specs.Changes.{rows_of, all_changed, AreApplicable}
 use Rattle.terminal_core.specs.declared.version.Version.{Version}
+use Rattle.office_setup.specs.Limits.{most_partners}
 use Rattle.office_setup.specs.declared.setup.Setup.{Setup}
 use Rattle.office_taking.specs.Taking.{MachineState, machine_of, interchange_taken_by, interchange_changes_by, interchange_taken, interchange_changes}
 
@@ -40,14 +41,14 @@ InterchangeChangesAreApplicable =
 -- what an interchange of one of at most 999 partners leaves of a whole and well-formed terminal is well formed
 abbrev pub InterchangesKeepForms : Type 0
 InterchangesKeepForms =
-    (version : Version) (machine : MachineState) (partner : ℕ) (text : List ℕ) → length machine.kinds ≤ 999 →
+    (version : Version) (machine : MachineState) (partner : ℕ) (text : List ℕ) → length machine.kinds ≤ most_partners →
     IsWhole machine.terminal →
     IsWellFormed machine.terminal
     → IsWellFormed (interchange_taken_by version machine partner text).0.terminal
 
 -- there are at most 999 partners, and the terminal is whole and well formed
 pub record IsSoundMachine (machine : MachineState) : Type 0 where
-  pub few : length machine.kinds ≤ 999
+  pub few : length machine.kinds ≤ most_partners
   pub whole : IsWhole machine.terminal
   pub formed : IsWellFormed machine.terminal
 
@@ -99,7 +100,7 @@ CascadeChangesAreApplicable =
 -- a machine of a set-up with at most 999 partners over a terminal with nothing in it is sound
 abbrev pub OpeningsAreSound : Type 0
 OpeningsAreSound =
-    (setup : Setup) (yard : YardMap) → length setup.partners.items ≤ 999 → IsPlan yard.plan →
+    (setup : Setup) (yard : YardMap) → length setup.partners.items ≤ most_partners → IsPlan yard.plan →
     yard.boxes ≡ finite_map.empty → IsSoundMachine (machine_of setup (empty_state yard setup.visit_limit))
 
 -- rules that change at a place of the list keep a machine sound where both do

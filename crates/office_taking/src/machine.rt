@@ -1,4 +1,5 @@
 ghost use Rattle.std.specs.Prelude.{◌≡◌, ◌≤◌, length};
+ghost use Rattle.office_setup.specs.Limits.{most_partners};
 ghost use Rattle.office_taking.specs.Taking.{machine_of};
 
 use crate::taking::take;
@@ -15,7 +16,7 @@ use terminal_core::Terminal;
 pub struct TerminalMachine {
     setup: Setup,
     terminal: Terminal,
-    ghost few: { length setup.partners.items ≤ 999 },
+    ghost few: { length setup.partners.items ≤ most_partners },
 }
 
 impl Model for TerminalMachine {
@@ -32,7 +33,7 @@ impl Model for TerminalMachine {
 impl TerminalMachine {
     /// A machine over a terminal, for the partners and the codes of document names of a set-up.
     pub fn new(setup: Setup, terminal: Terminal) -> TerminalMachine
-        requires { length setup.partners.items ≤ 999 }
+        requires { length setup.partners.items ≤ most_partners }
         ensures { result ≡ machine_of setup terminal }
     {
         TerminalMachine { setup, terminal }

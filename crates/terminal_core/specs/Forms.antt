@@ -6,6 +6,7 @@ use Rattle.box6346.specs.SizeText.{is_size}
 use Rattle.box6346.specs.SlotName.{IsNamed}
 use Rattle.box6346.specs.declared.box_number.BoxNumber.{BoxNumber}
 use Rattle.edi_moments.specs.Moments.{is_moment}
+use Rattle.edi_syntax.specs.Numbers.{last_number}
 use Rattle.edi_messages.specs.Purposes.{CallContent}
 use Rattle.edi_messages.specs.Forms.{is_name_if_any, IsFormedCall, IsFormedOrder}
 use Rattle.edi_messages.specs.Orders.{OrderContent}
@@ -22,12 +23,16 @@ use Rattle.terminal_core.specs.Step.{step_by}
 
 -- ---- numbers
 
--- one of 999 partners, and one of its interchanges' numbers
+-- the last id that a partner may have
+abbrev pub last_partner : ℕ
+last_partner = 999
+
+-- a partner, and a number that an interchange may have
 pub record IsSource (source : Source) : Type 0 where
   pub partner_low : 1 ≤ source.partner
-  pub partner_high : source.partner ≤ 999
+  pub partner_high : source.partner ≤ last_partner
   pub number_low : 1 ≤ source.number
-  pub number_high : source.number ≤ 999999999
+  pub number_high : source.number ≤ last_number
 
 -- ---- rows
 

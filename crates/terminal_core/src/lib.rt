@@ -35,7 +35,7 @@ pub use place::Place;
 pub use reason::Reason;
 pub use restore_fault::RestoreFault;
 pub use side::Side;
-pub use source::Source;
+pub use source::{LAST_PARTNER, Source};
 pub use terminal::Terminal;
 pub use version::Version;
 pub use visit::Visit;

@@ -2,6 +2,9 @@ ghost use Rattle.std.proofs.Common.{rules};
 ghost use Rattle.std.specs.Cmp.Rules.{comparing};
 ghost use Rattle.std.specs.Prelude.{◌≡◌, ◌==◌, ◌&&◌};
 
+/// The last id that a partner may have.
+pub const LAST_PARTNER: u16 = 999;
+
 /// The interchange that an order came in.
 #[derive(Clone, Copy, Eq, Debug)]
 pub struct Source {
