@@ -1,17 +1,11 @@
-ghost use Rattle.std.specs.Prelude.{◌≡◌, [], ◌∷◌, map, take, OnOk, IfErr, IsTrue};
+ghost use Rattle.std.specs.Prelude.{◌≡◌, [], ◌∷◌, map};
 ghost use Rattle.sqlite.specs.Held.{state};
-ghost use Rattle.sqlite.specs.State.{HasCleanDisk, Survives, KeepsCommit};
 ghost use Rattle.terminal_core.specs.Rows.{visit_content};
 ghost use Rattle.office_rows.specs.Rows.{listing_content};
 ghost use Rattle.office_rows.specs.Opening.{with_settings, with_partners, with_visits, with_places, with_lines};
-ghost use Rattle.office_rows.specs.Steps.{Turns};
-ghost use Rattle.office_rows.specs.Stored.{HasRows, HasEmpty};
-ghost use Rattle.office_rows.specs.Tables.{office_tables};
 ghost use Rattle.office_checks.specs.Contents.{setting_content, partner_content, place_content, opened_rows};
-ghost use Rattle.office_tables.specs.Opened.{AreMissing};
 ghost use Rattle.office_migration.specs.Copies.{without_interchanges};
-ghost use Rattle.office_tables.specs.Faults.{IsOfStore};
-ghost use Rattle.office_tables.specs.Writes.{WritesIfOpen};
+ghost use Rattle.office_tables.specs.Writes.{MakesOffice, WritesIfOpen};
 
 use office_checks::{OpenedTables, PartnerRow, Setting};
 use office_tables::{
@@ -109,15 +103,8 @@ pub(crate) fn write_tables<S: Alter>(
     tables: &OpenedTables,
 ) -> Result<(), TableFault>
     ensures same_reference { tx.new.conn.ghost_name ≡ tx.old.conn.ghost_name }
-    ensures made { HasCleanDisk (state S.Store tx.new.conn.now) → IsTrue (state S.Store tx.old.conn.now).in_transaction
-        → OnOk result (Turns (HasEmpty (take 0 office_tables)) (HasRows (without_interchanges (opened_rows tables.now)))
-        (state S.Store tx.old.conn.now) (state S.Store tx.new.conn.now)) }
-    ensures new { HasCleanDisk (state S.Store tx.new.conn.now) → IsTrue (state S.Store tx.old.conn.now).in_transaction
-        → OnOk result (AreMissing office_tables (state S.Store tx.old.conn.now).now.schema) }
-    ensures keeps { HasCleanDisk (state S.Store tx.new.conn.now) → IsTrue (state S.Store tx.old.conn.now).in_transaction
-        → KeepsCommit (state S.Store tx.old.conn.now) (state S.Store tx.new.conn.now) }
-    ensures survives { Survives (state S.Store tx.old.conn.now) (state S.Store tx.new.conn.now) (λ _. ⊥) }
-    ensures fault { IfErr result IsOfStore }
+    ensures makes { MakesOffice (without_interchanges (opened_rows tables.now))
+        (state S.Store tx.old.conn.now) (state S.Store tx.new.conn.now) result }
 {
     create_tables(tx)?;
     write_settings(tx, &tables.settings)?;

@@ -2,6 +2,7 @@ pub mod OpenedLemmas
 pub mod OpenLemmas
 pub mod FaultLemmas
 pub mod MadeLemmas
+pub mod CreatesLemmas
 pub mod MadeTexts
 pub mod KeyLemmas
 pub mod PairLemmas

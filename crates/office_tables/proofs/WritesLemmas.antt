@@ -69,3 +69,12 @@ writes_same f g old new result same p = record {
   survives = p.survives;
   fault = p.fault;
 }
+
+-- what is written where the store need not be known to be open
+pub writes_if_open : {T : Type 0} (change : Rows → Rows) (old new : State) (result : Result T TableFault) → Writes change old new result → WritesIfOpen change old new result
+writes_if_open change old new result p = record {
+  steps = λ clean inside was. p.steps clean inside;
+  keeps = λ clean inside was. p.keeps clean inside;
+  survives = p.survives;
+  fault = p.fault;
+}

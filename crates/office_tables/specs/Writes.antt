@@ -1,10 +1,15 @@
 -- What a call that writes does to the transaction that it is in.
-use Rattle.std.specs.Prelude.{Result, OnOk, IfErr, IsTrue}
+use Rattle.std.specs.Prelude.{Result, OnOk, IfErr, IsTrue, List, take}
+use Rattle.sqlite.specs.Effect.{Database}
 use Rattle.sqlite.specs.State.{State, HasCleanDisk, KeepsCommit, Survives}
+use Rattle.sqlite.specs.Table.{Table}
 use Rattle.office_rows.specs.Rows.{Rows}
-use Rattle.office_rows.specs.Steps.{Steps}
+use Rattle.office_rows.specs.Steps.{Steps, Turns}
+use Rattle.office_rows.specs.Stored.{HasEmpty, HasRows}
+use Rattle.office_rows.specs.Tables.{office_tables}
 use Rattle.office_tables.specs.declared.table_fault.TableFault.{TableFault}
 use Rattle.office_tables.specs.Faults.{IsOfStore}
+use Rattle.office_tables.specs.Opened.{AreMissing, MakesTables}
 
 -- where it went well the rows are these; whatever it answers, nothing is committed and a crash leaves what it left
 -- before; and it fails only as the store does, or memory
@@ -19,5 +24,24 @@ pub record WritesIfOpen {T : Type 0} (change : Rows → Rows) (old new : State) 
     : Type 0 where
   pub steps : HasCleanDisk new → IsTrue old.in_transaction → IsTrue old.is_open → OnOk result (Steps change old new)
   pub keeps : HasCleanDisk new → IsTrue old.in_transaction → IsTrue old.is_open → KeepsCommit old new
+  pub survives : Survives old new (λ _. ⊥)
+  pub fault : IfErr result IsOfStore
+
+-- the same of a call that makes tables: where it went well they are new, and a database that is the one becomes the other
+pub record Creates {T : Type 0} (tables : List Table) (from to : Database → Type 0) (old new : State)
+    (result : Result T TableFault) : Type 0 where
+  pub turns : HasCleanDisk new → IsTrue old.in_transaction → OnOk result (Turns from to old new)
+  pub makes : HasCleanDisk new → IsTrue old.in_transaction →
+      OnOk result (MakesTables tables old.now.schema new.now.schema)
+  pub keeps : HasCleanDisk new → IsTrue old.in_transaction → KeepsCommit old new
+  pub survives : Survives old new (λ _. ⊥)
+  pub fault : IfErr result IsOfStore
+
+-- the same of a call that makes all tables of an office with these rows: nothing had the name of one of them
+pub record MakesOffice {T : Type 0} (rows : Rows) (old new : State) (result : Result T TableFault) : Type 0 where
+  pub turns : HasCleanDisk new → IsTrue old.in_transaction →
+      OnOk result (Turns (HasEmpty (take 0 office_tables)) (HasRows rows) old new)
+  pub missing : HasCleanDisk new → IsTrue old.in_transaction → OnOk result (AreMissing office_tables old.now.schema)
+  pub keeps : HasCleanDisk new → IsTrue old.in_transaction → KeepsCommit old new
   pub survives : Survives old new (λ _. ⊥)
   pub fault : IfErr result IsOfStore

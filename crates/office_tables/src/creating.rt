@@ -1,12 +1,9 @@
-ghost use Rattle.std.specs.Prelude.{◌≡◌, [], ◌∷◌, OnOk, IfErr, IsTrue, take};
+ghost use Rattle.std.specs.Prelude.{◌≡◌, [], ◌∷◌, take};
 ghost use Rattle.sqlite.specs.Held.{state};
-ghost use Rattle.sqlite.specs.State.{HasCleanDisk, KeepsCommit, Survives};
 ghost use Rattle.office_rows.specs.Tables.{office_tables, partner, interchange, visit, place, listed, setting, block};
 ghost use Rattle.office_rows.specs.Rows.{no_rows};
 ghost use Rattle.office_rows.specs.Stored.{HasRows, HasEmpty};
-ghost use Rattle.office_rows.specs.Steps.{Turns};
-ghost use Rattle.office_tables.specs.Faults.{IsOfStore};
-ghost use Rattle.office_tables.specs.Opened.{MakesTables};
+ghost use Rattle.office_tables.specs.Writes.{Creates};
 
 use crate::table_fault::TableFault;
 use sqlite::{Alter, Transaction};
@@ -14,16 +11,8 @@ use sqlite::{Alter, Transaction};
 /// Makes the tables of an empty database. It fails where anything has the name of one of them.
 pub fn create_tables<S: Alter>(tx: &mut Transaction<'_, S>) -> Result<(), TableFault>
     ensures same_reference { tx.new.conn.ghost_name ≡ tx.old.conn.ghost_name }
-    ensures made { HasCleanDisk (state S.Store tx.new.conn.now) → IsTrue (state S.Store tx.old.conn.now).in_transaction
-        → OnOk result (Turns (HasEmpty (take 0 office_tables)) (HasRows no_rows) (state S.Store tx.old.conn.now)
-        (state S.Store tx.new.conn.now)) }
-    ensures new { HasCleanDisk (state S.Store tx.new.conn.now) → IsTrue (state S.Store tx.old.conn.now).in_transaction
-        → OnOk result (MakesTables office_tables (state S.Store tx.old.conn.now).now.schema
-        (state S.Store tx.new.conn.now).now.schema) }
-    ensures keeps { HasCleanDisk (state S.Store tx.new.conn.now) → IsTrue (state S.Store tx.old.conn.now).in_transaction
-        → KeepsCommit (state S.Store tx.old.conn.now) (state S.Store tx.new.conn.now) }
-    ensures survives { Survives (state S.Store tx.old.conn.now) (state S.Store tx.new.conn.now) (λ _. ⊥) }
-    ensures fault { IfErr result IsOfStore }
+    ensures creates { Creates office_tables (HasEmpty (take 0 office_tables)) (HasRows no_rows)
+        (state S.Store tx.old.conn.now) (state S.Store tx.new.conn.now) result }
 {
     create_first_tables(tx)?;
     create_listed(tx)?;
@@ -34,16 +23,8 @@ pub fn create_tables<S: Alter>(tx: &mut Transaction<'_, S>) -> Result<(), TableF
 /// The tables of partners, interchanges, visits and places.
 fn create_first_tables<S: Alter>(tx: &mut Transaction<'_, S>) -> Result<(), TableFault>
     ensures same_reference { tx.new.conn.ghost_name ≡ tx.old.conn.ghost_name }
-    ensures made { HasCleanDisk (state S.Store tx.new.conn.now) → IsTrue (state S.Store tx.old.conn.now).in_transaction
-        → OnOk result (Turns (HasEmpty (take 0 office_tables)) (HasEmpty (take 4 office_tables))
-        (state S.Store tx.old.conn.now) (state S.Store tx.new.conn.now)) }
-    ensures new { HasCleanDisk (state S.Store tx.new.conn.now) → IsTrue (state S.Store tx.old.conn.now).in_transaction
-        → OnOk result (MakesTables (take 4 office_tables) (state S.Store tx.old.conn.now).now.schema
-        (state S.Store tx.new.conn.now).now.schema) }
-    ensures keeps { HasCleanDisk (state S.Store tx.new.conn.now) → IsTrue (state S.Store tx.old.conn.now).in_transaction
-        → KeepsCommit (state S.Store tx.old.conn.now) (state S.Store tx.new.conn.now) }
-    ensures survives { Survives (state S.Store tx.old.conn.now) (state S.Store tx.new.conn.now) (λ _. ⊥) }
-    ensures fault { IfErr result IsOfStore }
+    ensures creates { Creates (take 4 office_tables) (HasEmpty (take 0 office_tables)) (HasEmpty (take 4 office_tables))
+        (state S.Store tx.old.conn.now) (state S.Store tx.new.conn.now) result }
 {
     create_partner(tx)?;
     create_interchange(tx)?;
@@ -53,16 +34,8 @@ fn create_first_tables<S: Alter>(tx: &mut Transaction<'_, S>) -> Result<(), Tabl
 
 fn create_partner<S: Alter>(tx: &mut Transaction<'_, S>) -> Result<(), TableFault>
     ensures same_reference { tx.new.conn.ghost_name ≡ tx.old.conn.ghost_name }
-    ensures made { HasCleanDisk (state S.Store tx.new.conn.now) → IsTrue (state S.Store tx.old.conn.now).in_transaction
-        → OnOk result (Turns (HasEmpty (take 0 office_tables)) (HasEmpty (take 1 office_tables))
-        (state S.Store tx.old.conn.now) (state S.Store tx.new.conn.now)) }
-    ensures new { HasCleanDisk (state S.Store tx.new.conn.now) → IsTrue (state S.Store tx.old.conn.now).in_transaction
-        → OnOk result (MakesTables (partner ∷ []) (state S.Store tx.old.conn.now).now.schema
-        (state S.Store tx.new.conn.now).now.schema) }
-    ensures keeps { HasCleanDisk (state S.Store tx.new.conn.now) → IsTrue (state S.Store tx.old.conn.now).in_transaction
-        → KeepsCommit (state S.Store tx.old.conn.now) (state S.Store tx.new.conn.now) }
-    ensures survives { Survives (state S.Store tx.old.conn.now) (state S.Store tx.new.conn.now) (λ _. ⊥) }
-    ensures fault { IfErr result IsOfStore }
+    ensures creates { Creates (partner ∷ []) (HasEmpty (take 0 office_tables)) (HasEmpty (take 1 office_tables))
+        (state S.Store tx.old.conn.now) (state S.Store tx.new.conn.now) result }
 {
     tx.execute(
         "CREATE TABLE partner (id INTEGER PRIMARY KEY, code TEXT NOT NULL UNIQUE, kind INTEGER NOT NULL, next INTEGER NOT NULL) STRICT",
@@ -73,16 +46,8 @@ fn create_partner<S: Alter>(tx: &mut Transaction<'_, S>) -> Result<(), TableFaul
 
 fn create_interchange<S: Alter>(tx: &mut Transaction<'_, S>) -> Result<(), TableFault>
     ensures same_reference { tx.new.conn.ghost_name ≡ tx.old.conn.ghost_name }
-    ensures made { HasCleanDisk (state S.Store tx.new.conn.now) → IsTrue (state S.Store tx.old.conn.now).in_transaction
-        → OnOk result (Turns (HasEmpty (take 1 office_tables)) (HasEmpty (take 2 office_tables))
-        (state S.Store tx.old.conn.now) (state S.Store tx.new.conn.now)) }
-    ensures new { HasCleanDisk (state S.Store tx.new.conn.now) → IsTrue (state S.Store tx.old.conn.now).in_transaction
-        → OnOk result (MakesTables (interchange ∷ []) (state S.Store tx.old.conn.now).now.schema
-        (state S.Store tx.new.conn.now).now.schema) }
-    ensures keeps { HasCleanDisk (state S.Store tx.new.conn.now) → IsTrue (state S.Store tx.old.conn.now).in_transaction
-        → KeepsCommit (state S.Store tx.old.conn.now) (state S.Store tx.new.conn.now) }
-    ensures survives { Survives (state S.Store tx.old.conn.now) (state S.Store tx.new.conn.now) (λ _. ⊥) }
-    ensures fault { IfErr result IsOfStore }
+    ensures creates { Creates (interchange ∷ []) (HasEmpty (take 1 office_tables)) (HasEmpty (take 2 office_tables))
+        (state S.Store tx.old.conn.now) (state S.Store tx.new.conn.now) result }
 {
     tx.execute(
         "CREATE TABLE interchange (partner INTEGER NOT NULL REFERENCES partner(id), number INTEGER NOT NULL, body BLOB NOT NULL, reply TEXT NOT NULL, PRIMARY KEY(partner, number)) STRICT",
@@ -93,16 +58,8 @@ fn create_interchange<S: Alter>(tx: &mut Transaction<'_, S>) -> Result<(), Table
 
 fn create_visit<S: Alter>(tx: &mut Transaction<'_, S>) -> Result<(), TableFault>
     ensures same_reference { tx.new.conn.ghost_name ≡ tx.old.conn.ghost_name }
-    ensures made { HasCleanDisk (state S.Store tx.new.conn.now) → IsTrue (state S.Store tx.old.conn.now).in_transaction
-        → OnOk result (Turns (HasEmpty (take 2 office_tables)) (HasEmpty (take 3 office_tables))
-        (state S.Store tx.old.conn.now) (state S.Store tx.new.conn.now)) }
-    ensures new { HasCleanDisk (state S.Store tx.new.conn.now) → IsTrue (state S.Store tx.old.conn.now).in_transaction
-        → OnOk result (MakesTables (visit ∷ []) (state S.Store tx.old.conn.now).now.schema
-        (state S.Store tx.new.conn.now).now.schema) }
-    ensures keeps { HasCleanDisk (state S.Store tx.new.conn.now) → IsTrue (state S.Store tx.old.conn.now).in_transaction
-        → KeepsCommit (state S.Store tx.old.conn.now) (state S.Store tx.new.conn.now) }
-    ensures survives { Survives (state S.Store tx.old.conn.now) (state S.Store tx.new.conn.now) (λ _. ⊥) }
-    ensures fault { IfErr result IsOfStore }
+    ensures creates { Creates (visit ∷ []) (HasEmpty (take 2 office_tables)) (HasEmpty (take 3 office_tables))
+        (state S.Store tx.old.conn.now) (state S.Store tx.new.conn.now) result }
 {
     tx.execute(
         "CREATE TABLE visit (visit INTEGER PRIMARY KEY, box TEXT NOT NULL, size TEXT NOT NULL, laden INTEGER NOT NULL, booking TEXT NOT NULL, in_by INTEGER NOT NULL, in_partner INTEGER NOT NULL, in_number INTEGER NOT NULL, in_at TEXT NOT NULL, in_slot TEXT NOT NULL, out_by INTEGER NOT NULL, out_partner INTEGER NOT NULL, out_number INTEGER NOT NULL, out_at TEXT NOT NULL, kilos INTEGER NOT NULL) STRICT",
@@ -113,16 +70,8 @@ fn create_visit<S: Alter>(tx: &mut Transaction<'_, S>) -> Result<(), TableFault>
 
 fn create_place<S: Alter>(tx: &mut Transaction<'_, S>) -> Result<(), TableFault>
     ensures same_reference { tx.new.conn.ghost_name ≡ tx.old.conn.ghost_name }
-    ensures made { HasCleanDisk (state S.Store tx.new.conn.now) → IsTrue (state S.Store tx.old.conn.now).in_transaction
-        → OnOk result (Turns (HasEmpty (take 3 office_tables)) (HasEmpty (take 4 office_tables))
-        (state S.Store tx.old.conn.now) (state S.Store tx.new.conn.now)) }
-    ensures new { HasCleanDisk (state S.Store tx.new.conn.now) → IsTrue (state S.Store tx.old.conn.now).in_transaction
-        → OnOk result (MakesTables (place ∷ []) (state S.Store tx.old.conn.now).now.schema
-        (state S.Store tx.new.conn.now).now.schema) }
-    ensures keeps { HasCleanDisk (state S.Store tx.new.conn.now) → IsTrue (state S.Store tx.old.conn.now).in_transaction
-        → KeepsCommit (state S.Store tx.old.conn.now) (state S.Store tx.new.conn.now) }
-    ensures survives { Survives (state S.Store tx.old.conn.now) (state S.Store tx.new.conn.now) (λ _. ⊥) }
-    ensures fault { IfErr result IsOfStore }
+    ensures creates { Creates (place ∷ []) (HasEmpty (take 3 office_tables)) (HasEmpty (take 4 office_tables))
+        (state S.Store tx.old.conn.now) (state S.Store tx.new.conn.now) result }
 {
     tx.execute(
         "CREATE TABLE place (box TEXT PRIMARY KEY, visit INTEGER NOT NULL UNIQUE REFERENCES visit(visit), slot TEXT NOT NULL UNIQUE) STRICT",
@@ -133,16 +82,8 @@ fn create_place<S: Alter>(tx: &mut Transaction<'_, S>) -> Result<(), TableFault>
 
 fn create_listed<S: Alter>(tx: &mut Transaction<'_, S>) -> Result<(), TableFault>
     ensures same_reference { tx.new.conn.ghost_name ≡ tx.old.conn.ghost_name }
-    ensures made { HasCleanDisk (state S.Store tx.new.conn.now) → IsTrue (state S.Store tx.old.conn.now).in_transaction
-        → OnOk result (Turns (HasEmpty (take 4 office_tables)) (HasEmpty (take 5 office_tables))
-        (state S.Store tx.old.conn.now) (state S.Store tx.new.conn.now)) }
-    ensures new { HasCleanDisk (state S.Store tx.new.conn.now) → IsTrue (state S.Store tx.old.conn.now).in_transaction
-        → OnOk result (MakesTables (listed ∷ []) (state S.Store tx.old.conn.now).now.schema
-        (state S.Store tx.new.conn.now).now.schema) }
-    ensures keeps { HasCleanDisk (state S.Store tx.new.conn.now) → IsTrue (state S.Store tx.old.conn.now).in_transaction
-        → KeepsCommit (state S.Store tx.old.conn.now) (state S.Store tx.new.conn.now) }
-    ensures survives { Survives (state S.Store tx.old.conn.now) (state S.Store tx.new.conn.now) (λ _. ⊥) }
-    ensures fault { IfErr result IsOfStore }
+    ensures creates { Creates (listed ∷ []) (HasEmpty (take 4 office_tables)) (HasEmpty (take 5 office_tables))
+        (state S.Store tx.old.conn.now) (state S.Store tx.new.conn.now) result }
 {
     tx.execute(
         "CREATE TABLE listed (vessel TEXT NOT NULL, voyage TEXT NOT NULL, side INTEGER NOT NULL, box TEXT NOT NULL, port TEXT NOT NULL, done INTEGER NOT NULL, PRIMARY KEY(vessel, voyage, side, box)) STRICT",
@@ -153,16 +94,8 @@ fn create_listed<S: Alter>(tx: &mut Transaction<'_, S>) -> Result<(), TableFault
 
 fn create_setting<S: Alter>(tx: &mut Transaction<'_, S>) -> Result<(), TableFault>
     ensures same_reference { tx.new.conn.ghost_name ≡ tx.old.conn.ghost_name }
-    ensures made { HasCleanDisk (state S.Store tx.new.conn.now) → IsTrue (state S.Store tx.old.conn.now).in_transaction
-        → OnOk result (Turns (HasEmpty (take 5 office_tables)) (HasEmpty (take 6 office_tables))
-        (state S.Store tx.old.conn.now) (state S.Store tx.new.conn.now)) }
-    ensures new { HasCleanDisk (state S.Store tx.new.conn.now) → IsTrue (state S.Store tx.old.conn.now).in_transaction
-        → OnOk result (MakesTables (setting ∷ []) (state S.Store tx.old.conn.now).now.schema
-        (state S.Store tx.new.conn.now).now.schema) }
-    ensures keeps { HasCleanDisk (state S.Store tx.new.conn.now) → IsTrue (state S.Store tx.old.conn.now).in_transaction
-        → KeepsCommit (state S.Store tx.old.conn.now) (state S.Store tx.new.conn.now) }
-    ensures survives { Survives (state S.Store tx.old.conn.now) (state S.Store tx.new.conn.now) (λ _. ⊥) }
-    ensures fault { IfErr result IsOfStore }
+    ensures creates { Creates (setting ∷ []) (HasEmpty (take 5 office_tables)) (HasEmpty (take 6 office_tables))
+        (state S.Store tx.old.conn.now) (state S.Store tx.new.conn.now) result }
 {
     tx.execute(
         "CREATE TABLE setting (name TEXT PRIMARY KEY, value TEXT NOT NULL) STRICT",
@@ -174,16 +107,8 @@ fn create_setting<S: Alter>(tx: &mut Transaction<'_, S>) -> Result<(), TableFaul
 /// The last table, with which the tables are those of an office.
 fn create_block<S: Alter>(tx: &mut Transaction<'_, S>) -> Result<(), TableFault>
     ensures same_reference { tx.new.conn.ghost_name ≡ tx.old.conn.ghost_name }
-    ensures made { HasCleanDisk (state S.Store tx.new.conn.now) → IsTrue (state S.Store tx.old.conn.now).in_transaction
-        → OnOk result (Turns (HasEmpty (take 6 office_tables)) (HasRows no_rows)
-        (state S.Store tx.old.conn.now) (state S.Store tx.new.conn.now)) }
-    ensures new { HasCleanDisk (state S.Store tx.new.conn.now) → IsTrue (state S.Store tx.old.conn.now).in_transaction
-        → OnOk result (MakesTables (block ∷ []) (state S.Store tx.old.conn.now).now.schema
-        (state S.Store tx.new.conn.now).now.schema) }
-    ensures keeps { HasCleanDisk (state S.Store tx.new.conn.now) → IsTrue (state S.Store tx.old.conn.now).in_transaction
-        → KeepsCommit (state S.Store tx.old.conn.now) (state S.Store tx.new.conn.now) }
-    ensures survives { Survives (state S.Store tx.old.conn.now) (state S.Store tx.new.conn.now) (λ _. ⊥) }
-    ensures fault { IfErr result IsOfStore }
+    ensures creates { Creates (block ∷ []) (HasEmpty (take 6 office_tables)) (HasRows no_rows)
+        (state S.Store tx.old.conn.now) (state S.Store tx.new.conn.now) result }
 {
     tx.execute(
         "CREATE TABLE block (letter TEXT PRIMARY KEY, bays INTEGER NOT NULL, lanes INTEGER NOT NULL, tiers INTEGER NOT NULL) STRICT",

@@ -1,15 +1,13 @@
-ghost use Rattle.std.specs.Prelude.{◌≡◌, ◌<◌, ◌≤◌, ◌+◌, [], ◌∷◌, length, slice_get, Some, codes, decimal, OnOk, IfErr, IsTrue};
+ghost use Rattle.std.specs.Prelude.{◌≡◌, ◌≤◌, false, length, OnOk, OnErr, IfErr, IsTrue};
 ghost use Rattle.sqlite.specs.Held.{state};
-ghost use Rattle.sqlite.specs.State.{HasCleanDisk, Survives, KeepsCommit};
-ghost use Rattle.std.specs.Prelude.{false, take, OnErr};
-ghost use Rattle.office_rows.specs.Tables.{office_tables, no_schema};
-ghost use Rattle.office_rows.specs.Stored.{HasRows, HasEmpty};
-ghost use Rattle.office_rows.specs.Steps.{Turns};
+ghost use Rattle.sqlite.specs.State.{HasCleanDisk, Survives};
+ghost use Rattle.office_rows.specs.Tables.{office_tables};
 ghost use Rattle.office_rows.specs.Opening.{opening_rows};
 ghost use Rattle.office_setup.specs.Limits.{most_partners};
 ghost use Rattle.office_setup.specs.Setups.{setup_content};
 ghost use Rattle.office_tables.specs.Opened.{Opens, IsOpening, AreMissing};
 ghost use Rattle.office_tables.specs.Faults.{IsOfStore};
+ghost use Rattle.office_tables.specs.Writes.{MakesOffice};
 
 use crate::blocks::insert_blocks;
 use crate::creating::create_tables;
@@ -49,15 +47,8 @@ pub fn create<S: Alter>(conn: &mut Connection<S>, setup: &Setup) -> Result<(), T
 fn write_opening<S: Alter>(tx: &mut Transaction<'_, S>, setup: &Setup) -> Result<(), TableFault>
     requires { length setup.now.partners.items ≤ most_partners }
     ensures same_reference { tx.new.conn.ghost_name ≡ tx.old.conn.ghost_name }
-    ensures made { HasCleanDisk (state S.Store tx.new.conn.now) → IsTrue (state S.Store tx.old.conn.now).in_transaction
-        → OnOk result (Turns (HasEmpty (take 0 office_tables)) (HasRows (opening_rows (setup_content setup.now)))
-        (state S.Store tx.old.conn.now) (state S.Store tx.new.conn.now)) }
-    ensures new { HasCleanDisk (state S.Store tx.new.conn.now) → IsTrue (state S.Store tx.old.conn.now).in_transaction
-        → OnOk result (AreMissing office_tables (state S.Store tx.old.conn.now).now.schema) }
-    ensures keeps { HasCleanDisk (state S.Store tx.new.conn.now) → IsTrue (state S.Store tx.old.conn.now).in_transaction
-        → KeepsCommit (state S.Store tx.old.conn.now) (state S.Store tx.new.conn.now) }
-    ensures survives { Survives (state S.Store tx.old.conn.now) (state S.Store tx.new.conn.now) (λ _. ⊥) }
-    ensures fault { IfErr result IsOfStore }
+    ensures makes { MakesOffice (opening_rows (setup_content setup.now))
+        (state S.Store tx.old.conn.now) (state S.Store tx.new.conn.now) result }
 {
     create_tables(tx)?;
     insert_settings(tx, setup)?;

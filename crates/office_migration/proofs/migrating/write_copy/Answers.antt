@@ -16,11 +16,11 @@ returns-clause-made g c clean inside =
     let s1 = state g.T.Store c.write_tables.new.tx.conn.now in
     let s2 = state g.T.Store c.copy_interchanges.new.tx.conn.now in
     let clean1 : HasCleanDisk s1 = omega (arith, c.copy_interchanges.ensures.survives.clean) in
-    let first = c.in_ok-write_tables.ensures.made clean1 inside in
+    let first = c.in_ok-write_tables.ensures.makes.turns clean1 inside in
     let last = rw c.deref.ensures.value at (c.copy_interchanges.ensures.steps clean first.inside first.is_open) in
     on_ok c.copy_interchanges.result (λ more. (more.0, more.1, steps_turn (HasEmpty (take 0 office_tables)) (without_interchanges (opened_rows c.args.tables.now)) (with_interchanges more.0) s0 s1 s2 first more.2)) last
 
 pub returns-clause-new : goal.returns-clause-new
 returns-clause-new g c clean inside =
     let clean1 : HasCleanDisk (state g.T.Store c.write_tables.new.tx.conn.now) = omega (arith, c.copy_interchanges.ensures.survives.clean) in
-    on_ok_from c.copy_interchanges.result (c.in_ok-write_tables.ensures.new clean1 inside)
+    on_ok_from c.copy_interchanges.result (c.in_ok-write_tables.ensures.makes.missing clean1 inside)

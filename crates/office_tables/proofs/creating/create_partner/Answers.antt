@@ -1,24 +1,18 @@
-use Rattle.std.proofs.Common.{take}
+use Rattle.std.proofs.Common.{[], ◌∷◌, take}
 use Rattle.sqlite.specs.Held.{state}
 use Rattle.office_rows.specs.Tables.{office_tables, partner}
 use Rattle.office_rows.specs.Stored.{HasEmpty}
 use Rattle.office_rows.proofs.Created.{created_partner}
-use Rattle.office_rows.proofs.StepLemmas.{turns_on}
 use Rattle.office_rows.proofs.Creating as texts
+use Rattle.office_tables.proofs.CreatesLemmas.{creates_of}
 use Rattle.office_tables.proofs.MadeLemmas.{makes_one}
 use Rattle.office_tables.proofs.MadeTexts.{partner_new, partner_stated}
 use Rattle.office_tables.proofs.creating.create_partner.Goals as goal
 
-pub returns-clause-made : goal.returns-clause-made
-returns-clause-made g c clean inside =
+pub returns-clause-creates : goal.returns-clause-creates
+returns-clause-creates g c =
     let old = state g.S.Store c.args.tx.now.conn.now in
     let new = state g.S.Store c.execute.new.self.conn.now in
+    creates_of (partner ∷ []) (HasEmpty (take 0 office_tables)) (HasEmpty (take 1 office_tables)) old new _ c.execute.ensures.survives (λ clean inside.
     let ran = c.in_ok-execute.ensures.runs clean inside in
-    turns_on (HasEmpty (take 0 office_tables)) (HasEmpty (take 1 office_tables)) old new ran.1 (λ has. created_partner old new c.in_ok-execute.field-0 has ran.0)
-
-pub returns-clause-new : goal.returns-clause-new
-returns-clause-new g c clean inside =
-    let old = state g.S.Store c.args.tx.now.conn.now in
-    let new = state g.S.Store c.execute.new.self.conn.now in
-    let ran = c.in_ok-execute.ensures.runs clean inside in
-    makes_one texts.create_partner partner partner_new partner_stated texts.partner_defined old new c.in_ok-execute.field-0 ran.0
+    (ran.1, (λ has. created_partner old new c.in_ok-execute.field-0 has ran.0), makes_one texts.create_partner partner partner_new partner_stated texts.partner_defined old new c.in_ok-execute.field-0 ran.0))

@@ -1,24 +1,18 @@
-use Rattle.std.proofs.Common.{take}
+use Rattle.std.proofs.Common.{[], ◌∷◌, take}
 use Rattle.sqlite.specs.Held.{state}
 use Rattle.office_rows.specs.Tables.{office_tables, setting}
 use Rattle.office_rows.specs.Stored.{HasEmpty}
 use Rattle.office_rows.proofs.Created.{created_setting}
-use Rattle.office_rows.proofs.StepLemmas.{turns_on}
 use Rattle.office_rows.proofs.Creating as texts
+use Rattle.office_tables.proofs.CreatesLemmas.{creates_of}
 use Rattle.office_tables.proofs.MadeLemmas.{makes_one}
 use Rattle.office_tables.proofs.MadeTexts.{setting_new, setting_stated}
 use Rattle.office_tables.proofs.creating.create_setting.Goals as goal
 
-pub returns-clause-made : goal.returns-clause-made
-returns-clause-made g c clean inside =
+pub returns-clause-creates : goal.returns-clause-creates
+returns-clause-creates g c =
     let old = state g.S.Store c.args.tx.now.conn.now in
     let new = state g.S.Store c.execute.new.self.conn.now in
+    creates_of (setting ∷ []) (HasEmpty (take 5 office_tables)) (HasEmpty (take 6 office_tables)) old new _ c.execute.ensures.survives (λ clean inside.
     let ran = c.in_ok-execute.ensures.runs clean inside in
-    turns_on (HasEmpty (take 5 office_tables)) (HasEmpty (take 6 office_tables)) old new ran.1 (λ has. created_setting old new c.in_ok-execute.field-0 has ran.0)
-
-pub returns-clause-new : goal.returns-clause-new
-returns-clause-new g c clean inside =
-    let old = state g.S.Store c.args.tx.now.conn.now in
-    let new = state g.S.Store c.execute.new.self.conn.now in
-    let ran = c.in_ok-execute.ensures.runs clean inside in
-    makes_one texts.create_setting setting setting_new setting_stated texts.setting_defined old new c.in_ok-execute.field-0 ran.0
+    (ran.1, (λ has. created_setting old new c.in_ok-execute.field-0 has ran.0), makes_one texts.create_setting setting setting_new setting_stated texts.setting_defined old new c.in_ok-execute.field-0 ran.0))

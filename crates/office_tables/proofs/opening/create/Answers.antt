@@ -23,11 +23,11 @@ returns-in_err-commit-clause-crash g c =
     let P = IsOpening content (state g.S.Store old) in
     let begins : c.transaction-tx.result.conn.now ≡ begun = c.transaction-tx.ensures.begun in
     let commits : (db : _) → HasCleanDisk (state g.S.Store last) → db ≡ (state g.S.Store last).now.trees → P db = λ db clean is none.
-    let turns : Turns (HasEmpty (take 0 office_tables)) (HasRows (opening_rows content)) (state g.S.Store begun) (state g.S.Store last) = rw begins at (c.in_ok-write_opening.ensures.made clean (rw begins refl)) in
-    let keeps = rw begins at (c.write_opening.ensures.keeps clean (rw begins refl)) in
+    let turns : Turns (HasEmpty (take 0 office_tables)) (HasRows (opening_rows content)) (state g.S.Store begun) (state g.S.Store last) = rw begins at (c.in_ok-write_opening.ensures.makes.turns clean (rw begins refl)) in
+    let keeps = rw begins at (c.write_opening.ensures.makes.keeps clean (rw begins refl)) in
     let settled = c.is_autocommit-is_idle.ensures.settled (c.is_autocommit-is_idle.ensures.value ∙ ap not c.requires.idle) (keeps.was_open turns.is_open) in
     opened content (state g.S.Store old) (state g.S.Store begun) (state g.S.Store last) db settled turns is none in
-    let inside = survives_begin g.S.Store old (state g.S.Store last) _ (rw begins at c.write_opening.ensures.survives) in
+    let inside = survives_begin g.S.Store old (state g.S.Store last) _ (rw begins at c.write_opening.ensures.makes.survives) in
     let all = survives_then (state g.S.Store old) (state g.S.Store last) (state g.S.Store end) _ _ P (λ _ db none. absurd none)
     (λ clean db is. commits db (omega (arith, c.commit.ensures.survives.clean)) is) inside c.commit.ensures.survives in
     let same : end ≡ c.conn-2-1.given.0 = search rules in
@@ -43,11 +43,11 @@ returns-clause-crash g c =
     let P = IsOpening content (state g.S.Store old) in
     let begins : c.transaction-tx.result.conn.now ≡ begun = c.transaction-tx.ensures.begun in
     let commits : (db : _) → HasCleanDisk (state g.S.Store last) → db ≡ (state g.S.Store last).now.trees → P db = λ db clean is none.
-    let turns : Turns (HasEmpty (take 0 office_tables)) (HasRows (opening_rows content)) (state g.S.Store begun) (state g.S.Store last) = rw begins at (c.in_ok-write_opening.ensures.made clean (rw begins refl)) in
-    let keeps = rw begins at (c.write_opening.ensures.keeps clean (rw begins refl)) in
+    let turns : Turns (HasEmpty (take 0 office_tables)) (HasRows (opening_rows content)) (state g.S.Store begun) (state g.S.Store last) = rw begins at (c.in_ok-write_opening.ensures.makes.turns clean (rw begins refl)) in
+    let keeps = rw begins at (c.write_opening.ensures.makes.keeps clean (rw begins refl)) in
     let settled = c.is_autocommit-is_idle.ensures.settled (c.is_autocommit-is_idle.ensures.value ∙ ap not c.requires.idle) (keeps.was_open turns.is_open) in
     opened content (state g.S.Store old) (state g.S.Store begun) (state g.S.Store last) db settled turns is none in
-    let inside = survives_begin g.S.Store old (state g.S.Store last) _ (rw begins at c.write_opening.ensures.survives) in
+    let inside = survives_begin g.S.Store old (state g.S.Store last) _ (rw begins at c.write_opening.ensures.makes.survives) in
     let all = survives_then (state g.S.Store old) (state g.S.Store last) (state g.S.Store end) _ _ P (λ _ db none. absurd none)
     (λ clean db is. commits db (omega (arith, c.commit.ensures.survives.clean)) is) inside c.commit.ensures.survives in
     let same : end ≡ c.conn-2-1.given.0 = search rules in
@@ -64,8 +64,8 @@ returns-clause-ok g c clean =
     let same : end ≡ c.conn-2-1.given.0 = search rules in
     let ended : HasCleanDisk (state g.S.Store end) = subst (λ h. HasCleanDisk (state g.S.Store h)) (sym same) clean in
     let before : HasCleanDisk (state g.S.Store last) = omega (arith, c.commit.ensures.survives.clean) in
-    let turns : Turns (HasEmpty (take 0 office_tables)) (HasRows (opening_rows content)) (state g.S.Store begun) (state g.S.Store last) = rw begins at (c.in_ok-write_opening.ensures.made before (rw begins refl)) in
-    let keeps = rw begins at (c.write_opening.ensures.keeps before (rw begins refl)) in
+    let turns : Turns (HasEmpty (take 0 office_tables)) (HasRows (opening_rows content)) (state g.S.Store begun) (state g.S.Store last) = rw begins at (c.in_ok-write_opening.ensures.makes.turns before (rw begins refl)) in
+    let keeps = rw begins at (c.write_opening.ensures.makes.keeps before (rw begins refl)) in
     let settled = c.is_autocommit-is_idle.ensures.settled (c.is_autocommit-is_idle.ensures.value ∙ ap not c.requires.idle) (keeps.was_open turns.is_open) in
     let shows = (c.in_ok-commit.ensures.ok ended).1 in
     let open_now : IsTrue (state g.S.Store c.conn-2-1.given.0).is_open = subst (λ h. IsTrue (state g.S.Store h).is_open) same shows.is_open in
@@ -89,8 +89,8 @@ returns-clause-new g c clean =
     let same : end ≡ c.conn-2-1.given.0 = search rules in
     let ended : HasCleanDisk (state g.S.Store end) = subst (λ h. HasCleanDisk (state g.S.Store h)) (sym same) clean in
     let before : HasCleanDisk (state g.S.Store last) = omega (arith, c.commit.ensures.survives.clean) in
-    let turns : Turns (HasEmpty (take 0 office_tables)) (HasRows (opening_rows content)) (state g.S.Store begun) (state g.S.Store last) = rw begins at (c.in_ok-write_opening.ensures.made before (rw begins refl)) in
-    let keeps = rw begins at (c.write_opening.ensures.keeps before (rw begins refl)) in
+    let turns : Turns (HasEmpty (take 0 office_tables)) (HasRows (opening_rows content)) (state g.S.Store begun) (state g.S.Store last) = rw begins at (c.in_ok-write_opening.ensures.makes.turns before (rw begins refl)) in
+    let keeps = rw begins at (c.write_opening.ensures.makes.keeps before (rw begins refl)) in
     let settled = c.is_autocommit-is_idle.ensures.settled (c.is_autocommit-is_idle.ensures.value ∙ ap not c.requires.idle) (keeps.was_open turns.is_open) in
-    let missing : AreMissing office_tables (state g.S.Store begun).now.schema = rw begins at (c.in_ok-write_opening.ensures.new before (rw begins refl)) in
+    let missing : AreMissing office_tables (state g.S.Store begun).now.schema = rw begins at (c.in_ok-write_opening.ensures.makes.missing before (rw begins refl)) in
     subst (λ (d : Database). AreMissing office_tables d.schema) settled missing
