@@ -68,7 +68,8 @@ kind_said word =
     else if bytes_eq word (codes "picture") then Some Picture
     else None
 
--- what is about the whole terminal is reported on without a key
+-- a report on the whole yard or on all partners has no key; each other one has the container, list or interchange
+-- that it is about
 abbrev pub wants_key : ReportKind → Bool
 wants_key Yard = false
 wants_key YardTable = false

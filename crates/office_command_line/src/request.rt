@@ -36,7 +36,7 @@ pub enum Request<'a> {
         store: &'a str,
         /// What the report is about.
         kind: ReportKind,
-        /// By what it is found; none for the yard alone.
+        /// Which container, list or interchange it is about; none for a report on the whole yard or on all partners.
         key: Option<&'a str>,
     },
     /// To add an account to a store.

@@ -42,7 +42,7 @@ report_asked head rest method path to kind request is (inr leads) same_method sa
 
 -- a head that was found, and what is asked for behind it
 pub asked_known : (known left : Option (List ℕ)) (buffer : List ℕ) (headers : List HeaderSpan) (found : FoundHead) (request : Request) →
-    IfSome known (λ stream. FindsHead 8192 64 stream left buffer headers (Some found)) →
+    IfSome known (λ stream. FindsHead stream left buffer headers (Some found)) →
     IfSome left (λ given. (head : RequestHead) → IsRequestAt (take found.filled buffer) headers found.spans head →
     AsksWith head (drop found.spans.len (take found.filled buffer) ++ given) request) → IfSome known (λ stream. Asks stream request)
 asked_known None left buffer headers found request finds asks = tt

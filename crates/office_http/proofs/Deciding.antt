@@ -8,7 +8,7 @@ use Rattle.httparse.specs.Grammar.{RequestHead, print_request, HasNoRequest, May
 use Rattle.httparse.specs.Spans.{IsRequestAt}
 use Rattle.httparse.specs.declared.spans.HeaderSpan.{HeaderSpan}
 use Rattle.httparse.proofs.GrammarLemmas.{ReadsRequest-append, request_unique}
-use Rattle.office_http.specs.Heads.{IsHead, FindsHead}
+use Rattle.office_http.specs.Heads.{IsHead, FindsHead, most_head_bytes}
 use Rattle.office_http.specs.Deciding.{wanted_behind, WantsMore, Decides, EndsWhenDecided, HeadsDecide, FullRoomDecides}
 use Rattle.office_http.specs.declared.found_head.FoundHead.{FoundHead}
 
@@ -34,7 +34,7 @@ one_read stream given left before after is wants few bytes rest at decides = eli
 ]
 
 -- what decides a request whose head wants something behind it has all of that
-whole_head : (stream bytes rest left : List ℕ) (head : RequestHead) → IsHead 8192 64 stream head left → stream ≡ bytes ++ rest → Decides bytes →
+whole_head : (stream bytes rest left : List ℕ) (head : RequestHead) → IsHead stream head left → stream ≡ bytes ++ rest → Decides bytes →
     0 < wanted_behind head → length (print_request head) + wanted_behind head ≤ length bytes
 whole_head stream bytes rest left head is at decides wants = elim (cases_Bool (nat_le (length (print_request head) + wanted_behind head) (length bytes))) [
   | inl enough ↦ leb-true (length (print_request head) + wanted_behind head) (length bytes) enough
@@ -55,7 +55,7 @@ whole_head stream bytes rest left head is at decides wants = elim (cases_Bool (n
 ]
 
 -- the reads of a head, and those of what is wanted behind it, of which some came with the head
-pub body_read : (stream came left : List ℕ) (head : RequestHead) (before between after filled : ℕ) → IsHead 8192 64 stream head (came ++ left) →
+pub body_read : (stream came left : List ℕ) (head : RequestHead) (before between after filled : ℕ) → IsHead stream head (came ++ left) →
     filled ≡ length (print_request head) + length came → EndsWhenDecided stream before between → between ≤ before + filled →
     after ≤ between + (wanted_behind head - length came) → EndsWhenDecided stream before after
 body_read stream came left head before between after filled is size in_time few more bytes rest at decides = elim (cases_Bool (nat_le (wanted_behind head) (length came))) [
@@ -76,7 +76,7 @@ none_read_known (Some stream) before = none_read stream before
 
 -- one more read behind what is no head yet
 pub one_read_known : (known now : Option (List ℕ)) (buffer : List ℕ) (filled before at after : ℕ) → Consumes known now (take filled buffer) → filled ≤ length buffer →
-    filled < 8192 → HasNoRequest (take filled buffer) → MayBecomeRequest (take filled buffer) → at ≤ before + filled → after ≤ at + 1 →
+    filled < most_head_bytes → HasNoRequest (take filled buffer) → MayBecomeRequest (take filled buffer) → at ≤ before + filled → after ≤ at + 1 →
     IfSome known (λ stream. EndsWhenDecided stream before after)
 one_read_known None now buffer filled before at after is inside room none may few one = tt
 one_read_known (Some stream) None buffer filled before at after is inside room none may few one = absurd is
@@ -86,7 +86,7 @@ one_read_known (Some stream) (Some left) buffer filled before at after is inside
 
 -- and what is wanted behind a head that was found
 pub body_read_known : (known left : Option (List ℕ)) (buffer : List ℕ) (headers : List HeaderSpan) (found : FoundHead) (before between after : ℕ) →
-    IfSome known (λ stream. FindsHead 8192 64 stream left buffer headers (Some found)) → IfSome known (λ stream. EndsWhenDecided stream before between) →
+    IfSome known (λ stream. FindsHead stream left buffer headers (Some found)) → IfSome known (λ stream. EndsWhenDecided stream before between) →
     found.filled ≤ length buffer → between ≤ before + found.filled →
     ((head : RequestHead) → IsRequestAt (take found.filled buffer) headers found.spans head →
     after ≤ between + (wanted_behind head - length (drop found.spans.len (take found.filled buffer)))) →

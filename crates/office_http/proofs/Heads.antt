@@ -6,20 +6,20 @@ use Rattle.httparse.specs.Grammar.{print_request, ReadsRequest, HasNoRequest}
 use Rattle.httparse.specs.Spans.{IsRequestOf, IsRequestWithin, RequestOverflows, header_bytes, name_and_value}
 use Rattle.httparse.specs.declared.spans.HeaderSpan.{HeaderSpan}
 use Rattle.httparse.proofs.GrammarLemmas.{ReadsRequest-append}
-use Rattle.office_http.specs.Heads.{HasNoHead, HasHead, FindsHead}
+use Rattle.office_http.specs.Heads.{HasNoHead, HasHead, FindsHead, most_fields, most_head_bytes}
 use Rattle.std.specs.Io.KnownBytes.{Consumes, IsAtEnd}
 use Rattle.std.proofs.KnownBytes.{Consumes-trans}
 use borrow.Rule.Slice.PartMut.{put_mid, post_of}
 use Rattle.office_http.specs.declared.found_head.FoundHead.{FoundHead}
 
 -- the input has ended
-pub no_head_at_end : (bytes fields : ℕ) (stream buf : List ℕ) → stream ≡ buf ++ [] → HasNoRequest buf → HasNoHead bytes fields stream
-no_head_at_end bytes fields stream buf e none head rest h =
+pub no_head_at_end : (stream buf : List ℕ) → stream ≡ buf ++ [] → HasNoRequest buf → HasNoHead stream
+no_head_at_end stream buf e none head rest h =
     none head rest (h.reads.0, sym (append-nil buf) ∙ sym e ∙ h.reads.1)
 
 -- the limit of bytes is reached
-pub no_head_in_limit : (bytes fields : ℕ) (stream buf left : List ℕ) → stream ≡ buf ++ left → bytes ≤ length buf → HasNoRequest buf → HasNoHead bytes fields stream
-no_head_in_limit bytes fields stream buf left e full none head rest h =
+pub no_head_in_limit : (stream buf left : List ℕ) → stream ≡ buf ++ left → most_head_bytes ≤ length buf → HasNoRequest buf → HasNoHead stream
+no_head_in_limit stream buf left e full none head rest h =
     let print = print_request head in
     let fits : length print ≤ length buf = omega (arith, h.bytes_fit) in
     let front : take (length print) buf ≡ print =
@@ -28,18 +28,18 @@ no_head_in_limit bytes fields stream buf left e full none head rest h =
     (h.reads.0, sym (take-append-drop (length print) buf) ∙ ap (λ t. t ++ drop (length print) buf) front)
 
 -- the parser refused
-pub no_head_refused : (bytes fields : ℕ) (stream buf left : List ℕ) → stream ≡ buf ++ left → RequestOverflows fields buf → HasNoHead bytes fields stream
-no_head_refused bytes fields stream buf left e over head rest h =
+pub no_head_refused : (stream buf left : List ℕ) → stream ≡ buf ++ left → RequestOverflows most_fields buf → HasNoHead stream
+no_head_refused stream buf left e over head rest h =
     let reads : ReadsRequest (buf ++ left) head rest = (h.reads.0, sym e ∙ h.reads.1) in
     let many = over left head rest reads in
     absurd (omega (arith, many, h.fields_fit))
 
 -- the parser found a head
-pub head_found : (bytes fields : ℕ) (stream left buffer : List ℕ) (headers : List HeaderSpan) (found : FoundHead)
-    → stream ≡ take found.filled buffer ++ left → found.filled ≤ length buffer → length buffer ≡ bytes → length headers ≡ fields
+pub head_found : (stream left buffer : List ℕ) (headers : List HeaderSpan) (found : FoundHead)
+    → stream ≡ take found.filled buffer ++ left → found.filled ≤ length buffer → length buffer ≡ most_head_bytes → length headers ≡ most_fields
     → IsRequestWithin (take found.filled buffer) headers found.spans → IsRequestOf (take found.filled buffer) headers found.spans
-    → HasHead bytes fields stream left buffer headers found
-head_found bytes fields stream left buffer headers found e inside size room within (head, at) =
+    → HasHead stream left buffer headers found
+head_found stream left buffer headers found e inside size room within (head, at) =
     let read = take found.filled buffer in
     let reads = ReadsRequest-append read head (drop found.spans.len read) left at.reads in
     let counted : length (take found.spans.headers headers) ≡ length head.fields =
@@ -57,37 +57,37 @@ head_found bytes fields stream left buffer headers found e inside size room with
 
 -- ---- the same of known and unknown bytes
 
-pub finds_none_in_limit : (bytes fields : ℕ) (known left : Option (List ℕ)) (buf buffer : List ℕ) (headers : List HeaderSpan)
-    → Consumes known left buf → bytes ≤ length buf → HasNoRequest buf
-    → IfSome known (λ stream. FindsHead bytes fields stream left buffer headers None)
-finds_none_in_limit bytes fields None left buf buffer headers e full none = tt
-finds_none_in_limit bytes fields (Some stream) None buf buffer headers e full none = absurd e
-finds_none_in_limit bytes fields (Some stream) (Some left) buf buffer headers e full none = no_head_in_limit bytes fields stream buf left e full none
+pub finds_none_in_limit : (known left : Option (List ℕ)) (buf buffer : List ℕ) (headers : List HeaderSpan)
+    → Consumes known left buf → most_head_bytes ≤ length buf → HasNoRequest buf
+    → IfSome known (λ stream. FindsHead stream left buffer headers None)
+finds_none_in_limit None left buf buffer headers e full none = tt
+finds_none_in_limit (Some stream) None buf buffer headers e full none = absurd e
+finds_none_in_limit (Some stream) (Some left) buf buffer headers e full none = no_head_in_limit stream buf left e full none
 
-pub finds_none_at_end : (bytes fields : ℕ) (known left end : Option (List ℕ)) (buf buffer : List ℕ) (headers : List HeaderSpan)
+pub finds_none_at_end : (known left end : Option (List ℕ)) (buf buffer : List ℕ) (headers : List HeaderSpan)
     → Consumes known left buf → Consumes left end [] → IsAtEnd end → HasNoRequest buf
-    → IfSome known (λ stream. FindsHead bytes fields stream end buffer headers None)
-finds_none_at_end bytes fields None left end buf buffer headers e at_end last none = tt
-finds_none_at_end bytes fields (Some stream) None end buf buffer headers e at_end last none = absurd e
-finds_none_at_end bytes fields (Some stream) (Some left) None buf buffer headers e at_end last none = absurd at_end
-finds_none_at_end bytes fields (Some stream) (Some left) (Some end) buf buffer headers e at_end last none =
-    no_head_at_end bytes fields stream buf (e ∙ ap (λ t. buf ++ t) (at_end ∙ last)) none
+    → IfSome known (λ stream. FindsHead stream end buffer headers None)
+finds_none_at_end None left end buf buffer headers e at_end last none = tt
+finds_none_at_end (Some stream) None end buf buffer headers e at_end last none = absurd e
+finds_none_at_end (Some stream) (Some left) None buf buffer headers e at_end last none = absurd at_end
+finds_none_at_end (Some stream) (Some left) (Some end) buf buffer headers e at_end last none =
+    no_head_at_end stream buf (e ∙ ap (λ t. buf ++ t) (at_end ∙ last)) none
 
-pub finds_none_refused : (bytes fields : ℕ) (known left : Option (List ℕ)) (buf buffer : List ℕ) (headers : List HeaderSpan)
-    → Consumes known left buf → RequestOverflows fields buf
-    → IfSome known (λ stream. FindsHead bytes fields stream left buffer headers None)
-finds_none_refused bytes fields None left buf buffer headers e over = tt
-finds_none_refused bytes fields (Some stream) None buf buffer headers e over = absurd e
-finds_none_refused bytes fields (Some stream) (Some left) buf buffer headers e over = no_head_refused bytes fields stream buf left e over
+pub finds_none_refused : (known left : Option (List ℕ)) (buf buffer : List ℕ) (headers : List HeaderSpan)
+    → Consumes known left buf → RequestOverflows most_fields buf
+    → IfSome known (λ stream. FindsHead stream left buffer headers None)
+finds_none_refused None left buf buffer headers e over = tt
+finds_none_refused (Some stream) None buf buffer headers e over = absurd e
+finds_none_refused (Some stream) (Some left) buf buffer headers e over = no_head_refused stream buf left e over
 
-pub finds_head : (bytes fields : ℕ) (known left : Option (List ℕ)) (buffer : List ℕ) (headers : List HeaderSpan) (found : FoundHead)
-    → Consumes known left (take found.filled buffer) → found.filled ≤ length buffer → length buffer ≡ bytes → length headers ≡ fields
+pub finds_head : (known left : Option (List ℕ)) (buffer : List ℕ) (headers : List HeaderSpan) (found : FoundHead)
+    → Consumes known left (take found.filled buffer) → found.filled ≤ length buffer → length buffer ≡ most_head_bytes → length headers ≡ most_fields
     → IsRequestWithin (take found.filled buffer) headers found.spans → IsRequestOf (take found.filled buffer) headers found.spans
-    → IfSome known (λ stream. FindsHead bytes fields stream left buffer headers (Some found))
-finds_head bytes fields None left buffer headers found e inside size room within of = tt
-finds_head bytes fields (Some stream) None buffer headers found e inside size room within of = absurd e
-finds_head bytes fields (Some stream) (Some left) buffer headers found e inside size room within of =
-    head_found bytes fields stream left buffer headers found e inside size room within of
+    → IfSome known (λ stream. FindsHead stream left buffer headers (Some found))
+finds_head None left buffer headers found e inside size room within of = tt
+finds_head (Some stream) None buffer headers found e inside size room within of = absurd e
+finds_head (Some stream) (Some left) buffer headers found e inside size room within of =
+    head_found stream left buffer headers found e inside size room within of
 
 -- one more read
 pub read_more : (a b c : Option (List ℕ)) (filled count : ℕ) (buffer part : List ℕ) → filled ≤ length buffer → length part ≡ length buffer - filled → count ≤ length part

@@ -2,7 +2,7 @@
 use Rattle.std.specs.Prelude.{◌≡◌, ℕ, ◌+◌, ◌<◌, ◌≤◌, ◌⊎◌, List, ◌++◌, length, map, Result, Ok, Err}
 use Rattle.httparse.specs.Grammar.{RequestHead, HasNoRequest, MayBecomeRequest}
 use Rattle.httparse.specs.Spans.{name_and_value}
-use Rattle.office_http.specs.Heads.{IsHead, HasNoHead}
+use Rattle.office_http.specs.Heads.{IsHead, HasNoHead, most_head_bytes}
 use Rattle.office_http.specs.Fields.{body_length}
 use Rattle.office_http.specs.Routes.{endpoint_of, path_of}
 use Rattle.office_http.specs.declared.endpoint.Endpoint.{Endpoint}
@@ -25,14 +25,14 @@ wanted_at (Ok (endpoint.Report kind)) head = 0
 unfoldable pub wanted_behind : RequestHead → ℕ
 wanted_behind head = wanted_at (endpoint_of head.method (path_of head.target)) head
 
--- they aren't a head yet, and may become one of at most 8,192 bytes
+-- they aren't a head yet, and may become one within the limit of bytes
 abbrev pub WantsHead : List ℕ → Type 0
-WantsHead bytes = HasNoRequest bytes × MayBecomeRequest bytes × (length bytes < 8192)
+WantsHead bytes = HasNoRequest bytes × MayBecomeRequest bytes × (length bytes < most_head_bytes)
 
 -- they have a head, and behind it fewer bytes than are wanted
 abbrev pub WantsBody : List ℕ → Type 0
 WantsBody bytes =
-    (head : RequestHead) × (rest : List ℕ) × IsHead 8192 64 bytes head rest × (length rest < wanted_behind head)
+    (head : RequestHead) × (rest : List ℕ) × IsHead bytes head rest × (length rest < wanted_behind head)
 
 -- more has to be read behind them
 abbrev pub WantsMore : List ℕ → Type 0
@@ -53,9 +53,9 @@ EndsWhenDecided stream before after =
 -- report.
 abbrev pub HeadsDecide : Type 0
 HeadsDecide =
-    (bytes : List ℕ) (head : RequestHead) (rest : List ℕ) → IsHead 8192 64 bytes head rest
+    (bytes : List ℕ) (head : RequestHead) (rest : List ℕ) → IsHead bytes head rest
     → wanted_behind head ≤ length rest → Decides bytes
 
 -- So do as many bytes as a head may have, if none is at their front.
 abbrev pub FullRoomDecides : Type 0
-FullRoomDecides = (bytes : List ℕ) → HasNoHead 8192 64 bytes → 8192 ≤ length bytes → Decides bytes
+FullRoomDecides = (bytes : List ℕ) → HasNoHead bytes → most_head_bytes ≤ length bytes → Decides bytes

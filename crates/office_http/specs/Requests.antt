@@ -75,12 +75,11 @@ abbrev pub AsksWith : RequestHead → List ℕ → Request → Type 0
 AsksWith head rest request =
     (request ≡ Refused NotNow) ⊎ AsksAt (endpoint_of head.method (path_of head.target)) head rest request
 
--- The shortest front of the stream that is a head, of at most 8,192 bytes and 64 fields, decides together with what
--- stands behind it.
+-- The shortest front of the stream that is a head within the limits decides together with what stands behind it.
 abbrev pub Asks : List ℕ → Request → Type 0
 Asks stream request =
-    (HasNoHead 8192 64 stream × (request ≡ Refused BadRequest))
-    ⊎ ((head : RequestHead) × (rest : List ℕ) × IsHead 8192 64 stream head rest × AsksWith head rest request)
+    (HasNoHead stream × (request ≡ Refused BadRequest))
+    ⊎ ((head : RequestHead) × (rest : List ℕ) × IsHead stream head rest × AsksWith head rest request)
 
 -- ---- a stream asks for one thing
 
@@ -106,9 +105,8 @@ IsSameRequest (Refused refusal) (Refused other) = refusal ≡ other
 -- A stream has one head, if any, and one rest behind it.
 abbrev pub HeadsAreOne : Type 0
 HeadsAreOne =
-    (stream : List ℕ) (head head' : RequestHead) (rest rest' : List ℕ) → IsHead 8192 64 stream head rest →
-    IsHead 8192 64 stream head' rest'
-    → (head ≡ head') × (rest ≡ rest')
+    (stream : List ℕ) (head head' : RequestHead) (rest rest' : List ℕ) → IsHead stream head rest
+    → IsHead stream head' rest' → (head ≡ head') × (rest ≡ rest')
 
 -- But for want of memory, what a stream asks for depends on the stream alone.
 abbrev pub RequestsAreOne : Type 0

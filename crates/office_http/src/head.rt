@@ -1,7 +1,7 @@
 ghost use Rattle.std.specs.Prelude.{◌≡◌, ◌≤◌, ◌+◌, true, false, length, take, IfOk, IfSome, OnOk, OnErr};
 ghost use Rattle.httparse.specs.Spans.{IsRequestWithin};
 ghost use Rattle.office_http.specs.Deciding.{EndsWhenDecided};
-ghost use Rattle.office_http.specs.Heads.{FindsHead};
+ghost use Rattle.office_http.specs.Heads.{FindsHead, most_fields, most_head_bytes};
 
 use crate::found_head::FoundHead;
 use httparse::Status;
@@ -9,11 +9,11 @@ use httparse::spans::{HeaderSpan, parse_request};
 use office_stream::Port;
 use std::io::{Read, Result};
 
-/// A head has at most so many bytes.
-pub(crate) const HEAD_LIMIT: usize = 8192;
+/// The most bytes that a head may have.
+pub(crate) const MOST_HEAD_BYTES: usize = 8192;
 
-/// A head has at most so many fields.
-pub(crate) const FIELD_LIMIT: usize = 64;
+/// The most fields that a head may have.
+pub(crate) const MOST_FIELDS: usize = 64;
 
 /// Reads until a head is complete. None: the reader gives no head within the limits.
 pub(crate) fn read_head<R: Read>(
@@ -21,14 +21,14 @@ pub(crate) fn read_head<R: Read>(
     buffer: &mut [u8],
     headers: &mut [HeaderSpan],
 ) -> Result<Option<FoundHead>>
-    requires room { length buffer.old ≡ HEAD_LIMIT }
-    requires fields { length headers.old ≡ FIELD_LIMIT }
+    requires room { length buffer.old ≡ most_head_bytes }
+    requires fields { length headers.old ≡ most_fields }
     ensures within { IfOk result (λ o. IfSome o (λ head.
         IsRequestWithin (take head.filled buffer.new) headers.new head.spans)) }
     ensures filled { IfOk result (λ o. IfSome o (λ head. head.filled ≤ length buffer.new)) }
     ensures finds { IfOk result (λ o. IfSome (R.remaining port.old.inner) (λ stream.
-        FindsHead HEAD_LIMIT FIELD_LIMIT stream (R.remaining port.new.inner) buffer.new headers.new o)) }
-    ensures reads { port.new.reads ≤ port.old.reads + HEAD_LIMIT }
+        FindsHead stream (R.remaining port.new.inner) buffer.new headers.new o)) }
+    ensures reads { port.new.reads ≤ port.old.reads + most_head_bytes }
     ensures each { IfOk result (λ o. IfSome o (λ head. port.new.reads ≤ port.old.reads + head.filled)) }
     ensures decided { IfSome (R.remaining port.old.inner) (λ stream. EndsWhenDecided stream port.old.reads port.new.reads) }
     ensures in_time { port.old.ended ≡ false → port.new.read_behind_end ≡ port.old.read_behind_end }

@@ -7,6 +7,7 @@ ghost use Rattle.office_queries.specs.AccountKeys.{account_in};
 ghost use Rattle.office_queries.specs.Keys.{query_of};
 ghost use Rattle.office_http.specs.Deciding.{body_size, EndsWhenDecided, wanted_behind};
 ghost use Rattle.office_http.specs.Fields.{body_length};
+ghost use Rattle.office_http.specs.Heads.{most_request_reads};
 ghost use Rattle.office_http.specs.Requests.{Asks, AsksWith, Gets, Names, Posts, PostsAccount};
 ghost use Rattle.office_http.specs.Routes.{account_key_in, key_in};
 ghost use Rattle.office_http.specs.declared.request.Request.TheVariants.{Refused};
@@ -16,7 +17,7 @@ use crate::body::{read_delivery, skip_body};
 use crate::endpoint::Endpoint;
 use crate::fields::content_length;
 use crate::found_head::FoundHead;
-use crate::head::{FIELD_LIMIT, HEAD_LIMIT, read_head};
+use crate::head::{MOST_FIELDS, MOST_HEAD_BYTES, read_head};
 use crate::refusal::Refusal;
 use crate::request::Request;
 use crate::routes::{account_key_in, direct, key_in, path_of};
@@ -30,15 +31,15 @@ use std::str;
 /// Reads a request: what it asks for.
 pub(crate) fn read_request<R: Read>(alloc: Global, reader: &mut Port<R>) -> Result<Request>
     ensures asks { IfOk result (λ request. IfSome (R.remaining reader.old.inner) (λ stream. Asks stream request)) }
-    ensures reads { reader.new.reads ≤ reader.old.reads + 1056768 }
+    ensures reads { reader.new.reads ≤ reader.old.reads + most_request_reads }
     ensures decided { IfSome (R.remaining reader.old.inner) (λ stream.
         EndsWhenDecided stream reader.old.reads reader.new.reads) }
     ensures in_time { reader.old.ended ≡ false → reader.new.read_behind_end ≡ reader.old.read_behind_end }
     ensures kept { OnOk result (reader.new.failed ≡ reader.old.failed) }
     ensures fails { OnErr result (reader.new.failed ≡ true) }
 {
-    let mut buffer = [0; HEAD_LIMIT];
-    let mut headers = [EMPTY_HEADER_SPAN; FIELD_LIMIT];
+    let mut buffer = [0; MOST_HEAD_BYTES];
+    let mut headers = [EMPTY_HEADER_SPAN; MOST_FIELDS];
     match read_head(reader, &mut buffer, &mut headers)? {
         Some(found) => read_asked(alloc, reader, &buffer, &headers, found),
         None => Ok(Request::Refused(Refusal::BadRequest)),

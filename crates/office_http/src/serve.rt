@@ -3,6 +3,7 @@ ghost use Rattle.std.specs.Io.KnownBytes.{Appends};
 ghost use Rattle.office_queries.specs.Looking.{IsLookedAt};
 ghost use Rattle.office_queries.specs.declared.not_now.NotNow.{NotNow};
 ghost use Rattle.office_http.specs.Deciding.{EndsWhenDecided};
+ghost use Rattle.office_http.specs.Heads.{most_request_reads};
 ghost use Rattle.office_http.specs.Served.{AtMost, content_of, Does, found_bytes, MatchFault, Serves};
 
 use crate::content_type::ContentType;
@@ -43,7 +44,7 @@ pub fn serve_one<R: Read, W: Write, D: Report + AddAccount>(
     ensures stays { D.is_sound desk.new → D.is_sound desk.old }
 
     // A read for each byte of a head and of a body, at most.
-    ensures reads { reader.new.reads ≤ reader.old.reads + 1056768 }
+    ensures reads { reader.new.reads ≤ reader.old.reads + most_request_reads }
 
     // No more reads than bytes that decide what is asked for: whoever has sent those waits for nothing but the answer.
     ensures decided { IfSome (R.remaining reader.old.inner) (λ stream.

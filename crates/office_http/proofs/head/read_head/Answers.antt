@@ -7,7 +7,7 @@ use Rattle.office_http.proofs.head.read_head.Goals as goal
 
 pub returns-then-filled-buffer-clause-finds : goal.returns-then-filled-buffer-clause-finds
 returns-then-filled-buffer-clause-finds g c =
-    finds_none_in_limit _ _ _ _ _ [] [] c.reads.invariant.read (omega (arith, length-take c.reads.filled c.reads.buffer)) (rw c.in-Ok-Partial.field-0-is at c.in-Ok-Partial.ensures.partial)
+    finds_none_in_limit _ _ _ [] [] c.reads.invariant.read (omega (arith, length-take c.reads.filled c.reads.buffer)) (rw c.in-Ok-Partial.field-0-is at c.in-Ok-Partial.ensures.partial)
 
 pub reads-preserved : goal.reads-preserved
 reads-preserved g c = record {
