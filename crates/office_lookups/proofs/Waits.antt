@@ -1,11 +1,11 @@
 -- The order of the numbers that wait doesn't count.
-use Rattle.std.proofs.Common.{◌≡◌, ◌⊎◌, inl, inr, ℕ, zero, suc, ◌+◌, ◌<◌, ◌≤◌, List, [], ◌∷◌, ◌++◌, length, slice_index_or, min, max, fold, sum_by, flat_map, codes, decimal, nat_le, refl, sym, ap, subst, ◌∙◌, arith}
+use Rattle.std.proofs.Common.{◌≡◌, ◌⊎◌, inl, inr, ℕ, zero, suc, ◌+◌, ◌<◌, ◌≤◌, List, [], ◌∷◌, ◌++◌, length, slice_index_or, min, max, fold, flat_map, codes, decimal, nat_le, refl, sym, ap, ◌∙◌, arith}
 use Rattle.std.specs.List.{AllZip, Contains}
 use Rattle.std.specs.List.Sorted.{IsPermutation}
 use Rattle.std.proofs.lemmas.Bool.{cases_Bool, leb-true, leb-false}
 use Rattle.std.proofs.lemmas.List.Sorted.{IsPermutation-sym, Contains-permutation, length_permutation}
 use Rattle.office_reports.specs.Names.{line}
-use Rattle.office_lookups.specs.Partners.{PartnerContent, AreAlike, kind_name, waiting_words, partner_line, waiting_count, partners_end, partners_text}
+use Rattle.office_lookups.specs.Partners.{PartnerContent, AreAlike, kind_name, waiting_words, partner_line, waiting_count, partners_text}
 
 -- ---- the least
 

@@ -1,10 +1,8 @@
 //! What is left to load.
 
-ghost use Rattle.std.specs.Prelude.{◌≡◌, ◌++◌, ◌∷◌, [], None, count_by, map, IfOk, OnOk, string_bytes};
+ghost use Rattle.std.specs.Prelude.{◌≡◌, ◌++◌, [], None, count_by, map, IfOk, OnOk, string_bytes};
 ghost use Rattle.std.specs.List.{flat_map};
 ghost use Rattle.std.specs.Map.{values_of};
-ghost use Rattle.office_reports.specs.Lists.{port_words};
-ghost use Rattle.office_reports.specs.Names.{line};
 ghost use Rattle.office_lookups.specs.Work.{absent_line, is_absent, is_covered, is_free, job_content, load_end, load_line, load_text};
 ghost use Rattle.office_lookups.specs.Work.{load_texts, with_load, with_loads, work_place};
 
@@ -77,37 +75,18 @@ fn load_line(alloc: Global, job: &Job, standing: Standing) -> Result<String, All
     let number = number_text(alloc, job.container)?;
     let size = size_text(alloc, standing.size_type)?;
     let above = above_text(alloc, job.blocker)?;
+    let slot = slot.as_str();
+    let number = number.as_str();
+    let size = size.as_str();
     let port = job.port.as_str();
+    let above = above.as_str();
     let mut text = String::new(alloc);
-    push_load(
-        alloc,
-        &mut text,
-        slot.as_str(),
-        number.as_str(),
-        size.as_str(),
-        port,
-        above.as_str(),
-    )?;
-    Ok(text)
-}
-
-fn push_load(
-    alloc: Global,
-    text: &mut String,
-    slot: &str,
-    number: &str,
-    size: &str,
-    port: &str,
-    above: &str,
-) -> Result<(), AllocError>
-    ensures { OnOk result (string_bytes text.new ≡ string_bytes text.old
-        ++ line (slot.now ∷ number.now ∷ size.now ∷ port_words port.now ++ above.now ∷ [])) }
-{
     if port.is_empty() {
-        push_line(alloc, text, &[slot, number, size, above])
+        push_line(alloc, &mut text, &[slot, number, size, above])?;
     } else {
-        push_line(alloc, text, &[slot, number, size, port, above])
+        push_line(alloc, &mut text, &[slot, number, size, port, above])?;
     }
+    Ok(text)
 }
 
 fn push_texts(text: &mut String, loads: &BTreeMap<[u16; 4], String>) -> Result<(), AllocError>

@@ -1,6 +1,6 @@
 //! Which number is expected of each partner, and what waits for it.
 
-ghost use Rattle.std.specs.Prelude.{◌≡◌, ◌++◌, ◌∷◌, [], codes, decimal, length, map, max, min, sum_by, IfOk, OnOk, string_bytes};
+ghost use Rattle.std.specs.Prelude.{◌≡◌, ◌++◌, ◌∷◌, [], codes, decimal, map, max, min, sum_by, IfOk, OnOk, string_bytes};
 ghost use Rattle.std.specs.List.{flat_map, fold};
 ghost use Rattle.office_reports.specs.Names.{line};
 ghost use Rattle.office_lookups.specs.Partners.{kind_name, partner_content, partner_line, partners_end, partners_text, waiting_count, waiting_words};
@@ -37,80 +37,63 @@ fn push_partner(alloc: Global, text: &mut String, partner: &Partner) -> Result<(
     ensures { OnOk result
         (string_bytes text.new ≡ string_bytes text.old ++ partner_line (partner_content partner.now)) }
 {
-    let code = partner.code.as_str();
-    let kind = kind_name(partner.kind);
-    let next = partner.next.to_string(alloc)?;
     match partner.waiting.split_first() {
-        Some((first, others)) => {
-            push_waited_for(alloc, text, code, kind, next.as_str(), *first, others)
-        }
-        None => push_expected(alloc, text, code, kind, next.as_str()),
+        Some((first, others)) => push_waited_for(alloc, text, partner, *first, others),
+        None => push_expected(alloc, text, partner),
     }
 }
 
-fn push_expected(
-    alloc: Global,
-    text: &mut String,
-    code: &str,
-    kind: &str,
-    next: &str,
-) -> Result<(), AllocError>
+/// The line of a partner of whom nothing waits.
+fn push_expected(alloc: Global, text: &mut String, partner: &Partner) -> Result<(), AllocError>
     ensures { OnOk result (string_bytes text.new ≡ string_bytes text.old
-        ++ line (code.now ∷ kind.now ∷ codes "NEXT" ∷ next.now ∷ [])) }
+        ++ line (string_bytes partner.now.code ∷ kind_name partner.now.kind ∷ codes "NEXT" ∷ decimal partner.now.next
+        ∷ waiting_words partner.now.next [])) }
 {
-    push_line(alloc, text, &[code, kind, "NEXT", next])
-}
-
-/// The line of a partner whose next number is missing: others wait for it.
-fn push_waited_for(
-    alloc: Global,
-    text: &mut String,
-    code: &str,
-    kind: &str,
-    next: &str,
-    first: u32,
-    others: &[u32],
-) -> Result<(), AllocError>
-    ensures { OnOk result (string_bytes text.new ≡ string_bytes text.old
-        ++ line (code.now ∷ kind.now ∷ codes "NEXT" ∷ next.now ∷ codes "WAITING" ∷ decimal (length (first ∷ others.now))
-        ∷ codes "FROM" ∷ decimal (fold min first others.now) ∷ codes "TO" ∷ decimal (fold max first others.now)
-        ∷ codes "MISSING" ∷ next.now ∷ [])) }
-{
-    let count = (others.len() as u128 + 1).to_string(alloc)?;
-    let least = least(first, others).to_string(alloc)?;
-    let greatest = greatest(first, others).to_string(alloc)?;
-    push_words(
-        alloc,
-        text,
-        code,
-        kind,
-        next,
-        count.as_str(),
-        least.as_str(),
-        greatest.as_str(),
-    )
-}
-
-fn push_words(
-    alloc: Global,
-    text: &mut String,
-    code: &str,
-    kind: &str,
-    next: &str,
-    count: &str,
-    least: &str,
-    greatest: &str,
-) -> Result<(), AllocError>
-    ensures { OnOk result (string_bytes text.new ≡ string_bytes text.old
-        ++ line (code.now ∷ kind.now ∷ codes "NEXT" ∷ next.now ∷ codes "WAITING" ∷ count.now ∷ codes "FROM" ∷ least.now
-        ∷ codes "TO" ∷ greatest.now ∷ codes "MISSING" ∷ next.now ∷ [])) }
-{
+    let next = partner.next.to_string(alloc)?;
     push_line(
         alloc,
         text,
         &[
-            code, kind, "NEXT", next, "WAITING", count, "FROM", least, "TO", greatest, "MISSING",
-            next,
+            partner.code.as_str(),
+            kind_name(partner.kind),
+            "NEXT",
+            next.as_str(),
+        ],
+    )
+}
+
+/// The line of a partner whose next number is missing: a first number and others wait for it.
+fn push_waited_for(
+    alloc: Global,
+    text: &mut String,
+    partner: &Partner,
+    first: u32,
+    others: &[u32],
+) -> Result<(), AllocError>
+    ensures { OnOk result (string_bytes text.new ≡ string_bytes text.old
+        ++ line (string_bytes partner.now.code ∷ kind_name partner.now.kind ∷ codes "NEXT" ∷ decimal partner.now.next
+        ∷ waiting_words partner.now.next (first ∷ others.now))) }
+{
+    let next = partner.next.to_string(alloc)?;
+    let count = (others.len() as u128 + 1).to_string(alloc)?;
+    let least = least(first, others).to_string(alloc)?;
+    let greatest = greatest(first, others).to_string(alloc)?;
+    push_line(
+        alloc,
+        text,
+        &[
+            partner.code.as_str(),
+            kind_name(partner.kind),
+            "NEXT",
+            next.as_str(),
+            "WAITING",
+            count.as_str(),
+            "FROM",
+            least.as_str(),
+            "TO",
+            greatest.as_str(),
+            "MISSING",
+            next.as_str(),
         ],
     )
 }
@@ -159,7 +142,7 @@ fn greatest(first: u32, others: &[u32]) -> u32
     greatest
 }
 
-fn kind_name(kind: PartnerKind) -> &'static str
+fn kind_name<'a>(kind: PartnerKind) -> &'a str
     ensures { result.now ≡ kind_name kind }
 {
     match kind {
