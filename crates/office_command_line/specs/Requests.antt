@@ -1,13 +1,11 @@
 -- What the words of a command line ask for.
-use Rattle.std.specs.Prelude.{◌≡◌, ℕ, Bool, true, false, ◌&&◌, nat_le, List, [], length, Option, None, Some, codes, if◌then◌else◌}
+use Rattle.std.specs.Prelude.{◌≡◌, ℕ, Bool, true, false, ◌&&◌, nat_le, List, [], Option, None, Some, codes, if◌then◌else◌}
 use Rattle.std.specs.Option.{option_map, option_map_or, option_and_then}
-use Rattle.std.specs.List.{list_all}
-use Rattle.std.specs.Char.{is_ascii_digit}
 use Rattle.std.specs.Str.{bytes_eq}
-use Rattle.std.specs.Str.Parse.{digits_value}
 use Rattle.clap.specs.Words.{Row, Text, first_of, subcommand_of, kind_of, fault_of, IsAmong}
 use Rattle.clap.specs.declared.error.kind.ErrorKind.{ErrorKind}
 use Rattle.clap.specs.declared.error.kind.ErrorKind.TheVariants.{DisplayHelp, DisplayVersion}
+use Rattle.edi_syntax.specs.Numbers.{number_of}
 use Rattle.office_command_line.specs.Commands.{office_app}
 use Rattle.office_command_line.specs.declared.command_fault.CommandFault.{CommandFault}
 use Rattle.office_command_line.specs.declared.command_fault.CommandFault.TheVariants.{Words, Values, Memory}
@@ -37,18 +35,10 @@ request_asked request.Demo = demo
 
 -- ---- numbers
 
--- 1 to 9 digits
-abbrev pub is_number : List ℕ → Bool
-is_number text = nat_le 1 (length text) && nat_le (length text) 9 && list_all is_ascii_digit text
-
--- and the number that they write
-abbrev pub number_said : List ℕ → Option ℕ
-number_said text = if is_number text then Some (digits_value 10 text) else None
-
--- the same from 1 to the greatest
+-- the number that 1 to 9 digits write, if it is from 1 to the greatest
 abbrev pub number_upto : ℕ → List ℕ → Option ℕ
 number_upto greatest text =
-    option_and_then (λ (n : ℕ). if nat_le 1 n && nat_le n greatest then Some n else None) (number_said text)
+    option_and_then (λ (n : ℕ). if nat_le 1 n && nat_le n greatest then Some n else None) (number_of 9 text)
 
 -- ---- reports
 

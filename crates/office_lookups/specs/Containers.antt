@@ -12,7 +12,7 @@ use Rattle.terminal_core.specs.Rows.{VisitContent}
 use Rattle.terminal_core.specs.State.{TerminalState, last_visit, open_visit}
 use Rattle.office_setup.specs.Setups.{SetupContent}
 use Rattle.office_reports.specs.Names.{load_name, slot_name, phrase, line}
-use Rattle.office_reports.specs.Visits.{booking_words, gross_words, passage_words}
+use Rattle.office_reports.specs.Visits.{passage_words, stay_line}
 use Rattle.office_reports.specs.Yard.{slot_in}
 use Rattle.office_lookups.specs.OpenLines.{open_lines_text}
 
@@ -40,7 +40,7 @@ above_words (Some blocker) = codes "UNDER" ∷ blocker ∷ []
 -- the same, its booking and its gross weight, and what stands on it
 abbrev pub here_line : SetupContent → VisitContent → Slot → Option BoxNumber → List ℕ
 here_line setup visit slot blocker =
-    line (phrase (arrival_words setup visit slot) ∷ booking_words visit.booking ++ gross_words visit.kilos ++ phrase (above_words blocker) ∷ [])
+    stay_line visit (phrase (arrival_words setup visit slot)) (phrase (above_words blocker))
 
 -- OUT, and by what visit it left; nothing of a visit that is open
 abbrev pub gone_line : SetupContent → VisitContent → Option Departure → List ℕ

@@ -1,16 +1,15 @@
-ghost use Rattle.std.specs.Prelude.{◌≡◌, ◌++◌, ◌∷◌, [], codes, string_bytes, IfOk, OnOk};
+ghost use Rattle.std.specs.Prelude.{◌≡◌, ◌++◌, string_bytes, IfOk, OnOk};
 ghost use Rattle.std.specs.Option.{option_map};
 ghost use Rattle.terminal_core.specs.Rows.{visit_content};
 ghost use Rattle.terminal_core.specs.State.{last_visit};
 ghost use Rattle.office_setup.specs.Setups.{setup_content};
-ghost use Rattle.office_reports.specs.Names.{phrase, line};
-ghost use Rattle.office_reports.specs.Visits.{booking_words};
+ghost use Rattle.office_reports.specs.Names.{phrase};
 ghost use Rattle.office_lookups.specs.Containers.{above_words, arrival_words, container_head, container_report, gone_line, gone_report, here_line};
 
 use crate::open_lines::push_open_lines;
 use box6346::{BoxNumber, Slot};
-use office_reports::passage_text;
 use office_reports::texts::{load_name, number_text, phrase, push_line, size_text, slot_text};
+use office_reports::{passage_text, push_stay};
 use office_setup::Setup;
 use std::alloc::{AllocError, Global};
 use terminal_core::{Terminal, Visit};
@@ -65,59 +64,7 @@ fn push_here(
 {
     let arrival = arrival_text(alloc, setup, visit, slot)?;
     let above = above_text(alloc, blocker)?;
-    let booking = visit.booking.as_str();
-    if visit.kilos == 0 {
-        push_unweighed(alloc, text, arrival.as_str(), booking, above.as_str())
-    } else {
-        let gross = visit.kilos.to_string(alloc)?;
-        push_weighed(
-            alloc,
-            text,
-            arrival.as_str(),
-            booking,
-            gross.as_str(),
-            above.as_str(),
-        )
-    }
-}
-
-fn push_unweighed(
-    alloc: Global,
-    text: &mut String,
-    arrival: &str,
-    booking: &str,
-    above: &str,
-) -> Result<(), AllocError>
-    ensures { OnOk result (string_bytes text.new ≡ string_bytes text.old
-        ++ line (arrival.now ∷ booking_words booking.now ++ above.now ∷ [])) }
-{
-    if booking.is_empty() {
-        push_line(alloc, text, &[arrival, above])
-    } else {
-        push_line(alloc, text, &[arrival, "BOOKING", booking, above])
-    }
-}
-
-fn push_weighed(
-    alloc: Global,
-    text: &mut String,
-    arrival: &str,
-    booking: &str,
-    gross: &str,
-    above: &str,
-) -> Result<(), AllocError>
-    ensures { OnOk result (string_bytes text.new ≡ string_bytes text.old
-        ++ line (arrival.now ∷ booking_words booking.now ++ codes "GROSS" ∷ gross.now ∷ above.now ∷ [])) }
-{
-    if booking.is_empty() {
-        push_line(alloc, text, &[arrival, "GROSS", gross, above])
-    } else {
-        push_line(
-            alloc,
-            text,
-            &[arrival, "BOOKING", booking, "GROSS", gross, above],
-        )
-    }
+    push_stay(alloc, text, visit, arrival.as_str(), above.as_str())
 }
 
 fn arrival_text(

@@ -1,3 +1,4 @@
 pub mod Decoding
 pub mod Parting
 pub mod Naming
+pub mod Room

@@ -3,6 +3,7 @@
 #![tactic(auto)]
 
 mod account_key;
+mod digits;
 mod escapes;
 mod key_reading;
 mod not_now;
@@ -13,6 +14,7 @@ mod report_kind;
 mod values;
 
 pub use account_key::{AccountKey, read_account_key};
+pub use digits::number_of;
 pub use key_reading::read_query;
 pub use not_now::NotNow;
 pub use query::Query;

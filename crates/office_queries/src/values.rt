@@ -1,8 +1,8 @@
 ghost use Rattle.std.specs.Prelude.{◌≡◌, IfOk, option_map, string_bytes};
 ghost use Rattle.edi_messages.specs.Texts.{is_name};
-ghost use Rattle.edi_syntax.specs.Numbers.{number_of};
 ghost use Rattle.office_queries.specs.Keys.{box_in, control_number_of, name_in, name_of, number_in, side_in, side_of};
 
+use crate::digits::number_of;
 use crate::escapes::decode;
 use box6346::BoxNumber;
 use edi_segments::are_printable;
@@ -51,29 +51,12 @@ pub(crate) fn read_number(alloc: Global, part: &str) -> Result<Option<u32>, Allo
 fn control_number_of(digits: &[u8]) -> Option<u32>
     ensures { result ≡ control_number_of digits.now }
 {
-    let number = number_of(digits)?;
+    let number = number_of(digits, 14)?;
     if 1 <= number && number <= LAST_NUMBER as u64 {
         Some(number as u32)
     } else {
         None
     }
-}
-
-/// The number that 1 to 14 digits write.
-fn number_of(digits: &[u8]) -> Option<u64>
-    ensures { result ≡ number_of 14 digits.now }
-{
-    if digits.is_empty() || digits.len() > 14 {
-        return None;
-    }
-    let mut number = 0u64;
-    for byte in digits {
-        if !byte.is_ascii_digit() {
-            return None;
-        }
-        number = number * 10 + u64::from(*byte - b'0');
-    }
-    Some(number)
 }
 
 /// The side that a part names.

@@ -43,17 +43,22 @@ booking_words (b ∷ bs) = codes "BOOKING" ∷ (b ∷ bs) ∷ []
 abbrev pub gross_words : ℕ → List (List ℕ)
 gross_words kilos = if kilos == 0 then [] else codes "GROSS" ∷ decimal kilos ∷ []
 
--- GATE PARTNER NUMBER MOMENT DAYS d, with the days from the date of entry to that of exit; a dash while it is here
+-- a line of what it begins with, the booking and the gross weight of a visit, and what stands behind
+abbrev pub stay_line : VisitContent → List ℕ → List ℕ → List ℕ
+stay_line visit arrival behind =
+    line (arrival ∷ booking_words visit.booking ++ gross_words visit.kilos ++ behind ∷ [])
+
+-- OUT GATE PARTNER NUMBER MOMENT DAYS d, with the days from the date of entry to that of exit; a dash while it is here
 abbrev pub departure_words : SetupContent → CivilMoment → Option Departure → List (List ℕ)
-departure_words setup entry None = codes "-" ∷ []
+departure_words setup entry None = codes "OUT" ∷ codes "-" ∷ []
 departure_words setup entry (Some departure) =
-    phrase (passage_words setup departure.way departure.source departure.moment) ∷ codes "DAYS"
+    codes "OUT" ∷ phrase (passage_words setup departure.way departure.source departure.moment) ∷ codes "DAYS"
     ∷ signed_decimal (day_number departure.moment -ℤ day_number entry) ∷ []
 
 abbrev pub visit_line : SetupContent → VisitContent → List ℕ
 visit_line setup visit =
-    line (phrase (arrival_words setup visit) ∷ booking_words visit.booking ++ gross_words visit.kilos
-    ++ codes "OUT" ∷ phrase (departure_words setup visit.arrival.moment visit.departure) ∷ [])
+    stay_line visit (phrase (arrival_words setup visit))
+    (phrase (departure_words setup visit.arrival.moment visit.departure))
 
 abbrev pub visit_lines : SetupContent → BoxNumber → List VisitContent → List ℕ
 visit_lines setup container visits = flat_map (visit_line setup) (filter (is_visit_of container) visits)

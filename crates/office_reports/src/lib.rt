@@ -17,5 +17,5 @@ pub use listed_line::ListedLine;
 pub use lists::{lines_on, list_name, list_report};
 pub use standing::Standing;
 pub use tickets::ticket;
-pub use visits::{passage_text, visit_report};
+pub use visits::{passage_text, push_stay, visit_report};
 pub use yard::{standings as yard_standings, yard_report};

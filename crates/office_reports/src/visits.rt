@@ -1,11 +1,11 @@
-ghost use Rattle.std.specs.Prelude.{◌≡◌, ◌++◌, ◌∷◌, [], codes, decimal, map, IfOk, OnOk, string_bytes};
+ghost use Rattle.std.specs.Prelude.{◌≡◌, ◌++◌, map, IfOk, OnOk, string_bytes};
 ghost use Rattle.std.specs.List.{list_any};
 ghost use Rattle.std.specs.Option.{option_map};
 ghost use Rattle.terminal_core.specs.Rows.{visit_content};
 ghost use Rattle.office_setup.specs.Setups.{setup_content};
-ghost use Rattle.office_reports.specs.Names.{phrase, line};
+ghost use Rattle.office_reports.specs.Names.{phrase};
 ghost use Rattle.terminal_core.specs.State.{is_visit_of};
-ghost use Rattle.office_reports.specs.Visits.{way_name, code_of, passage_words, arrival_words, booking_words, departure_words};
+ghost use Rattle.office_reports.specs.Visits.{way_name, code_of, passage_words, arrival_words, departure_words, stay_line};
 ghost use Rattle.office_reports.specs.Visits.{visit_line, visit_lines, visit_report};
 
 use crate::texts::{load_name, moment_text, number_text, phrase, push_line, size_text, slot_text};
@@ -74,66 +74,33 @@ fn push_visit(
 {
     let arrival = arrival_text(alloc, setup, visit)?;
     let departure = departure_text(alloc, setup, visit.arrival.moment, &visit.departure)?;
-    let booking = visit.booking.as_str();
-    if visit.kilos == 0 {
-        push_unweighed(alloc, text, arrival.as_str(), booking, departure.as_str())
-    } else {
-        let gross = visit.kilos.to_string(alloc)?;
-        push_weighed(
-            alloc,
-            text,
-            arrival.as_str(),
-            booking,
-            gross.as_str(),
-            departure.as_str(),
-        )
-    }
+    push_stay(alloc, text, visit, arrival.as_str(), departure.as_str())
 }
 
-fn push_unweighed(
+/// Appends a line of what it begins with, `BOOKING B` and `GROSS W` if the visit has them, and what stands behind.
+pub fn push_stay(
     alloc: Global,
     text: &mut String,
+    visit: &Visit,
     arrival: &str,
-    booking: &str,
-    departure: &str,
+    behind: &str,
 ) -> Result<(), AllocError>
-    ensures { OnOk result (string_bytes text.new ≡ string_bytes text.old
-        ++ line (arrival.now ∷ booking_words booking.now ++ codes "OUT" ∷ departure.now ∷ [])) }
+    ensures { OnOk result (string_bytes text.new
+        ≡ string_bytes text.old ++ stay_line (visit_content visit.now) arrival.now behind.now) }
 {
-    if booking.is_empty() {
-        push_line(alloc, text, &[arrival, "OUT", departure])
-    } else {
-        push_line(
-            alloc,
-            text,
-            &[arrival, "BOOKING", booking, "OUT", departure],
-        )
+    let gross = visit.kilos.to_string(alloc)?;
+    let mut words = Vec::new(alloc);
+    words.push(arrival)?;
+    if !visit.booking.is_empty() {
+        words.push("BOOKING")?;
+        words.push(visit.booking.as_str())?;
     }
-}
-
-fn push_weighed(
-    alloc: Global,
-    text: &mut String,
-    arrival: &str,
-    booking: &str,
-    gross: &str,
-    departure: &str,
-) -> Result<(), AllocError>
-    ensures { OnOk result (string_bytes text.new ≡ string_bytes text.old
-        ++ line (arrival.now ∷ booking_words booking.now ++ codes "GROSS" ∷ gross.now ∷ codes "OUT"
-        ∷ departure.now ∷ [])) }
-{
-    if booking.is_empty() {
-        push_line(alloc, text, &[arrival, "GROSS", gross, "OUT", departure])
-    } else {
-        push_line(
-            alloc,
-            text,
-            &[
-                arrival, "BOOKING", booking, "GROSS", gross, "OUT", departure,
-            ],
-        )
+    if visit.kilos != 0 {
+        words.push("GROSS")?;
+        words.push(gross.as_str())?;
     }
+    words.push(behind)?;
+    push_line(alloc, text, words.as_slice())
 }
 
 fn arrival_text(alloc: Global, setup: &Setup, visit: &Visit) -> Result<String, AllocError>
@@ -168,7 +135,7 @@ fn departure_text(
         ≡ phrase (departure_words (setup_content setup.now) entry departure.now)) }
 {
     let Some(departure) = departure else {
-        return phrase(alloc, &["-"]);
+        return phrase(alloc, &["OUT", "-"]);
     };
     let passage = passage_text(
         alloc,
@@ -178,7 +145,7 @@ fn departure_text(
         departure.moment,
     )?;
     let days = entry.days_until(departure.moment).to_string(alloc)?;
-    phrase(alloc, &[passage.as_str(), "DAYS", days.as_str()])
+    phrase(alloc, &["OUT", passage.as_str(), "DAYS", days.as_str()])
 }
 
 /// `GATE PARTNER NUMBER MOMENT`: by which way, by whose word, and when.

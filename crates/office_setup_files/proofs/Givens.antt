@@ -1,12 +1,11 @@
 -- The set-up that files say is one that set-up files can give.
-use Rattle.std.proofs.Common.{◌≡◌, ◌≢◌, ℕ, ◌≤◌, ◌<◌, zero, suc, Bool, true, false, not, ◌&&◌, ◌||◌, ◌==◌, List, [], ◌∷◌, length, map, Option, Some, None, cond, refl, sym, ap, ap₂, ◌∙◌, arith, All, IsTrue, inl, inr, nat_le, codes}
+use Rattle.std.proofs.Common.{◌≡◌, ◌≢◌, ℕ, ◌≤◌, zero, suc, Bool, true, false, not, ◌&&◌, ◌||◌, ◌==◌, List, [], ◌∷◌, length, map, Option, Some, None, cond, refl, sym, ap, ap₂, ◌∙◌, arith, All, IsTrue, inl, inr, nat_le, codes}
 use Rattle.std.specs.Prelude.{slice_get}
 use Rattle.std.specs.Option.{option_map}
 use Rattle.std.specs.List.{list_any, sum_by}
 use Rattle.std.specs.List.Sorted.{IsPermutation}
 use Rattle.std.specs.Char.{is_ascii_uppercase}
 use Rattle.std.specs.Str.{bytes_eq}
-use Rattle.std.specs.Str.Parse.{digits_value}
 use Rattle.std.proofs.lemmas.Bool.{and_parts, not-true, leb-true, cases_eq, ne_eqb, eq-eqb}
 use Rattle.std.proofs.lemmas.Option.{same_Some}
 use Rattle.std.proofs.lemmas.Slice.Eq.{bytes_eq-Decides}
@@ -15,6 +14,7 @@ use Rattle.std.proofs.lemmas.List.Sums.{sum_by-cons}
 use Rattle.std.proofs.lemmas.List.Sorted.{All-permutation, sum_by-IsPermutation}
 use Rattle.edi_messages.specs.CodeText.{table_fault}
 use Rattle.edi_messages.specs.declared.partner_kind.PartnerKind.{PartnerKind}
+use Rattle.edi_syntax.specs.Numbers.{number_of}
 use Rattle.yard_core.specs.declared.block.Block.{Block}
 use Rattle.yard_core.specs.declared.plan_fault.PlanFault.{PlanFault}
 use Rattle.yard_core.specs.declared.plan_fault.PlanFault.TheVariants.{Blocks, Letter, Twice, Size}
@@ -22,8 +22,7 @@ use Rattle.yard_core.specs.Plan.{IsPlan, IsFaulty, AreApart, IsSized}
 use Rattle.office_setup.specs.Given.{IsGiven, AreDistinct, is_party_code}
 use Rattle.office_setup.specs.Kinds.{kind_named}
 use Rattle.office_setup.specs.Setups.{SetupContent}
-use Rattle.office_setup_files.specs.Entries.{section, is_number}
-use Rattle.office_setup_files.proofs.Numerals.{parsed}
+use Rattle.office_setup_files.specs.Entries.{section}
 use Rattle.office_setup_files.specs.Said.{SaysSetup, are_apart, names_of, partner_said, terminal_said, limit_said, limit_in}
 
 -- ---- partners
@@ -177,18 +176,20 @@ plan_in_order said blocks order plan =
 
 limit_from : (entries : List (List ℕ × List ℕ)) (limit : ℕ) → limit_said entries ≡ Some limit → (1 ≤ limit) × (limit ≤ 999999999)
 limit_from [] limit said = let same = same_Some 999999999 limit said in (omega (arith, same), omega (arith, same))
-limit_from (entry ∷ []) limit said = by_form (bytes_eq entry.0 (codes "visits")) (is_number entry.1) refl said where
-  by_number : (least : Bool) (n : ℕ) → nat_le 1 n ≡ least → n < 1000000000 → cond least (Some n) None ≡ Some limit → (1 ≤ limit) × (limit ≤ 999999999)
-  by_number false n is most e = absurd (cc)
-  by_number true n is most e =
+limit_from (entry ∷ []) limit said = by_form (bytes_eq entry.0 (codes "visits")) (number_of 9 entry.1) said where
+  by_range : (least most : Bool) (n : ℕ) → nat_le 1 n ≡ least → nat_le n 999999999 ≡ most → cond (least && most) (Some n) None ≡ Some limit → (1 ≤ limit) × (limit ≤ 999999999)
+  by_range false most n low high e = absurd (cc)
+  by_range true false n low high e = absurd (cc)
+  by_range true true n low high e =
       let same = same_Some n limit e in
-      let low = leb-true 1 n is in
-      (omega (arith, same, low), omega (arith, same, most))
+      let least = leb-true 1 n low in
+      let most = leb-true n 999999999 high in
+      (omega (arith, same, least), omega (arith, same, most))
 
-  by_form : (b i : Bool) → is_number entry.1 ≡ i → cond b (limit_in (cond i (Some (digits_value 10 entry.1)) None)) None ≡ Some limit → (1 ≤ limit) × (limit ≤ 999999999)
-  by_form false i is e = absurd (cc)
-  by_form true false is e = absurd (cc)
-  by_form true true is e = by_number (nat_le 1 (digits_value 10 entry.1)) (digits_value 10 entry.1) refl (parsed entry.1 is).2 e
+  by_form : (b : Bool) (number : Option ℕ) → cond b (limit_in number) None ≡ Some limit → (1 ≤ limit) × (limit ≤ 999999999)
+  by_form false number e = absurd (cc)
+  by_form true None e = absurd (cc)
+  by_form true (Some n) e = by_range (nat_le 1 n) (nat_le n 999999999) n refl refl e
 limit_from (entry ∷ second ∷ others) limit said = absurd (cc)
 
 terminal_from : (entries : List (List ℕ × List ℕ)) (code : List ℕ) → terminal_said entries ≡ Some code → is_party_code code ≡ true

@@ -1,4 +1,3 @@
 pub mod Lists
-pub mod Numerals
 pub mod Givens
 pub mod Wrong

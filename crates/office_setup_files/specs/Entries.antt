@@ -2,12 +2,11 @@
 use Rattle.std.specs.Prelude.{◌≡◌, ℕ, Bool, true, false, ◌&&◌, ◌||◌, ◌==◌, nat_le, List, [], ◌∷◌, length, Option, None, Some, codes, All, if◌then◌else◌}
 use Rattle.std.specs.Option.{option_and_then, option_map_or}
 use Rattle.std.specs.List.{filter_map, list_all}
-use Rattle.std.specs.Char.{is_ascii_digit}
 use Rattle.std.specs.Str.{bytes_eq}
-use Rattle.std.specs.Str.Parse.{digits_value}
 use Rattle.csv.specs.Reading.{AreRecords, default_config, strip_bom}
 use Rattle.csv.specs.Records.{AllText, field_at}
 use Rattle.csv.specs.declared.parser.State.TheVariants as state
+use Rattle.edi_syntax.specs.Numbers.{number_of}
 use Rattle.office_setup_files.specs.declared.entry.Entry.{Entry}
 
 abbrev pub Text : Type 0
@@ -85,14 +84,7 @@ section what rows = filter_map (entry_of what) rows
 
 -- ---- numbers
 
--- 1 to 9 digits
-abbrev pub is_number : Text → Bool
-is_number text = nat_le 1 (length text) && nat_le (length text) 9 && list_all is_ascii_digit text
-
--- and the number that they write
-abbrev pub number_said : Text → Option ℕ
-number_said text = if is_number text then Some (digits_value 10 text) else None
-
--- the same, if it isn't above the greatest
+-- the number that 1 to 9 digits write, if it isn't above the greatest
 abbrev pub count_said : ℕ → Text → Option ℕ
-count_said greatest text = option_and_then (λ (n : ℕ). if nat_le n greatest then Some n else None) (number_said text)
+count_said greatest text =
+    option_and_then (λ (n : ℕ). if nat_le n greatest then Some n else None) (number_of 9 text)

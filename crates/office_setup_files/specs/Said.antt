@@ -7,13 +7,14 @@ use Rattle.std.specs.Str.{bytes_eq}
 use Rattle.edi_messages.specs.CodeText.{table_fault}
 use Rattle.edi_messages.specs.Codes.{table_texts}
 use Rattle.edi_messages.specs.declared.partner_kind.PartnerKind.{PartnerKind}
+use Rattle.edi_syntax.specs.Numbers.{number_of}
 use Rattle.yard_core.specs.declared.block.Block.{Block}
 use Rattle.yard_core.specs.Plan.{IsPlan}
 use Rattle.office_setup.specs.Given.{is_party_code}
 use Rattle.office_setup.specs.Kinds.{kind_named}
 use Rattle.office_setup.specs.Limits.{most_partners, most_visits}
 use Rattle.office_setup.specs.Setups.{SetupContent}
-use Rattle.office_setup_files.specs.Entries.{Text, Record, Named, AreFiles, AreRows, field, section, number_said, count_said}
+use Rattle.office_setup_files.specs.Entries.{Text, Record, Named, AreFiles, AreRows, field, section, count_said}
 use Rattle.office_setup_files.specs.declared.setup_fault.SetupFault.{SetupFault}
 use Rattle.office_setup_files.specs.declared.setup_fault.SetupFault.TheVariants.{Csv, Terminal, Partner, Code, Limit, Block as BlockFault, Memory}
 
@@ -79,13 +80,14 @@ pub record AreCodes (entries : List Named) : Type 0 where
 
 -- ---- the limit of visits: at most one entry
 
+-- from 1 to as many as there may be
 abbrev pub limit_in : Option ℕ → Option ℕ
 limit_in None = None
-limit_in (Some number) = if nat_le 1 number then Some number else None
+limit_in (Some number) = if nat_le 1 number && nat_le number most_visits then Some number else None
 
 abbrev pub limit_said : List Named → Option ℕ
 limit_said [] = Some most_visits
-limit_said (entry ∷ []) = if bytes_eq entry.0 (codes "visits") then limit_in (number_said entry.1) else None
+limit_said (entry ∷ []) = if bytes_eq entry.0 (codes "visits") then limit_in (number_of 9 entry.1) else None
 limit_said (entry ∷ second ∷ others) = None
 
 -- ---- the blocks: a letter and three numbers, none above the most that a block may have

@@ -4,8 +4,8 @@ ghost use Rattle.office_setup_files.specs.Entries.{entry_content};
 ghost use Rattle.office_setup_files.specs.Said.{terminal_said, limit_in, limit_said};
 
 use crate::entry::Entry;
-use crate::numbers::number_of;
 use crate::texts::are_same;
+use office_queries::number_of;
 use office_setup::{MOST_VISITS, is_party_code};
 
 /// The code of the terminal.
@@ -24,16 +24,16 @@ pub(crate) fn limit_of(entries: &[Entry<'_>]) -> Option<u32>
 {
     match entries {
         [] => Some(MOST_VISITS),
-        [entry] if are_same(entry.name, "visits") => limit_in(number_of(entry.value)),
+        [entry] if are_same(entry.name, "visits") => limit_in(number_of(entry.value.as_bytes(), 9)),
         _ => None,
     }
 }
 
-fn limit_in(number: Option<u32>) -> Option<u32>
+fn limit_in(number: Option<u64>) -> Option<u32>
     ensures { result ≡ limit_in number }
 {
     match number {
-        Some(number) if 1 <= number => Some(number),
+        Some(number) if 1 <= number && number <= u64::from(MOST_VISITS) => Some(number as u32),
         _ => None,
     }
 }

@@ -1,15 +1,16 @@
 use Rattle.std.proofs.Common.{◌<◌, ◌≤◌, ◌+◌, ◌*◌, ◌-◌, ℕ, take, get_or, ap, ◌∙◌, arith}
 use Rattle.std.proofs.lemmas.List.{take_more}
-use Rattle.edi_syntax.proofs.NumberLemmas.{digits_value_one, digits_one, small_one, has_room}
-use Rattle.office_queries.proofs.values.number_of.Goals as goal
+use Rattle.edi_syntax.proofs.NumberLemmas.{digits_value_one, digits_one, small_one}
+use Rattle.office_queries.proofs.Room.{has_room}
+use Rattle.office_queries.proofs.digits.number_of.Goals as goal
 
 pub overflow_mul-number : goal.overflow_mul-number
 overflow_mul-number c =
-    let small : c.loop-byte.number < 10000000000000 = has_room c.loop-byte.number c.loop-byte.byte-index 14 c.loop-byte.invariant.small (omega arith) (omega arith) in omega arith
+    let small : c.loop-byte.number < 1000000000000000000 = has_room c.loop-byte.number c.loop-byte.byte-index c.loop-byte.invariant.small (omega arith) in omega arith
 
 pub overflow_add-number : goal.overflow_add-number
 overflow_add-number c =
-    let small : c.loop-byte.number < 10000000000000 = has_room c.loop-byte.number c.loop-byte.byte-index 14 c.loop-byte.invariant.small (omega arith) (omega arith) in
+    let small : c.loop-byte.number < 1000000000000000000 = has_room c.loop-byte.number c.loop-byte.byte-index c.loop-byte.invariant.small (omega arith) in
     let digit = c.if-not-is_ascii_digit.ensures.cases in
     omega (arith, c.from.ensures, digit)
 
