@@ -1,3 +1,4 @@
+pub mod Ports
 pub mod Heads
 pub mod Responses
 pub mod Routes

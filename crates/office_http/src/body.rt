@@ -1,4 +1,5 @@
-ghost use Rattle.std.specs.Prelude.{◌≡◌, ◌⊎◌, ◌≤◌, ◌+◌, ◌-◌, ◌++◌, length, true, false, IsTrue, ◌↔◌, IfOk, IfSome, OnOk, OnErr, Ok};
+ghost use Rattle.std.specs.Prelude.{◌≡◌, ◌⊎◌, ◌≤◌, ◌-◌, ◌++◌, length, IsTrue, ◌↔◌, IfOk, IfSome, Ok};
+ghost use Rattle.office_http.specs.Ports.{ReadsUpTo};
 ghost use Rattle.office_http.specs.Requests.{Posts};
 ghost use Rattle.office_http.specs.declared.request.Request.TheVariants.{Refused};
 ghost use Rattle.office_http.specs.declared.refusal.Refusal.TheVariants.{NotNow};
@@ -22,10 +23,7 @@ pub(crate) fn read_delivery<R: Read>(
 ) -> Result<Request>
     ensures posts { IfOk result (λ request. IfSome (R.remaining reader.old.inner) (λ left.
         (request ≡ Refused NotNow) ⊎ Posts (Ok size) (front.now ++ left) request)) }
-    ensures reads { reader.new.reads ≤ reader.old.reads + (size - length front.now) }
-    ensures in_time { reader.old.ended ≡ false → reader.new.read_behind_end ≡ reader.old.read_behind_end }
-    ensures kept { OnOk result (reader.new.failed ≡ reader.old.failed) }
-    ensures fails { OnErr result (reader.new.failed ≡ true) }
+    ensures reads { ReadsUpTo (size - length front.now) reader.old reader.new result }
 {
     let Ok(mut body) = Vec::from_slice(alloc, &front[..min(front.len(), size)]) else {
         return Ok(Request::Refused(Refusal::NotNow));
@@ -48,10 +46,7 @@ pub(crate) fn read_delivery<R: Read>(
 pub(crate) fn skip_body<R: Read>(reader: &mut Port<R>, front: &[u8], size: usize) -> Result<bool>
     ensures whole { IfOk result (λ whole. IfSome (R.remaining reader.old.inner) (λ left.
         IsTrue whole ↔ (size ≤ length (front.now ++ left)))) }
-    ensures reads { reader.new.reads ≤ reader.old.reads + (size - length front.now) }
-    ensures in_time { reader.old.ended ≡ false → reader.new.read_behind_end ≡ reader.old.read_behind_end }
-    ensures kept { OnOk result (reader.new.failed ≡ reader.old.failed) }
-    ensures fails { OnErr result (reader.new.failed ≡ true) }
+    ensures reads { ReadsUpTo (size - length front.now) reader.old reader.new result }
 {
     let mut left = size.saturating_sub(front.len());
     let mut buffer = [0; ROOM];

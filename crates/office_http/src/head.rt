@@ -1,7 +1,8 @@
-ghost use Rattle.std.specs.Prelude.{◌≡◌, ◌≤◌, ◌+◌, true, false, length, take, IfOk, IfSome, OnOk, OnErr};
+ghost use Rattle.std.specs.Prelude.{◌≡◌, ◌≤◌, ◌+◌, false, length, take, IfOk, IfSome};
 ghost use Rattle.httparse.specs.Spans.{IsRequestWithin};
 ghost use Rattle.office_http.specs.Deciding.{EndsWhenDecided};
 ghost use Rattle.office_http.specs.Heads.{FindsHead, most_fields, most_head_bytes};
+ghost use Rattle.office_http.specs.Ports.{ReadsUpTo};
 
 use crate::found_head::FoundHead;
 use httparse::Status;
@@ -28,13 +29,10 @@ pub(crate) fn read_head<R: Read>(
     ensures filled { IfOk result (λ o. IfSome o (λ head. head.filled ≤ length buffer.new)) }
     ensures finds { IfOk result (λ o. IfSome (R.remaining port.old.inner) (λ stream.
         FindsHead stream (R.remaining port.new.inner) buffer.new headers.new o)) }
-    ensures reads { port.new.reads ≤ port.old.reads + most_head_bytes }
+    ensures reads { ReadsUpTo most_head_bytes port.old port.new result }
     ensures each { IfOk result (λ o. IfSome o (λ head. port.new.reads ≤ port.old.reads + head.filled)) }
     ensures decided { IfSome (R.remaining port.old.inner) (λ stream. EndsWhenDecided stream port.old.reads port.new.reads) }
-    ensures in_time { port.old.ended ≡ false → port.new.read_behind_end ≡ port.old.read_behind_end }
     ensures going { IfOk result (λ o. IfSome o (λ head. port.old.ended ≡ false → port.new.ended ≡ false)) }
-    ensures kept { OnOk result (port.new.failed ≡ port.old.failed) }
-    ensures fails { OnErr result (port.new.failed ≡ true) }
 {
     let mut filled = 0;
     'reads: loop {

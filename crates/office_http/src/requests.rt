@@ -1,4 +1,4 @@
-ghost use Rattle.std.specs.Prelude.{◌≡◌, ◌⊎◌, ◌≤◌, ◌+◌, ◌-◌, ◌++◌, true, false, length, take, drop, map, IfOk, IfSome, OnOk, OnErr};
+ghost use Rattle.std.specs.Prelude.{◌≡◌, ◌⊎◌, ◌≤◌, ◌+◌, ◌-◌, ◌++◌, length, take, drop, map, IfOk, IfSome};
 ghost use Rattle.edi_segments.specs.Interchange.{most_bytes};
 ghost use Rattle.std.specs.Option.{option_and_then};
 ghost use Rattle.httparse.specs.Grammar.{RequestHead};
@@ -8,6 +8,7 @@ ghost use Rattle.office_queries.specs.Keys.{query_of};
 ghost use Rattle.office_http.specs.Deciding.{body_size, EndsWhenDecided, wanted_behind};
 ghost use Rattle.office_http.specs.Fields.{body_length};
 ghost use Rattle.office_http.specs.Heads.{most_request_reads};
+ghost use Rattle.office_http.specs.Ports.{ReadsUpTo};
 ghost use Rattle.office_http.specs.Requests.{Asks, AsksWith, Gets, Names, Posts, PostsAccount};
 ghost use Rattle.office_http.specs.Routes.{account_key_in, key_in};
 ghost use Rattle.office_http.specs.declared.request.Request.TheVariants.{Refused};
@@ -31,12 +32,9 @@ use std::str;
 /// Reads a request: what it asks for.
 pub(crate) fn read_request<R: Read>(alloc: Global, reader: &mut Port<R>) -> Result<Request>
     ensures asks { IfOk result (λ request. IfSome (R.remaining reader.old.inner) (λ stream. Asks stream request)) }
-    ensures reads { reader.new.reads ≤ reader.old.reads + most_request_reads }
+    ensures reads { ReadsUpTo most_request_reads reader.old reader.new result }
     ensures decided { IfSome (R.remaining reader.old.inner) (λ stream.
         EndsWhenDecided stream reader.old.reads reader.new.reads) }
-    ensures in_time { reader.old.ended ≡ false → reader.new.read_behind_end ≡ reader.old.read_behind_end }
-    ensures kept { OnOk result (reader.new.failed ≡ reader.old.failed) }
-    ensures fails { OnErr result (reader.new.failed ≡ true) }
 {
     let mut buffer = [0; MOST_HEAD_BYTES];
     let mut headers = [EMPTY_HEADER_SPAN; MOST_FIELDS];
@@ -59,13 +57,10 @@ fn read_asked<R: Read>(
     ensures asks { IfOk result (λ request. IfSome (R.remaining reader.old.inner) (λ left. (head : RequestHead)
         → IsRequestAt (take found.filled buffer.now) headers.now found.spans head
         → AsksWith head (drop found.spans.len (take found.filled buffer.now) ++ left) request)) }
-    ensures reads { reader.new.reads ≤ reader.old.reads + most_bytes }
+    ensures reads { ReadsUpTo most_bytes reader.old reader.new result }
     ensures decided { (head : RequestHead) → IsRequestAt (take found.filled buffer.now) headers.now found.spans head
         → reader.new.reads
         ≤ reader.old.reads + (wanted_behind head - length (drop found.spans.len (take found.filled buffer.now))) }
-    ensures in_time { reader.old.ended ≡ false → reader.new.read_behind_end ≡ reader.old.read_behind_end }
-    ensures kept { OnOk result (reader.new.failed ≡ reader.old.failed) }
-    ensures fails { OnErr result (reader.new.failed ≡ true) }
 {
     let read = &buffer[..found.filled];
     let Ok(target) = str::from_utf8(found.spans.path.of(read)) else {
@@ -92,13 +87,10 @@ fn read_post<R: Read>(
     ensures posts { IfOk result (λ request. IfSome (R.remaining reader.old.inner) (λ left. (request ≡ Refused NotNow)
         ⊎ Posts (body_length (map (header_bytes read.now) (take found.spans.headers headers.now)))
         (drop found.spans.len read.now ++ left) request)) }
-    ensures reads { reader.new.reads ≤ reader.old.reads + most_bytes }
+    ensures reads { ReadsUpTo most_bytes reader.old reader.new result }
     ensures decided { reader.new.reads ≤ reader.old.reads
         + (body_size (body_length (map (header_bytes read.now) (take found.spans.headers headers.now)))
         - length (drop found.spans.len read.now)) }
-    ensures in_time { reader.old.ended ≡ false → reader.new.read_behind_end ≡ reader.old.read_behind_end }
-    ensures kept { OnOk result (reader.new.failed ≡ reader.old.failed) }
-    ensures fails { OnErr result (reader.new.failed ≡ true) }
 {
     match content_length(read, &headers[..found.spans.headers]) {
         Ok(size) => read_delivery(alloc, reader, &read[found.spans.len..], size),
@@ -119,13 +111,10 @@ fn read_account<R: Read>(
     ensures posts { IfOk result (λ request. IfSome (R.remaining reader.old.inner) (λ left. (request ≡ Refused NotNow)
         ⊎ PostsAccount (body_length (map (header_bytes read.now) (take found.spans.headers headers.now)))
         (drop found.spans.len read.now ++ left) (option_and_then account_in (account_key_in path.now)) request)) }
-    ensures reads { reader.new.reads ≤ reader.old.reads + most_bytes }
+    ensures reads { ReadsUpTo most_bytes reader.old reader.new result }
     ensures decided { reader.new.reads ≤ reader.old.reads
         + (body_size (body_length (map (header_bytes read.now) (take found.spans.headers headers.now)))
         - length (drop found.spans.len read.now)) }
-    ensures in_time { reader.old.ended ≡ false → reader.new.read_behind_end ≡ reader.old.read_behind_end }
-    ensures kept { OnOk result (reader.new.failed ≡ reader.old.failed) }
-    ensures fails { OnErr result (reader.new.failed ≡ true) }
 {
     let size = match content_length(read, &headers[..found.spans.headers]) {
         Ok(size) => size,

@@ -1,8 +1,8 @@
-ghost use Rattle.std.specs.Prelude.{◌≡◌, ℕ, List, true, OnOk, OnErr, unwrap_or, codes};
+ghost use Rattle.std.specs.Prelude.{◌≡◌, unwrap_or, codes};
 ghost use Rattle.http.specs.StatusCode.{reason_phrase};
-ghost use Rattle.std.specs.Io.KnownBytes.{Appends};
 ghost use Rattle.office_replies.specs.AccountAnswers.{account_body, account_status};
 ghost use Rattle.office_replies.specs.Responses.{body_of, status_of};
+ghost use Rattle.office_http.specs.Ports.{Puts};
 ghost use Rattle.office_http.specs.Responses.{allow_line, close_lines, field_line, refusal_bytes};
 ghost use Rattle.office_http.specs.Responses.{response_bytes, response_head, status_line};
 ghost use Rattle.office_http.specs.declared.content_type.ContentType.TheVariants.{Json};
@@ -21,10 +21,8 @@ pub(crate) fn write_text<W: Write>(
     kind: ContentType,
     body: &str,
 ) -> Result<()>
-    ensures bytes { OnOk result (Appends (W.contents port.old.inner) (W.contents port.new.inner)
-        (response_bytes status kind None body.now)) }
-    ensures succeeds { OnOk result (port.new.failed ≡ port.old.failed) }
-    ensures fails { OnErr result (port.new.failed ≡ true) }
+    ensures puts { Puts (response_bytes status kind None body.now)
+        (W.contents port.old.inner) (W.contents port.new.inner) port.old port.new result }
 {
     write_head(port, status, kind, None, body.len() as u128)?;
     port.write_all(body.as_bytes())
@@ -32,10 +30,8 @@ pub(crate) fn write_text<W: Write>(
 
 /// Writes the response of a refusal.
 pub(crate) fn write_refusal<W: Write>(port: &mut Port<W>, refusal: Refusal) -> Result<()>
-    ensures bytes { OnOk result (Appends (W.contents port.old.inner) (W.contents port.new.inner)
-        (refusal_bytes refusal)) }
-    ensures succeeds { OnOk result (port.new.failed ≡ port.old.failed) }
-    ensures fails { OnErr result (port.new.failed ≡ true) }
+    ensures puts { Puts (refusal_bytes refusal)
+        (W.contents port.old.inner) (W.contents port.new.inner) port.old port.new result }
 {
     let body = refusal.body();
     write_head(
@@ -50,10 +46,8 @@ pub(crate) fn write_refusal<W: Write>(port: &mut Port<W>, refusal: Refusal) -> R
 
 /// Writes the response of a delivery.
 pub(crate) fn write_answer<W: Write>(port: &mut Port<W>, response: &Response) -> Result<()>
-    ensures bytes { OnOk result (Appends (W.contents port.old.inner) (W.contents port.new.inner)
-        (response_bytes (status_of response.now) Json None (body_of response.now))) }
-    ensures succeeds { OnOk result (port.new.failed ≡ port.old.failed) }
-    ensures fails { OnErr result (port.new.failed ≡ true) }
+    ensures puts { Puts (response_bytes (status_of response.now) Json None (body_of response.now))
+        (W.contents port.old.inner) (W.contents port.new.inner) port.old port.new result }
 {
     let body = response.body();
     write_text(port, status_code(response), ContentType::Json, body)
@@ -73,10 +67,8 @@ pub(crate) fn write_account_answer<W: Write>(
     port: &mut Port<W>,
     answer: &AccountAnswer,
 ) -> Result<()>
-    ensures bytes { OnOk result (Appends (W.contents port.old.inner) (W.contents port.new.inner)
-        (response_bytes (account_status answer.now) Json None (account_body answer.now))) }
-    ensures succeeds { OnOk result (port.new.failed ≡ port.old.failed) }
-    ensures fails { OnErr result (port.new.failed ≡ true) }
+    ensures puts { Puts (response_bytes (account_status answer.now) Json None (account_body answer.now))
+        (W.contents port.old.inner) (W.contents port.new.inner) port.old port.new result }
 {
     let body = answer.body();
     write_text(port, account_status_code(answer), ContentType::Json, body)
@@ -99,10 +91,8 @@ fn write_head<W: Write>(
     allowed: Option<Method>,
     size: u128,
 ) -> Result<()>
-    ensures bytes { OnOk result (Appends (W.contents port.old.inner) (W.contents port.new.inner)
-        (response_head status kind allowed size)) }
-    ensures succeeds { OnOk result (port.new.failed ≡ port.old.failed) }
-    ensures fails { OnErr result (port.new.failed ≡ true) }
+    ensures puts { Puts (response_head status kind allowed size)
+        (W.contents port.old.inner) (W.contents port.new.inner) port.old port.new result }
 {
     let mut digits = itoa::Buffer::new();
     write_status_line(port, status)?;
@@ -113,10 +103,8 @@ fn write_head<W: Write>(
 }
 
 fn write_status_line<W: Write>(port: &mut Port<W>, status: StatusCode) -> Result<()>
-    ensures bytes { OnOk result (Appends (W.contents port.old.inner) (W.contents port.new.inner)
-        (status_line status)) }
-    ensures succeeds { OnOk result (port.new.failed ≡ port.old.failed) }
-    ensures fails { OnErr result (port.new.failed ≡ true) }
+    ensures puts { Puts (status_line status)
+        (W.contents port.old.inner) (W.contents port.new.inner) port.old port.new result }
 {
     port.write_all(b"HTTP/1.1 ")?;
     port.write_all(status.as_str().as_bytes())?;
@@ -136,10 +124,8 @@ fn phrase(status: StatusCode) -> &'static str
 }
 
 fn write_allowed<W: Write>(port: &mut Port<W>, allowed: Option<Method>) -> Result<()>
-    ensures bytes { OnOk result (Appends (W.contents port.old.inner) (W.contents port.new.inner)
-        (allow_line allowed)) }
-    ensures succeeds { OnOk result (port.new.failed ≡ port.old.failed) }
-    ensures fails { OnErr result (port.new.failed ≡ true) }
+    ensures puts { Puts (allow_line allowed)
+        (W.contents port.old.inner) (W.contents port.new.inner) port.old port.new result }
 {
     match allowed {
         Some(method) => write_field(port, b"Allow", method.as_str().as_bytes()),
@@ -149,20 +135,16 @@ fn write_allowed<W: Write>(port: &mut Port<W>, allowed: Option<Method>) -> Resul
 
 /// Writes that the connection closes, and the line that ends a head.
 fn write_close<W: Write>(port: &mut Port<W>) -> Result<()>
-    ensures bytes { OnOk result (Appends (W.contents port.old.inner) (W.contents port.new.inner)
-        close_lines) }
-    ensures succeeds { OnOk result (port.new.failed ≡ port.old.failed) }
-    ensures fails { OnErr result (port.new.failed ≡ true) }
+    ensures puts { Puts close_lines
+        (W.contents port.old.inner) (W.contents port.new.inner) port.old port.new result }
 {
     write_field(port, b"Connection", b"close")?;
     port.write_all(b"\r\n")
 }
 
 fn write_field<W: Write>(port: &mut Port<W>, name: &[u8], value: &[u8]) -> Result<()>
-    ensures bytes { OnOk result (Appends (W.contents port.old.inner) (W.contents port.new.inner)
-        (field_line name.now value.now)) }
-    ensures succeeds { OnOk result (port.new.failed ≡ port.old.failed) }
-    ensures fails { OnErr result (port.new.failed ≡ true) }
+    ensures puts { Puts (field_line name.now value.now)
+        (W.contents port.old.inner) (W.contents port.new.inner) port.old port.new result }
 {
     port.write_all(name)?;
     port.write_all(b": ")?;
