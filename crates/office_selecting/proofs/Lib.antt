@@ -1,5 +1,3 @@
-pub mod ReadLemmas
-pub mod TextLemmas
 pub mod MissingLemmas
 pub mod SettingLemmas
 pub mod LackingLemmas

@@ -52,6 +52,11 @@ unfolding listing_schema
 setting_missing schema (inl none) = (NoSuchTable, not_understood (codes "setting") setting_unlisted refl schema none.no_table none.no_view select_setting setting_one)
 setting_missing schema (inr it) = (NoSuchColumn, lacking_fails schema it.at it.table it.named it.there it.lacks select_setting (of_settings (first select_setting) setting_selects))
 
+-- and what isn't understood shows nothing
+pub never_shown : (sql : List ℕ) (params : Row) (old new : State) (rows : List Row) (e : CompileError) → understood old.now.schema sql ≡ Err e → ¬ Shown sql params old new rows
+unfolding Shown
+never_shown sql params old new rows e fails h = absurd (let is = sym fails ∙ h.1.is in cc)
+
 -- ---- a table of the name, with its columns first
 
 seen : (trees : Trees) (tree : ℕ) → overlay trees [] tree ≡ trees tree

@@ -23,7 +23,7 @@ use Rattle.sqlite_resolve.specs.Select.{parts, named, paging, constant_or}
 use Rattle.sqlite_resolve.specs.Program.{source, sources, viewing, single, alone, whole, level, with, query_to, query}
 use Rattle.sqlite_resolve.specs.Compile.{first, read, planned, meaning, returning, command, timed, compiled, with_command}
 use Rattle.sqlite.specs.Listing.{understood, listing_schema}
-use Rattle.office_selecting.proofs.TextLemmas.{plan_by}
+use Rattle.office_tables.proofs.TextLemmas.{plan_by}
 
 -- a SELECT from one table alone, with no WITH and no LIMIT
 pub record IsOfOne (name : Name) (s : Select) : Type 0 where

@@ -4,8 +4,8 @@ use Rattle.sqlite_tied.specs.Compute.{everything}
 use Rattle.sqlite_resolve.specs.Compile.{first}
 use Rattle.office_rows.proofs.Reading as texts
 use Rattle.office_rows.proofs.BareReading as bare_texts
-use Rattle.office_selecting.specs.Reads.{OnlyShows}
-use Rattle.office_selecting.proofs.TextLemmas.{is_read, understands_query}
+use Rattle.office_tables.specs.Reading.{OnlyShows}
+use Rattle.office_tables.proofs.TextLemmas.{is_read, understands_query}
 use Rattle.office_selecting.proofs.MissingLemmas.{ParsedAs, IsOfOne}
 use Rattle.office_selecting.proofs.SettingLemmas.{SelectsSettings}
 
@@ -36,13 +36,6 @@ bare_visit_read = refl
 
 pub bare_visit_shows : OnlyShows bare_texts.select_visit
 bare_visit_shows schema c is = understands_query schema bare_texts.select_visit c bare_visit_read is
-
-kept_read : is_read (first texts.select_kept) ≡ true
-unfolding everything
-kept_read = refl
-
-pub kept_shows : OnlyShows texts.select_kept
-kept_shows schema c is = understands_query schema texts.select_kept c kept_read is
 
 place_read : is_read (first texts.select_place) ≡ true
 unfolding everything

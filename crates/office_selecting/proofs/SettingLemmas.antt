@@ -49,7 +49,7 @@ use Rattle.sqlite_sql.specs.Query.{Query}
 use Rattle.sqlite_draft.specs.Query.{query_of}
 use Rattle.sqlite_typing.specs.Types.{accepts_program}
 use Rattle.sqlite.specs.Listing.{understood, reads_listing, misses_table}
-use Rattle.office_selecting.proofs.TextLemmas.{Plan, plan_by}
+use Rattle.office_tables.proofs.TextLemmas.{Plan, plan_by}
 use Rattle.office_selecting.proofs.MissingLemmas.{Selects, IsOfOne, sourced, page, paged}
 
 abbrev text_column : Name → Column

@@ -1,5 +1,5 @@
 -- What the query of the interchanges that wait means, and what it finds.
-use Rattle.std.proofs.Common.{◌≡◌, ℕ, pos, ◌==◌, ◌&&◌, nat_lt, List, [], ◌∷◌, Bool, true, false, map, filter, codes, refl, ap, ap₂, ◌∙◌, arith, is_gt, int_cmp, Some}
+use Rattle.std.proofs.Common.{◌≡◌, ℕ, pos, ◌&&◌, nat_lt, List, [], ◌∷◌, Bool, true, false, map, codes, refl, ap₂, ◌∙◌, arith, is_gt, int_cmp, Some}
 use Rattle.std.specs.List.Sorted.{IsPermutation}
 use Rattle.std.proofs.lemmas.Bool.Decides.{nat_tests}
 use Rattle.std.proofs.lemmas.Int.{ints}
@@ -19,15 +19,15 @@ use Rattle.sqlite_tied.specs.Compute.{everything}
 use Rattle.sqlite_resolve.specs.Compile.{first}
 use Rattle.sqlite_value.proofs.OrderLemmas.{value_cmp-Int}
 use Rattle.office_rows.specs.Tables.{interchange, office_schema}
-use Rattle.office_rows.specs.Rows.{Interchange, Rows}
+use Rattle.office_rows.specs.Rows.{Rows}
 use Rattle.office_rows.specs.Values.{number, interchange_values}
 use Rattle.office_rows.specs.Stored.{HasRows}
 use Rattle.office_rows.proofs.WriteLemmas.{equal_numbers, rows_of, answer_is}
 use Rattle.office_rows.proofs.HoldLemmas.{holds_read}
 use Rattle.office_rows.proofs.Writing.{equals}
-use Rattle.office_selecting.specs.Reads.{OnlyShows}
+use Rattle.office_tables.specs.Reading.{OnlyShows}
 use Rattle.office_selecting.specs.Waiting.{is_waiting, waiting_in, waiting_values}
-use Rattle.office_selecting.proofs.TextLemmas.{is_read, understands_query}
+use Rattle.office_tables.proofs.TextLemmas.{is_read, understands_query}
 
 abbrev pub select_waiting : List ℕ
 select_waiting = codes "SELECT number FROM interchange WHERE partner = ?1 AND number > ?2"

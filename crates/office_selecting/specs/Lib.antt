@@ -1,3 +1,2 @@
-pub mod Reads
 pub mod Settings
 pub mod Waiting

@@ -1,13 +1,12 @@
-ghost use Rattle.std.specs.Prelude.{◌≡◌, IfOk, IfErr, OnOk, map};
+ghost use Rattle.std.specs.Prelude.{IfOk, IfErr, map};
 ghost use Rattle.std.specs.List.Sorted.{IsPermutation};
 ghost use Rattle.sqlite.specs.Held.{state};
-ghost use Rattle.sqlite.specs.State.{HasCleanDisk, IsUnchanged};
+ghost use Rattle.sqlite.specs.State.{HasCleanDisk};
 ghost use Rattle.office_rows.specs.Rows.{Rows};
 ghost use Rattle.office_rows.specs.Stored.{HasRows};
-ghost use Rattle.office_rows.specs.Tables.{office_schema};
-ghost use Rattle.office_selecting.specs.Reads.{OnlyReads, WritesNothing};
 ghost use Rattle.office_selecting.specs.Waiting.{waiting_in, waiting_values};
 ghost use Rattle.office_tables.specs.Faults.{IsOfStore};
+ghost use Rattle.office_tables.specs.Reading.{Reads};
 
 use office_tables::{TableFault, integer};
 use sqlite::{Alter, Connection, Row};
@@ -22,11 +21,8 @@ pub fn select_waiting<S: Alter>(
     ensures shown { HasCleanDisk (state S.Store conn.new) → IfOk result (λ answer. (rows : Rows) →
         HasRows rows (state S.Store conn.old).now →
         IsPermutation (map waiting_values (waiting_in partner next rows)) answer.items) }
-    ensures same { HasCleanDisk (state S.Store conn.new) → (state S.Store conn.old).now.schema ≡ office_schema →
-        OnOk result (IsUnchanged (state S.Store conn.old) (state S.Store conn.new)) }
-    ensures reads { OnlyReads (state S.Store conn.old) (state S.Store conn.new) }
-    ensures unwritten { WritesNothing (state S.Store conn.old) (state S.Store conn.new) }
     ensures fault { IfErr result IsOfStore }
+    ensures reads { Reads (state S.Store conn.old) (state S.Store conn.new) result }
 {
     Ok(conn.query_all(
         "SELECT number FROM interchange WHERE partner = ?1 AND number > ?2",

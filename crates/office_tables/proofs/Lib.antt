@@ -1,8 +1,10 @@
 pub mod OpenedLemmas
-pub mod OpenLemmas
 pub mod FaultLemmas
+pub mod TextLemmas
 pub mod MadeLemmas
 pub mod MadeTexts
+pub mod QueryTexts
+pub mod ReadingLemmas
 pub mod KeyLemmas
 pub mod PairLemmas
 pub mod WritesLemmas

@@ -10,13 +10,12 @@ use Rattle.sqlite_schema.specs.declared.schema.Schema.{Schema}
 use Rattle.sqlite_schema.specs.declared.schema.Table.{Table}
 use Rattle.sqlite_schema.specs.declared.command.Command.{Command}
 use Rattle.sqlite_schema.specs.declared.command.Command.TheVariants.{CreateTable, Nothing}
-use Rattle.sqlite_schema.specs.declared.command.Returning.{Returning}
 use Rattle.sqlite_resolve.specs.declared.compiled.Compiled.{Compiled}
 use Rattle.sqlite_resolve.specs.declared.error.CompileError.{CompileError}
 use Rattle.sqlite_resolve.specs.declared.error.CompileError.TheVariants.{Exists, Misuse, Unsupported}
 use Rattle.sqlite_resolve.specs.Lowering.{Checked, and_then}
 use Rattle.sqlite_resolve.specs.Scope.{Name}
-use Rattle.sqlite_resolve.specs.Compile.{first, planned, meaning, returning, command, timed, create_table, creates, is_attached, is_reserved, compiled, with_command, table_defined_by, timed_by, returning_by, command_by, small}
+use Rattle.sqlite_resolve.specs.Compile.{first, planned, create_table, creates, is_attached, is_reserved, compiled, with_command, table_defined_by}
 use Rattle.sqlite_resolve.specs.Define as define
 use Rattle.std.specs.Option.{option_or}
 use Rattle.sqlite_schema.specs.Names.{table_named, index_named, view_named}
@@ -28,6 +27,7 @@ use Rattle.sqlite.specs.State.{State, Executes, ExecutesIn, Writes, text_of}
 use Rattle.sqlite.proofs.Callers.{IsPlain, command_of, statement_of, runs_as}
 use Rattle.office_rows.proofs.WriteLemmas.{went, same_value}
 use Rattle.office_tables.specs.Opened.{MakesTables}
+use Rattle.office_tables.proofs.TextLemmas.{and_then_ok, Plan, plan_by, as_planned}
 
 -- ---- the text
 
@@ -47,10 +47,6 @@ stated text (Err e) = []
 
 abbrev IsNewTable : List ℕ → Checked Parsed → Compiled → Type 0
 IsNewTable text parsed c = (c.command ≡ CreateTable) × (c.returning ≡ None) × (c.formats ≡ []) × (text_of text c ≡ stated text parsed)
-
-and_then_ok : {A B : Type 0} (r : Checked A) (f : A → Checked B) (b : B) → and_then r f ≡ Ok b → (a : A) × (r ≡ Ok a) × (f a ≡ Ok b)
-and_then_ok (Ok a) f b h = (a, refl, h)
-and_then_ok (Err e) f b h = absurd cc
 
 free_or_not : (reserved other same b : Bool) → ◌≡◌ {A = Checked Bool} (if reserved then Err Misuse else (if other then Err Exists else (if same then (if false then Ok false else Err Exists) else Ok true))) (Ok b) → b ≡ true
 free_or_not true other same b h = absurd cc
@@ -87,19 +83,6 @@ creates_table schema formats def k new h =
 false_of : (b : Bool) → not b ≡ true → b ≡ false
 false_of true h = absurd cc
 false_of false h = refl
-
-abbrev Plan : Type 0
-Plan = List Name × (Command × Option Returning)
-
--- what is planned for a statement
-abbrev plan_by : Schema → List Name → List Name → Statement → Checked Plan
-plan_by schema formats names s =
-    let times = timed_by schema formats s in
-    and_then (and_then (returning_by schema (small names + small times) s) (λ shown. and_then (command_by schema formats (small names + small times) s) (λ c. Ok (c, shown)))) (λ found. Ok (times, found))
-
-as_planned : (schema : Schema) (p : Parsed) (plan : Plan) → planned schema p ≡ Ok plan → plan_by schema p.formats p.names p.statement ≡ Ok plan
-unfolding planned meaning returning command timed
-as_planned schema p plan h = h
 
 abbrev IsMaking : Plan → Type 0
 IsMaking plan = (plan.0 ≡ []) × (plan.1.0 ≡ CreateTable) × (plan.1.1 ≡ None)

@@ -3,3 +3,4 @@ pub mod Opened
 pub mod Answers
 pub mod Kept
 pub mod Writes
+pub mod Reading

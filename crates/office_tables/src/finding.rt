@@ -1,17 +1,20 @@
-ghost use Rattle.std.specs.Prelude.{◌≡◌, ◌≢◌, ◌<◌, ◌^◌, ⊤, IfOk, IfErr, OnOk, IsTrue, IsUtf8, false, map, filter};
+ghost use Rattle.std.specs.Prelude.{◌≡◌, ◌≢◌, ◌<◌, ◌^◌, ⊤, IfOk, IfErr, IsUtf8, List, map, filter};
 ghost use Rattle.std.specs.List.Sorted.{IsPermutation};
 ghost use Rattle.sqlite.specs.declared.types.Value.TheVariants.{Text, Blob};
 ghost use Rattle.sqlite.specs.Order.{column};
 ghost use Rattle.sqlite.specs.Held.{state};
-ghost use Rattle.sqlite.specs.State.{HasCleanDisk, IsUnchanged, KeepsCommit, Survives};
-ghost use Rattle.office_rows.specs.Tables.{office_schema};
-ghost use Rattle.office_rows.specs.Stored.{HasRows};
+ghost use Rattle.sqlite.specs.State.{HasCleanDisk};
+ghost use Rattle.office_rows.specs.Effects.{is_pair};
+ghost use Rattle.office_rows.specs.Layouts.{IsOfficeSchema};
+ghost use Rattle.office_rows.specs.Stored.{HasRows, Holds};
+ghost use Rattle.office_rows.specs.Tables.{interchange};
 ghost use Rattle.sqlite.specs.declared.error.Error.TheVariants.{SqliteFailure};
 ghost use Rattle.sqlite.specs.declared.error.ErrorCode.TheVariants.{OutOfMemory};
 ghost use Rattle.office_rows.specs.Rows.{Interchange, Partner};
-ghost use Rattle.office_rows.specs.Values.{number, kept_values, next_values};
-ghost use Rattle.office_tables.specs.Answers.{IsKept, IsNextOf, RepliesAs, HasUnfitReply, LacksNext, has_id, pair_of};
+ghost use Rattle.office_rows.specs.Values.{number, interchange_values, kept_values, next_values};
+ghost use Rattle.office_tables.specs.Answers.{IsKept, IsNextOf, RepliesAs, HasUnfitReply, LacksNext, has_id};
 ghost use Rattle.office_tables.specs.Faults.{IsOfStore, IsOfStoreOr};
+ghost use Rattle.office_tables.specs.Reading.{Reads};
 
 use crate::kept_interchange::Kept;
 use crate::table_fault::TableFault;
@@ -33,18 +36,9 @@ pub fn kept<S: Alter>(
         IfErr result (λ fault. (rows : _) → HasRows rows (state S.Store conn.old).now →
         IsOfStoreOr (HasUnfitReply partner number rows) fault) }
     ensures version { IfErr result (IsOfStoreOr ⊤) }
-    ensures same { HasCleanDisk (state S.Store conn.new) → (state S.Store conn.old).now.schema ≡ office_schema →
-        OnOk result (IsUnchanged (state S.Store conn.old) (state S.Store conn.new)) }
-    ensures keeps { HasCleanDisk (state S.Store conn.new) → (state S.Store conn.old).now.schema ≡ office_schema →
-        KeepsCommit (state S.Store conn.old) (state S.Store conn.new) }
-    ensures mode { conn.old.in_transaction ≡ false → conn.new.in_transaction ≡ false }
-    ensures clean { HasCleanDisk (state S.Store conn.new) → HasCleanDisk (state S.Store conn.old) }
-    ensures was_open { HasCleanDisk (state S.Store conn.new) → IsTrue (state S.Store conn.new).is_open →
-        IsTrue (state S.Store conn.old).is_open }
-    ensures survives { (state S.Store conn.old).now.schema ≡ office_schema →
-        Survives (state S.Store conn.old) (state S.Store conn.new) (λ _. ⊥) }
+    ensures reads { Reads (state S.Store conn.old) (state S.Store conn.new) result }
 {
-    let rows = select_kept(conn, partner, number)?;
+    let rows = select_interchange(conn, u32::from(partner), number)?;
     match rows.first() {
         None => Ok(None),
         Some(row) => match read_kept(row) {
@@ -54,29 +48,22 @@ pub fn kept<S: Alter>(
     }
 }
 
-fn select_kept<S: Alter>(
+/// The body and the reply of the interchange of this partner and number, in the tables of any version.
+pub fn select_interchange<S: Alter>(
     conn: &mut Connection<S>,
-    partner: u16,
+    partner: u32,
     number: u32,
 ) -> Result<Vec<Row>, TableFault>
-    ensures shown { HasCleanDisk (state S.Store conn.new) →
-        IfOk result (λ answer. (rows : _) → HasRows rows (state S.Store conn.old).now →
-        IsPermutation (map kept_values (pair_of partner number rows)) answer.items) }
+    ensures shown { HasCleanDisk (state S.Store conn.new) → IsOfficeSchema (state S.Store conn.old).now.schema
+        → IfOk result (λ answer. (interchanges : List Interchange) →
+        Holds interchange interchange_values interchanges ((state S.Store conn.old).now.trees 2) →
+        IsPermutation (map kept_values (filter (is_pair partner number) interchanges)) answer.items) }
     ensures fault { IfErr result IsOfStore }
-    ensures same { HasCleanDisk (state S.Store conn.new) → (state S.Store conn.old).now.schema ≡ office_schema →
-        OnOk result (IsUnchanged (state S.Store conn.old) (state S.Store conn.new)) }
-    ensures keeps { HasCleanDisk (state S.Store conn.new) → (state S.Store conn.old).now.schema ≡ office_schema →
-        KeepsCommit (state S.Store conn.old) (state S.Store conn.new) }
-    ensures mode { conn.old.in_transaction ≡ false → conn.new.in_transaction ≡ false }
-    ensures clean { HasCleanDisk (state S.Store conn.new) → HasCleanDisk (state S.Store conn.old) }
-    ensures was_open { HasCleanDisk (state S.Store conn.new) → IsTrue (state S.Store conn.new).is_open →
-        IsTrue (state S.Store conn.old).is_open }
-    ensures survives { (state S.Store conn.old).now.schema ≡ office_schema →
-        Survives (state S.Store conn.old) (state S.Store conn.new) (λ _. ⊥) }
+    ensures reads { Reads (state S.Store conn.old) (state S.Store conn.new) result }
 {
     Ok(conn.query_all(
         "SELECT body, reply FROM interchange WHERE partner = ?1 AND number = ?2",
-        &[integer(u32::from(partner)), integer(number)],
+        &[integer(partner), integer(number)],
     )?)
 }
 
@@ -115,16 +102,7 @@ pub fn next_of<S: Alter>(conn: &mut Connection<S>, partner: u16) -> Result<u32, 
         IfErr result (λ fault. (rows : _) → HasRows rows (state S.Store conn.old).now →
         IsOfStoreOr (LacksNext partner rows) fault) }
     ensures version { IfErr result (IsOfStoreOr ⊤) }
-    ensures same { HasCleanDisk (state S.Store conn.new) → (state S.Store conn.old).now.schema ≡ office_schema →
-        OnOk result (IsUnchanged (state S.Store conn.old) (state S.Store conn.new)) }
-    ensures keeps { HasCleanDisk (state S.Store conn.new) → (state S.Store conn.old).now.schema ≡ office_schema →
-        KeepsCommit (state S.Store conn.old) (state S.Store conn.new) }
-    ensures mode { conn.old.in_transaction ≡ false → conn.new.in_transaction ≡ false }
-    ensures clean { HasCleanDisk (state S.Store conn.new) → HasCleanDisk (state S.Store conn.old) }
-    ensures was_open { HasCleanDisk (state S.Store conn.new) → IsTrue (state S.Store conn.new).is_open →
-        IsTrue (state S.Store conn.old).is_open }
-    ensures survives { (state S.Store conn.old).now.schema ≡ office_schema →
-        Survives (state S.Store conn.old) (state S.Store conn.new) (λ _. ⊥) }
+    ensures reads { Reads (state S.Store conn.old) (state S.Store conn.new) result }
 {
     let rows = select_next(conn, partner)?;
     match rows.first() {
@@ -138,16 +116,7 @@ fn select_next<S: Alter>(conn: &mut Connection<S>, partner: u16) -> Result<Vec<R
         IfOk result (λ answer. (rows : _) → HasRows rows (state S.Store conn.old).now →
         IsPermutation (map next_values (filter (has_id partner) rows.partners)) answer.items) }
     ensures fault { IfErr result IsOfStore }
-    ensures same { HasCleanDisk (state S.Store conn.new) → (state S.Store conn.old).now.schema ≡ office_schema →
-        OnOk result (IsUnchanged (state S.Store conn.old) (state S.Store conn.new)) }
-    ensures keeps { HasCleanDisk (state S.Store conn.new) → (state S.Store conn.old).now.schema ≡ office_schema →
-        KeepsCommit (state S.Store conn.old) (state S.Store conn.new) }
-    ensures mode { conn.old.in_transaction ≡ false → conn.new.in_transaction ≡ false }
-    ensures clean { HasCleanDisk (state S.Store conn.new) → HasCleanDisk (state S.Store conn.old) }
-    ensures was_open { HasCleanDisk (state S.Store conn.new) → IsTrue (state S.Store conn.new).is_open →
-        IsTrue (state S.Store conn.old).is_open }
-    ensures survives { (state S.Store conn.old).now.schema ≡ office_schema →
-        Survives (state S.Store conn.old) (state S.Store conn.new) (λ _. ⊥) }
+    ensures reads { Reads (state S.Store conn.old) (state S.Store conn.new) result }
 {
     Ok(conn.query_all(
         "SELECT next FROM partner WHERE id = ?1",

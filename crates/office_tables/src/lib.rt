@@ -18,7 +18,7 @@ mod visits;
 
 pub use blocks::insert_blocks;
 pub use creating::create_tables;
-pub use finding::{kept, next_of, read_kept};
+pub use finding::{kept, next_of, read_kept, select_interchange};
 pub use interchanges::{insert_interchange, keep, keep_taken, set_reply};
 pub use kept_interchange::Kept;
 pub use lines::{delete_line, insert_line, insert_listing, set_done};

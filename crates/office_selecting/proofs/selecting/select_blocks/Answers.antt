@@ -1,12 +1,11 @@
 use Rattle.sqlite.specs.Held.{state}
-use Rattle.office_rows.proofs.Reading.{select_block_plain}
 use Rattle.office_rows.proofs.Listed.{lists_block}
 use Rattle.office_rows.proofs.StepLemmas.{if_ok}
 use Rattle.office_selecting.proofs.QueryTexts.{block_shows}
 use Rattle.office_selecting.proofs.selecting.select_blocks.Goals as goal
 
 pub select-requires : goal.select-requires
-select-requires g c = record { plain = select_block_plain; shows = block_shows }
+select-requires g c = block_shows
 
 pub returns-clause-shown : goal.returns-clause-shown
 returns-clause-shown g c clean layout is =

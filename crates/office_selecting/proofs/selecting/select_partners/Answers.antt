@@ -1,12 +1,11 @@
 use Rattle.sqlite.specs.Held.{state}
-use Rattle.office_rows.proofs.Reading.{select_partner_plain}
 use Rattle.office_rows.proofs.Listed.{lists_partner}
 use Rattle.office_rows.proofs.StepLemmas.{if_ok}
 use Rattle.office_selecting.proofs.QueryTexts.{partner_shows}
 use Rattle.office_selecting.proofs.selecting.select_partners.Goals as goal
 
 pub select-requires : goal.select-requires
-select-requires g c = record { plain = select_partner_plain; shows = partner_shows }
+select-requires g c = partner_shows
 
 pub returns-clause-shown : goal.returns-clause-shown
 returns-clause-shown g c clean layout is =

@@ -1,12 +1,11 @@
 use Rattle.sqlite.specs.Held.{state}
-use Rattle.office_rows.proofs.Reading.{select_place_plain}
 use Rattle.office_rows.proofs.Listed.{lists_place}
 use Rattle.office_rows.proofs.StepLemmas.{if_ok}
 use Rattle.office_selecting.proofs.QueryTexts.{place_shows}
 use Rattle.office_selecting.proofs.selecting.select_places.Goals as goal
 
 pub select-requires : goal.select-requires
-select-requires g c = record { plain = select_place_plain; shows = place_shows }
+select-requires g c = place_shows
 
 pub returns-clause-shown : goal.returns-clause-shown
 returns-clause-shown g c clean layout is =

@@ -1,16 +1,14 @@
 use Rattle.std.proofs.Common.{[]}
 use Rattle.sqlite.specs.Held.{state}
-use Rattle.office_rows.proofs.Reading.{select_setting_plain}
 use Rattle.office_rows.proofs.Listed.{lists_setting}
 use Rattle.office_rows.proofs.StepLemmas.{if_ok}
 use Rattle.office_rows.proofs.Reading.{select_setting}
-use Rattle.office_selecting.proofs.ReadLemmas.{never_shown}
-use Rattle.office_selecting.proofs.ListedLemmas.{setting_missing, lists_settings}
+use Rattle.office_selecting.proofs.ListedLemmas.{never_shown, setting_missing, lists_settings}
 use Rattle.office_selecting.proofs.QueryTexts.{setting_shows}
 use Rattle.office_selecting.proofs.selecting.select_settings.Goals as goal
 
 pub select-requires : goal.select-requires
-select-requires g c = record { plain = select_setting_plain; shows = setting_shows }
+select-requires g c = setting_shows
 
 pub returns-clause-shown : goal.returns-clause-shown
 returns-clause-shown g c clean layout is =

@@ -2,9 +2,8 @@ use Rattle.std.proofs.Common.{[], ◌∷◌}
 use Rattle.sqlite.specs.Held.{state}
 use Rattle.sqlite.specs.State.{Shown}
 use Rattle.office_rows.specs.Values.{number}
-use Rattle.office_rows.proofs.ReadLemmas.{shown_same}
-use Rattle.office_selecting.proofs.ReadLemmas.{plain_in, reads_shown, reads_failed, writes_nothing_shown, writes_nothing_failed}
-use Rattle.office_selecting.proofs.WaitingLemmas.{select_waiting, waiting_plain, waiting_shows, finds_waiting}
+use Rattle.office_tables.proofs.ReadingLemmas.{reads_shown, reads_failed}
+use Rattle.office_selecting.proofs.WaitingLemmas.{select_waiting, waiting_shows, finds_waiting}
 use Rattle.office_selecting.proofs.waiting.select_waiting.Goals as goal
 
 pub returns-clause-shown : goal.returns-clause-shown
@@ -15,32 +14,14 @@ returns-clause-shown g c clean rows has =
     let h : Shown select_waiting params old new c.in_ok-query_all.field-0.items = rw (c.integer.ensures, c.integer-2.ensures) at (c.in_ok-query_all.ensures.ok clean) in
     finds_waiting old new rows c.in_ok-query_all.field-0.items has c.args.partner c.args.next h
 
-pub returns-clause-same : goal.returns-clause-same
-returns-clause-same g c clean is =
-    let old = state g.S.Store c.args.conn.now in
-    let new = state g.S.Store c.query_all.new.self in
-    shown_same select_waiting _ old new c.in_ok-query_all.field-0.items (plain_in select_waiting old waiting_plain is) (c.in_ok-query_all.ensures.ok clean)
-
 pub returns-clause-reads : goal.returns-clause-reads
 returns-clause-reads g c =
     let old = state g.S.Store c.args.conn.now in
     let new = state g.S.Store c.query_all.new.self in
-    reads_shown select_waiting _ old new c.in_ok-query_all.field-0.items waiting_plain c.in_ok-query_all.ensures.ok c.query_all.ensures.mode c.query_all.ensures.survives
+    reads_shown select_waiting _ old new waiting_shows c.in_ok-query_all.field-0.items _ c.in_ok-query_all.ensures.ok c.query_all.ensures.mode c.query_all.ensures.survives
 
 pub returns-in_err-query_all-clause-reads : goal.returns-in_err-query_all-clause-reads
 returns-in_err-query_all-clause-reads g c =
     let old = state g.S.Store c.args.conn.now in
     let new = state g.S.Store c.query_all.new.self in
-    reads_failed select_waiting _ old new _ waiting_plain c.in_err-query_all.ensures.err c.query_all.ensures.mode c.query_all.ensures.survives
-
-pub returns-clause-unwritten : goal.returns-clause-unwritten
-returns-clause-unwritten g c =
-    let old = state g.S.Store c.args.conn.now in
-    let new = state g.S.Store c.query_all.new.self in
-    writes_nothing_shown select_waiting _ old new waiting_shows c.in_ok-query_all.field-0.items c.in_ok-query_all.ensures.ok c.query_all.ensures.survives
-
-pub returns-in_err-query_all-clause-unwritten : goal.returns-in_err-query_all-clause-unwritten
-returns-in_err-query_all-clause-unwritten g c =
-    let old = state g.S.Store c.args.conn.now in
-    let new = state g.S.Store c.query_all.new.self in
-    writes_nothing_failed select_waiting _ old new waiting_shows _ c.in_err-query_all.ensures.err c.query_all.ensures.survives
+    reads_failed select_waiting _ old new waiting_shows _ _ c.from_residual.ensures.0 c.in_err-query_all.ensures.err c.query_all.ensures.mode c.query_all.ensures.survives

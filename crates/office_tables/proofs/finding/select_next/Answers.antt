@@ -1,41 +1,12 @@
-use Rattle.std.proofs.Common.{[], ◌∷◌, sym, subst}
-use Rattle.sqlite.specs.Listing.{understood}
+use Rattle.std.proofs.Common.{[], ◌∷◌}
 use Rattle.sqlite.specs.Held.{state}
-use Rattle.sqlite.specs.State.{Shown, CommitsShowing, Survives}
-use Rattle.sqlite.proofs.Callers.{IsPlain}
-use Rattle.office_tables.proofs.OpenLemmas.{shown_open, failed_open}
+use Rattle.sqlite.specs.State.{Shown}
 use Rattle.office_rows.specs.Values.{number}
 use Rattle.office_rows.proofs.Reading as texts
-use Rattle.office_rows.proofs.ReadLemmas.{shown_same, shown_keeps, failed_keeps, query_survives}
 use Rattle.office_rows.proofs.Found.{finds_next}
+use Rattle.office_tables.proofs.QueryTexts.{next_shows}
+use Rattle.office_tables.proofs.ReadingLemmas.{reads_shown, reads_failed}
 use Rattle.office_tables.proofs.finding.select_next.Goals as goal
-
-pub returns-in_err-query_all-clause-keeps : goal.returns-in_err-query_all-clause-keeps
-returns-in_err-query_all-clause-keeps g c clean is =
-    let old = state g.S.Store c.args.conn.now in
-    let new = state g.S.Store c.query_all.new.self in
-    let params = number c.args.partner ∷ [] in
-    let plain : IsPlain (understood old.now.schema texts.select_next) = subst (λ s. IsPlain (understood s texts.select_next)) (sym is) texts.select_next_plain in
-    let h = rw (c.integer.ensures, c.from.ensures) at (c.in_err-query_all.ensures.err clean) in
-    failed_keeps texts.select_next params old new _ plain h
-
-pub returns-in_err-query_all-clause-survives : goal.returns-in_err-query_all-clause-survives
-returns-in_err-query_all-clause-survives g c is =
-    let old = state g.S.Store c.args.conn.now in
-    let new = state g.S.Store c.query_all.new.self in
-    let params = number c.args.partner ∷ [] in
-    let plain : IsPlain (understood old.now.schema texts.select_next) = subst (λ s. IsPlain (understood s texts.select_next)) (sym is) texts.select_next_plain in
-    let h : Survives old new (CommitsShowing texts.select_next params old) = rw (c.integer.ensures, c.from.ensures) at (c.query_all.ensures.survives) in
-    query_survives texts.select_next params old new plain h
-
-pub returns-clause-survives : goal.returns-clause-survives
-returns-clause-survives g c is =
-    let old = state g.S.Store c.args.conn.now in
-    let new = state g.S.Store c.query_all.new.self in
-    let params = number c.args.partner ∷ [] in
-    let plain : IsPlain (understood old.now.schema texts.select_next) = subst (λ s. IsPlain (understood s texts.select_next)) (sym is) texts.select_next_plain in
-    let h : Survives old new (CommitsShowing texts.select_next params old) = rw (c.integer.ensures, c.from.ensures) at (c.query_all.ensures.survives) in
-    query_survives texts.select_next params old new plain h
 
 pub returns-clause-shown : goal.returns-clause-shown
 returns-clause-shown g c clean rows has =
@@ -45,26 +16,14 @@ returns-clause-shown g c clean rows has =
     let h : Shown texts.select_next params old new c.in_ok-query_all.field-0.items = rw (c.integer.ensures, c.from.ensures) at (c.in_ok-query_all.ensures.ok clean) in
     finds_next old new rows c.in_ok-query_all.field-0.items has c.args.partner h
 
-pub returns-clause-same : goal.returns-clause-same
-returns-clause-same g c clean is =
+pub returns-clause-reads : goal.returns-clause-reads
+returns-clause-reads g c =
     let old = state g.S.Store c.args.conn.now in
     let new = state g.S.Store c.query_all.new.self in
-    let params = number c.args.partner ∷ [] in
-    let plain : IsPlain (understood old.now.schema texts.select_next) = subst (λ s. IsPlain (understood s texts.select_next)) (sym is) texts.select_next_plain in
-    let h : Shown texts.select_next params old new c.in_ok-query_all.field-0.items = rw (c.integer.ensures, c.from.ensures) at (c.in_ok-query_all.ensures.ok clean) in
-    shown_same texts.select_next params old new c.in_ok-query_all.field-0.items plain h
+    reads_shown texts.select_next _ old new next_shows c.in_ok-query_all.field-0.items _ c.in_ok-query_all.ensures.ok c.query_all.ensures.mode c.query_all.ensures.survives
 
-pub returns-clause-keeps : goal.returns-clause-keeps
-returns-clause-keeps g c clean is =
+pub returns-in_err-query_all-clause-reads : goal.returns-in_err-query_all-clause-reads
+returns-in_err-query_all-clause-reads g c =
     let old = state g.S.Store c.args.conn.now in
     let new = state g.S.Store c.query_all.new.self in
-    let params = number c.args.partner ∷ [] in
-    let plain : IsPlain (understood old.now.schema texts.select_next) = subst (λ s. IsPlain (understood s texts.select_next)) (sym is) texts.select_next_plain in
-    let h : Shown texts.select_next params old new c.in_ok-query_all.field-0.items = rw (c.integer.ensures, c.from.ensures) at (c.in_ok-query_all.ensures.ok clean) in
-    shown_keeps texts.select_next params old new c.in_ok-query_all.field-0.items plain h
-
-pub returns-in_err-query_all-clause-was_open : goal.returns-in_err-query_all-clause-was_open
-returns-in_err-query_all-clause-was_open g c clean is = failed_open _ _ (state g.S.Store c.args.conn.now) (state g.S.Store c.query_all.new.self) _ (c.in_err-query_all.ensures.err clean) is
-
-pub returns-clause-was_open : goal.returns-clause-was_open
-returns-clause-was_open g c clean is = shown_open _ _ (state g.S.Store c.args.conn.now) (state g.S.Store c.query_all.new.self) _ (c.in_ok-query_all.ensures.ok clean)
+    reads_failed texts.select_next _ old new next_shows _ _ c.from_residual.ensures.0 c.in_err-query_all.ensures.err c.query_all.ensures.mode c.query_all.ensures.survives

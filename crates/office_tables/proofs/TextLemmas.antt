@@ -1,5 +1,5 @@
 -- A text that is a SELECT writes nothing, under any schema.
-use Rattle.std.proofs.Common.{◌≡◌, ℕ, ◌+◌, Bool, true, false, List, Option, None, Result, Ok, Err, inl, inr, refl, sym, subst}
+use Rattle.std.proofs.Common.{◌≡◌, ℕ, ◌+◌, Bool, true, false, List, Option, None, Ok, Err, inl, inr, refl, sym, subst}
 use Rattle.std.proofs.lemmas.Bool.{cases_Bool}
 use Rattle.sqlite_ast.specs.declared.Statement.{Statement}
 use Rattle.sqlite_ast.specs.declared.Statement.TheVariants as written
@@ -12,6 +12,7 @@ use Rattle.sqlite_resolve.specs.Lowering.{Checked, and_then}
 use Rattle.sqlite_resolve.specs.Scope.{Name}
 use Rattle.sqlite_resolve.specs.Compile.{first, planned, meaning, returning, command, timed, compiled, with_command, timed_by, returning_by, command_by, small}
 use Rattle.sqlite.specs.Listing.{understood, reads_listing, listing_schema, if_select, is_select}
+use Rattle.office_rows.proofs.WriteLemmas.{same_value}
 
 abbrev is_query : Statement → Bool
 is_query (written.Select s) = true
@@ -22,22 +23,20 @@ abbrev pub is_read : Checked Parsed → Bool
 is_read (Ok p) = is_query p.statement
 is_read (Err e) = false
 
-same_value : {A E : Type 0} {a b : A} → ◌≡◌ {A = Result A E} (Ok a) (Ok b) → a ≡ b
-same_value h = cc
-
-and_then_ok : {A B : Type 0} (r : Checked A) (f : A → Checked B) (b : B) → and_then r f ≡ Ok b → (a : A) × (r ≡ Ok a) × (f a ≡ Ok b)
+pub and_then_ok : {A B : Type 0} (r : Checked A) (f : A → Checked B) (b : B) → and_then r f ≡ Ok b → (a : A) × (r ≡ Ok a) × (f a ≡ Ok b)
 and_then_ok (Ok a) f b h = (a, refl, h)
 and_then_ok (Err e) f b h = absurd cc
 
 abbrev pub Plan : Type 0
 Plan = List Name × (Command × Option Returning)
 
+-- what is planned for a statement
 abbrev pub plan_by : Schema → List Name → List Name → Statement → Checked Plan
 plan_by schema formats names s =
     let times = timed_by schema formats s in
     and_then (and_then (returning_by schema (small names + small times) s) (λ shown. and_then (command_by schema formats (small names + small times) s) (λ c. Ok (c, shown)))) (λ found. Ok (times, found))
 
-as_planned : (schema : Schema) (p : Parsed) (plan : Plan) → planned schema p ≡ Ok plan → plan_by schema p.formats p.names p.statement ≡ Ok plan
+pub as_planned : (schema : Schema) (p : Parsed) (plan : Plan) → planned schema p ≡ Ok plan → plan_by schema p.formats p.names p.statement ≡ Ok plan
 unfolding planned meaning returning command timed
 as_planned schema p plan h = h
 
