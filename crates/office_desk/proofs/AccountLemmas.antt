@@ -26,13 +26,12 @@ use Rattle.office_setup.specs.Parties.{partner_codes, partner_from, partner_kind
 use Rattle.office_setup.specs.declared.account.Account.{Account}
 use Rattle.office_setup.proofs.Named.{one_further}
 use Rattle.office_setup.specs.PartyCodes.{is_party_code}
-use Rattle.office_setup.specs.Setups.{SetupContent, parties_in, setup_content, setup_with_account}
+use Rattle.office_setup.specs.Setups.{SetupContent, setup_content, setup_with_account}
 use Rattle.office_setup.specs.Given.{IsGiven}
-use Rattle.office_admission.specs.Accounts.{AccountContent, AccountPair, account_answer, added_as, by_kind, by_number, content_after, content_with, refused_for}
+use Rattle.office_admission.specs.Accounts.{AccountContent, AccountPair, account_answer, added_as, by_kind, by_number, content_after, refused_for}
 use Rattle.office_admission.specs.Deliveries.{deliveries_of}
 use Rattle.office_admission.proofs.Adding.{account_adds, added_last, content_on, given_after, no_run_beyond, parties_grown}
 use Rattle.office_taking.specs.Growth.{with_account}
-use Rattle.office_taking.specs.Taking.{MachineState}
 use Rattle.office_history.specs.After.{AreAfter, machine_after, machine_with}
 use Rattle.office_history.specs.Laws.{AddsAccount}
 use Rattle.office_history.proofs.Growing.{account_adds_row}

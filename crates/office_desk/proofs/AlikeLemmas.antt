@@ -13,9 +13,8 @@ use Rattle.office_admission.specs.Admission.{admission}
 use Rattle.office_admission.specs.Refusals.{refusal_of}
 use Rattle.office_replies.specs.Events.{Event}
 use Rattle.office_replies.specs.declared.fault.Fault.{Fault}
-use Rattle.office_rows.specs.Rows.{Rows}
 use Rattle.office_setup.specs.Setups.{SetupContent, parties_in}
-use Rattle.office_history.specs.After.{AreAfter, SaysSame, content_after, deliveries_of, machine_after, opening_of, taking_in}
+use Rattle.office_history.specs.After.{SaysSame, content_after, deliveries_of, machine_after, opening_of, taking_in}
 use Rattle.office_history.specs.Laws.{told_of}
 use Rattle.office_history.proofs.Alike.{after_with_codes, delivered_with_codes, now_with_codes, opening_like, reply_like, state_like, taking_with_codes, with_codes}
 use Rattle.office_desk.specs.Answers.{code_of, told_answer, answer_at, answer_to}

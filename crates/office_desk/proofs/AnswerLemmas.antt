@@ -4,6 +4,7 @@ use Rattle.std.specs.Prelude.{slice_index_or, slice_set}
 use Rattle.std.specs.declared.alloc.Global.{Global}
 use Rattle.std.proofs.lemmas.List.{length-map}
 use Rattle.partner_core.specs.Answers as told
+use Rattle.partner_core.specs.Deliveries.{delivery}
 use Rattle.office_replies.specs.Bodies.{answer_text, waiting_text, clash_text}
 use Rattle.office_replies.specs.Contents.{content_of}
 use Rattle.office_replies.specs.declared.response.Response.TheVariants as response
@@ -48,7 +49,7 @@ pub takes_next : (rows : Rows) (partner number : ℕ) (text code : List ℕ) (se
     AreTakenFrom partner (texts_with rows partner number text) number (machine_of setup old.terminal) (taken_contents items) (machine_of setup new.terminal) →
     new.nexts.items ≡ slice_set old.nexts.items (partner - 1) (number + length items) →
     string_bytes body ≡ answer_text (codes "taken") number code (string_bytes first.reply) → HasRows rows was.now → was.now ≡ was.committed → IsSame was mid →
-    Commits (with_run partner number text (taken_contents items)) mid end → TakesNext rows partner number text code setup old (response.Taken body) new end
+    Commits (with_run partner number text (taken_contents items)) mid end → TakesNext rows (delivery partner number text) code setup old (response.Taken body) new end
 takes_next rows partner number text code setup old new body first items was mid end some is taken raised bytes has settled same wrote =
     let parts = split first items some is in
     let before : HasRows rows mid.committed = subst (HasRows rows) (settled ∙ sym same.committed) has in

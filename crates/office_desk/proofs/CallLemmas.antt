@@ -1,5 +1,5 @@
 -- Deliveries, one behind the other.
-use Rattle.std.proofs.Common.{◌≡◌, ℕ, List, [], ◌∷◌, sym, subst}
+use Rattle.std.proofs.Common.{ℕ, List, [], ◌∷◌, sym, subst}
 use Rattle.sqlite.specs.Held.{state}
 use Rattle.sqlite_trees.specs.declared.store.Store.{Ghosts}
 use Rattle.office_replies.specs.Delivering.{LeadsOn, with_answered}

@@ -1,9 +1,9 @@
 -- What a crash leaves behind each delivery.
-use Rattle.std.proofs.Common.{◌≡◌, ◌⊎◌, inl, inr, ℕ, ◌+◌, ◌<◌, List, [], ◌∷◌, ◌++◌, None, Some, Option, Result, Ok, Err, IfOk, IsTrue, OnOk, OnErr, sym, subst, ◌∙◌, arith}
+use Rattle.std.proofs.Common.{◌≡◌, ◌⊎◌, inl, inr, ℕ, ◌+◌, ◌<◌, List, [], ◌∷◌, ◌++◌, None, Some, Option, Err, IsTrue, sym, subst, ◌∙◌, arith}
 use Rattle.sqlite.specs.State.{State, HasCleanDisk, Survives}
 use Rattle.sqlite.specs.Tree.{Trees}
 use Rattle.edi_segments.specs.Interchange.{interchange_of}
-use Rattle.partner_core.specs.Deliveries.{run}
+use Rattle.partner_core.specs.Deliveries.{delivery, run}
 use Rattle.office_replies.specs.Events.{Event, delivered}
 use Rattle.office_replies.specs.declared.fault.Fault.{Fault}
 use Rattle.office_replies.specs.declared.response.Response.{Response}
@@ -21,7 +21,7 @@ use Rattle.office_history.specs.Cascade.{AreTakenFrom, text_in, texts_with, with
 use Rattle.office_history.specs.Laws.{IsFor}
 use Rattle.office_history.proofs.Lawful.{refused_adds, used_adds, early_adds, next_adds}
 use Rattle.office_delivery.specs.Reading.{OnlyReads}
-use Rattle.office_desk.specs.Crashes.{HasCommitted, IsAfter, Leaves, LeavesBehind}
+use Rattle.office_desk.specs.Crashes.{IsAfter, Leaves, LeavesBehind}
 use Rattle.office_desk.specs.Beside.{IsAt}
 use Rattle.office_desk.specs.Telling.{Comes, Holds, IsRunDone}
 use Rattle.office_desk.specs.declared.beside.Beside.{Beside}
@@ -40,25 +40,6 @@ pub reads_less : (old new : State) → HasCleanDisk new → old.now.schema ≡ o
 reads_less old new clean schema reads = leaves_less old new clean (reads.survives clean schema)
 
 -- ---- one delivery more
-
--- ---- results
-
-pub on_ok : {X E : Type 0} {P Q : Type 0} (r : Result X E) → (P → Q) → OnOk r P → OnOk r Q
-on_ok (Ok x) f is = f is
-on_ok (Err e) f is = is
-
-pub on_err : {X E : Type 0} {Q : Type 0} (r : Result X E) → Q → OnErr r Q
-on_err (Ok x) is = tt
-on_err (Err e) is = is
-
-pub on_err_then : {X E : Type 0} {P Q : Type 0} (r : Result X E) → (P → Q) → OnErr r P → OnErr r Q
-on_err_then (Ok x) f is = is
-on_err_then (Err e) f is = f is
-
--- what holds of an answer, by what is told of it where the first is so
-pub on_told : {X E : Type 0} {P O Q : Type 0} {F : X → Type 0} (r : Result X E) → OnOk r P → (O → IfOk r F) → (P → (x : X) → (O → F x) → Q) → OnOk r Q
-on_told (Ok x) is told f = f is x told
-on_told (Err e) is told f = is
 
 pub either_of : {A B C D : Type 0} → (A → C) → (B → D) → A ⊎ B → C ⊎ D
 either_of f g (inl x) = inl (f x)
@@ -79,7 +60,7 @@ module _ (content : SetupContent) (es : List Event) (sent : List ℕ) where
       let here : text_in is.rows partner number ≡ Some kept = is.after.texts partner number ∙ sym (after.texts partner number) ∙ there in
       record { rows = is.rows; are = is.are; after = (used_adds content es is.rows sent partner number kept is.after is_for here).rows_are }
 
-  pub early_after : (rows : Rows) (text : List ℕ) (partner number next : ℕ) (db : Trees) → AreAfter content es rows → Comes content es sent text partner number → text_in rows partner number ≡ None →
+  pub early_after : (rows : Rows) (text : List ℕ) (partner number next : ℕ) (db : Trees) → AreAfter content es rows → Comes content es sent (delivery partner number text) → text_in rows partner number ≡ None →
       next ≡ run (deliveries_of content es) partner + 1 → next < number → StoresRows (with_kept partner number text rows) db → IsAfter content (es ++ delivered sent ∷ []) db
   early_after rows text partner number next db after comes free is later are = record {
     rows = with_kept partner number (interchange_of sent) rows;
@@ -88,8 +69,8 @@ module _ (content : SetupContent) (es : List Event) (sent : List ℕ) where
   }
 
   pub run_after : (rows : Rows) (text : List ℕ) (partner number next : ℕ) (now : Beside) (db : Trees) → IsGiven content → AreAfter content es rows → IsAt content es now →
-      Comes content es sent text partner number → text_in rows partner number ≡ None → next ≡ run (deliveries_of content es) partner + 1 → number ≡ next →
-      IsRunDone rows partner number text (machine_with (content_after content es) now.terminal) db → IsAfter content (es ++ delivered sent ∷ []) db
+      Comes content es sent (delivery partner number text) → text_in rows partner number ≡ None → next ≡ run (deliveries_of content es) partner + 1 → number ≡ next →
+      IsRunDone rows (delivery partner number text) (machine_with (content_after content es) now.terminal) db → IsAfter content (es ++ delivered sent ∷ []) db
   run_after rows text partner number next now db given after at comes free is same done =
       let own = interchange_of sent in
       let here : AreTakenFrom partner (texts_with rows partner number own) number (machine_after content es) done.taken done.new =
@@ -112,10 +93,10 @@ module _ (content : SetupContent) (es : List Event) (sent : List ℕ) where
   answered_behind response.NotNow s leaves = λ db left. inr (leaves db left)
 
 -- a crash leaves what was committed
-pub committed_leaves : (content : SetupContent) (es : List Event) (s : State) (rows : Rows) → HasCommitted s → HasRows rows s.committed → AreAfter content es rows → Leaves content es s
-committed_leaves content es s rows done has after db left = record { rows = rows; are = subst (StoresRows rows) (sym (done.alone db left)) (stores rows s.committed has); after = after }
+pub committed_leaves : (content : SetupContent) (es : List Event) (s : State) (rows : Rows) → ((db : Trees) → s.may_leave db → db ≡ s.committed.trees) → HasRows rows s.committed → AreAfter content es rows → Leaves content es s
+committed_leaves content es s rows alone has after db left = record { rows = rows; are = subst (StoresRows rows) (sym (alone db left)) (stores rows s.committed has); after = after }
 
 -- while it is open, a crash leaves what was committed alone, so the rows that are held
 pub held_leaves : (content : SetupContent) (es : List Event) (now : SetupContent) (s : State) (there : Option Beside) → IsTrue s.is_open → ((db : Trees) → s.may_leave db → db ≡ s.committed.trees) →
     Holds content es now s.committed there → Leaves content es s
-held_leaves content es now s there is_open alone holds = committed_leaves content es s holds.rows (record { is_open = is_open; alone = alone }) holds.has holds.after
+held_leaves content es now s there is_open alone holds = committed_leaves content es s holds.rows alone holds.has holds.after

@@ -9,7 +9,7 @@ use Rattle.edi_syntax.specs.Envelope.{header_of}
 use Rattle.partner_core.specs.Answers.{Told}
 use Rattle.partner_core.specs.Answers as told
 use Rattle.office_replies.specs.Events.{Event, delivered}
-use Rattle.office_replies.specs.Contents.{AnswerContent, GivesOrNotNow, content_of}
+use Rattle.office_replies.specs.Contents.{GivesOrNotNow, content_of}
 use Rattle.office_replies.specs.Delivering.{with_answered}
 use Rattle.office_replies.specs.declared.response.Response.{Response}
 use Rattle.office_replies.specs.declared.response.Response.TheVariants as response
@@ -34,6 +34,7 @@ use Rattle.office_desk.specs.Offices.{DeskHolds}
 use Rattle.office_desk.specs.declared.beside.Beside.{Beside}
 use Rattle.office_desk.specs.declared.desk.Desk.{Desk}
 use Rattle.office_tables.specs.declared.table_fault.TableFault.{TableFault}
+use Rattle.office_tables.specs.declared.table_fault.TableFault.TheVariants.{Memory}
 use Rattle.partner_core.specs.Deliveries.{delivery}
 use Rattle.office_desk.specs.Crashes.{Leaves, LeavesBehind}
 use Rattle.office_desk.proofs.CrashLemmas.{answered_behind, refused_leaves}
@@ -77,6 +78,16 @@ notes_none (response.Refused fault) last is = refl
 notes_none (response.RefusedWithContrl fault body) last is = refl
 notes_none response.NotNow last is = absurd is
 
+-- memory that was refused is a fault
+pub notes_memory : (given : Response) (old new : Option TableFault) → NotesMemory given old new → NotesFault given old new
+notes_memory (response.Taken body) old new is = is
+notes_memory (response.Repeat body) old new is = is
+notes_memory (response.Waiting body) old new is = is
+notes_memory (response.Clash body) old new is = is
+notes_memory (response.Refused fault) old new is = is
+notes_memory (response.RefusedWithContrl fault body) old new is = is
+notes_memory response.NotNow old new is = (Memory, is)
+
 module _ {S : Type 0} (g : Ghosts S) (content : SetupContent) (es : List Event) where
   -- the answer, and what is held behind it
   abbrev Next : List ℕ → Response → SetupContent → Database → Option Beside → Type 0
@@ -91,7 +102,7 @@ module _ {S : Type 0} (g : Ghosts S) (content : SetupContent) (es : List Event) 
 
   -- a text that its accounts admit comes for that partner
   pub comes_for : (sent text : List ℕ) (desk : Desk S g) (partner number : ℕ) → text ≡ interchange_of sent → StandsFor g content es desk → admission (parties_of desk.setup) text ≡ Ok (partner, number) →
-      Comes content es sent text partner number
+      Comes content es sent (delivery partner number text)
   comes_for sent text desk partner number is stands admits = record {
     text_is = is;
     is_for = subst (λ P. admission P (interchange_of sent) ≡ Ok (partner, number)) (parties_now desk stands) (subst (λ t. admission (parties_of desk.setup) t ≡ Ok (partner, number)) is admits);
@@ -144,7 +155,7 @@ module _ {S : Type 0} (g : Ghosts S) (content : SetupContent) (es : List Event) 
   -- a text that is admitted, and was taken in
   pub taken_in : (sent text : List ℕ) (given : Response) (old : Desk S g) (db : Database) (there : Option Beside) (partner number : ℕ) (code : List ℕ) → text ≡ interchange_of sent → StandsFor g content es old →
       admission (parties_of old.setup) text ≡ Ok (partner, number) → code ≡ code_of (parties_of old.setup) partner →
-      (StandsFor g content es old → Comes content es sent text partner number → Answers content es sent partner number code given (setup_content old.setup) db there) →
+      (StandsFor g content es old → Comes content es sent (delivery partner number text) → Answers content es sent (delivery partner number text) code given (setup_content old.setup) db there) →
       Next sent given (setup_content old.setup) db there
   taken_in sent text given old db there partner number code is stands admits is_code takes =
       let comes = comes_for sent text old partner number is stands admits in

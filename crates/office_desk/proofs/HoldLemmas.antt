@@ -10,7 +10,7 @@ use Rattle.sqlite.specs.Effect.{Database}
 use Rattle.sqlite.specs.State.{State}
 use Rattle.edi_segments.specs.Interchange.{interchange_of}
 use Rattle.partner_core.specs.Answers.{Told, Waiting, answer_by}
-use Rattle.partner_core.specs.Deliveries.{run}
+use Rattle.partner_core.specs.Deliveries.{delivery, run}
 use Rattle.partner_core.specs.Numbered.{with_number}
 use Rattle.partner_core.specs.Standings.{standing_of, is_same_text}
 use Rattle.partner_core.specs.declared.standing.Standing.TheVariants.{Known, Other}
@@ -111,9 +111,9 @@ beside_same content es sent (Some there) same runs beside =
     }
 
 pub used_answers : (content : SetupContent) (es : List Event) (sent text : List ℕ) (partner number next : ℕ) (code : List ℕ) (kept : Kept) (response : Response) (now : SetupContent) (was db : Database) (there : Option Beside) →
-    (holds : Holds content es now was there) → was ≡ db → Comes content es sent text partner number → IsKept partner number holds.rows (Some kept) → next ≡ run (deliveries_of content es) partner + 1 →
+    (holds : Holds content es now was there) → was ≡ db → Comes content es sent (delivery partner number text) → IsKept partner number holds.rows (Some kept) → next ≡ run (deliveries_of content es) partner + 1 →
     content_of response ≡ told_answer code number (answer_by (standing_of next number (Some kept.text.items) text) next (option_map string_bytes kept.reply) None) →
-    Answers content es sent partner number code response now db there
+    Answers content es sent (delivery partner number text) code response now db there
 used_answers content es sent text partner number next code kept response now was db there holds same comes is next_of told =
     let rows = holds.rows in
     let used : text_in rows partner number ≡ Some kept.text.items = text_kept partner number rows kept holds.after.kept_once is in
@@ -132,10 +132,10 @@ used_answers content es sent text partner number next code kept response now was
     }
 
 pub early_answers : (content : SetupContent) (es : List Event) (sent text : List ℕ) (partner number next : ℕ) (code : List ℕ) (response : Response) (now : SetupContent) (old new : State) (there : Option Beside) →
-    (holds : Holds content es now old.now there) → old.now ≡ old.committed → Comes content es sent text partner number → text_in holds.rows partner number ≡ None →
+    (holds : Holds content es now old.committed there) → Comes content es sent (delivery partner number text) → text_in holds.rows partner number ≡ None →
     next ≡ run (deliveries_of content es) partner + 1 → next < number → content_of response ≡ told_answer code number (Waiting next) → Commits (with_kept partner number text) old new →
-    Answers content es sent partner number code response now new.committed there
-early_answers content es sent text partner number next code response now old new there holds settled comes free is later told wrote =
+    Answers content es sent (delivery partner number text) code response now new.committed there
+early_answers content es sent text partner number next code response now old new there holds comes free is later told wrote =
     let rows = holds.rows in
     let beyond : run (deliveries_of content es) partner + 1 < number = omega (arith, is, later) in
     let adds = early_adds content es rows sent partner number holds.after comes.is_for free beyond in
@@ -146,7 +146,7 @@ early_answers content es sent text partner number next code response now old new
         given = holds.given;
         now_is = now_stays content es sent ∙ holds.now_is;
         rows = with_kept partner number (interchange_of sent) rows;
-        has = subst (λ t. HasRows (with_kept partner number t rows) new.committed) comes.text_is (wrote.rows rows (subst (HasRows rows) settled holds.has));
+        has = subst (λ t. HasRows (with_kept partner number t rows) new.committed) comes.text_is (wrote.rows rows holds.has);
         after = adds.rows_are;
         beside = beside_same content es sent there adds.machine adds.runs holds.beside;
       };
@@ -172,9 +172,9 @@ nexts_raised content es sent nexts partner number count rows machine one is are 
     ∙ ap (λ (k : SetupContent). map f' (range_with_len 1 (length k.partners))) (sym (now_stays content es sent))
 
 pub next_answers : (setup : Setup) (content : SetupContent) (es : List Event) (sent text : List ℕ) (partner number next : ℕ) (code : List ℕ) (response : Response) (now left : Beside) (was : Database) (end : State) →
-    (holds : Holds content es (setup_content setup) was (Some now)) → Comes content es sent text partner number → text_in holds.rows partner number ≡ None →
-    1 ≤ partner → next ≡ run (deliveries_of content es) partner + 1 → number ≡ next → TakesNext holds.rows partner number text code setup now response left end →
-    Answers content es sent partner number code response (setup_content setup) end.committed (Some left)
+    (holds : Holds content es (setup_content setup) was (Some now)) → Comes content es sent (delivery partner number text) → text_in holds.rows partner number ≡ None →
+    1 ≤ partner → next ≡ run (deliveries_of content es) partner + 1 → number ≡ next → TakesNext holds.rows (delivery partner number text) code setup now response left end →
+    Answers content es sent (delivery partner number text) code response (setup_content setup) end.committed (Some left)
 next_answers setup content es sent text partner number next code response now left was end holds comes free one is same takes =
     let rows = holds.rows in
     let own = interchange_of sent in

@@ -34,11 +34,10 @@ use Rattle.office_delivery.specs.Writing.{Commits}
 use Rattle.office_delivery.proofs.ReadLemmas.{text_kept}
 use Rattle.office_desk.specs.Answers.{told_answer}
 use Rattle.office_desk.specs.Beside.{IsOf}
-use Rattle.office_desk.specs.Kept.{Office, IsFoundIn, TakesIn, AnswersByKept, AnswersOrStays}
+use Rattle.office_desk.specs.Kept.{Office, TakesIn, AnswersByKept, AnswersOrStays}
 use Rattle.office_desk.specs.Offices.{HoldsOffice}
 use Rattle.office_desk.specs.Telling.{TakesNext}
 use Rattle.office_desk.specs.declared.beside.Beside.{Beside}
-use Rattle.office_desk.specs.declared.found.Found.{Found}
 use Rattle.office_desk.proofs.HoldLemmas.{machine_same, reply_kept}
 use Rattle.office_desk.proofs.NumberLemmas.{nexts_are, number_within}
 use Rattle.office_desk.proofs.OfficeAccounts.{KeepsAccounts, keeps_accounts, next_at, next_follows}
@@ -47,19 +46,19 @@ use Rattle.office_desk.proofs.OfficeSteps.{early_loads}
 use Rattle.office_desk.proofs.RunLoads.{has_in_order, in_order, run_loads}
 use Rattle.office_desk.proofs.RunNexts.{accounts_raised, nexts_raised}
 
--- ---- what was found
+-- ---- what is found
 
 module _ (content : SetupContent) (old : Office) (db : Database) (before : Option Beside) (holds : HoldsOffice content old.rows old.terminal db before) where
   abbrev accounts : KeepsAccounts content old.rows
   accounts = (keeps_accounts content old.rows old.terminal db holds.has holds.loads).0
 
-  pub found_in : (partner : ℕ) (found : Found) → 1 ≤ partner → IsOf old.rows old.terminal found.there → with_number found.there.nexts.items partner ≡ Some found.next → IsFoundIn old partner found
-  found_in partner found one there is =
+  pub next_found : (partner next : ℕ) (there : Beside) → 1 ≤ partner → IsOf old.rows old.terminal there → with_number there.nexts.items partner ≡ Some next → IsNextOf partner old.rows next
+  next_found partner next there one is_of is =
       let f : ℕ → ℕ = λ p. accounts.runs p + 1 in
-      let many : length found.there.nexts.items ≡ length content.partners =
-      ap length (nexts_are f content.partners old.rows accounts.by_id found.there.nexts.items there.nexts) ∙ length-map-range_with_len f 1 (length content.partners) in
-      let low = number_within found.there.nexts.items partner found.next is in
-      record { next = next_at content old.rows accounts found.there.nexts.items partner found.next one (omega (arith, low, many)) there.nexts is; there = there }
+      let many : length there.nexts.items ≡ length content.partners =
+      ap length (nexts_are f content.partners old.rows accounts.by_id there.nexts.items is_of.nexts) ∙ length-map-range_with_len f 1 (length content.partners) in
+      let low = number_within there.nexts.items partner next is in
+      next_at content old.rows accounts there.nexts.items partner next one (omega (arith, low, many)) is_of.nexts is
 
   -- ---- what is used
 
@@ -67,23 +66,22 @@ module _ (content : SetupContent) (old : Office) (db : Database) (before : Optio
   used_takes d true next reply is = (ap (λ r. answer_by Known next r None) (sym is), refl)
   used_takes d false next reply is = (refl, refl)
 
-  pub used_by_kept : (d : Delivery) (code : List ℕ) (kept : Kept) (response : Response) (db' : Database) (found : Found) → db' ≡ db → IsFoundIn old d.partner found → IsKept d.partner d.number old.rows (Some kept) →
-      content_of response ≡ told_answer code d.number (answer_by (standing_of found.next d.number (Some kept.text.items) d.text) found.next (option_map string_bytes kept.reply) None) →
-      AnswersByKept content d code old response db' (Some found.there)
-  used_by_kept d code kept response db' found same is_found is told =
-      let next = found.next in
+  pub used_by_kept : (d : Delivery) (code : List ℕ) (kept : Kept) (response : Response) (db' : Database) (there : Beside) (next : ℕ) → db' ≡ db → IsOf old.rows old.terminal there → IsNextOf d.partner old.rows next → IsKept d.partner d.number old.rows (Some kept) →
+      content_of response ≡ told_answer code d.number (answer_by (standing_of next d.number (Some kept.text.items) d.text) next (option_map string_bytes kept.reply) None) →
+      AnswersByKept content d code old response db' (Some there)
+  used_by_kept d code kept response db' there next same is_of is_next is told =
       let once = office_once content old.rows old.terminal db before holds in
       let used : text_in old.rows d.partner d.number ≡ Some kept.text.items = text_kept d.partner d.number old.rows kept once is in
       let tells = answer_by (standing_of next d.number (Some kept.text.items) d.text) next (option_map string_bytes kept.reply) None in
       record {
         next = next;
-        is_next = is_found.next;
+        is_next = is_next;
         told = tells;
         new = old;
         takes = subst (λ o. TakesIn (standing_of next d.number o d.text) content d next tells old old) (sym used)
             (used_takes d (is_same_text kept.text.items d.text) next (option_map string_bytes kept.reply) (reply_kept d.partner d.number old.rows kept once is));
         answers = told;
-        holds = record { has = subst (HasRows old.rows) (sym same) holds.has; loads = subst (λ other. Loads other content old.terminal) (sym same) holds.loads; beside = is_found.there };
+        holds = record { has = subst (HasRows old.rows) (sym same) holds.has; loads = subst (λ other. Loads other content old.terminal) (sym same) holds.loads; beside = is_of };
       }
 
   -- ---- what is early
@@ -119,7 +117,7 @@ not_early next k false e same = refl
 
 pub next_by_kept : (setup : Setup) (old : Office) (d : Delivery) (code : List ℕ) (response : Response) (was : Database) (there now : Beside) (end : State) (next : ℕ) →
     HoldsOffice (setup_content setup) old.rows old.terminal was (Some there) → IsNextOf d.partner old.rows next → text_in old.rows d.partner d.number ≡ None → d.number ≡ next → 1 ≤ d.partner →
-    TakesNext old.rows d.partner d.number d.text code setup there response now end → Loads end.committed (setup_content setup) now.terminal →
+    TakesNext old.rows d code setup there response now end → Loads end.committed (setup_content setup) now.terminal →
     AnswersByKept (setup_content setup) d code old response end.committed (Some now)
 next_by_kept setup old d code response was there now end next holds is_next free same one takes loads =
     let content = setup_content setup in
@@ -168,7 +166,7 @@ numbered_in content old db there partner rows holds same = record {
 pub next_answers_so : (setup : Setup) (old : Office) (d : Delivery) (code : List ℕ) (response : Response) (was : Database) (there now : Beside) (end : State) (next : ℕ) →
     HoldsOffice (setup_content setup) old.rows old.terminal was (Some there) → IsNextOf d.partner old.rows next → text_in old.rows d.partner d.number ≡ None → d.number ≡ next →
     1 ≤ d.partner → d.partner ≤ length (setup_content setup).partners → d.number ≤ 999999999 →
-    ((rows : Rows) → HasRows rows was → IsNumbered d.partner rows → TakesNext rows d.partner d.number d.text code setup there response now end) →
+    ((rows : Rows) → HasRows rows was → IsNumbered d.partner rows → TakesNext rows d code setup there response now end) →
     AnswersByKept (setup_content setup) d code old response end.committed (Some now)
 next_answers_so setup old d code response was there now end next holds is_next free same one most high takes =
     let content = setup_content setup in

@@ -18,6 +18,7 @@ pub mod ReportLemmas
 pub mod RunLoads
 pub mod RunNexts
 pub mod RunSteps
+pub mod TakingLemmas
 pub mod LookLemmas
 pub mod CallLemmas
 pub mod PartnerLemmas

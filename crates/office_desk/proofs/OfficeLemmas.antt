@@ -1,5 +1,5 @@
 -- What holds of the rows of an office, whether or not deliveries led to them.
-use Rattle.std.proofs.Common.{◌≡◌, Option, sym, subst, ◌∙◌}
+use Rattle.std.proofs.Common.{◌≡◌, Option, None, sym, subst, ◌∙◌}
 use Rattle.sqlite.specs.Effect.{Database}
 use Rattle.sqlite.specs.State.{State, IsUnchanged}
 use Rattle.terminal_core.specs.State.{TerminalState}
@@ -11,6 +11,7 @@ use Rattle.office_history.proofs.Loads.{one_terminal}
 use Rattle.office_history.proofs.Once.{kept_once}
 use Rattle.office_loading.specs.Tables.{Loads}
 use Rattle.office_desk.specs.Beside.{IsOrNone}
+use Rattle.office_desk.specs.Finding.{StaysBeside}
 use Rattle.office_desk.specs.Offices.{HoldsOffice}
 use Rattle.office_desk.specs.declared.beside.Beside.{Beside}
 
@@ -28,6 +29,16 @@ unchanged_then a b c p q = (
   record { changes = q.1.changes ∙ p.1.changes; last_rowid = q.1.last_rowid ∙ p.1.last_rowid },
   q.2 ∙ p.2,
 )
+
+-- ---- what stands beside the rows
+
+-- what there is stays
+pub same_beside : (db : Database) (there : Option Beside) → StaysBeside db there there
+same_beside db there = record { events = λ content es rows given has after beside. beside; office = λ content rows terminal holds. holds.beside }
+
+-- what is none is beside any rows
+pub none_beside : (db : Database) (before : Option Beside) → StaysBeside db before None
+none_beside db before = record { events = λ content es rows given has after beside. tt; office = λ content rows terminal holds. tt }
 
 -- ---- the office
 

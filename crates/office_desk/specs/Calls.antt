@@ -1,6 +1,6 @@
 -- What one call does to a desk: all that is said of it, in one piece, so that whoever knows a desk by its traits alone can
 -- hand it on.
-use Rattle.std.specs.Prelude.{◌≡◌, ℕ, List, Option, Result, Ok, Err}
+use Rattle.std.specs.Prelude.{◌≡◌, ℕ, List, Option, Result}
 use Rattle.sqlite.specs.Held.{state}
 use Rattle.sqlite.specs.State.{HasCleanDisk}
 use Rattle.sqlite_trees.specs.declared.store.Store.{Ghosts}
@@ -60,11 +60,9 @@ pub record Enrols {S : Type 0} (g : Ghosts S) (old : Desk S g) (code kind : List
       StandsFor g content es old → LeavesAdded content es code kind answer (state g new.conn)
   pub noted : NotesStore answer old.last_fault new.last_fault
 
--- A report was asked for. What was found is what the rows tell; the desk stands where it stood, and holds what it held; a
--- crash leaves nothing that it would not have left before; and why it can't be told now.
-pub record Looks {S : Type 0} (g : Ghosts S) (old : Desk S g) (query : Query) (found : Result (Option (List ℕ)) NotNow)
-    (new : Desk S g) : Type 0 where
-  pub told : IsSound g new → Tells (DeskTells g old query) found
+-- The desk stands where it stood, and holds what it held; a crash leaves nothing that it would not have left before; and
+-- what isn't sound stays so.
+pub record OnlyLooks {S : Type 0} (g : Ghosts S) (old new : Desk S g) : Type 0 where
   pub same : IsSound g new → (content : SetupContent) (es : List Event) → StandsFor g content es old →
       StandsFor g content es new
   pub holds : IsSound g new → (rows : Rows) (terminal : TerminalState) → DeskHolds g old rows terminal →
@@ -72,6 +70,12 @@ pub record Looks {S : Type 0} (g : Ghosts S) (old : Desk S g) (query : Query) (f
   pub crash : IsSound g old → HasCleanDisk (state g new.conn) → (state g old.conn).committed.schema ≡ office_schema →
       LeavesNoMore (state g old.conn) (state g new.conn)
   pub stays : IsSound g new → IsSound g old
+
+-- A report was asked for. What was found is what the rows tell; the desk only looked; and why it can't be told now.
+pub record Looks {S : Type 0} (g : Ghosts S) (old : Desk S g) (query : Query) (found : Result (Option (List ℕ)) NotNow)
+    (new : Desk S g) : Type 0 where
+  pub told : IsSound g new → Tells (DeskTells g old query) found
+  pub looks : OnlyLooks g old new
   pub noted : NotesLook found old.last_fault new.last_fault
 
 -- ---- what follows of deliveries, one behind the other

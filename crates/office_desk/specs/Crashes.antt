@@ -1,5 +1,5 @@
 -- What a crash leaves.
-use Rattle.std.specs.Prelude.{◌≡◌, ◌⊎◌, IsTrue, ℕ, List, [], ◌∷◌, ◌++◌}
+use Rattle.std.specs.Prelude.{◌⊎◌, ℕ, List, [], ◌∷◌, ◌++◌}
 use Rattle.sqlite.specs.State.{State}
 use Rattle.sqlite.specs.Tree.{Trees}
 use Rattle.office_replies.specs.Delivering.{with_answered}
@@ -16,11 +16,6 @@ pub record IsAfter (content : SetupContent) (es : List Event) (db : Trees) : Typ
   pub rows : Rows
   pub are : StoresRows rows db
   pub after : AreAfter content es rows
-
--- it is open, and a crash leaves what was committed alone
-pub record HasCommitted (s : State) : Type 0 where
-  pub is_open : IsTrue s.is_open
-  pub alone : (db : Trees) → s.may_leave db → db ≡ s.committed.trees
 
 -- a crash leaves the rows after those events alone
 abbrev pub Leaves : SetupContent → List Event → State → Type 0

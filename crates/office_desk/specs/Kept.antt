@@ -28,21 +28,14 @@ use Rattle.office_tables.specs.declared.table_fault.TableFault.TheVariants.{Memo
 use Rattle.office_history.specs.After.{machine_with, reply_in}
 use Rattle.office_history.specs.Cascade.{TakenContent, AreTakenFrom, text_in, texts_with, with_run}
 use Rattle.office_desk.specs.Answers.{code_of, told_answer}
-use Rattle.office_desk.specs.Beside.{IsOf}
 use Rattle.office_desk.specs.Offices.{DeskHolds, HoldsOffice}
 use Rattle.office_desk.specs.declared.beside.Beside.{Beside}
 use Rattle.office_desk.specs.declared.desk.Desk.{Desk}
-use Rattle.office_desk.specs.declared.found.Found.{Found}
 
 -- the rows of an office, and its terminal
 pub record Office : Type 0 where
   pub rows : Rows
   pub terminal : TerminalState
-
--- the partner's next number is the one that was found, and so is what stands beside the rows
-pub record IsFoundIn (old : Office) (partner : ℕ) (found : Found) : Type 0 where
-  pub next : IsNextOf partner old.rows found.next
-  pub there : IsOf old.rows old.terminal found.there
 
 -- ---- what a delivery makes of an office
 

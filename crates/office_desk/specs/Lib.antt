@@ -2,10 +2,13 @@ pub mod Answers
 pub mod Beside
 pub mod Telling
 pub mod Crashes
+pub mod Writing
 pub mod Offices
 pub mod Desks
 pub mod Reports
+pub mod Finding
 pub mod Kept
+pub mod Taking
 pub mod Noting
 pub mod Alike
 pub mod Accounts

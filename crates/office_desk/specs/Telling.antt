@@ -5,7 +5,7 @@ use Rattle.sqlite.specs.State.{State}
 use Rattle.sqlite.specs.Tree.{Trees}
 use Rattle.edi_segments.specs.Interchange.{interchange_of}
 use Rattle.partner_core.specs.Answers.{Taken}
-use Rattle.partner_core.specs.Deliveries as deliveries
+use Rattle.partner_core.specs.Deliveries.{Delivery, delivery}
 use Rattle.office_replies.specs.Events.{Event, delivered}
 use Rattle.office_replies.specs.Contents.{content_of}
 use Rattle.office_replies.specs.declared.response.Response.{Response}
@@ -21,28 +21,28 @@ use Rattle.office_history.specs.Laws.{IsFor, told_of}
 use Rattle.office_desk.specs.Answers.{told_answer}
 use Rattle.office_desk.specs.Beside.{IsBeside}
 use Rattle.office_desk.specs.declared.beside.Beside.{Beside}
-use Rattle.office_desk.specs.declared.delivery.Delivery.{Delivery}
+use Rattle.office_desk.specs.declared.delivery.Delivery.{Delivery as Delivered}
 
 -- the text is taken, and those that become next by it, and the partner's number is raised by the length of this run;
 -- the response has the reply of the first, and the rows are committed, so that a crash leaves these alone
-pub record TakesNext (rows : Rows) (partner number : ℕ) (text code : List ℕ) (setup : Setup) (old : Beside)
+pub record TakesNext (rows : Rows) (d : Delivery) (code : List ℕ) (setup : Setup) (old : Beside)
     (response : Response) (new : Beside) (end : State) : Type 0 where
   pub first : TakenContent
   pub later : List TakenContent
-  pub taken : AreTakenFrom partner (texts_with rows partner number text) number (machine_of setup old.terminal)
-      (first ∷ later) (machine_of setup new.terminal)
-  pub raised : new.nexts.items ≡ slice_set old.nexts.items (partner - 1) (number + length (first ∷ later))
-  pub answers : content_of response ≡ told_answer code number (Taken (Some first.reply))
-  pub has : HasRows (with_run partner number text (first ∷ later) rows) end.committed
+  pub taken : AreTakenFrom d.partner (texts_with rows d.partner d.number d.text) d.number
+      (machine_of setup old.terminal) (first ∷ later) (machine_of setup new.terminal)
+  pub raised : new.nexts.items ≡ slice_set old.nexts.items (d.partner - 1) (d.number + length (first ∷ later))
+  pub answers : content_of response ≡ told_answer code d.number (Taken (Some first.reply))
+  pub has : HasRows (with_run d.partner d.number d.text (first ∷ later) rows) end.committed
   pub is_open : IsTrue end.is_open
   pub alone : (db : Trees) → end.may_leave db → db ≡ end.committed.trees
 
 -- the text was taken, and those that became next by it: a store holds the rows behind them
-pub record IsRunDone (rows : Rows) (partner number : ℕ) (text : List ℕ) (old : MachineState) (db : Trees) : Type 0 where
+pub record IsRunDone (rows : Rows) (d : Delivery) (old : MachineState) (db : Trees) : Type 0 where
   pub taken : List TakenContent
   pub new : MachineState
-  pub are_taken : AreTakenFrom partner (texts_with rows partner number text) number old taken new
-  pub are : StoresRows (with_run partner number text taken rows) db
+  pub are_taken : AreTakenFrom d.partner (texts_with rows d.partner d.number d.text) d.number old taken new
+  pub are : StoresRows (with_run d.partner d.number d.text taken rows) db
 
 -- for that opening set-up, after those events: with the accounts so far it is the set-up of now, the database has the
 -- rows, and what stands beside it is at them
@@ -55,29 +55,17 @@ pub record Holds (content : SetupContent) (es : List Event) (now : SetupContent)
   pub after : AreAfter content es rows
   pub beside : IsBeside content es there
 
--- the text is what was delivered, and the accounts so far admit it for that partner under that number
-pub record Comes (content : SetupContent) (es : List Event) (sent text : List ℕ) (partner number : ℕ) : Type 0 where
-  pub text_is : text ≡ interchange_of sent
-  pub is_for : IsFor content es sent partner number
+-- it is what was delivered, and the accounts so far admit it for that partner under that number
+pub record Comes (content : SetupContent) (es : List Event) (sent : List ℕ) (d : Delivery) : Type 0 where
+  pub text_is : d.text ≡ interchange_of sent
+  pub is_for : IsFor content es sent d.partner d.number
 
--- the response to the partner with a code is what is to be told, and these are held behind it
-pub record Answers (content : SetupContent) (es : List Event) (sent : List ℕ) (partner number : ℕ)
-    (code : List ℕ) (response : Response) (now : SetupContent) (db : Database) (there : Option Beside) : Type 0 where
-  pub answers : content_of response ≡ told_answer code number (told_of content es partner number sent)
+-- the response to the partner with a code is what is to be told of it, and these are held behind it
+pub record Answers (content : SetupContent) (es : List Event) (sent : List ℕ) (d : Delivery) (code : List ℕ)
+    (response : Response) (now : SetupContent) (db : Database) (there : Option Beside) : Type 0 where
+  pub answers : content_of response ≡ told_answer code d.number (told_of content es d.partner d.number sent)
   pub holds : Holds content (es ++ delivered sent ∷ []) now db there
 
--- ---- of what was delivered, as the code has it
-
--- the delivery that the definitions speak of
-abbrev pub delivery_of : Delivery → deliveries.Delivery
-delivery_of d = deliveries.delivery d.admitted.partner d.number d.text.now
-
--- it is what was delivered, and the accounts so far admit it
-abbrev pub ComesAs : SetupContent → List Event → (sent : List ℕ) → Delivery → Type 0
-ComesAs content es sent d = Comes content es sent d.text.now d.admitted.partner d.number
-
--- the response to it is what is to be told, and these are held behind it
-abbrev pub AnswersTo : SetupContent → List Event → (sent : List ℕ) → Delivery → Response → (now : SetupContent) →
-    Database → (there : Option Beside) → Type 0
-AnswersTo content es sent d response now db there =
-    Answers content es sent d.admitted.partner d.number d.code.now response now db there
+-- the delivery that the code's is
+abbrev pub delivery_of : Delivered → Delivery
+delivery_of d = delivery d.admitted.partner d.number d.text.now

@@ -1,8 +1,5 @@
-ghost use Rattle.std.specs.Prelude.{◌≡◌, ℕ, List, None, Some, false, IfOk, OnOk, OnErr, option_map};
-ghost use Rattle.edi_segments.specs.Interchange.{interchange_of};
-ghost use Rattle.office_replies.specs.Delivering.{Delivers};
+ghost use Rattle.std.specs.Prelude.{◌≡◌, List, None, Some, false, IfOk, option_map};
 ghost use Rattle.office_replies.specs.Events.{Event};
-ghost use Rattle.office_setup.specs.Parties.{parties_of};
 ghost use Rattle.office_setup.specs.Given.{IsGiven};
 ghost use Rattle.office_setup.specs.Setups.{SetupContent, setup_content};
 
@@ -78,14 +75,19 @@ impl<S: Alter> Desk<S> {
 }
 
 impl<S: Alter + Drop> Desk<S> {
+    ghost use Rattle.std.specs.Prelude.{string_bytes};
+    ghost use Rattle.std.specs.Option.{option_map};
+    ghost use Rattle.std.specs.Result.{result_map_both};
     ghost use Rattle.sqlite.specs.Held.{state};
     ghost use Rattle.sqlite.specs.State.{HasCleanDisk};
     ghost use Rattle.office_rows.specs.Rows.{Rows};
     ghost use Rattle.office_rows.specs.Stored.{HasRows};
-    ghost use Rattle.office_history.specs.After.{AreAfter};
     ghost use Rattle.office_rows.specs.Tables.{office_schema};
+    ghost use Rattle.office_history.specs.After.{AreAfter};
+    ghost use Rattle.office_desk.specs.Calls.{Enrols, Leads, Looks, OnlyLooks};
     ghost use Rattle.office_desk.specs.Desks.{IsSound, OpensAt};
     ghost use Rattle.office_desk.specs.Offices.{OpensOffice};
+    ghost use Rattle.office_desk.specs.Reports.{DeskTells};
 
     /// The desk of a store that holds an office: its set-up, its terminal and its partners' numbers are those that the
     /// tables hold. If it is refused, the connection is given up: `load_beside`, which it calls, says why, and that nothing is
@@ -107,33 +109,12 @@ impl<S: Alter + Drop> Desk<S> {
         let (setup, beside) = load_beside(alloc, &mut conn)?;
         Ok(Desk::new(conn, setup, beside))
     }
-}
-
-impl<S: Alter + Drop> Desk<S> {
-    ghost use Rattle.std.specs.Prelude.{string_bytes};
-    ghost use Rattle.std.specs.Option.{option_map};
-    ghost use Rattle.sqlite.specs.Held.{state};
-    ghost use Rattle.sqlite.specs.State.{HasCleanDisk};
-    ghost use Rattle.terminal_core.specs.State.{TerminalState};
-    ghost use Rattle.office_rows.specs.Rows.{Rows};
-    ghost use Rattle.office_rows.specs.Tables.{office_schema};
-    ghost use Rattle.office_desk.specs.Crashes.{LeavesNoMore};
-    ghost use Rattle.office_desk.specs.Desks.{IsSound, StandsFor};
-    ghost use Rattle.office_desk.specs.Offices.{DeskHolds};
-    ghost use Rattle.office_desk.specs.Reports.{DeskTells};
 
     /// What the rows tell at a query, if there is something. No row changes.
     pub fn told(&mut self, alloc: Global, query: &Query) -> Result<Option<String>, TableFault>
         ensures told { IsSound S.Store self.new →
             IfOk result (λ found. DeskTells S.Store self.old query.now (option_map string_bytes found)) }
-        ensures same { IsSound S.Store self.new → (content : SetupContent) (es : List Event) →
-            StandsFor S.Store content es self.old → StandsFor S.Store content es self.new }
-        ensures holds { IsSound S.Store self.new → (rows : Rows) (terminal : TerminalState) →
-            DeskHolds S.Store self.old rows terminal → DeskHolds S.Store self.new rows terminal }
-        ensures crash { IsSound S.Store self.old → HasCleanDisk (state S.Store self.new.conn) →
-            (state S.Store self.old.conn).committed.schema ≡ office_schema →
-            LeavesNoMore (state S.Store self.old.conn) (state S.Store self.new.conn) }
-        ensures stays { IsSound S.Store self.new → IsSound S.Store self.old }
+        ensures looks { OnlyLooks S.Store self.old self.new }
         ensures last_fault { self.new.last_fault ≡ self.old.last_fault }
     {
         let is_idle = self.conn.is_autocommit();
@@ -143,36 +124,11 @@ impl<S: Alter + Drop> Desk<S> {
         self.beside = Some(there);
         found
     }
-}
-
-impl<S: Alter + Drop> Desk<S> {
-    ghost use Rattle.std.specs.Prelude.{string_bytes};
-    ghost use Rattle.std.specs.Option.{option_map};
-    ghost use Rattle.sqlite.specs.Held.{state};
-    ghost use Rattle.sqlite.specs.State.{HasCleanDisk};
-    ghost use Rattle.terminal_core.specs.State.{TerminalState};
-    ghost use Rattle.office_rows.specs.Rows.{Rows};
-    ghost use Rattle.office_rows.specs.Tables.{office_schema};
-    ghost use Rattle.office_desk.specs.Crashes.{LeavesNoMore};
-    ghost use Rattle.office_desk.specs.Desks.{IsSound, StandsFor};
-    ghost use Rattle.office_desk.specs.Noting.{HasFault};
-    ghost use Rattle.office_desk.specs.Offices.{DeskHolds};
-    ghost use Rattle.office_desk.specs.Reports.{DeskTells};
 
     /// What the rows tell at a query, if there is something; NotNow, if it met a fault, which it keeps.
     fn answer_query(&mut self, alloc: Global, query: &Query) -> Result<Option<String>, NotNow>
-        ensures told { IsSound S.Store self.new →
-            IfOk result (λ found. DeskTells S.Store self.old query.now (option_map string_bytes found)) }
-        ensures same { IsSound S.Store self.new → (content : SetupContent) (es : List Event) →
-            StandsFor S.Store content es self.old → StandsFor S.Store content es self.new }
-        ensures holds { IsSound S.Store self.new → (rows : Rows) (terminal : TerminalState) →
-            DeskHolds S.Store self.old rows terminal → DeskHolds S.Store self.new rows terminal }
-        ensures crash { IsSound S.Store self.old → HasCleanDisk (state S.Store self.new.conn) →
-            (state S.Store self.old.conn).committed.schema ≡ office_schema →
-            LeavesNoMore (state S.Store self.old.conn) (state S.Store self.new.conn) }
-        ensures stays { IsSound S.Store self.new → IsSound S.Store self.old }
-        ensures answered { OnOk result (self.new.last_fault ≡ self.old.last_fault) }
-        ensures not_now { OnErr result (HasFault self.new.last_fault) }
+        ensures looks { Looks S.Store self.old query.now
+            (result_map_both (option_map string_bytes) (λ refusal. refusal) result) self.new }
     {
         match self.told(alloc, query) {
             Ok(found) => Ok(found),
@@ -182,36 +138,10 @@ impl<S: Alter + Drop> Desk<S> {
             }
         }
     }
-}
-
-impl<S: Alter + Drop> Desk<S> {
-    ghost use Rattle.sqlite.specs.Held.{state};
-    ghost use Rattle.sqlite.specs.State.{HasCleanDisk};
-    ghost use Rattle.office_admission.specs.Refusals.{RefusedSurely};
-    ghost use Rattle.office_desk.specs.Crashes.{LeavesBehind};
-    ghost use Rattle.office_desk.specs.Answers.{AnswersNext};
-    ghost use Rattle.office_desk.specs.Desks.{IsSound, StandsFor, Refuses};
-    ghost use Rattle.office_desk.specs.Kept.{AnswersOver, Office};
-    ghost use Rattle.office_desk.specs.Noting.{NotesFault};
-    ghost use Rattle.office_desk.specs.Offices.{DeskHolds};
 
     /// Delivers a text, and answers it. A refusal without a CONTRL takes no memory and no store, so it is never answered NotNow.
     fn answer_text(&mut self, alloc: Global, delivered: &[u8]) -> Response
-        ensures delivers { IsSound S.Store self.new → (content : SetupContent) (es : List Event) →
-            StandsFor S.Store content es self.old →
-            Delivers (StandsFor S.Store content) (AnswersNext content) es delivered.now result self.new }
-        ensures office { IsSound S.Store self.new → (old : Office) →
-            DeskHolds S.Store self.old old.rows old.terminal →
-            AnswersOver S.Store old delivered.now result self.new }
-        ensures setup { self.new.setup ≡ self.old.setup }
-        ensures stays { IsSound S.Store self.new → IsSound S.Store self.old }
-        ensures crash { IsSound S.Store self.old → HasCleanDisk (state S.Store self.new.conn) →
-            (content : SetupContent) (es : List Event) →
-            StandsFor S.Store content es self.old →
-            LeavesBehind content es delivered.now result (state S.Store self.new.conn) }
-        ensures refused { Refuses S.Store delivered.now self.old result self.new }
-        ensures sure { RefusedSurely (parties_of self.old.setup) (interchange_of delivered.now) result }
-        ensures noted { NotesFault result self.old.last_fault self.new.last_fault }
+        ensures leads { Leads S.Store self.old delivered.now result self.new }
     {
         let text = interchange_text(delivered);
         let admitted = match admit(&self.setup, text) {
@@ -242,29 +172,10 @@ impl<S: Alter + Drop> Desk<S> {
             }
         }
     }
-}
-
-impl<S: Alter + Drop> Desk<S> {
-    ghost use Rattle.sqlite.specs.Held.{state};
-    ghost use Rattle.sqlite.specs.State.{HasCleanDisk};
-    ghost use Rattle.office_admission.specs.Accounts.{account_answer};
-    ghost use Rattle.office_replies.specs.Adding.{Adds};
-    ghost use Rattle.office_desk.specs.Accounts.{AddsOver, AnswersAccount, LeavesAdded, Says};
-    ghost use Rattle.office_desk.specs.Desks.{IsSound, StandsFor};
-    ghost use Rattle.office_desk.specs.Noting.{NotesStore};
 
     /// Adds an account, and answers it. What is refused takes no memory and no store, so it is never answered NotNow.
     fn answer_account(&mut self, alloc: Global, code: &[u8], kind: &[u8]) -> AccountAnswer
-        ensures adds { IsSound S.Store self.new → (content : SetupContent) (es : List Event) →
-            StandsFor S.Store content es self.old →
-            Adds (StandsFor S.Store content) (AnswersAccount content) es code.now kind.now result self.new }
-        ensures stays { IsSound S.Store self.new → IsSound S.Store self.old }
-        ensures says { Says (account_answer (setup_content self.old.setup).partners code.now kind.now) code.now result }
-        ensures over { IsSound S.Store self.new → AddsOver S.Store self.old code.now kind.now result self.new }
-        ensures crash { IsSound S.Store self.old → HasCleanDisk (state S.Store self.new.conn) →
-            (content : SetupContent) (es : List Event) → StandsFor S.Store content es self.old →
-            LeavesAdded content es code.now kind.now result (state S.Store self.new.conn) }
-        ensures noted { NotesStore result self.old.last_fault self.new.last_fault }
+        ensures enrols { Enrols S.Store self.old code.now kind.now result self.new }
     {
         let is_idle = self.conn.is_autocommit();
         prove!(is_idle);

@@ -1,20 +1,10 @@
-ghost use Rattle.std.specs.Prelude.{◌≡◌, ◌≤◌, ℕ, List, None, Some, IfOk, IfErr, OnOk, OnErr, length};
+ghost use Rattle.std.specs.Prelude.{◌≡◌, ◌≤◌, None, Some, IfOk, IfErr, OnOk};
 ghost use Rattle.sqlite.specs.Held.{state};
 ghost use Rattle.sqlite.specs.State.{HasCleanDisk};
 ghost use Rattle.partner_core.specs.Numbered.{with_number};
-ghost use Rattle.office_replies.specs.Events.{Event};
-ghost use Rattle.office_rows.specs.Rows.{Rows};
-ghost use Rattle.office_rows.specs.Stored.{HasRows};
 ghost use Rattle.office_rows.specs.Tables.{office_schema};
-ghost use Rattle.office_setup.specs.Given.{IsGiven};
-ghost use Rattle.office_setup.specs.Setups.{SetupContent};
-ghost use Rattle.office_tables.specs.Answers.{HasUnfitReply, IsKept};
-ghost use Rattle.office_tables.specs.Faults.{IsOfStoreOr};
-ghost use Rattle.office_history.specs.After.{AreAfter};
 ghost use Rattle.office_delivery.specs.Reading.{IsSame, OnlyReads};
-ghost use Rattle.office_desk.specs.Beside.{IsBeside, IsOrNone};
-ghost use Rattle.office_desk.specs.Kept.{IsFoundIn, Office};
-ghost use Rattle.office_desk.specs.Offices.{HoldsOffice};
+ghost use Rattle.office_desk.specs.Finding.{IsFound, IsNotFound};
 
 use crate::beside::Beside;
 use crate::reloading::beside_of;
@@ -43,32 +33,12 @@ pub(crate) fn look<S: Alter>(
     number: u32,
 ) -> Result<Found, TableFault>
     requires { 1 ≤ partner }
-    ensures kept { HasCleanDisk (state S.Store conn.new) →
-        IfOk result (λ found. (rows : Rows) → HasRows rows (state S.Store conn.old).now →
-        IsKept partner number rows found.kept) }
     ensures next { IfOk result (λ found. with_number found.there.nexts.items partner ≡ Some found.next) }
-    ensures known { IfOk result (λ found. partner ≤ length found.there.nexts.items) }
-    ensures beside { HasCleanDisk (state S.Store conn.new) → IfOk result (λ found.
-        (content : SetupContent) (es : List Event) (rows : Rows) → IsGiven content →
-        HasRows rows (state S.Store conn.old).now → AreAfter content es rows → IsBeside content es beside.old →
-        IsBeside content es (Some found.there)) }
-    ensures office { HasCleanDisk (state S.Store conn.new) → IfOk result (λ found.
-        (content : SetupContent) (old : Office) →
-        HoldsOffice content old.rows old.terminal (state S.Store conn.old).now beside.old →
-        IsFoundIn old partner found) }
     ensures out { OnOk result (beside.new ≡ None) }
-    ensures err { HasCleanDisk (state S.Store conn.new) → OnErr result (
-        (content : SetupContent) (es : List Event) (rows : Rows) → IsGiven content →
-        HasRows rows (state S.Store conn.old).now → AreAfter content es rows → IsBeside content es beside.old →
-        IsBeside content es beside.new) }
-    ensures stays { HasCleanDisk (state S.Store conn.new) → OnErr result (
-        (content : SetupContent) (old : Office) →
-        HoldsOffice content old.rows old.terminal (state S.Store conn.old).now beside.old →
-        IsOrNone old.rows old.terminal beside.new) }
-    ensures fault { HasCleanDisk (state S.Store conn.new) → IfErr result (λ fault.
-        (content : SetupContent) (old : Office) →
-        HoldsOffice content old.rows old.terminal (state S.Store conn.old).now beside.old →
-        partner ≤ length content.partners → IsOfStoreOr (HasUnfitReply partner number old.rows) fault) }
+    ensures found { HasCleanDisk (state S.Store conn.new) →
+        IfOk result (IsFound partner number (state S.Store conn.old).now beside.old) }
+    ensures not_found { HasCleanDisk (state S.Store conn.new) → IfErr result
+        (λ fault. IsNotFound partner number (state S.Store conn.old).now beside.old fault beside.new) }
     ensures same { HasCleanDisk (state S.Store conn.new) → (state S.Store conn.old).now.schema ≡ office_schema →
         OnOk result (IsSame (state S.Store conn.old) (state S.Store conn.new)) }
     ensures reads { OnlyReads (state S.Store conn.old) (state S.Store conn.new) }

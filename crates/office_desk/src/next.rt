@@ -1,18 +1,11 @@
-ghost use Rattle.std.specs.Prelude.{◌≡◌, ◌⊎◌, ◌≤◌, false, length, IfOk, IfErr, OnErr, IsTrue};
+ghost use Rattle.std.specs.Prelude.{◌≡◌, ◌≤◌, false, length, IfOk};
 ghost use Rattle.office_setup.specs.Limits.{most_partners};
 ghost use Rattle.sqlite.specs.Held.{state};
 ghost use Rattle.sqlite.specs.State.{HasCleanDisk};
-ghost use Rattle.sqlite.specs.Tree.{Trees};
-ghost use Rattle.office_rows.specs.Rows.{Rows};
-ghost use Rattle.office_rows.specs.Stored.{HasRows};
-ghost use Rattle.office_rows.specs.Tables.{office_schema};
-ghost use Rattle.office_admission.specs.Outcomes.{IsAdmitted};
-ghost use Rattle.office_taking.specs.Taking.{machine_of};
-ghost use Rattle.office_tables.specs.Faults.{IsOfStoreOr};
-ghost use Rattle.office_delivery.specs.Reading.{HasUnfitBehind};
-ghost use Rattle.office_delivery.specs.Taking.{IsNumbered};
 ghost use Rattle.office_desk.specs.Noting.{IsNow};
-ghost use Rattle.office_desk.specs.Telling.{TakesNext, IsRunDone};
+ghost use Rattle.office_desk.specs.Taking.{IsDelivered, TakesRun};
+ghost use Rattle.office_desk.specs.Telling.{delivery_of};
+ghost use Rattle.office_desk.specs.Writing.{EndsIdle};
 
 use crate::beside::Beside;
 use crate::delivery::Delivery;
@@ -20,7 +13,6 @@ use office_delivery::{take_run, write_run};
 use office_replies::{Response, answered};
 use office_setup::Setup;
 use office_tables::TableFault;
-use partner_core::LAST_NUMBER;
 use sqlite::{Alter, Connection};
 use std::alloc::Global;
 
@@ -35,32 +27,13 @@ pub(crate) fn take_next<S: Alter>(
 ) -> Result<(Response, Beside), TableFault>
     requires idle { (state S.Store conn.old).in_transaction ≡ false }
     requires few { length setup.now.partners.items ≤ most_partners }
-    requires number { delivery.now.number ≤ LAST_NUMBER }
-    requires admitted { IsAdmitted setup.now delivery.now.text.now delivery.now.admitted }
+    requires delivered { IsDelivered setup.now delivery.now }
     requires known { delivery.now.admitted.partner ≤ length beside.nexts.items }
-    ensures idle { (state S.Store conn.new).in_transaction ≡ false }
+    ensures ends { EndsIdle (state S.Store conn.old) (state S.Store conn.new) }
     ensures now { IfOk result (λ taken. IsNow taken.0) }
-    ensures ok { HasCleanDisk (state S.Store conn.new) → IfOk result (λ taken. (rows : Rows) →
-        HasRows rows (state S.Store conn.old).now → (state S.Store conn.old).now ≡ (state S.Store conn.old).committed →
-        IsNumbered delivery.now.admitted.partner rows →
-        TakesNext rows delivery.now.admitted.partner delivery.now.number delivery.now.text.now delivery.now.code.now
-        setup.now beside taken.0 taken.1 (state S.Store conn.new)) }
-    ensures err { HasCleanDisk (state S.Store conn.new) → IsTrue (state S.Store conn.new).is_open →
-        (state S.Store conn.old).now.schema ≡ office_schema →
-        OnErr result ((state S.Store conn.new).committed ≡ (state S.Store conn.old).committed) }
-    ensures crash { HasCleanDisk (state S.Store conn.new) → OnErr result ((rows : Rows) →
-        HasRows rows (state S.Store conn.old).now → (state S.Store conn.old).now ≡ (state S.Store conn.old).committed →
-        IsNumbered delivery.now.admitted.partner rows →
-        (db : Trees) → (state S.Store conn.new).may_leave db →
-        (state S.Store conn.old).may_leave db
-        ⊎ IsRunDone rows delivery.now.admitted.partner delivery.now.number delivery.now.text.now
-        (machine_of setup.now beside.terminal) db) }
-    ensures fault { HasCleanDisk (state S.Store conn.new) → IfErr result (λ fault. (rows : Rows) →
-        HasRows rows (state S.Store conn.old).now →
-        IsOfStoreOr (HasUnfitBehind delivery.now.admitted.partner delivery.now.number rows) fault) }
-    ensures was_open { HasCleanDisk (state S.Store conn.new) → IsTrue (state S.Store conn.new).is_open →
-        IsTrue (state S.Store conn.old).is_open }
-    ensures clean { HasCleanDisk (state S.Store conn.new) → HasCleanDisk (state S.Store conn.old) }
+    ensures takes { HasCleanDisk (state S.Store conn.new) →
+        TakesRun (delivery_of delivery.now) delivery.now.code.now setup.now beside (state S.Store conn.old) result
+        (state S.Store conn.new) }
 {
     let mut beside = beside;
     let code = delivery.code;

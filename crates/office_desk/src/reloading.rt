@@ -1,7 +1,6 @@
-ghost use Rattle.std.specs.Prelude.{◌≡◌, ℕ, List, Some, IfOk, IfErr, OnOk, false};
+ghost use Rattle.std.specs.Prelude.{◌≡◌, Some, IfOk, IfErr, OnOk, false};
 ghost use Rattle.sqlite.specs.Held.{state};
 ghost use Rattle.sqlite.specs.State.{HasCleanDisk, IsUnchanged};
-ghost use Rattle.office_replies.specs.Events.{Event};
 ghost use Rattle.office_rows.specs.Rows.{Rows};
 ghost use Rattle.office_rows.specs.Shown.{AreNexts};
 ghost use Rattle.office_rows.specs.Stored.{HasRows};
@@ -9,11 +8,10 @@ ghost use Rattle.office_rows.specs.Tables.{office_schema};
 ghost use Rattle.office_setup.specs.Given.{IsGiven};
 ghost use Rattle.office_setup.specs.Setups.{SetupContent, setup_content};
 ghost use Rattle.office_tables.specs.Faults.{IsOfStore};
-ghost use Rattle.office_history.specs.After.{AreAfter};
 ghost use Rattle.office_loading.specs.Tables.{Loads};
 ghost use Rattle.office_delivery.specs.Reading.{IsSame, OnlyReads};
 ghost use Rattle.terminal_core.specs.State.{TerminalState};
-ghost use Rattle.office_desk.specs.Beside.{IsBeside, IsOf};
+ghost use Rattle.office_desk.specs.Finding.{StaysBeside};
 ghost use Rattle.office_desk.specs.Offices.{FailsToOpen, HoldsOffice};
 
 use crate::beside::Beside;
@@ -55,13 +53,8 @@ pub(crate) fn beside_of<S: Alter>(
     conn: &mut Connection<S>,
     beside: Option<Beside>,
 ) -> Result<Beside, TableFault>
-    ensures beside { HasCleanDisk (state S.Store conn.new) → IfOk result (λ now.
-        (content : SetupContent) (es : List Event) (rows : Rows) → IsGiven content →
-        HasRows rows (state S.Store conn.old).now → AreAfter content es rows → IsBeside content es beside →
-        IsBeside content es (Some now)) }
-    ensures office { HasCleanDisk (state S.Store conn.new) →
-        IfOk result (λ now. (content : SetupContent) (rows : Rows) (terminal : TerminalState) →
-        HoldsOffice content rows terminal (state S.Store conn.old).now beside → IsOf rows terminal now) }
+    ensures beside { HasCleanDisk (state S.Store conn.new) →
+        IfOk result (λ now. StaysBeside (state S.Store conn.old).now beside (Some now)) }
     ensures fault { HasCleanDisk (state S.Store conn.new) →
         IfErr result (λ fault. (content : SetupContent) (rows : Rows) (terminal : TerminalState) →
         HoldsOffice content rows terminal (state S.Store conn.old).now beside → IsOfStore fault) }

@@ -1,23 +1,12 @@
-ghost use Rattle.std.specs.Prelude.{◌≡◌, ◌⊎◌, ℕ, List, [], ◌∷◌, ◌++◌, ◌+◌, ◌≤◌, length, None, Some, false, IfOk, OnOk, OnErr, IsTrue};
+ghost use Rattle.std.specs.Prelude.{◌≡◌, None, Some, false, IfOk};
 ghost use Rattle.sqlite.specs.Held.{state};
-ghost use Rattle.sqlite.specs.State.{HasCleanDisk};
-ghost use Rattle.sqlite.specs.Tree.{Trees};
-ghost use Rattle.partner_core.specs.Deliveries.{run};
-ghost use Rattle.office_replies.specs.Events.{Event, delivered};
-ghost use Rattle.office_rows.specs.Rows.{Rows};
-ghost use Rattle.office_rows.specs.Stored.{HasRows};
-ghost use Rattle.office_setup.specs.Setups.{SetupContent, setup_content};
-ghost use Rattle.office_admission.specs.Outcomes.{IsAdmitted};
+ghost use Rattle.partner_core.specs.Numbered.{with_number};
 ghost use Rattle.office_setup.specs.Given.{IsGiven};
-ghost use Rattle.office_tables.specs.Answers.{IsNextOf};
-ghost use Rattle.office_history.specs.After.{deliveries_of};
-ghost use Rattle.office_history.specs.Cascade.{text_in};
-ghost use Rattle.office_delivery.specs.Taking.{IsNumbered};
-ghost use Rattle.office_desk.specs.Crashes.{HasCommitted, IsAfter, Leaves, LeavesEither};
-ghost use Rattle.office_desk.specs.Kept.{AnswersOrStays, Office};
+ghost use Rattle.office_setup.specs.Setups.{setup_content};
 ghost use Rattle.office_desk.specs.Noting.{IsNow};
-ghost use Rattle.office_desk.specs.Offices.{HoldsOffice};
-ghost use Rattle.office_desk.specs.Telling.{AnswersTo, ComesAs, Holds, delivery_of};
+ghost use Rattle.office_desk.specs.Taking.{IsDelivered, IsNew, TakesDelivery};
+ghost use Rattle.office_desk.specs.Telling.{delivery_of};
+ghost use Rattle.office_desk.specs.Writing.{EndsIdle};
 
 use crate::answers::answer_used;
 use crate::beside::Beside;
@@ -28,7 +17,6 @@ use crate::next::take_next;
 use office_replies::Response;
 use office_setup::Setup;
 use office_tables::TableFault;
-use partner_core::LAST_NUMBER;
 use sqlite::{Alter, Connection};
 use std::alloc::Global;
 
@@ -42,42 +30,11 @@ pub(crate) fn take_in<S: Alter>(
 ) -> Result<Response, TableFault>
     requires idle { (state S.Store conn.old).in_transaction ≡ false }
     requires given { IsGiven (setup_content setup.now) }
-    requires from_one { 1 ≤ delivery.now.number }
-    requires number { delivery.now.number ≤ LAST_NUMBER }
-    requires admitted { IsAdmitted setup.now delivery.now.text.now delivery.now.admitted }
-    ensures idle { (state S.Store conn.new).in_transaction ≡ false }
+    requires delivered { IsDelivered setup.now delivery.now }
+    ensures ends { EndsIdle (state S.Store conn.old) (state S.Store conn.new) }
     ensures now { IfOk result IsNow }
-    ensures ok { HasCleanDisk (state S.Store conn.new) → IsTrue (state S.Store conn.new).is_open →
-        IfOk result (λ response.
-        (content : SetupContent) (es : List Event) (sent : List ℕ) →
-        Holds content es (setup_content setup.now) (state S.Store conn.old).committed beside.old →
-        ComesAs content es sent delivery.now →
-        AnswersTo content es sent delivery.now response (setup_content setup.now) (state S.Store conn.new).committed
-        beside.new) }
-    ensures err { HasCleanDisk (state S.Store conn.new) → IsTrue (state S.Store conn.new).is_open →
-        OnErr result ((content : SetupContent) (es : List Event) →
-        Holds content es (setup_content setup.now) (state S.Store conn.old).committed beside.old →
-        Holds content es (setup_content setup.now) (state S.Store conn.new).committed beside.new) }
-    ensures leaves { HasCleanDisk (state S.Store conn.new) → IsTrue (state S.Store conn.old).is_open →
-        OnOk result ((content : SetupContent) (es : List Event) (sent : List ℕ) →
-        Holds content es (setup_content setup.now) (state S.Store conn.old).committed beside.old →
-        Leaves content es (state S.Store conn.old) →
-        ComesAs content es sent delivery.now →
-        Leaves content (es ++ delivered sent ∷ []) (state S.Store conn.new)) }
-    ensures crash { HasCleanDisk (state S.Store conn.new) → IsTrue (state S.Store conn.old).is_open →
-        OnErr result ((content : SetupContent) (es : List Event) (sent : List ℕ) →
-        Holds content es (setup_content setup.now) (state S.Store conn.old).committed beside.old →
-        Leaves content es (state S.Store conn.old) →
-        ComesAs content es sent delivery.now →
-        LeavesEither content es sent (state S.Store conn.new)) }
-    ensures office { HasCleanDisk (state S.Store conn.new) → IsTrue (state S.Store conn.new).is_open →
-        (old : Office) →
-        HoldsOffice (setup_content setup.now) old.rows old.terminal (state S.Store conn.old).committed beside.old →
-        AnswersOrStays (setup_content setup.now) (delivery_of delivery.now) delivery.now.code.now old result
-        (state S.Store conn.new).committed beside.new }
-    ensures was_open { HasCleanDisk (state S.Store conn.new) → IsTrue (state S.Store conn.new).is_open →
-        IsTrue (state S.Store conn.old).is_open }
-    ensures clean { HasCleanDisk (state S.Store conn.new) → HasCleanDisk (state S.Store conn.old) }
+    ensures takes { TakesDelivery (setup_content setup.now) (delivery_of delivery.now) delivery.now.code.now
+        (state S.Store conn.old) beside.old result (state S.Store conn.new) beside.new }
 {
     let is_idle = conn.is_autocommit();
     prove!(is_idle);
@@ -105,53 +62,14 @@ fn take_new<S: Alter>(
 ) -> Result<Response, TableFault>
     requires idle { (state S.Store conn.old).in_transaction ≡ false }
     requires given { IsGiven (setup_content setup.now) }
-    requires from_one { 1 ≤ delivery.now.number }
-    requires number { delivery.now.number ≤ LAST_NUMBER }
-    requires admitted { IsAdmitted setup.now delivery.now.text.now delivery.now.admitted }
-    requires known { delivery.now.admitted.partner ≤ length there.nexts.items }
+    requires delivered { IsDelivered setup.now delivery.now }
+    requires next { with_number there.nexts.items delivery.now.admitted.partner ≡ Some next }
     requires out { beside.old ≡ None }
-    ensures idle { (state S.Store conn.new).in_transaction ≡ false }
+    ensures ends { EndsIdle (state S.Store conn.old) (state S.Store conn.new) }
     ensures now { IfOk result IsNow }
-    ensures ok { HasCleanDisk (state S.Store conn.new) → IsTrue (state S.Store conn.new).is_open →
-        IfOk result (λ response.
-        (content : SetupContent) (es : List Event) (sent : List ℕ)
-        (holds : Holds content es (setup_content setup.now) (state S.Store conn.old).now (Some there)) →
-        (state S.Store conn.old).now ≡ (state S.Store conn.old).committed →
-        text_in holds.rows delivery.now.admitted.partner delivery.now.number ≡ None →
-        next ≡ run (deliveries_of content es) delivery.now.admitted.partner + 1 →
-        ComesAs content es sent delivery.now →
-        AnswersTo content es sent delivery.now response (setup_content setup.now) (state S.Store conn.new).committed
-        beside.new) }
-    ensures err { HasCleanDisk (state S.Store conn.new) → IsTrue (state S.Store conn.new).is_open → OnErr result (
-        (content : SetupContent) (es : List Event) →
-        Holds content es (setup_content setup.now) (state S.Store conn.old).now (Some there) →
-        (state S.Store conn.old).now ≡ (state S.Store conn.old).committed →
-        Holds content es (setup_content setup.now) (state S.Store conn.new).committed beside.new) }
-    ensures commits { HasCleanDisk (state S.Store conn.new) →
-        OnOk result ((rows : Rows) → HasRows rows (state S.Store conn.old).now →
-        (state S.Store conn.old).now ≡ (state S.Store conn.old).committed →
-        IsNumbered delivery.now.admitted.partner rows →
-        HasCommitted (state S.Store conn.new)) }
-    ensures crash { HasCleanDisk (state S.Store conn.new) → OnErr result (
-        (content : SetupContent) (es : List Event) (sent : List ℕ)
-        (holds : Holds content es (setup_content setup.now) (state S.Store conn.old).now (Some there)) →
-        (state S.Store conn.old).now ≡ (state S.Store conn.old).committed →
-        text_in holds.rows delivery.now.admitted.partner delivery.now.number ≡ None →
-        next ≡ run (deliveries_of content es) delivery.now.admitted.partner + 1 →
-        ComesAs content es sent delivery.now →
-        (db : Trees) → (state S.Store conn.new).may_leave db →
-        (state S.Store conn.old).may_leave db ⊎ IsAfter content (es ++ delivered sent ∷ []) db) }
-    ensures office { HasCleanDisk (state S.Store conn.new) → IsTrue (state S.Store conn.new).is_open →
-        (old : Office) →
-        HoldsOffice (setup_content setup.now) old.rows old.terminal (state S.Store conn.old).committed (Some there) →
-        (state S.Store conn.old).now ≡ (state S.Store conn.old).committed →
-        IsNextOf delivery.now.admitted.partner old.rows next →
-        text_in old.rows delivery.now.admitted.partner delivery.now.number ≡ None →
-        AnswersOrStays (setup_content setup.now) (delivery_of delivery.now) delivery.now.code.now old result
-        (state S.Store conn.new).committed beside.new }
-    ensures was_open { HasCleanDisk (state S.Store conn.new) → IsTrue (state S.Store conn.new).is_open →
-        IsTrue (state S.Store conn.old).is_open }
-    ensures clean { HasCleanDisk (state S.Store conn.new) → HasCleanDisk (state S.Store conn.old) }
+    ensures takes { IsNew (delivery_of delivery.now) (state S.Store conn.old) →
+        TakesDelivery (setup_content setup.now) (delivery_of delivery.now) delivery.now.code.now
+        (state S.Store conn.old) (Some there) result (state S.Store conn.new) beside.new }
 {
     if delivery.number < next {
         return Err(TableFault::Damaged);

@@ -1,5 +1,6 @@
 use Rattle.std.proofs.Common.{◌≡◌, ◌⊎◌, inl, ◌+◌, ◌-◌, length, arith, sym, ap, subst, ◌∙◌}
 use Rattle.std.specs.Prelude.{slice_index_or, slice_set}
+use Rattle.std.proofs.lemmas.Result.{err_from_is_err_and}
 use Rattle.sqlite.specs.Held.{state}
 use Rattle.sqlite.specs.State.{HasCleanDisk}
 use Rattle.office_taking.specs.Taking.{machine_of}
@@ -9,57 +10,112 @@ use Rattle.office_delivery.specs.Taken.{taken_contents}
 use Rattle.office_delivery.specs.declared.taken.Taken.{Taken}
 use Rattle.office_rows.specs.Stored.{HasRows}
 use Rattle.office_delivery.specs.Writing.{Commits, IsWhole}
+use Rattle.office_tables.proofs.FaultLemmas.{of_store_or}
 use Rattle.office_desk.proofs.AnswerLemmas.{takes_next}
-use Rattle.office_desk.proofs.CrashLemmas.{either_of, on_err, reads_less}
+use Rattle.office_desk.proofs.CrashLemmas.{either_of, reads_less}
 use Rattle.office_desk.proofs.NumberLemmas.{number_at}
 use Rattle.office_desk.proofs.next.take_next.Goals as goal
 
-pub returns-clause-ok : goal.returns-clause-ok
-returns-clause-ok g c clean rows has settled numbered =
+pub returns-clause-takes : goal.returns-clause-takes
+returns-clause-takes g c clean =
     let d = c.args.delivery.now in
     let old = state g.S.Store c.args.conn.now in
     let mid = state g.S.Store c.take_run.new.conn in
     let new = state g.S.Store c.write_run.new.conn in
     let items = c.in_ok-taken.taken.items in
     let before : HasCleanDisk mid = omega (arith, c.write_run.ensures.crash.clean) in
-    let same : IsSame old mid = c.in_ok-taken.ensures.same before has.schema in
     let wrote : Commits (with_run d.admitted.partner d.number d.text.now (taken_contents items)) mid new = rw c.deref.ensures.value at (c.in_ok-write_run.ensures.ok clean) in
-    let texts = texts_with rows d.admitted.partner d.number d.text.now in
-    let taken : AreTakenFrom d.admitted.partner texts d.number (machine_of c.args.setup.now c.args.beside.terminal) (taken_contents items) (machine_of c.args.setup.now c.raise.new.self.terminal) =
-    subst (λ t. AreTakenFrom d.admitted.partner texts d.number (machine_of c.args.setup.now c.args.beside.terminal) (taken_contents items) (machine_of c.args.setup.now t)) (sym c.raise.ensures.terminal)
-    (c.in_ok-taken.ensures.taken before rows d.text.now has numbered c.requires.admitted) in
     let many = length items in
     let last = c.index-2.result.now in
     let is_last : last ≡ slice_index_or items (many - 1) last = c.index-2.ensures ∙ ap (λ k. slice_index_or items (k - 1) last) (c.len.ensures ∙ sym c.deref.ensures.len ∙ ap length c.deref.ensures.value) in
-    let placed : (slice_index_or items (many - 1) last).number ≡ d.number + (many - 1) =
-    number_at d.admitted.partner texts d.number _ _ items (many - 1) last taken (omega (arith, c.in_ok-taken.ensures.first)) in
-    let after : last.number + 1 ≡ d.number + many = omega (arith, ap (λ (t : Taken). t.number) is_last, placed, c.in_ok-taken.ensures.first) in
-    let raised : c.raise.new.self.nexts.items ≡ slice_set c.args.beside.nexts.items (d.admitted.partner - 1) (d.number + many) =
-    c.raise.ensures.nexts ∙ ap (slice_set c.args.beside.nexts.items (d.admitted.partner - 1)) after in
-    takes_next rows d.admitted.partner d.number d.text.now d.code.now c.args.setup.now c.args.beside c.raise.new.self c.in_ok-body.body c.index.result.now items old mid new
-    c.in_ok-taken.ensures.first c.index.ensures taken raised (rw c.as_str.ensures.value at c.in_ok-body.ensures.bytes) has settled same wrote
+    record {
+      ok = λ rows there.
+          let same : IsSame old mid = c.in_ok-taken.ensures.same before there.has.schema in
+          let texts = texts_with rows d.admitted.partner d.number d.text.now in
+          let taken : AreTakenFrom d.admitted.partner texts d.number (machine_of c.args.setup.now c.args.beside.terminal) (taken_contents items) (machine_of c.args.setup.now c.raise.new.self.terminal) =
+          subst (λ t. AreTakenFrom d.admitted.partner texts d.number (machine_of c.args.setup.now c.args.beside.terminal) (taken_contents items) (machine_of c.args.setup.now t)) (sym c.raise.ensures.terminal)
+          (c.in_ok-taken.ensures.taken before rows d.text.now there.has there.numbered c.requires.delivered.admitted) in
+          let placed : (slice_index_or items (many - 1) last).number ≡ d.number + (many - 1) =
+          number_at d.admitted.partner texts d.number _ _ items (many - 1) last taken (omega (arith, c.in_ok-taken.ensures.first)) in
+          let after : last.number + 1 ≡ d.number + many = omega (arith, ap (λ (t : Taken). t.number) is_last, placed, c.in_ok-taken.ensures.first) in
+          let raised : c.raise.new.self.nexts.items ≡ slice_set c.args.beside.nexts.items (d.admitted.partner - 1) (d.number + many) =
+          c.raise.ensures.nexts ∙ ap (slice_set c.args.beside.nexts.items (d.admitted.partner - 1)) after in
+          takes_next rows d.admitted.partner d.number d.text.now d.code.now c.args.setup.now c.args.beside c.raise.new.self c.in_ok-body.body c.index.result.now items old mid new
+          c.in_ok-taken.ensures.first c.index.ensures taken raised (rw c.as_str.ensures.value at c.in_ok-body.ensures.bytes) there.has there.settled same wrote;
+      err = λ is_open schema. tt;
+      crash = tt;
+      fault = tt;
+    }
 
-pub returns-in_err-write_run-clause-crash : goal.returns-in_err-write_run-clause-crash
-returns-in_err-write_run-clause-crash g c clean = on_err c.from_residual-in_err-write_run.result (λ rows has settled numbered db left.
+-- ---- calls that failed
+
+pub returns-in_err-taken-clause-takes : goal.returns-in_err-taken-clause-takes
+returns-in_err-taken-clause-takes g c clean =
+    let old = state g.S.Store c.args.conn.now in
+    let new = state g.S.Store c.take_run.new.conn in
+    let p = err_from_is_err_and c.from_residual.result c.from_residual.ensures.1 in
+    rw (p.1, p.2) (record {
+      ok = tt;
+      err = λ is_open schema. (c.take_run.ensures.reads.keeps clean schema).committed is_open;
+      crash = λ rows there db left. inl (reads_less old new clean there.has.schema c.take_run.ensures.reads db left);
+      fault = c.in_err-taken.ensures.fault clean;
+    })
+
+pub returns-in_err-body-clause-takes : goal.returns-in_err-body-clause-takes
+returns-in_err-body-clause-takes g c clean =
+    let old = state g.S.Store c.args.conn.now in
+    let new = state g.S.Store c.take_run.new.conn in
+    let p = err_from_is_err_and c.from_residual-in_err-body.result c.from_residual-in_err-body.ensures.1 in
+    rw (p.1, p.2) (record {
+      ok = tt;
+      err = λ is_open schema. (c.take_run.ensures.reads.keeps clean schema).committed is_open;
+      crash = λ rows there db left. inl (reads_less old new clean there.has.schema c.take_run.ensures.reads db left);
+      fault = λ rows has. tt;
+    })
+
+pub returns-in_err-write_run-clause-takes : goal.returns-in_err-write_run-clause-takes
+returns-in_err-write_run-clause-takes g c clean =
     let a = c.args in
     let d = a.delivery.now in
     let old = state g.S.Store a.conn.now in
     let mid = state g.S.Store c.take_run.new.conn in
     let items = c.in_ok-taken.taken.items in
     let before : HasCleanDisk mid = omega (arith, c.write_run.ensures.crash.clean, clean) in
-    let same : IsSame old mid = c.in_ok-taken.ensures.same before has.schema in
-    let wrote : mid.may_leave db ⊎ IsWhole (with_run d.admitted.partner d.number d.text.now (taken_contents items)) mid db = rw c.deref.ensures.value at (c.write_run.ensures.crash.crash clean db left) in
-    either_of (reads_less old mid before has.schema c.take_run.ensures.reads db)
-    (λ is. record {
-      taken = taken_contents items;
-      new = machine_of a.setup.now c.take_run.new.terminal;
-      are_taken = c.in_ok-taken.ensures.taken before rows d.text.now has numbered c.requires.admitted;
-      are = is rows (subst (HasRows rows) (settled ∙ sym same.committed) has);
-    }) wrote)
+    let p = err_from_is_err_and c.from_residual-in_err-write_run.result c.from_residual-in_err-write_run.ensures.1 in
+    rw (p.1, p.2) (record {
+      ok = tt;
+      err = λ is_open schema. (c.in_err-write_run.ensures.err clean is_open).committed ∙ (c.in_ok-taken.ensures.same before schema).committed;
+      crash = λ rows there db left.
+          let wrote : mid.may_leave db ⊎ IsWhole (with_run d.admitted.partner d.number d.text.now (taken_contents items)) mid db = rw c.deref.ensures.value at (c.write_run.ensures.crash.crash clean db left) in
+          either_of (reads_less old mid before there.has.schema c.take_run.ensures.reads db)
+          (λ is. record {
+            taken = taken_contents items;
+            new = machine_of a.setup.now c.take_run.new.terminal;
+            are_taken = c.in_ok-taken.ensures.taken before rows d.text.now there.has there.numbered c.requires.delivered.admitted;
+            are = is rows (subst (HasRows rows) (there.settled ∙ sym (c.in_ok-taken.ensures.same before there.has.schema).committed) there.has);
+          }) wrote;
+      fault = λ rows has. of_store_or _ _ c.in_err-write_run.ensures.fault;
+    })
 
-pub returns-in_err-body-clause-crash : goal.returns-in_err-body-clause-crash
-returns-in_err-body-clause-crash g c clean = on_err c.from_residual-in_err-body.result (λ rows has settled numbered db left.
-    inl (reads_less (state g.S.Store c.args.conn.now) (state g.S.Store c.take_run.new.conn) clean has.schema c.take_run.ensures.reads db left))
+-- ---- the connection
+
+pub returns-clause-ends : goal.returns-clause-ends
+returns-clause-ends g c =
+    let reads = c.take_run.ensures.reads in
+    record {
+      idle = c.write_run.ensures.idle;
+      clean = λ clean. reads.clean (omega (arith, c.write_run.ensures.crash.clean));
+      was_open = λ clean is_open. reads.was_open (omega (arith, c.write_run.ensures.crash.clean)) (c.write_run.ensures.was_open clean is_open);
+    }
+
+pub returns-in_err-write_run-clause-ends : goal.returns-in_err-write_run-clause-ends
+returns-in_err-write_run-clause-ends g c =
+    let reads = c.take_run.ensures.reads in
+    record {
+      idle = c.write_run.ensures.idle;
+      clean = λ clean. reads.clean (omega (arith, c.write_run.ensures.crash.clean));
+      was_open = λ clean is_open. reads.was_open (omega (arith, c.write_run.ensures.crash.clean)) (c.write_run.ensures.was_open clean is_open);
+    }
 
 pub write_run-requires-clause-idle : goal.write_run-requires-clause-idle
 write_run-requires-clause-idle g c = c.take_run.ensures.reads.mode c.requires.idle

@@ -1,26 +1,34 @@
+use Rattle.std.proofs.Common.{subst}
 use Rattle.std.proofs.lemmas.Result.{err_from_is_err_and}
 use Rattle.sqlite.specs.Held.{state}
 use Rattle.office_setup.specs.Setups.{setup_content}
 use Rattle.office_desk.proofs.Faults.{opens_alone}
 use Rattle.office_desk.proofs.NumberLemmas.{nexts_loaded}
-use Rattle.office_desk.proofs.OfficeLemmas.{loaded_is}
+use Rattle.office_desk.proofs.OfficeLemmas.{loaded_is, same_beside}
 use Rattle.office_desk.proofs.PartLemmas.{beside_loaded}
+use Rattle.office_desk.specs.Finding.{StaysBeside}
 use Rattle.office_desk.proofs.reloading.beside_of.Goals as goal
 
-pub returns-in_ok-there-in-None-clause-beside : goal.returns-in_ok-there-in-None-clause-beside
-returns-in_ok-there-in-None-clause-beside g c clean content es rows given has after beside = record {
-  terminal =
-      beside_loaded content es rows (state g.S.Store c.args.conn.now).now (setup_content c.in_ok-there-in-None.field-0-0) c.in_ok-there-in-None.there.terminal given after has (c.in_ok-there-in-None.ensures.loaded clean has.schema);
-  nexts = nexts_loaded content es rows c.in_ok-there-in-None.there.nexts.items after (c.in_ok-there-in-None.ensures.nexts clean rows has);
-}
+pub returns-in-Some-clause-beside : goal.returns-in-Some-clause-beside
+returns-in-Some-clause-beside g c clean =
+    let db = (state g.S.Store c.args.conn.now).now in
+    subst (λ b. StaysBeside db c.args.beside b) c.in-Some.is (same_beside db c.args.beside)
 
-pub returns-in_ok-there-in-None-clause-office : goal.returns-in_ok-there-in-None-clause-office
-returns-in_ok-there-in-None-clause-office g c clean content rows terminal holds = record {
-  terminal_is =
-      loaded_is content (setup_content c.in_ok-there-in-None.field-0-0) rows terminal c.in_ok-there-in-None.there.terminal (state g.S.Store c.args.conn.now).now c.args.beside holds
-      (c.in_ok-there-in-None.ensures.loaded clean holds.has.schema);
-  nexts = c.in_ok-there-in-None.ensures.nexts clean rows holds.has;
-}
+pub returns-in_ok-there-in-None-clause-beside : goal.returns-in_ok-there-in-None-clause-beside
+returns-in_ok-there-in-None-clause-beside g c clean =
+    let db = (state g.S.Store c.args.conn.now).now in
+    let own = setup_content c.in_ok-there-in-None.field-0-0 in
+    let there = c.in_ok-there-in-None.there in
+    record {
+      events = λ content es rows given has after beside. record {
+        terminal = beside_loaded content es rows db own there.terminal given after has (c.in_ok-there-in-None.ensures.loaded clean has.schema);
+        nexts = nexts_loaded content es rows there.nexts.items after (c.in_ok-there-in-None.ensures.nexts clean rows has);
+      };
+      office = λ content rows terminal holds. record {
+        terminal_is = loaded_is content own rows terminal there.terminal db c.args.beside holds (c.in_ok-there-in-None.ensures.loaded clean holds.has.schema);
+        nexts = c.in_ok-there-in-None.ensures.nexts clean rows holds.has;
+      };
+    }
 
 -- An office is loaded, but for want of store or memory.
 pub returns-in_err-there-in-None-clause-fault : goal.returns-in_err-there-in-None-clause-fault

@@ -1,4 +1,4 @@
-use Rattle.std.proofs.Common.{◌≡◌, Ok, Err, Some, [], ◌∷◌, ◌++◌, ◌-◌, get_or, string_bytes, arith, refl, sym, subst, ◌∙◌}
+use Rattle.std.proofs.Common.{◌≡◌, Ok, Err, Some, ◌-◌, get_or, string_bytes, arith, refl, sym, subst, ◌∙◌}
 use Rattle.std.proofs.lemmas.Option.{slice_get-get_or}
 use Rattle.edi_segments.specs.Interchange.{interchange_of}
 use Rattle.edi_syntax.specs.Envelope.{header_of}
@@ -9,7 +9,7 @@ use Rattle.office_admission.specs.Refusals.{RefusedSurely}
 use Rattle.office_setup.specs.Parties.{parties_of}
 use Rattle.office_setup.specs.Setups.{setup_content}
 use Rattle.office_desk.proofs.Admitted.{code_at, admitted_surely, never_refused, numbered, refused_so}
-use Rattle.office_desk.proofs.DeliverLemmas.{refusal_delivered, refusal_leaves, refusal_over, comes_for, answers_over, not_now_surely, notes_none, taken_in, not_taken}
+use Rattle.office_desk.proofs.DeliverLemmas.{refusal_delivered, refusal_leaves, refusal_over, comes_for, answers_over, not_now_surely, notes_memory, notes_none, taken_in, not_taken}
 use Rattle.office_desk.proofs.CrashLemmas.{answered_behind, held_leaves}
 use Rattle.office_admission.specs.Admission.{admission}
 use Rattle.office_desk.specs.Crashes.{Leaves}
@@ -17,140 +17,116 @@ use Rattle.office_desk.specs.Kept.{NotedFor}
 use Rattle.sqlite.specs.Held.{state}
 use Rattle.office_desk.proofs.desk.Desk.answer_text.Goals as goal
 
-pub returns-in-Err-clause-sure : goal.returns-in-Err-clause-sure
-returns-in-Err-clause-sure g c =
-    subst (λ other. RefusedSurely (parties_of c.args.self.now.setup) other c.answer-answer.result) c.interchange_text-text.ensures.exact
-    (c.answer-answer.ensures.sure c.args.self.now.setup c.interchange_text-text.result.now c.in-Err.ensures.err)
+pub take_in-taken-requires-clause-delivered : goal.take_in-taken-requires-clause-delivered
+take_in-taken-requires-clause-delivered g c =
+    let within = control_number_within (header_of (head_segments c.head.result)) c.number-number.result c.number-number.ensures.number in
+    record { from_one = within.0; number = within.1; admitted = c.in-Ok.ensures.ok }
 
-pub returns-in-Err-clause-delivers : goal.returns-in-Err-clause-delivers
-returns-in-Err-clause-delivers g c = λ sound content es stands.
-    let text = c.interchange_text-text.result.now in
-    refusal_delivered g.S.Store content es c.args.delivered.now text c.answer-answer.result c.args.self.now c.in-Err.refusal
-    c.interchange_text-text.ensures.exact (record { given = stands.given; now_is = stands.now_is; rows = stands.rows; has = stands.has; after = stands.after; beside = stands.beside }) c.in-Err.ensures.err
-    (c.answer-answer.ensures.answer c.args.self.now.setup text c.in-Err.ensures.err) (c.answer-answer.ensures.sure c.args.self.now.setup text c.in-Err.ensures.err)
+-- ---- one that is refused
 
-pub returns-in-Ok-taken-clause-sure : goal.returns-in-Ok-taken-clause-sure
-returns-in-Ok-taken-clause-sure g c =
-    admitted_surely (parties_of c.args.self.now.setup) c.args.delivered.now c.interchange_text-text.result.now _ c.in-Ok-taken.response c.interchange_text-text.ensures.exact c.in-Ok.ensures.ok.admits
-
-pub returns-in-Err-taken-clause-sure : goal.returns-in-Err-taken-clause-sure
-returns-in-Err-taken-clause-sure g c =
-    admitted_surely (parties_of c.args.self.now.setup) c.args.delivered.now c.interchange_text-text.result.now _ NotNow c.interchange_text-text.ensures.exact c.in-Ok.ensures.ok.admits
-
-pub returns-in-Ok-taken-clause-delivers : goal.returns-in-Ok-taken-clause-delivers
-returns-in-Ok-taken-clause-delivers g c = λ sound content es stands.
-    let old = c.args.self.now in
-    let text = c.interchange_text-text.result.now in
-    let admitted = c.in-Ok.admitted in
-    let is = c.in-Ok.ensures.ok in
-    let accounts = old.setup.partners.items in
-    let place = admitted.partner - 1 in
-    let account = get_or accounts place c.index-accounts-place.result in
-    let found = slice_get-get_or accounts place c.index-accounts-place.result (omega (arith, is.from_one, is.known)) in
-    let named : c.as_str-code.result.now ≡ string_bytes account.code = rw c.as_slice-accounts.ensures at c.as_str-code.ensures.value in
-    let code = named ∙ sym (code_at accounts admitted.partner account is.from_one found) in
-    taken_in g.S.Store content es c.args.delivered.now text c.in-Ok-taken.response old (state g.S.Store c.take_in-taken.new.conn).committed c.take_in-taken.new.beside admitted.partner c.number-number.result c.as_str-code.result.now
-    c.interchange_text-text.ensures.exact stands
-    (numbered (parties_of old.setup) text (head_segments c.head.result) admitted.partner c.number-number.result (c.head.ensures ∙ is.segments) c.number-number.ensures.number is.admits)
-    code (c.in-Ok-taken.ensures.ok sound.0 sound.1 content es c.args.delivered.now)
-
-pub returns-in-Err-taken-clause-delivers : goal.returns-in-Err-taken-clause-delivers
-returns-in-Err-taken-clause-delivers g c = λ sound content es stands.
-    not_taken g.S.Store content es c.args.delivered.now c.args.self.now (state g.S.Store c.take_in-taken.new.conn).committed c.take_in-taken.new.beside stands
-    (admitted_surely (parties_of c.args.self.now.setup) c.args.delivered.now c.interchange_text-text.result.now _ NotNow c.interchange_text-text.ensures.exact c.in-Ok.ensures.ok.admits)
-    (c.in-Err-taken.ensures.err sound.0 sound.1 content es)
-
-pub returns-in-Err-clause-crash : goal.returns-in-Err-clause-crash
-returns-in-Err-clause-crash g c = λ sound clean content es stands.
-    let leaves : Leaves content es (state g.S.Store c.args.self.now.conn) =
-    held_leaves content es (setup_content c.args.self.now.setup) (state g.S.Store c.args.self.now.conn) c.args.self.now.beside sound.1 (λ db left. g.met.S.Store.settled c.args.self.now.conn.store db sound.1 left) stands in
-    refusal_leaves g.S.Store content es c.args.delivered.now c.interchange_text-text.result.now c.answer-answer.result c.args.self.now c.in-Err.refusal
-    c.interchange_text-text.ensures.exact (record { given = stands.given; now_is = stands.now_is; rows = stands.rows; has = stands.has; after = stands.after; beside = stands.beside }) c.in-Err.ensures.err leaves
-
-pub returns-in-Ok-taken-clause-crash : goal.returns-in-Ok-taken-clause-crash
-returns-in-Ok-taken-clause-crash g c = λ sound clean content es stands.
-    let leaves : Leaves content es (state g.S.Store c.args.self.now.conn) =
-    held_leaves content es (setup_content c.args.self.now.setup) (state g.S.Store c.args.self.now.conn) c.args.self.now.beside sound.1 (λ db left. g.met.S.Store.settled c.args.self.now.conn.store db sound.1 left) stands in
-    let old = c.args.self.now in
-    let text = c.interchange_text-text.result.now in
-    let admitted = c.in-Ok.admitted in
-    let end = state g.S.Store c.take_in-taken.new.conn in
-    let comes = comes_for g.S.Store content es c.args.delivered.now text old admitted.partner c.number-number.result c.interchange_text-text.ensures.exact stands
-    (numbered (parties_of old.setup) text (head_segments c.head.result) admitted.partner c.number-number.result (c.head.ensures ∙ c.in-Ok.ensures.ok.segments) c.number-number.ensures.number c.in-Ok.ensures.ok.admits) in
-    answered_behind content es c.args.delivered.now c.in-Ok-taken.response end (c.in-Ok-taken.ensures.leaves clean sound.1 content es c.args.delivered.now stands leaves comes)
-
-pub returns-in-Err-taken-clause-crash : goal.returns-in-Err-taken-clause-crash
-returns-in-Err-taken-clause-crash g c = λ sound clean content es stands.
-    let leaves : Leaves content es (state g.S.Store c.args.self.now.conn) =
-    held_leaves content es (setup_content c.args.self.now.setup) (state g.S.Store c.args.self.now.conn) c.args.self.now.beside sound.1 (λ db left. g.met.S.Store.settled c.args.self.now.conn.store db sound.1 left) stands in
-    let old = c.args.self.now in
-    let text = c.interchange_text-text.result.now in
-    let admitted = c.in-Ok.admitted in
-    let end = state g.S.Store c.take_in-taken.new.conn in
-    let comes = comes_for g.S.Store content es c.args.delivered.now text old admitted.partner c.number-number.result c.interchange_text-text.ensures.exact stands
-    (numbered (parties_of old.setup) text (head_segments c.head.result) admitted.partner c.number-number.result (c.head.ensures ∙ c.in-Ok.ensures.ok.segments) c.number-number.ensures.number c.in-Ok.ensures.ok.admits) in
-    c.in-Err-taken.ensures.crash clean sound.1 content es c.args.delivered.now stands leaves comes
-
-pub returns-in-Err-clause-refused : goal.returns-in-Err-clause-refused
-returns-in-Err-clause-refused g c fault e =
-    let setup = c.args.self.now.setup in
-    let text = c.interchange_text-text.result.now in
-    (refl, refl, refl, refused_so setup c.args.delivered.now text c.in-Err.refusal fault c.answer-answer.result c.interchange_text-text.ensures.exact c.in-Err.ensures.err e (c.answer-answer.ensures.answer setup text c.in-Err.ensures.err))
-
-pub returns-in-Ok-taken-clause-refused : goal.returns-in-Ok-taken-clause-refused
-returns-in-Ok-taken-clause-refused g c fault e =
-    absurd (never_refused (parties_of c.args.self.now.setup) c.args.delivered.now c.interchange_text-text.result.now _ fault c.interchange_text-text.ensures.exact c.in-Ok.ensures.ok.admits e)
-
-pub returns-in-Err-taken-clause-refused : goal.returns-in-Err-taken-clause-refused
-returns-in-Err-taken-clause-refused g c fault e =
-    absurd (never_refused (parties_of c.args.self.now.setup) c.args.delivered.now c.interchange_text-text.result.now _ fault c.interchange_text-text.ensures.exact c.in-Ok.ensures.ok.admits e)
-
--- ---- over any office
-
-pub returns-in-Err-clause-office : goal.returns-in-Err-clause-office
-returns-in-Err-clause-office g c = λ sound old holds.
-    let text = c.interchange_text-text.result.now in
-    refusal_over g.S.Store old c.args.delivered.now text c.answer-answer.result _ c.in-Err.refusal
-    c.interchange_text-text.ensures.exact (record { has = holds.has; loads = holds.loads; beside = holds.beside }) c.in-Err.ensures.err
-    (c.answer-answer.ensures.answer c.args.self.now.setup text c.in-Err.ensures.err) (c.answer-answer.ensures.sure c.args.self.now.setup text c.in-Err.ensures.err) _ c.note_memory.ensures
-
-pub returns-in-Ok-taken-clause-office : goal.returns-in-Ok-taken-clause-office
-returns-in-Ok-taken-clause-office g c = λ sound old holds.
+pub returns-in-Err : goal.returns-in-Err
+returns-in-Err g c =
     let desk = c.args.self.now in
     let text = c.interchange_text-text.result.now in
+    let sent = c.args.delivered.now in
+    let given = c.answer-answer.result in
+    let exact = c.interchange_text-text.ensures.exact in
+    let refused = c.in-Err.ensures.err in
+    let answer = c.answer-answer.ensures.answer desk.setup text refused in
+    let sure = c.answer-answer.ensures.sure desk.setup text refused in
+    record {
+      leads = record {
+        delivers = λ sound content es stands. refusal_delivered g.S.Store content es sent text given desk c.in-Err.refusal exact stands refused answer sure;
+        office = λ sound old holds. refusal_over g.S.Store old sent text given _ c.in-Err.refusal exact (record { has = holds.has; loads = holds.loads; beside = holds.beside }) refused answer sure _ c.note_memory.ensures;
+        setup = refl;
+        stays = λ sound. (sound.0, sound.1);
+        crash = λ sound clean content es stands.
+            refusal_leaves g.S.Store content es sent text given desk c.in-Err.refusal exact stands refused
+            (held_leaves content es (setup_content desk.setup) (state g.S.Store desk.conn) desk.beside sound.1 (λ db left. g.met.S.Store.settled desk.conn.store db sound.1 left) stands);
+        refused = λ fault e. (refl, refl, refl, refused_so desk.setup sent text c.in-Err.refusal fault given exact refused e answer);
+        sure = subst (λ other. RefusedSurely (parties_of desk.setup) other given) exact sure;
+        noted = notes_memory given desk.last_fault _ c.note_memory.ensures;
+      };
+    }
+
+-- ---- one that is admitted, and was taken in
+
+pub returns-in-Ok-taken : goal.returns-in-Ok-taken
+returns-in-Ok-taken g c =
+    let desk = c.args.self.now in
+    let text = c.interchange_text-text.result.now in
+    let sent = c.args.delivered.now in
+    let given = c.in-Ok-taken.response in
+    let exact = c.interchange_text-text.ensures.exact in
     let admitted = c.in-Ok.admitted in
+    let partner = admitted.partner in
+    let number = c.number-number.result in
     let is = c.in-Ok.ensures.ok in
     let accounts = desk.setup.partners.items in
-    let place = admitted.partner - 1 in
-    let account = get_or accounts place c.index-accounts-place.result in
-    let found = slice_get-get_or accounts place c.index-accounts-place.result (omega (arith, is.from_one, is.known)) in
+    let account = get_or accounts (partner - 1) c.index-accounts-place.result in
+    let found = slice_get-get_or accounts (partner - 1) c.index-accounts-place.result (omega (arith, is.from_one, is.known)) in
     let named : c.as_str-code.result.now ≡ string_bytes account.code = rw c.as_slice-accounts.ensures at c.as_str-code.ensures.value in
-    let code = named ∙ sym (code_at accounts admitted.partner account is.from_one found) in
-    let taken : c.take_in-taken.result ≡ Ok c.in-Ok-taken.response = let e = c.in-Ok-taken.is in cc in
-    answers_over g.S.Store old c.args.delivered.now text c.in-Ok-taken.response _ admitted.partner c.number-number.result c.as_str-code.result.now c.interchange_text-text.ensures.exact
-    (numbered (parties_of desk.setup) text (head_segments c.head.result) admitted.partner c.number-number.result (c.head.ensures ∙ is.segments) c.number-number.ensures.number is.admits)
-    code (rw taken at (c.take_in-taken.ensures.office sound.0 sound.1 old holds))
+    let code = named ∙ sym (code_at accounts partner account is.from_one found) in
+    let place = numbered (parties_of desk.setup) text (head_segments c.head.result) partner number (c.head.ensures ∙ is.segments) c.number-number.ensures.number is.admits in
+    let taken : c.take_in-taken.result ≡ Ok given = let e = c.in-Ok-taken.is in cc in
+    let takes = rw taken at c.take_in-taken.ensures.takes in
+    let ends = c.take_in-taken.ensures.ends in
+    let after = c.take_in-taken.new in
+    record {
+      leads = record {
+        delivers = λ sound content es stands.
+            taken_in g.S.Store content es sent text given desk (state g.S.Store after.conn).committed after.beside partner number c.as_str-code.result.now exact stands place code
+            (λ stands comes. takes.events sound.0 sound.1 content es stands sent comes);
+        office = λ sound old holds. answers_over g.S.Store old sent text given _ partner number c.as_str-code.result.now exact place code (takes.office sound.0 sound.1 old holds);
+        setup = refl;
+        stays = λ sound. (ends.clean sound.0, ends.was_open sound.0 sound.1);
+        crash = λ sound clean content es stands.
+            let leaves : Leaves content es (state g.S.Store desk.conn) =
+            held_leaves content es (setup_content desk.setup) (state g.S.Store desk.conn) desk.beside sound.1 (λ db left. g.met.S.Store.settled desk.conn.store db sound.1 left) stands in
+            answered_behind content es sent given (state g.S.Store after.conn)
+            (takes.crash clean sound.1 content es sent stands leaves (comes_for g.S.Store content es sent text desk partner number exact stands place));
+        refused = λ fault e. absurd (never_refused (parties_of desk.setup) sent text _ fault exact is.admits e);
+        sure = admitted_surely (parties_of desk.setup) sent text _ given exact is.admits;
+        noted = notes_none given desk.last_fault c.in-Ok-taken.ensures.now;
+      };
+    }
 
-pub returns-in-Err-taken-clause-office : goal.returns-in-Err-taken-clause-office
-returns-in-Err-taken-clause-office g c = λ sound old holds.
+-- ---- one that is admitted, and could not be taken in now
+
+pub returns-in-Err-taken : goal.returns-in-Err-taken
+returns-in-Err-taken g c =
     let desk = c.args.self.now in
-    let taken : c.take_in-taken.result ≡ Err c.in-Err-taken.fault = let e = c.in-Err-taken.is in cc in
-    let P = parties_of desk.setup in
     let text = c.interchange_text-text.result.now in
-    let is = c.in-Ok.ensures.ok in
+    let sent = c.args.delivered.now in
+    let exact = c.interchange_text-text.ensures.exact in
     let partner = c.in-Ok.admitted.partner in
     let number = c.number-number.result in
-    let here : admission P text ≡ Ok (partner, number) = numbered P text (head_segments c.head.result) partner number (c.head.ensures ∙ is.segments) c.number-number.ensures.number is.admits in
-    let there = subst (λ other. admission P other ≡ Ok (partner, number)) c.interchange_text-text.ensures.exact here in
-    let by = rw taken at (c.take_in-taken.ensures.office sound.0 sound.1 old holds) in (
-      not_now_surely P (interchange_of c.args.delivered.now) (admitted_surely P c.args.delivered.now c.interchange_text-text.result.now _ NotNow c.interchange_text-text.ensures.exact c.in-Ok.ensures.ok.admits),
-      subst (λ place. NotedFor place old.rows (Some c.in-Err-taken.fault)) (sym there) (c.in-Err-taken.fault, refl, by.0),
-      by.1,
-    )
-
--- The number that a header writes is from 1 on.
-pub take_in-taken-requires-clause-from_one : goal.take_in-taken-requires-clause-from_one
-take_in-taken-requires-clause-from_one g c = (control_number_within (header_of (head_segments c.head.result)) c.number-number.result c.number-number.ensures.number).0
-
-pub returns-in-Ok-taken-clause-noted : goal.returns-in-Ok-taken-clause-noted
-returns-in-Ok-taken-clause-noted g c = notes_none c.in-Ok-taken.response c.args.self.now.last_fault c.in-Ok-taken.ensures.now
+    let is = c.in-Ok.ensures.ok in
+    let P = parties_of desk.setup in
+    let place = numbered P text (head_segments c.head.result) partner number (c.head.ensures ∙ is.segments) c.number-number.ensures.number is.admits in
+    let taken : c.take_in-taken.result ≡ Err c.in-Err-taken.fault = let e = c.in-Err-taken.is in cc in
+    let takes = rw taken at c.take_in-taken.ensures.takes in
+    let ends = c.take_in-taken.ensures.ends in
+    let after = c.take_in-taken.new in
+    let surely = admitted_surely P sent text _ NotNow exact is.admits in
+    record {
+      leads = record {
+        delivers = λ sound content es stands. not_taken g.S.Store content es sent desk (state g.S.Store after.conn).committed after.beside stands surely (takes.events sound.0 sound.1 content es);
+        office = λ sound old holds.
+            let there = subst (λ other. admission P other ≡ Ok (partner, number)) exact place in
+            let by = takes.office sound.0 sound.1 old holds in (
+              not_now_surely P (interchange_of sent) surely,
+              subst (λ place. NotedFor place old.rows (Some c.in-Err-taken.fault)) (sym there) (c.in-Err-taken.fault, refl, by.0),
+              by.1,
+            );
+        setup = refl;
+        stays = λ sound. (ends.clean sound.0, ends.was_open sound.0 sound.1);
+        crash = λ sound clean content es stands.
+            let leaves : Leaves content es (state g.S.Store desk.conn) =
+            held_leaves content es (setup_content desk.setup) (state g.S.Store desk.conn) desk.beside sound.1 (λ db left. g.met.S.Store.settled desk.conn.store db sound.1 left) stands in
+            takes.crash clean sound.1 content es sent stands leaves (comes_for g.S.Store content es sent text desk partner number exact stands place);
+        refused = λ fault e. absurd (never_refused P sent text _ fault exact is.admits e);
+        sure = surely;
+        noted = (c.in-Err-taken.fault, refl);
+      };
+    }

@@ -1,7 +1,6 @@
-use Rattle.office_desk.proofs.LookLemmas.{looked}
+use Rattle.office_desk.proofs.LookLemmas.{told_if_ok}
+use Rattle.office_desk.specs.Reports.{DeskTells}
 use Rattle.office_desk.proofs.desk.DeskReport.report.Goals as goal
 
-pub returns-clause-looked : goal.returns-clause-looked
-returns-clause-looked g c =
-    let said = c.answer_query.ensures in
-    looked g.S.Store c.args.self.now c.args.query.now c.answer_query.result c.answer_query.new.self said.told said.same said.holds said.crash said.stays said.answered said.not_now
+pub returns-clause-told : goal.returns-clause-told
+returns-clause-told g c = λ sound. told_if_ok (DeskTells g.S.Store c.args.self.now c.args.query.now) c.answer_query.result (c.answer_query.ensures.looks.told sound)

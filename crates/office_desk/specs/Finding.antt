@@ -1,0 +1,39 @@
+-- What a delivery finds in the tables and beside them.
+use Rattle.std.specs.Prelude.{ℕ, ◌≤◌, List, length, Option, Some}
+use Rattle.sqlite.specs.Effect.{Database}
+use Rattle.terminal_core.specs.State.{TerminalState}
+use Rattle.office_replies.specs.Events.{Event}
+use Rattle.office_rows.specs.Rows.{Rows}
+use Rattle.office_rows.specs.Stored.{HasRows}
+use Rattle.office_setup.specs.Given.{IsGiven}
+use Rattle.office_setup.specs.Setups.{SetupContent}
+use Rattle.office_tables.specs.Answers.{HasUnfitReply, IsKept}
+use Rattle.office_tables.specs.Faults.{IsOfStoreOr}
+use Rattle.office_tables.specs.declared.table_fault.TableFault.{TableFault}
+use Rattle.office_history.specs.After.{AreAfter}
+use Rattle.office_desk.specs.Beside.{IsBeside, IsOrNone}
+use Rattle.office_desk.specs.Offices.{HoldsOffice}
+use Rattle.office_desk.specs.declared.beside.Beside.{Beside}
+use Rattle.office_desk.specs.declared.found.Found.{Found}
+
+-- whatever rows the database has, what stands beside them in the end is theirs if what stood there before was: of those
+-- after some events, and of those of an office
+pub record StaysBeside (db : Database) (before after : Option Beside) : Type 0 where
+  pub events : (content : SetupContent) (es : List Event) (rows : Rows) → IsGiven content → HasRows rows db →
+      AreAfter content es rows → IsBeside content es before → IsBeside content es after
+  pub office : (content : SetupContent) (rows : Rows) (terminal : TerminalState) →
+      HoldsOffice content rows terminal db before → IsOrNone rows terminal after
+
+-- what was found under the partner's number is what the rows keep, and what stands beside them
+pub record IsFound (partner number : ℕ) (db : Database) (before : Option Beside) (found : Found) : Type 0 where
+  pub kept : (rows : Rows) → HasRows rows db → IsKept partner number rows found.kept
+  pub beside : StaysBeside db before (Some found.there)
+
+-- nothing was found: what stands beside the rows stays; and if they are those of an office that has the partner, the store
+-- failed, or memory was refused, or the reply that they keep under the number is no text
+pub record IsNotFound (partner number : ℕ) (db : Database) (before : Option Beside) (fault : TableFault)
+    (after : Option Beside) : Type 0 where
+  pub beside : StaysBeside db before after
+  pub why : (content : SetupContent) (rows : Rows) (terminal : TerminalState) →
+      HoldsOffice content rows terminal db before → partner ≤ length content.partners →
+      IsOfStoreOr (HasUnfitReply partner number rows) fault
