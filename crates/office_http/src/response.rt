@@ -21,7 +21,7 @@ pub(crate) fn write_text<W: Write>(
     kind: ContentType,
     body: &str,
 ) -> Result<()>
-    ensures puts { Puts (response_bytes status kind None body.now)
+    ensures { Puts (response_bytes status kind None body.now)
         (W.contents port.old.inner) (W.contents port.new.inner) port.old port.new result }
 {
     write_head(port, status, kind, None, body.len() as u128)?;
@@ -30,7 +30,7 @@ pub(crate) fn write_text<W: Write>(
 
 /// Writes the response of a refusal.
 pub(crate) fn write_refusal<W: Write>(port: &mut Port<W>, refusal: Refusal) -> Result<()>
-    ensures puts { Puts (refusal_bytes refusal)
+    ensures { Puts (refusal_bytes refusal)
         (W.contents port.old.inner) (W.contents port.new.inner) port.old port.new result }
 {
     let body = refusal.body();
@@ -46,7 +46,7 @@ pub(crate) fn write_refusal<W: Write>(port: &mut Port<W>, refusal: Refusal) -> R
 
 /// Writes the response of a delivery.
 pub(crate) fn write_answer<W: Write>(port: &mut Port<W>, response: &Response) -> Result<()>
-    ensures puts { Puts (response_bytes (status_of response.now) Json None (body_of response.now))
+    ensures { Puts (response_bytes (status_of response.now) Json None (body_of response.now))
         (W.contents port.old.inner) (W.contents port.new.inner) port.old port.new result }
 {
     let body = response.body();
@@ -67,7 +67,7 @@ pub(crate) fn write_account_answer<W: Write>(
     port: &mut Port<W>,
     answer: &AccountAnswer,
 ) -> Result<()>
-    ensures puts { Puts (response_bytes (account_status answer.now) Json None (account_body answer.now))
+    ensures { Puts (response_bytes (account_status answer.now) Json None (account_body answer.now))
         (W.contents port.old.inner) (W.contents port.new.inner) port.old port.new result }
 {
     let body = answer.body();
@@ -91,7 +91,7 @@ fn write_head<W: Write>(
     allowed: Option<Method>,
     size: u128,
 ) -> Result<()>
-    ensures puts { Puts (response_head status kind allowed size)
+    ensures { Puts (response_head status kind allowed size)
         (W.contents port.old.inner) (W.contents port.new.inner) port.old port.new result }
 {
     let mut digits = itoa::Buffer::new();
@@ -103,7 +103,7 @@ fn write_head<W: Write>(
 }
 
 fn write_status_line<W: Write>(port: &mut Port<W>, status: StatusCode) -> Result<()>
-    ensures puts { Puts (status_line status)
+    ensures { Puts (status_line status)
         (W.contents port.old.inner) (W.contents port.new.inner) port.old port.new result }
 {
     port.write_all(b"HTTP/1.1 ")?;
@@ -124,7 +124,7 @@ fn phrase(status: StatusCode) -> &'static str
 }
 
 fn write_allowed<W: Write>(port: &mut Port<W>, allowed: Option<Method>) -> Result<()>
-    ensures puts { Puts (allow_line allowed)
+    ensures { Puts (allow_line allowed)
         (W.contents port.old.inner) (W.contents port.new.inner) port.old port.new result }
 {
     match allowed {
@@ -135,7 +135,7 @@ fn write_allowed<W: Write>(port: &mut Port<W>, allowed: Option<Method>) -> Resul
 
 /// Writes that the connection closes, and the line that ends a head.
 fn write_close<W: Write>(port: &mut Port<W>) -> Result<()>
-    ensures puts { Puts close_lines
+    ensures { Puts close_lines
         (W.contents port.old.inner) (W.contents port.new.inner) port.old port.new result }
 {
     write_field(port, b"Connection", b"close")?;
@@ -143,7 +143,7 @@ fn write_close<W: Write>(port: &mut Port<W>) -> Result<()>
 }
 
 fn write_field<W: Write>(port: &mut Port<W>, name: &[u8], value: &[u8]) -> Result<()>
-    ensures puts { Puts (field_line name.now value.now)
+    ensures { Puts (field_line name.now value.now)
         (W.contents port.old.inner) (W.contents port.new.inner) port.old port.new result }
 {
     port.write_all(name)?;

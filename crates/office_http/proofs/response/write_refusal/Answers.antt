@@ -4,11 +4,11 @@ use Rattle.office_http.specs.declared.content_type.ContentType.TheVariants.{Json
 use Rattle.office_http.proofs.Pieces.{whole}
 use Rattle.office_http.proofs.response.write_refusal.Goals as goal
 
-pub returns-clause-puts : goal.returns-clause-puts
-returns-clause-puts g c = record {
+pub returns : goal.returns
+returns g c = record {
   appends = on_ok_weaker c.write_all.result
-      (λ last. whole _ _ _ _ _ Json _ _ _ _ _ c.status.ensures c.allowed.ensures c.body-body.ensures c.as_bytes.ensures.value c.in_ok-write_head.ensures.puts.appends last)
+      (λ last. whole _ _ _ _ _ Json _ _ _ _ _ c.status.ensures c.allowed.ensures c.body-body.ensures c.as_bytes.ensures.value c.in_ok-write_head.ensures.appends last)
       c.write_all.ensures.bytes;
-  succeeds = on_ok_weaker c.write_all.result (λ last. last ∙ c.in_ok-write_head.ensures.puts.succeeds) c.write_all.ensures.succeeds;
+  succeeds = on_ok_weaker c.write_all.result (λ last. last ∙ c.in_ok-write_head.ensures.succeeds) c.write_all.ensures.succeeds;
   fails = c.write_all.ensures.fails;
 }

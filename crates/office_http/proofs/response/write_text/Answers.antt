@@ -3,11 +3,11 @@ use Rattle.std.proofs.lemmas.Result.{on_ok_weaker}
 use Rattle.office_http.proofs.Pieces.{whole}
 use Rattle.office_http.proofs.response.write_text.Goals as goal
 
-pub returns-clause-puts : goal.returns-clause-puts
-returns-clause-puts g c = record {
+pub returns : goal.returns
+returns g c = record {
   appends = on_ok_weaker c.write_all.result
-      (λ last. whole _ _ _ _ _ c.args.kind _ _ _ c.args.body.now _ refl refl refl c.as_bytes.ensures.value c.in_ok-write_head.ensures.puts.appends last)
+      (λ last. whole _ _ _ _ _ c.args.kind _ _ _ c.args.body.now _ refl refl refl c.as_bytes.ensures.value c.in_ok-write_head.ensures.appends last)
       c.write_all.ensures.bytes;
-  succeeds = on_ok_weaker c.write_all.result (λ last. last ∙ c.in_ok-write_head.ensures.puts.succeeds) c.write_all.ensures.succeeds;
+  succeeds = on_ok_weaker c.write_all.result (λ last. last ∙ c.in_ok-write_head.ensures.succeeds) c.write_all.ensures.succeeds;
   fails = c.write_all.ensures.fails;
 }
