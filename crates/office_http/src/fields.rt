@@ -10,6 +10,7 @@ ghost use Rattle.office_http.specs.declared.refusal.Refusal.TheVariants.{BadRequ
 use crate::refusal::Refusal;
 use edi_segments::MOST_BYTES;
 use httparse::spans::HeaderSpan;
+use office_queries::number_of;
 
 /// The length of the body, by the fields of a head, or why there is none.
 pub(crate) fn content_length(read: &[u8], headers: &[HeaderSpan]) -> Result<usize, Refusal>
@@ -63,26 +64,9 @@ fn limited(digits: &[u8]) -> Result<usize, Refusal>
     ensures length { result ≡ in_limit (number_of 19 digits.now) }
     ensures limit { IfOk result (λ size. size ≤ most_bytes) }
 {
-    match number_of(digits) {
+    match number_of(digits, 19) {
         Some(size) if size <= MOST_BYTES as u64 => Ok(size as usize),
         Some(_) => Err(Refusal::TooLong),
         None => Err(Refusal::BadRequest),
     }
-}
-
-/// The number that 1 to 19 digits write.
-fn number_of(digits: &[u8]) -> Option<u64>
-    ensures { result ≡ number_of 19 digits.now }
-{
-    if digits.is_empty() || digits.len() > 19 {
-        return None;
-    }
-    let mut number = 0u64;
-    for byte in digits {
-        if !byte.is_ascii_digit() {
-            return None;
-        }
-        number = number * 10 + u64::from(*byte - b'0');
-    }
-    Some(number)
 }
