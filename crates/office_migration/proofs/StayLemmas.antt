@@ -1,8 +1,8 @@
 -- What stays, and what is said of a fault.
-use Rattle.std.proofs.Common.{IsTrue, Result, Ok, Err, IfErr, inl, inr, refl, arith}
+use Rattle.std.proofs.Common.{Result, Ok, Err, IfErr, inl, inr, refl, arith}
 use Rattle.sqlite.specs.Tree.{Trees}
-use Rattle.sqlite.specs.State.{State, Survives, IsUnchanged}
-use Rattle.office_selecting.specs.Reads.{WritesNothing}
+use Rattle.sqlite.specs.State.{State, Survives}
+use Rattle.office_tables.specs.Reading.{ReadsIfOpen}
 
 pub if_err : {X E : Type 0} {P Q : E → Type 0} (r : Result X E) → ((e : E) → P e → Q e) → IfErr r P → IfErr r Q
 if_err (Ok x) f h = h
@@ -28,15 +28,14 @@ survives_as a b P Q f s = record {
   crash = λ clean db left. elim (s.crash clean db left) [ inl was ↦ inl was | inr made ↦ inr (f db made) ];
 }
 
-pub writes_here : (now : State) → WritesNothing now now
-writes_here now = record {
+pub reads_here : {T : Type 0} (now : State) (value : T) → ReadsIfOpen now now (Ok value)
+reads_here now value = record {
+  unchanged = λ clean is. (
+    record { was_open = is; is_open = is; now_is = refl; committed_is = refl; mode = refl },
+    record { changes = refl; last_rowid = refl },
+    refl,
+  );
   keeps = λ clean. record { was_open = λ was. was; committed = λ was. refl };
+  mode = λ idle. idle;
   survives = survives_here now (λ _. ⊥);
 }
-
-pub unchanged_here : (now : State) → IsTrue now.is_open → IsUnchanged now now
-unchanged_here now is = (
-  record { was_open = is; is_open = is; now_is = refl; committed_is = refl; mode = refl },
-  record { changes = refl; last_rowid = refl },
-  refl,
-)

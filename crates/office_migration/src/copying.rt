@@ -1,19 +1,18 @@
-ghost use Rattle.std.specs.Prelude.{◌≡◌, ℕ, [], ◌∷◌, List, map, false, IfOk, IfErr, OnOk, IsTrue};
+ghost use Rattle.std.specs.Prelude.{◌≡◌, ℕ, [], ◌∷◌, List, map, IfOk, IfErr, OnOk, IsTrue};
 ghost use Rattle.sqlite.specs.Held.{state};
-ghost use Rattle.sqlite.specs.State.{HasCleanDisk, IsUnchanged, Survives, KeepsCommit};
+ghost use Rattle.sqlite.specs.State.{HasCleanDisk, Survives, KeepsCommit};
 ghost use Rattle.office_rows.specs.Layouts.{bare_schema};
 ghost use Rattle.office_rows.specs.Rows.{Interchange};
 ghost use Rattle.office_rows.specs.Opening.{with_interchanges};
 ghost use Rattle.office_rows.specs.Steps.{Steps};
 ghost use Rattle.office_checks.specs.Contents.{number_content};
-ghost use Rattle.office_selecting.specs.Reads.{WritesNothing};
 ghost use Rattle.office_tables.specs.Faults.{IsOfStore};
 ghost use Rattle.office_tables.specs.Answers.{RepliesAs};
+ghost use Rattle.office_tables.specs.Reading.{Reads, ReadsIfOpen};
 ghost use Rattle.office_migration.specs.Copies.{IsOneOf, IsOfPair, AreOfPairs};
 
 use office_checks::NumberRow;
-use office_selecting::select_interchange;
-use office_tables::{Kept, TableFault, insert_interchange, read_kept};
+use office_tables::{Kept, TableFault, insert_interchange, read_kept, select_interchange};
 use sqlite::{Alter, Connection, Error, Row, Transaction};
 
 /// Copies the interchanges of these numbers, one after the other.
@@ -33,10 +32,7 @@ pub(crate) fn copy_interchanges<S: Alter, T: Alter>(
         IsTrue (state T.Store tx.old.conn.now).in_transaction → IsTrue (state T.Store tx.old.conn.now).is_open
         → KeepsCommit (state T.Store tx.old.conn.now) (state T.Store tx.new.conn.now) }
     ensures survives { Survives (state T.Store tx.old.conn.now) (state T.Store tx.new.conn.now) (λ _. ⊥) }
-    ensures mode { old.old.in_transaction ≡ false → old.new.in_transaction ≡ false }
-    ensures unchanged { HasCleanDisk (state S.Store old.new) → IsTrue (state S.Store old.old).is_open →
-        OnOk result (IsUnchanged (state S.Store old.old) (state S.Store old.new)) }
-    ensures unwritten { WritesNothing (state S.Store old.old) (state S.Store old.new) }
+    ensures reads { ReadsIfOpen (state S.Store old.old) (state S.Store old.new) result }
     ensures fault { IfErr result IsOfStore }
 {
     for row in numbers {
@@ -63,10 +59,7 @@ fn copy_interchange<S: Alter, T: Alter>(
         IsTrue (state T.Store tx.old.conn.now).in_transaction → IsTrue (state T.Store tx.old.conn.now).is_open
         → KeepsCommit (state T.Store tx.old.conn.now) (state T.Store tx.new.conn.now) }
     ensures survives { Survives (state T.Store tx.old.conn.now) (state T.Store tx.new.conn.now) (λ _. ⊥) }
-    ensures mode { old.old.in_transaction ≡ false → old.new.in_transaction ≡ false }
-    ensures unchanged { HasCleanDisk (state S.Store old.new) →
-        OnOk result (IsUnchanged (state S.Store old.old) (state S.Store old.new)) }
-    ensures unwritten { WritesNothing (state S.Store old.old) (state S.Store old.new) }
+    ensures reads { Reads (state S.Store old.old) (state S.Store old.new) result }
     ensures fault { IfErr result IsOfStore }
 {
     let rows = select_interchange(old, partner, number)?;

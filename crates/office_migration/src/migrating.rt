@@ -1,6 +1,6 @@
 ghost use Rattle.std.specs.Prelude.{◌≡◌, ℕ, List, [], ◌∷◌, ◌++◌, map, take, false, IfErr, IsErrAnd, OnOk, OnErr, IsTrue};
 ghost use Rattle.sqlite.specs.Held.{state};
-ghost use Rattle.sqlite.specs.State.{HasCleanDisk, IsUnchanged, KeepsCommit, Survives};
+ghost use Rattle.sqlite.specs.State.{HasCleanDisk, KeepsCommit, Survives};
 ghost use Rattle.terminal_core.specs.declared.version.Version.{Version};
 ghost use Rattle.office_replies.specs.Events.{Event, migrated};
 ghost use Rattle.office_setup.specs.Setups.{SetupContent};
@@ -11,7 +11,7 @@ ghost use Rattle.office_rows.specs.Steps.{Turns};
 ghost use Rattle.office_rows.specs.Stored.{HasRows, HasEmpty};
 ghost use Rattle.office_tables.specs.Faults.{IsOfStore};
 ghost use Rattle.office_tables.specs.Opened.{AreMissing};
-ghost use Rattle.office_selecting.specs.Reads.{WritesNothing};
+ghost use Rattle.office_tables.specs.Reading.{Reads, ReadsIfOpen};
 ghost use Rattle.office_selecting.specs.Settings.{HasNoSettings, HasSettings};
 ghost use Rattle.office_checks.specs.Contents.{number_content, opened_rows};
 ghost use Rattle.office_loading.specs.Older.{FailsToLoadOlder, TellsOlder};
@@ -39,7 +39,6 @@ pub fn migrate<S: Alter, T: Alter>(
 ) -> Result<(), TableFault>
     requires { (state T.Store new.old).in_transaction ≡ false }
     ensures idle { (state T.Store new.new).in_transaction ≡ false }
-    ensures mode { old.old.in_transaction ≡ false → old.new.in_transaction ≡ false }
     ensures ok { HasCleanDisk (state T.Store new.new) → HasCleanDisk (state S.Store old.new) →
         (state S.Store old.old).now.schema ≡ bare_schema →
         OnOk result (Migrates (state S.Store old.old).now (state T.Store new.old) (state T.Store new.new)) }
@@ -71,9 +70,7 @@ pub fn migrate<S: Alter, T: Alter>(
         (es : List Event) → IsOlderAfter version content es (state S.Store old.old).now → IfErr result IsOfStore }
 
     // Nothing is written to the old store.
-    ensures unchanged { HasCleanDisk (state S.Store old.new) →
-        OnOk result (IsUnchanged (state S.Store old.old) (state S.Store old.new)) }
-    ensures unwritten { WritesNothing (state S.Store old.old) (state S.Store old.new) }
+    ensures reads { Reads (state S.Store old.old) (state S.Store old.new) result }
 
     // Whatever tables the old store has.
     ensures missing { HasCleanDisk (state S.Store old.new) → HasNoSettings (state S.Store old.old).now.schema →
@@ -97,7 +94,6 @@ fn copy_tables<S: Alter, T: Alter>(
 ) -> Result<(), TableFault>
     requires { (state T.Store new.old).in_transaction ≡ false }
     ensures idle { (state T.Store new.new).in_transaction ≡ false }
-    ensures mode { old.old.in_transaction ≡ false → old.new.in_transaction ≡ false }
     ensures ok { HasCleanDisk (state T.Store new.new) → HasCleanDisk (state S.Store old.new) →
         (state S.Store old.old).now.schema ≡ bare_schema →
         OnOk result (Copies (state S.Store old.old).now (opened_rows tables.now)
@@ -109,9 +105,7 @@ fn copy_tables<S: Alter, T: Alter>(
         × ((state T.Store new.new).committed ≡ (state T.Store new.old).committed)) }
     ensures crash { HasCleanDisk (state S.Store old.new) → Survives (state T.Store new.old) (state T.Store new.new)
         (IsCopy (state S.Store old.old).now (opened_rows tables.now) (state T.Store new.old).committed) }
-    ensures unchanged { HasCleanDisk (state S.Store old.new) → IsTrue (state S.Store old.old).is_open →
-        OnOk result (IsUnchanged (state S.Store old.old) (state S.Store old.new)) }
-    ensures unwritten { WritesNothing (state S.Store old.old) (state S.Store old.new) }
+    ensures reads { ReadsIfOpen (state S.Store old.old) (state S.Store old.new) result }
     ensures fault { IfErr result IsOfStore }
 {
     let is_idle = new.is_autocommit();
@@ -140,10 +134,7 @@ fn write_copy<S: Alter, T: Alter>(
     ensures keeps { HasCleanDisk (state T.Store tx.new.conn.now) → IsTrue (state T.Store tx.old.conn.now).in_transaction
         → KeepsCommit (state T.Store tx.old.conn.now) (state T.Store tx.new.conn.now) }
     ensures survives { Survives (state T.Store tx.old.conn.now) (state T.Store tx.new.conn.now) (λ _. ⊥) }
-    ensures mode { old.old.in_transaction ≡ false → old.new.in_transaction ≡ false }
-    ensures unchanged { HasCleanDisk (state S.Store old.new) → IsTrue (state S.Store old.old).is_open →
-        OnOk result (IsUnchanged (state S.Store old.old) (state S.Store old.new)) }
-    ensures unwritten { WritesNothing (state S.Store old.old) (state S.Store old.new) }
+    ensures reads { ReadsIfOpen (state S.Store old.old) (state S.Store old.new) result }
     ensures fault { IfErr result IsOfStore }
 {
     write_tables(tx, tables)?;

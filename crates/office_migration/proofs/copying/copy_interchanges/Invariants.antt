@@ -1,12 +1,12 @@
-use Rattle.std.proofs.Common.{◌≡◌, List, IsTrue, take, map, false}
-use Rattle.sqlite.specs.State.{HasCleanDisk, Survives, IsUnchanged}
+use Rattle.std.proofs.Common.{◌≡◌, Ok, List, IsTrue, take, map}
+use Rattle.sqlite.specs.State.{HasCleanDisk, Survives}
 use Rattle.sqlite.specs.Held.{state}
 use Rattle.office_rows.specs.Layouts.{bare_schema}
 use Rattle.office_rows.specs.Rows.{Interchange}
 use Rattle.office_rows.specs.Opening.{with_interchanges}
 use Rattle.office_rows.specs.Steps.{Steps}
 use Rattle.office_checks.specs.Contents.{number_content}
-use Rattle.office_selecting.specs.Reads.{WritesNothing}
+use Rattle.office_tables.specs.Reading.{ReadsIfOpen}
 use Rattle.office_migration.specs.Copies.{AreOfPairs}
 use Rattle.office_migration.proofs.copying.copy_interchanges.Given as goal
 
@@ -21,8 +21,6 @@ invariant-loop-row g l =
       steps : HasCleanDisk now → IsTrue old.in_transaction → IsTrue old.is_open
           → (copied : List Interchange) × (HasCleanDisk read → from.now.schema ≡ bare_schema → AreOfPairs (from.now.trees 2) (map number_content (take l.row-index l.numbers)) copied) × Steps (with_interchanges copied) old now;
       survives : Survives old now (λ _. ⊥);
-      mode : l.fn.old.in_transaction ≡ false → l.old.in_transaction ≡ false;
       now_is : HasCleanDisk read → read.now ≡ from.now;
-      unchanged : HasCleanDisk read → IsTrue from.is_open → IsUnchanged from read;
-      unwritten : WritesNothing from read;
+      reads : ReadsIfOpen {T = Unit {0}} from read (Ok tt);
     }

@@ -1,4 +1,4 @@
-use Rattle.std.proofs.Common.{◌≡◌, Ok, Err, OnOk, not, sym, ap, subst, ◌∙◌, rules}
+use Rattle.std.proofs.Common.{◌≡◌, Ok, Err, OnOk, not, sym, ap, subst, ◌∙◌, arith, rules}
 use Rattle.std.proofs.lemmas.Result.{err_from_is_err_and}
 use Rattle.sqlite.specs.State.{HasCleanDisk}
 use Rattle.sqlite.specs.Held.{state}
@@ -13,7 +13,7 @@ use Rattle.office_selecting.specs.Settings.{HasSettings}
 use Rattle.office_checks.specs.Contents.{opened_rows}
 use Rattle.office_checks.specs.declared.opened_tables.OpenedTables.{OpenedTables}
 use Rattle.office_loading.specs.Older.{ReadsOlderTables, FailsOlderTables, TellsOlder}
-use Rattle.office_loading.proofs.ChainLemmas.{◌then◌, clean_first, unchanged_then}
+use Rattle.office_tables.proofs.ReadingLemmas.{◌then◌, clean_first, then_if_open, reads_stopped}
 use Rattle.office_loading.proofs.OlderLemmas.{told_older}
 use Rattle.office_loading.proofs.OlderOffice.{older_one, older_tables_fail}
 use Rattle.office_migration.specs.Copies.{AreOfPairs, copied_rows}
@@ -50,18 +50,15 @@ returns-in_err-tables-clause-refused g c here is =
     let s0 = state g.S.Store c.args.old.now in
     let s1 = state g.S.Store c.load_old.new.conn in
     let fault = c.in_err-tables.field-0.0 in
-    let clean1 : HasCleanDisk s1 = clean_first c.read_older_tables.ensures.unwritten here in
-    let now1 : s1.now ≡ s0.now = (c.in_ok-load_old.ensures.unchanged clean1).0.now_is in
+    let clean1 : HasCleanDisk s1 = clean_first c.read_older_tables.ensures.reads here in
+    let now1 : s1.now ≡ s0.now = (c.in_ok-load_old.ensures.reads.unchanged clean1).0.now_is in
     let is1 : s1.now.schema ≡ bare_schema = ap (λ (d : Database). d.schema) now1 ∙ is in
     let fails = subst (λ d. FailsOlderTables d fault) now1 (c.in_err-tables.ensures.read here is1) in
     let p = err_from_is_err_and c.from_residual-in_err-tables.result c.from_residual-in_err-tables.ensures.1 in
     rw (p.1, p.2) (older_tables_fail s0.now fault fails)
 
-pub returns-in_err-tables-clause-mode : goal.returns-in_err-tables-clause-mode
-returns-in_err-tables-clause-mode g c idle = c.read_older_tables.ensures.mode (c.load_old.ensures.mode idle)
-
-pub returns-in_err-tables-clause-unwritten : goal.returns-in_err-tables-clause-unwritten
-returns-in_err-tables-clause-unwritten g c = c.load_old.ensures.unwritten then c.read_older_tables.ensures.unwritten
+pub returns-in_err-tables-clause-reads : goal.returns-in_err-tables-clause-reads
+returns-in_err-tables-clause-reads g c = reads_stopped _ c.from_residual-in_err-tables.ensures.0 (c.in_ok-load_old.ensures.reads then c.in_err-tables.ensures.reads)
 
 pub returns-in_err-tables-clause-err : goal.returns-in_err-tables-clause-err
 returns-in_err-tables-clause-err g c clean is_open =
@@ -73,15 +70,15 @@ returns-in_err-tables-clause-crash g c here = survives_here (state g.T.Store c.a
 
 pub returns-in_err-tables-clause-missing : goal.returns-in_err-tables-clause-missing
 returns-in_err-tables-clause-missing g c here none =
-    absurd (c.in_ok-load_old.ensures.missing (clean_first c.read_older_tables.ensures.unwritten here) none)
+    absurd (c.in_ok-load_old.ensures.missing (clean_first c.read_older_tables.ensures.reads here) none)
 
 pub returns-in_err-tables-clause-version : goal.returns-in_err-tables-clause-version
 returns-in_err-tables-clause-version g c here tree has =
     let s0 = state g.S.Store c.args.old.now in
     let s1 = state g.S.Store c.load_old.new.conn in
     let fault = c.in_err-tables.field-0.0 in
-    let clean1 : HasCleanDisk s1 = clean_first c.read_older_tables.ensures.unwritten here in
-    let now1 : s1.now ≡ s0.now = (c.in_ok-load_old.ensures.unchanged clean1).0.now_is in
+    let clean1 : HasCleanDisk s1 = clean_first c.read_older_tables.ensures.reads here in
+    let now1 : s1.now ≡ s0.now = (c.in_ok-load_old.ensures.reads.unchanged clean1).0.now_is in
     let has1 : HasSettings s1.now.schema tree = subst (λ (s : Schema). HasSettings s tree) (sym (ap (λ (d : Database). d.schema) now1)) has in
     let told = told_older OpenedTables (Unit {0}) (s1.now.trees tree) fault (c.in_err-tables.ensures.version here tree has1) in
     let p = err_from_is_err_and c.from_residual-in_err-tables.result c.from_residual-in_err-tables.ensures.1 in
@@ -94,10 +91,10 @@ returns-clause-ok g c clean here is =
     let s0 = state g.S.Store c.args.old.now in
     let s1 = state g.S.Store c.load_old.new.conn in
     let s2 = state g.S.Store c.read_older_tables.new.conn in
-    let clean2 : HasCleanDisk s2 = clean_first c.copy_tables.ensures.unwritten here in
-    let clean1 : HasCleanDisk s1 = clean_first c.read_older_tables.ensures.unwritten clean2 in
-    let now1 : s1.now ≡ s0.now = (c.in_ok-load_old.ensures.unchanged clean1).0.now_is in
-    let now2 : s2.now ≡ s0.now = (c.in_ok-tables.ensures.unchanged clean2).0.now_is ∙ now1 in
+    let clean2 : HasCleanDisk s2 = omega (arith, c.copy_tables.ensures.reads.survives.clean) in
+    let clean1 : HasCleanDisk s1 = clean_first c.read_older_tables.ensures.reads clean2 in
+    let now1 : s1.now ≡ s0.now = (c.in_ok-load_old.ensures.reads.unchanged clean1).0.now_is in
+    let now2 : s2.now ≡ s0.now = (c.in_ok-tables.ensures.reads.unchanged clean2).0.now_is ∙ now1 in
     let is1 : s1.now.schema ≡ bare_schema = ap (λ (d : Database). d.schema) now1 ∙ is in
     let is2 : s2.now.schema ≡ bare_schema = ap (λ (d : Database). d.schema) now2 ∙ is in
     let loads = c.in_ok-load_old.ensures.loaded clean1 is in
@@ -124,10 +121,10 @@ returns-clause-crash g c here =
     let s1 = state g.S.Store c.load_old.new.conn in
     let s2 = state g.S.Store c.read_older_tables.new.conn in
     let before = (state g.T.Store c.args.new.now).committed in
-    let clean2 : HasCleanDisk s2 = clean_first c.copy_tables.ensures.unwritten here in
-    let clean1 : HasCleanDisk s1 = clean_first c.read_older_tables.ensures.unwritten clean2 in
-    let now1 : s1.now ≡ s0.now = (c.in_ok-load_old.ensures.unchanged clean1).0.now_is in
-    let now2 : s2.now ≡ s0.now = (c.in_ok-tables.ensures.unchanged clean2).0.now_is ∙ now1 in
+    let clean2 : HasCleanDisk s2 = omega (arith, c.copy_tables.ensures.reads.survives.clean) in
+    let clean1 : HasCleanDisk s1 = clean_first c.read_older_tables.ensures.reads clean2 in
+    let now1 : s1.now ≡ s0.now = (c.in_ok-load_old.ensures.reads.unchanged clean1).0.now_is in
+    let now2 : s2.now ≡ s0.now = (c.in_ok-tables.ensures.reads.unchanged clean2).0.now_is ∙ now1 in
     let tables = opened_rows c.in_ok-tables.tables in
     survives_as (state g.T.Store c.args.new.now) (state g.T.Store c.copy_tables.new.new) (IsCopy s2.now tables before) (IsMigration s0.now before) (λ db copy none own has.
     let is = has.schema in
@@ -148,32 +145,18 @@ returns-clause-refused g c here is = if_err c.copy_tables.result (of_store_fails
 pub returns-clause-untouched : goal.returns-clause-untouched
 returns-clause-untouched g c = if_err c.copy_tables.result (λ fault is other. absurd (other is)) c.copy_tables.ensures.fault
 
-pub returns-clause-mode : goal.returns-clause-mode
-returns-clause-mode g c idle = c.copy_tables.ensures.mode (c.read_older_tables.ensures.mode (c.load_old.ensures.mode idle))
-
-pub returns-clause-unwritten : goal.returns-clause-unwritten
-returns-clause-unwritten g c = c.load_old.ensures.unwritten then c.read_older_tables.ensures.unwritten then c.copy_tables.ensures.unwritten
-
-pub returns-clause-unchanged : goal.returns-clause-unchanged
-returns-clause-unchanged g c here =
-    let s0 = state g.S.Store c.args.old.now in
-    let s1 = state g.S.Store c.load_old.new.conn in
-    let s2 = state g.S.Store c.read_older_tables.new.conn in
-    let s3 = state g.S.Store c.copy_tables.new.old in
-    let clean2 : HasCleanDisk s2 = clean_first c.copy_tables.ensures.unwritten here in
-    let clean1 : HasCleanDisk s1 = clean_first c.read_older_tables.ensures.unwritten clean2 in
-    let read = unchanged_then s0 s1 s2 (c.in_ok-load_old.ensures.unchanged clean1) (c.in_ok-tables.ensures.unchanged clean2) in
-    on_ok c.copy_tables.result (unchanged_then s0 s2 s3 read) (c.copy_tables.ensures.unchanged here read.0.is_open)
+pub returns-clause-reads : goal.returns-clause-reads
+returns-clause-reads g c = then_if_open (c.in_ok-load_old.ensures.reads then c.in_ok-tables.ensures.reads) c.copy_tables.ensures.reads
 
 pub returns-clause-missing : goal.returns-clause-missing
 returns-clause-missing g c here none =
-    let clean2 = clean_first c.copy_tables.ensures.unwritten here in
-    absurd (c.in_ok-load_old.ensures.missing (clean_first c.read_older_tables.ensures.unwritten clean2) none)
+    let clean2 : HasCleanDisk (state g.S.Store c.read_older_tables.new.conn) = omega (arith, c.copy_tables.ensures.reads.survives.clean) in
+    absurd (c.in_ok-load_old.ensures.missing (clean_first c.read_older_tables.ensures.reads clean2) none)
 
 pub returns-clause-version : goal.returns-clause-version
 returns-clause-version g c here tree has =
-    let clean2 = clean_first c.copy_tables.ensures.unwritten here in
-    let named = c.in_ok-load_old.ensures.version (clean_first c.read_older_tables.ensures.unwritten clean2) tree has in
+    let clean2 : HasCleanDisk (state g.S.Store c.read_older_tables.new.conn) = omega (arith, c.copy_tables.ensures.reads.survives.clean) in
+    let named = c.in_ok-load_old.ensures.version (clean_first c.read_older_tables.ensures.reads clean2) tree has in
     copy_tells _ ((state g.S.Store c.args.old.now).now.trees tree) c.copy_tables.result named c.copy_tables.ensures.fault
 
 -- ---- events
@@ -195,8 +178,8 @@ returns-in_err-tables-clause-no_damage g c here version content es it =
     let s0 = state g.S.Store c.args.old.now in
     let s1 = state g.S.Store c.load_old.new.conn in
     let fault = c.in_err-tables.field-0.0 in
-    let clean1 : HasCleanDisk s1 = clean_first c.read_older_tables.ensures.unwritten here in
-    let now1 : s1.now ≡ s0.now = (c.in_ok-load_old.ensures.unchanged clean1).0.now_is in
+    let clean1 : HasCleanDisk s1 = clean_first c.read_older_tables.ensures.reads here in
+    let now1 : s1.now ≡ s0.now = (c.in_ok-load_old.ensures.reads.unchanged clean1).0.now_is in
     let is1 : s1.now.schema ≡ bare_schema = ap (λ (d : Database). d.schema) now1 ∙ it.has.schema in
     let fails = subst (λ d. FailsOlderTables d fault) now1 (c.in_err-tables.ensures.read here is1) in
     let p = err_from_is_err_and c.from_residual-in_err-tables.result c.from_residual-in_err-tables.ensures.1 in
