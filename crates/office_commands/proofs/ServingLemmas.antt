@@ -111,7 +111,7 @@ module _ {D : Type 0} {g : Ghosts D} where
   sound_step : (old : Desk (FileStore D g) over_files) (step : Step) (new : Desk (FileStore D g) over_files) → LedBy old step new → IsSound over_files new → IsSound over_files old
   sound_step old (delivery text given) new led sound = elim led [ inl call ↦ call.stays sound | inr off ↦ subst (IsSound over_files) off.1 sound ]
   sound_step old (account code kind given) new led sound = elim led [ inl call ↦ call.stays sound | inr off ↦ subst (IsSound over_files) off.1 sound ]
-  sound_step old (report query found) new call sound = call.stays sound
+  sound_step old (report query found) new call sound = call.looks.stays sound
 
   stand_step : (content : SetupContent) (es : List Event) (old : Desk (FileStore D g) over_files) (step : Step) (new : Desk (FileStore D g) over_files) → LedBy old step new → IsSound over_files new → StandsFor over_files content es old
       → IsServed content es step × StandsFor over_files content (with_step es step) new
@@ -124,7 +124,7 @@ module _ {D : Type 0} {g : Ghosts D} where
     | inr off ↦ (inr off.0, subst (λ (r : AccountAnswer). StandsFor over_files content (with_added es code kind r) new) (sym off.0) (subst (StandsFor over_files content es) (sym off.1) stands))
   ]
   stand_step content es old (report query found) new call sound stands =
-      (told_of content es old stands query found (call.told sound), call.same sound content es stands)
+      (told_of content es old stands query found (call.told sound), call.looks.same sound content es stands)
 
   module _ (content : SetupContent) (es : List Event) (old new : Desk (FileStore D g) over_files) (Pends : Event → Type 0)
       (was : (db : Trees) → (state over_files old.conn).may_leave db → LeftBy content es Pends db) (db : Trees) (left : (state over_files new.conn).may_leave db) where
@@ -168,7 +168,7 @@ module _ {D : Type 0} {g : Ghosts D} where
     left_step (delivery text given) led sound stands = left_delivery text given led sound stands
     left_step (account code kind given) led sound stands = left_account code kind given led sound stands
     left_step (report query found) call sound stands =
-        left_less (report query found) (λ events. refl) (call.crash (call.stays sound) sound.0 stands.has.schema db left)
+        left_less (report query found) (λ events. refl) (call.looks.crash (call.looks.stays sound) sound.0 stands.has.schema db left)
 
   -- ---- steps, one behind the other
 

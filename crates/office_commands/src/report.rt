@@ -1,10 +1,11 @@
 ghost use Rattle.std.specs.Prelude.{◌≡◌, ℕ, List, Option, IfOk, IfErr, OnErr, option_map, string_bytes};
 ghost use Rattle.sqlite.specs.Files.{over_files};
 ghost use Rattle.sqlite.specs.WalFiles.{image_at};
+ghost use Rattle.office_desk.specs.Calls.{OnlyLooks};
 ghost use Rattle.office_desk.specs.Desks.{IsSound};
 ghost use Rattle.office_desk.specs.Reports.{DeskTells};
 ghost use Rattle.office_commands.specs.Ending.{Prints};
-ghost use Rattle.office_commands.specs.Looking.{LooksOver, OnlyLooks};
+ghost use Rattle.office_commands.specs.Looking.{LooksOver};
 ghost use Rattle.office_commands.specs.Reporting.{Reports, TellsKey, TellsHeld, in_lines};
 
 use crate::opening::open_store;
@@ -55,7 +56,6 @@ pub fn report_on<S: Alter + Drop, W: Write>(
         (W.contents writer.old.inner) (W.contents writer.new.inner)) status) }
     ensures err { OnErr result (writer.new ≡ writer.old) }
     ensures looks { OnlyLooks S.Store desk.old desk.new }
-    ensures stays { IsSound S.Store desk.new → IsSound S.Store desk.old }
 {
     match find(alloc, desk, kind, key)? {
         Some(text) => {
@@ -76,7 +76,6 @@ fn find<S: Alter + Drop>(
     ensures found { IfOk result (λ found. IsSound S.Store desk.new →
         TellsKey (DeskTells S.Store desk.old) kind key.now (option_map string_bytes found)) }
     ensures looks { OnlyLooks S.Store desk.old desk.new }
-    ensures stays { IsSound S.Store desk.new → IsSound S.Store desk.old }
 {
     match read_query(alloc, kind, key)? {
         Some(query) => desk.told(alloc, &query),

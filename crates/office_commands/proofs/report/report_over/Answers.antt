@@ -17,7 +17,7 @@ returns-clause-ok g c =
       printed = ends.printed;
       is = λ sound.
           let told = ends.is sound in
-          let was = c.report_on.ensures.stays sound in
+          let was = c.report_on.ensures.looks.stays sound in
           record {
             after = λ content es begins.
                 let at = c.in_ok-desk.ensures.opens was content es begins.0 begins.1 in
@@ -32,4 +32,4 @@ returns-clause-ok g c =
 pub returns-clause-looks : goal.returns-clause-looks
 returns-clause-looks g c =
     looked_over _ c.in_ok-desk.desk _ (record { events = λ sound content es begins. c.in_ok-desk.ensures.opens sound content es begins.0 begins.1; office = c.in_ok-desk.ensures.office })
-    c.report_on.ensures.looks c.report_on.ensures.stays
+    c.report_on.ensures.looks
