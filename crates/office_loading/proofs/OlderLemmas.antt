@@ -1,22 +1,19 @@
--- The settings of version 1 and 2, and reads one after the other under any schema.
-use Rattle.std.proofs.Common.{◌≡◌, inl, inr, ℕ, Bool, true, false, ◌||◌, List, [], ◌∷◌, Err, refl, ap, subst, ◌∙◌}
+-- The settings of version 1 and 2, and why reading the tables fails.
+use Rattle.std.proofs.Common.{◌≡◌, inl, inr, ℕ, Bool, true, false, ◌||◌, List, [], ◌∷◌, Err, refl}
 use Rattle.std.specs.List.{AllByRecursion, list_any}
 use Rattle.sqlite.specs.Order.{Row}
 use Rattle.sqlite.specs.Effect.{Database}
-use Rattle.sqlite.specs.State.{State, HasCleanDisk, IsUnchanged}
 use Rattle.terminal_core.specs.declared.version.Version.TheVariants.{First, Second}
 use Rattle.office_rows.specs.Tables.{setting}
 use Rattle.office_rows.specs.Rows.{Setting}
 use Rattle.office_rows.specs.Opening.{version_text}
 use Rattle.office_rows.specs.Opened.{OpenedRows, Shows}
-use Rattle.office_rows.specs.Layouts.{bare_schema}
 use Rattle.office_rows.specs.Bare.{with_weights}
 use Rattle.office_rows.specs.Migrated.{migrated_settings}
 use Rattle.office_rows.specs.Shown.{ShowsTable}
 use Rattle.office_tables.specs.declared.table_fault.TableFault.{TableFault}
 use Rattle.office_tables.specs.declared.table_fault.TableFault.TheVariants.{Store, Damaged, Version, Memory}
 use Rattle.office_tables.specs.Faults.{IsOfStore, IsOfStoreOr}
-use Rattle.office_selecting.specs.Reads.{WritesNothing}
 use Rattle.office_loading.specs.Columns.{is_older, names_version}
 use Rattle.office_loading.specs.Fits.{FitsSetting}
 use Rattle.office_loading.specs.Tables.{FailsTable, ShowsSettings, FitsRows}
@@ -24,7 +21,6 @@ use Rattle.office_loading.specs.Older.{HasOlder, NamesOlder, TellsOlder, FailsOl
 use Rattle.office_loading.specs.Decoded.{FailsOne}
 use Rattle.office_selecting.specs.Settings.{setting_in}
 use Rattle.office_loading.proofs.VersionLemmas.{version_there, version_absent}
-use Rattle.office_loading.proofs.ChainLemmas.{clean_first, unchanged_then, ◌then◌}
 
 -- ---- the version
 
@@ -95,26 +91,6 @@ settings_fail_older db Damaged has h = (has, h)
 settings_fail_older db Memory has h = h
 settings_fail_older db (Store error) has h = h
 settings_fail_older db Version has h = absurd h
-
--- ---- reads, one after the other
-
--- a call that wrote nothing and did not fail
-pub record Follows (a b : State) : Type 0 where
-  pub unwritten : WritesNothing a b
-  pub same : HasCleanDisk b → IsUnchanged a b
-
-pub follows : (a b c : State) → Follows a b → Follows b c → Follows a c
-follows a b c p q = record {
-  unwritten = p.unwritten then q.unwritten;
-  same = λ clean. unchanged_then a b c (p.same (clean_first q.unwritten clean)) (q.same clean);
-}
-
--- what the later call says of what it reads, it says of the first state
-pub of_first : (P : Database → Type 0) (a b c : State) → Follows a b → WritesNothing b c → (HasCleanDisk c → b.now.schema ≡ bare_schema → P b.now) → HasCleanDisk c → a.now.schema ≡ bare_schema → P a.now
-of_first P a b c p q says clean is =
-    let before = clean_first q clean in
-    let now : b.now ≡ a.now = (p.same before).0.now_is in
-    subst P now (says clean (ap (λ (d : Database). d.schema) now ∙ is))
 
 -- ---- faults
 

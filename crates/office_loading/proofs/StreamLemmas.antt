@@ -1,50 +1,28 @@
 -- What reading the rows of a query one at a time leaves, and what it has read.
-use Rattle.std.proofs.Common.{◌≡◌, ℕ, List, [], ◌∷◌, ◌++◌, false, None, Some, Result, Ok, Err, inl, inr, refl, sym, subst}
+use Rattle.std.proofs.Common.{◌≡◌, ℕ, List, [], ◌∷◌, ◌++◌, None, Some, Result, Ok, Err, inl, inr, refl, sym, subst}
 use Rattle.std.specs.Prelude.{Vec}
 use Rattle.std.specs.List.{AllZip}
 use Rattle.sqlite.specs.Order.{Row}
 use Rattle.sqlite.specs.Effect.{Database}
 use Rattle.sqlite.specs.Clock.{timed}
-use Rattle.sqlite.specs.Tree.{Trees}
 use Rattle.sqlite.specs.Held.{Held, state}
 use Rattle.sqlite.specs.Given.{Returns, HasGiven, HasBegun, Advances}
 use Rattle.sqlite.specs.Listing.{understood, reads_listing, IsSourceOf}
-use Rattle.sqlite.specs.State.{State, HasCleanDisk, IsUnchanged, Shown, ShowsRows, Begins, Survives, CommitsShowing}
-use Rattle.sqlite.proofs.Callers.{given_begin}
-use Rattle.sqlite.proofs.StateLemmas.{survives_weaker}
+use Rattle.sqlite.specs.State.{State, IsUnchanged, Shown, ShowsRows, Begins}
+use Rattle.sqlite.proofs.Callers.{given_begin, unchanged_then}
 use Rattle.sqlite_trees.specs.declared.store.Store as store
 use Rattle.sqlite_resolve.specs.declared.compiled.Compiled.{Compiled}
 use Rattle.sqlite_resolve.specs.declared.error.CompileError.{CompileError}
 use Rattle.sqlite_rules.specs.Lists.{Has}
 use Rattle.sqlite_rules.proofs.ListLemmas.{contains_had}
-use Rattle.office_rows.proofs.StepLemmas.{stops_keep}
 use Rattle.office_tables.specs.declared.table_fault.TableFault.{TableFault}
 use Rattle.office_tables.specs.declared.table_fault.TableFault.TheVariants.{Store, Damaged, Version, Memory}
 use Rattle.office_tables.specs.Faults.{IsOfStoreOr}
-use Rattle.office_selecting.specs.Reads.{OnlyReads, OnlyShows, WritesNothing}
+use Rattle.office_tables.specs.Reading.{OnlyShows}
 use Rattle.office_loading.specs.Decoded.{Fails, ShowsUnsaid, ReadsShown}
-use Rattle.office_loading.proofs.ChainLemmas.{unchanged_then}
 use Rattle.office_loading.proofs.DecodeLemmas.{zip_push}
 
 -- ---- what a query leaves
-
-pub only_reads : (old new : State) → (old.in_transaction ≡ false → new.in_transaction ≡ false) → WritesNothing old new → OnlyReads old new
-only_reads old new mode w = record {
-  keeps = λ clean is. w.keeps clean;
-  was_open = λ clean is. (w.keeps clean).was_open is;
-  mode = mode;
-  survives = survives_weaker old new _ _ (λ clean db none. absurd none) w.survives;
-}
-
-never_commits : (sql : List ℕ) (params : Row) (old : State) → OnlyShows sql → (db : Trees) → ¬ CommitsShowing sql params old db
-unfolding CommitsShowing
-never_commits sql params old shows db made = absurd (let none = shows old.now.schema made.0 made.1.is in let e = rw none at made.2 in cc)
-
-pub begins_quietly : (sql : List ℕ) (params : Row) (old new : State) → OnlyShows sql → (HasCleanDisk new → IsUnchanged old new) → Survives old new (CommitsShowing sql params old) → WritesNothing old new
-begins_quietly sql params old new shows same s = record { keeps = λ clean. stops_keep old new (inl (same clean)); survives = survives_weaker old new _ _ (λ clean. never_commits sql params old shows) s }
-
-pub moves_quietly : (old new : State) → (HasCleanDisk new → IsUnchanged old new) → Survives old new (λ _. ⊥) → WritesNothing old new
-moves_quietly old new same s = record { keeps = λ clean. stops_keep old new (inl (same clean)); survives = s }
 
 none_returns : (r : Result Compiled CompileError) → ((c : Compiled) → r ≡ Ok c → c.returning ≡ None) → ¬ Returns r
 none_returns (Ok c) none some = absurd (let e = rw (none c refl) at some in cc)

@@ -24,8 +24,8 @@ Decodes says is_said given (Ok read) = says given read
 Decodes says is_said given (Err fault) = Fails is_said given fault
 
 -- the same, if of what is read the content counts
-abbrev pub Reads : {A X C : Type 0} → (X → C) → (A → C → Type 0) → A → Result X TableFault → Type 0
-Reads content Says = Decodes (λ given read. Says given (content read)) (Said Says)
+abbrev pub ReadsAs : {A X C : Type 0} → (X → C) → (A → C → Type 0) → A → Result X TableFault → Type 0
+ReadsAs content Says = Decodes (λ given read. Says given (content read)) (Said Says)
 
 -- a value that is its own content
 abbrev pub itself : {X : Type 0} → X → X

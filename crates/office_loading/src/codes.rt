@@ -1,5 +1,5 @@
 ghost use Rattle.sqlite.specs.Order.{column};
-ghost use Rattle.office_loading.specs.Decoded.{Reads, itself};
+ghost use Rattle.office_loading.specs.Decoded.{ReadsAs, itself};
 ghost use Rattle.office_loading.specs.Columns.{SaysKind, SaysWay, SaysLaden, SaysSide, SaysState};
 
 use crate::columns::number_at;
@@ -10,7 +10,7 @@ use terminal_core::{LineState, Side, Way};
 
 /// What a partner is.
 pub(crate) fn kind_at(row: &Row, at: usize) -> Result<PartnerKind, TableFault>
-    ensures { Reads itself SaysKind (column row.now at) result }
+    ensures { ReadsAs itself SaysKind (column row.now at) result }
 {
     match number_at(row, at)? {
         1 => Ok(PartnerKind::Gate),
@@ -23,7 +23,7 @@ pub(crate) fn kind_at(row: &Row, at: usize) -> Result<PartnerKind, TableFault>
 
 /// By which way a container came or went.
 pub(crate) fn way_at(row: &Row, at: usize) -> Result<Way, TableFault>
-    ensures { Reads itself SaysWay (column row.now at) result }
+    ensures { ReadsAs itself SaysWay (column row.now at) result }
 {
     match number_at(row, at)? {
         1 => Ok(Way::Gate),
@@ -34,7 +34,7 @@ pub(crate) fn way_at(row: &Row, at: usize) -> Result<Way, TableFault>
 
 /// Whether a container is full.
 pub(crate) fn laden_at(row: &Row, at: usize) -> Result<bool, TableFault>
-    ensures { Reads itself SaysLaden (column row.now at) result }
+    ensures { ReadsAs itself SaysLaden (column row.now at) result }
 {
     match number_at(row, at)? {
         0 => Ok(false),
@@ -45,7 +45,7 @@ pub(crate) fn laden_at(row: &Row, at: usize) -> Result<bool, TableFault>
 
 /// Which of a call's lists.
 pub(crate) fn side_at(row: &Row, at: usize) -> Result<Side, TableFault>
-    ensures { Reads itself SaysSide (column row.now at) result }
+    ensures { ReadsAs itself SaysSide (column row.now at) result }
 {
     match number_at(row, at)? {
         1 => Ok(Side::Load),
@@ -56,7 +56,7 @@ pub(crate) fn side_at(row: &Row, at: usize) -> Result<Side, TableFault>
 
 /// How far a line of a list is.
 pub(crate) fn state_at(row: &Row, at: usize) -> Result<LineState, TableFault>
-    ensures { Reads itself SaysState (column row.now at) result }
+    ensures { ReadsAs itself SaysState (column row.now at) result }
 {
     match number_at(row, at)? {
         0 => Ok(LineState::Pending),

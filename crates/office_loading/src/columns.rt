@@ -1,6 +1,6 @@
 ghost use Rattle.std.specs.Prelude.{ℕ, ◌^◌, string_bytes};
 ghost use Rattle.sqlite.specs.Order.{column};
-ghost use Rattle.office_loading.specs.Decoded.{Reads, itself};
+ghost use Rattle.office_loading.specs.Decoded.{ReadsAs, itself};
 ghost use Rattle.office_loading.specs.Columns.{SaysNumber, SaysBytes, SaysText};
 
 use office_tables::TableFault;
@@ -9,7 +9,7 @@ use sqlite::{Error, ErrorCode, Row};
 
 /// The number in a column.
 pub(crate) fn number_at(row: &Row, at: usize) -> Result<u32, TableFault>
-    ensures { Reads itself (SaysNumber (2 ^ 32)) (column row.now at) result }
+    ensures { ReadsAs itself (SaysNumber (2 ^ 32)) (column row.now at) result }
 {
     match row.get_ref(at) {
         Ok(ValueRef::Int(number)) => match u32::try_from(number) {
@@ -22,7 +22,7 @@ pub(crate) fn number_at(row: &Row, at: usize) -> Result<u32, TableFault>
 
 /// The number in a column, of 16 bits.
 pub(crate) fn short_at(row: &Row, at: usize) -> Result<u16, TableFault>
-    ensures { Reads itself (SaysNumber (2 ^ 16)) (column row.now at) result }
+    ensures { ReadsAs itself (SaysNumber (2 ^ 16)) (column row.now at) result }
 {
     let number = number_at(row, at)?;
     match u16::try_from(number) {
@@ -33,7 +33,7 @@ pub(crate) fn short_at(row: &Row, at: usize) -> Result<u16, TableFault>
 
 /// The number in a column, of 8 bits.
 pub(crate) fn byte_at(row: &Row, at: usize) -> Result<u8, TableFault>
-    ensures { Reads itself (SaysNumber (2 ^ 8)) (column row.now at) result }
+    ensures { ReadsAs itself (SaysNumber (2 ^ 8)) (column row.now at) result }
 {
     let number = number_at(row, at)?;
     match u8::try_from(number) {
@@ -44,7 +44,7 @@ pub(crate) fn byte_at(row: &Row, at: usize) -> Result<u8, TableFault>
 
 /// The bytes of the text in a column.
 pub(crate) fn bytes_at(row: &Row, at: usize) -> Result<&[u8], TableFault>
-    ensures { Reads (λ bytes. bytes.now) SaysBytes (column row.now at) result }
+    ensures { ReadsAs (λ bytes. bytes.now) SaysBytes (column row.now at) result }
 {
     match row.get_ref(at) {
         Ok(ValueRef::Text(bytes)) => Ok(bytes),
@@ -54,7 +54,7 @@ pub(crate) fn bytes_at(row: &Row, at: usize) -> Result<&[u8], TableFault>
 
 /// The text in a column.
 pub(crate) fn text_at(row: &Row, at: usize) -> Result<String, TableFault>
-    ensures { Reads string_bytes SaysText (column row.now at) result }
+    ensures { ReadsAs string_bytes SaysText (column row.now at) result }
 {
     match row.get(at) {
         Ok(text) => Ok(text),

@@ -1,6 +1,6 @@
 ghost use Rattle.std.specs.Prelude.{◌≡◌};
 ghost use Rattle.sqlite.specs.Order.{column};
-ghost use Rattle.office_loading.specs.Decoded.{Reads, itself};
+ghost use Rattle.office_loading.specs.Decoded.{ReadsAs, itself};
 ghost use Rattle.office_loading.specs.Columns.{SaysContainer, SaysSize, SaysSlot, SaysMoment, SaysLetter};
 
 use crate::columns::bytes_at;
@@ -11,7 +11,7 @@ use sqlite::Row;
 
 /// A container's number.
 pub(crate) fn container_at(row: &Row, at: usize) -> Result<BoxNumber, TableFault>
-    ensures { Reads itself SaysContainer (column row.now at) result }
+    ensures { ReadsAs itself SaysContainer (column row.now at) result }
 {
     let text = bytes_at(row, at)?;
     match BoxNumber::parse(text) {
@@ -22,7 +22,7 @@ pub(crate) fn container_at(row: &Row, at: usize) -> Result<BoxNumber, TableFault
 
 /// A size-type code.
 pub(crate) fn size_at(row: &Row, at: usize) -> Result<SizeType, TableFault>
-    ensures { Reads itself SaysSize (column row.now at) result }
+    ensures { ReadsAs itself SaysSize (column row.now at) result }
 {
     let text = bytes_at(row, at)?;
     match SizeType::parse(text) {
@@ -33,7 +33,7 @@ pub(crate) fn size_at(row: &Row, at: usize) -> Result<SizeType, TableFault>
 
 /// A slot, by its name.
 pub(crate) fn slot_at(row: &Row, at: usize) -> Result<Slot, TableFault>
-    ensures { Reads itself SaysSlot (column row.now at) result }
+    ensures { ReadsAs itself SaysSlot (column row.now at) result }
 {
     let text = bytes_at(row, at)?;
     let Some(slot) = Slot::parse(text) else {
@@ -48,7 +48,7 @@ pub(crate) fn slot_at(row: &Row, at: usize) -> Result<Slot, TableFault>
 
 /// A moment, by its twelve digits.
 pub(crate) fn moment_at(row: &Row, at: usize) -> Result<Moment, TableFault>
-    ensures { Reads itself SaysMoment (column row.now at) result }
+    ensures { ReadsAs itself SaysMoment (column row.now at) result }
 {
     let text = bytes_at(row, at)?;
     let Some(moment) = Moment::parse(text) else {
@@ -63,7 +63,7 @@ pub(crate) fn moment_at(row: &Row, at: usize) -> Result<Moment, TableFault>
 
 /// A text of one byte.
 pub(crate) fn letter_at(row: &Row, at: usize) -> Result<u8, TableFault>
-    ensures { Reads itself SaysLetter (column row.now at) result }
+    ensures { ReadsAs itself SaysLetter (column row.now at) result }
 {
     match bytes_at(row, at)? {
         [letter] => Ok(*letter),

@@ -1,11 +1,11 @@
-ghost use Rattle.std.specs.Prelude.{◌≡◌, ℕ, IfOk, IfErr, OnOk, IsErrAnd, IsTrue, false};
+ghost use Rattle.std.specs.Prelude.{◌≡◌, ℕ, IfOk, IfErr, IsErrAnd};
 ghost use Rattle.sqlite.specs.Held.{state};
-ghost use Rattle.sqlite.specs.State.{HasCleanDisk, IsUnchanged, KeepsCommit, Survives};
+ghost use Rattle.sqlite.specs.State.{HasCleanDisk};
 ghost use Rattle.office_setup.specs.Given.{IsGiven};
 ghost use Rattle.office_setup.specs.Setups.{setup_content};
 ghost use Rattle.office_rows.specs.Tables.{office_schema};
 ghost use Rattle.office_tables.specs.Faults.{IsOfStore};
-ghost use Rattle.office_selecting.specs.Reads.{WritesNothing};
+ghost use Rattle.office_tables.specs.Reading.{Reads};
 ghost use Rattle.office_selecting.specs.Settings.{HasNoSettings, HasSettings};
 ghost use Rattle.office_loading.specs.Tables.{Loads, FailsToLoad, TellsVersion};
 
@@ -30,24 +30,12 @@ pub fn load<S: Alter>(
     ensures given { IfOk result (λ p. IsGiven (setup_content p.0)) }
     ensures refused { HasCleanDisk (state S.Store conn.new) → (state S.Store conn.old).now.schema ≡ office_schema →
         IfErr result (FailsToLoad (state S.Store conn.old).now) }
-    ensures same { HasCleanDisk (state S.Store conn.new) → (state S.Store conn.old).now.schema ≡ office_schema →
-        OnOk result (IsUnchanged (state S.Store conn.old) (state S.Store conn.new)) }
-    ensures keeps { HasCleanDisk (state S.Store conn.new) → (state S.Store conn.old).now.schema ≡ office_schema →
-        KeepsCommit (state S.Store conn.old) (state S.Store conn.new) }
-    ensures clean { HasCleanDisk (state S.Store conn.new) → HasCleanDisk (state S.Store conn.old) }
-    ensures was_open { HasCleanDisk (state S.Store conn.new) → IsTrue (state S.Store conn.new).is_open →
-        IsTrue (state S.Store conn.old).is_open }
-    ensures mode { conn.old.in_transaction ≡ false → conn.new.in_transaction ≡ false }
-    ensures survives { (state S.Store conn.old).now.schema ≡ office_schema →
-        Survives (state S.Store conn.old) (state S.Store conn.new) (λ _. ⊥) }
-    ensures unchanged { HasCleanDisk (state S.Store conn.new) →
-        OnOk result (IsUnchanged (state S.Store conn.old) (state S.Store conn.new)) }
-    ensures unwritten { WritesNothing (state S.Store conn.old) (state S.Store conn.new) }
     ensures missing { HasCleanDisk (state S.Store conn.new) → HasNoSettings (state S.Store conn.old).now.schema →
         IsErrAnd result IsOfStore }
     ensures version { HasCleanDisk (state S.Store conn.new) → (tree : ℕ) →
         HasSettings (state S.Store conn.old).now.schema tree →
         TellsVersion ((state S.Store conn.old).now.trees tree) result }
+    ensures reads { Reads (state S.Store conn.old) (state S.Store conn.new) result }
 {
     let tables = read_tables(alloc, conn)?;
     match restore(alloc, tables) {

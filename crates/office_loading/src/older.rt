@@ -1,10 +1,10 @@
-ghost use Rattle.std.specs.Prelude.{◌≡◌, ℕ, false, IfErr, IfOk, OnOk, IsErrAnd};
+ghost use Rattle.std.specs.Prelude.{◌≡◌, ℕ, IfErr, IfOk, IsErrAnd};
 ghost use Rattle.sqlite.specs.Held.{state};
-ghost use Rattle.sqlite.specs.State.{HasCleanDisk, IsUnchanged};
+ghost use Rattle.sqlite.specs.State.{HasCleanDisk};
 ghost use Rattle.office_rows.specs.Layouts.{bare_schema};
 ghost use Rattle.office_setup.specs.Setups.{setup_content};
 ghost use Rattle.office_tables.specs.Faults.{IsOfStore};
-ghost use Rattle.office_selecting.specs.Reads.{WritesNothing};
+ghost use Rattle.office_tables.specs.Reading.{Reads};
 ghost use Rattle.office_selecting.specs.Settings.{HasNoSettings, HasSettings};
 ghost use Rattle.office_loading.specs.Older.{ReadsOlderTables, LoadsOlder, FailsToLoadOlder, TellsOlder};
 
@@ -30,15 +30,12 @@ pub fn read_older_tables<S: Alter>(
 ) -> Result<OpenedTables, TableFault>
     ensures read { HasCleanDisk (state S.Store conn.new) → (state S.Store conn.old).now.schema ≡ bare_schema →
         ReadsOlderTables (state S.Store conn.old).now result }
-    ensures mode { conn.old.in_transaction ≡ false → conn.new.in_transaction ≡ false }
-    ensures unchanged { HasCleanDisk (state S.Store conn.new) →
-        OnOk result (IsUnchanged (state S.Store conn.old) (state S.Store conn.new)) }
-    ensures unwritten { WritesNothing (state S.Store conn.old) (state S.Store conn.new) }
     ensures missing { HasCleanDisk (state S.Store conn.new) → HasNoSettings (state S.Store conn.old).now.schema →
         IsErrAnd result IsOfStore }
     ensures version { HasCleanDisk (state S.Store conn.new) → (tree : ℕ) →
         HasSettings (state S.Store conn.old).now.schema tree →
         TellsOlder ((state S.Store conn.old).now.trees tree) result }
+    ensures reads { Reads (state S.Store conn.old) (state S.Store conn.new) result }
 {
     let settings = read_older_settings(alloc, conn)?;
     let partners = read_partners(alloc, conn)?;
@@ -71,15 +68,12 @@ pub fn load_old<S: Alter>(
         IfOk result (λ p. LoadsOlder (state S.Store conn.old).now (setup_content p.0) p.1) }
     ensures refused { HasCleanDisk (state S.Store conn.new) → (state S.Store conn.old).now.schema ≡ bare_schema →
         IfErr result (FailsToLoadOlder (state S.Store conn.old).now) }
-    ensures mode { conn.old.in_transaction ≡ false → conn.new.in_transaction ≡ false }
-    ensures unchanged { HasCleanDisk (state S.Store conn.new) →
-        OnOk result (IsUnchanged (state S.Store conn.old) (state S.Store conn.new)) }
-    ensures unwritten { WritesNothing (state S.Store conn.old) (state S.Store conn.new) }
     ensures missing { HasCleanDisk (state S.Store conn.new) → HasNoSettings (state S.Store conn.old).now.schema →
         IsErrAnd result IsOfStore }
     ensures version { HasCleanDisk (state S.Store conn.new) → (tree : ℕ) →
         HasSettings (state S.Store conn.old).now.schema tree →
         TellsOlder ((state S.Store conn.old).now.trees tree) result }
+    ensures reads { Reads (state S.Store conn.old) (state S.Store conn.new) result }
 {
     let tables = read_older_tables(alloc, conn)?;
     match restore(alloc, tables) {

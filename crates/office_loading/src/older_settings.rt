@@ -1,11 +1,11 @@
-ghost use Rattle.std.specs.Prelude.{◌≡◌, ℕ, false, OnOk, IsErrAnd};
+ghost use Rattle.std.specs.Prelude.{◌≡◌, ℕ, IsErrAnd};
 ghost use Rattle.sqlite.specs.Held.{state};
-ghost use Rattle.sqlite.specs.State.{HasCleanDisk, IsUnchanged};
+ghost use Rattle.sqlite.specs.State.{HasCleanDisk};
 ghost use Rattle.office_rows.specs.Layouts.{Layout, schema_in};
 ghost use Rattle.office_checks.specs.Contents.{setting_content};
 ghost use Rattle.office_loading.specs.Columns.{is_older};
 ghost use Rattle.office_tables.specs.Faults.{IsOfStore};
-ghost use Rattle.office_selecting.specs.Reads.{WritesNothing};
+ghost use Rattle.office_tables.specs.Reading.{Reads};
 ghost use Rattle.office_selecting.specs.Settings.{HasNoSettings, HasSettings};
 ghost use Rattle.office_loading.specs.Older.{ReadsOlderSettings, TellsOlder};
 
@@ -26,15 +26,12 @@ pub(crate) fn read_older_settings<S: Alter>(
     ensures read { HasCleanDisk (state S.Store conn.new) → (layout : Layout) →
         (state S.Store conn.old).now.schema ≡ schema_in layout →
         ReadsOlderSettings setting_content (state S.Store conn.old).now result }
-    ensures mode { conn.old.in_transaction ≡ false → conn.new.in_transaction ≡ false }
-    ensures unchanged { HasCleanDisk (state S.Store conn.new) →
-        OnOk result (IsUnchanged (state S.Store conn.old) (state S.Store conn.new)) }
-    ensures unwritten { WritesNothing (state S.Store conn.old) (state S.Store conn.new) }
     ensures missing { HasCleanDisk (state S.Store conn.new) → HasNoSettings (state S.Store conn.old).now.schema →
         IsErrAnd result IsOfStore }
     ensures version { HasCleanDisk (state S.Store conn.new) → (tree : ℕ) →
         HasSettings (state S.Store conn.old).now.schema tree →
         TellsOlder ((state S.Store conn.old).now.trees tree) result }
+    ensures reads { Reads (state S.Store conn.old) (state S.Store conn.new) result }
 {
     let rows = select_settings(conn)?;
     if !is_older(&rows) {

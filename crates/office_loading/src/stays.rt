@@ -1,5 +1,5 @@
 ghost use Rattle.std.specs.Prelude.{◌<◌};
-ghost use Rattle.office_loading.specs.Decoded.{Decodes, Reads, itself};
+ghost use Rattle.office_loading.specs.Decoded.{Decodes, ReadsAs, itself};
 ghost use Rattle.office_loading.specs.Columns.{SaysSource, SaysArrival, SaysExit, IsOpen};
 
 use crate::codes::way_at;
@@ -12,7 +12,7 @@ use terminal_core::{Arrival, Departure, Source};
 /// The interchange that said something: its partner in one column, its number in the next.
 fn source_at(row: &Row, at: usize) -> Result<Source, TableFault>
     requires { at < 1000 }
-    ensures { Reads itself (SaysSource at) row.now result }
+    ensures { ReadsAs itself (SaysSource at) row.now result }
 {
     let partner = short_at(row, at)?;
     let number = number_at(row, at + 1)?;
@@ -21,7 +21,7 @@ fn source_at(row: &Row, at: usize) -> Result<Source, TableFault>
 
 /// How a visit's container came.
 pub(crate) fn read_arrival(row: &Row) -> Result<Arrival, TableFault>
-    ensures { Reads itself SaysArrival row.now result }
+    ensures { ReadsAs itself SaysArrival row.now result }
 {
     let way = way_at(row, 5)?;
     let source = source_at(row, 6)?;
@@ -37,7 +37,7 @@ pub(crate) fn read_arrival(row: &Row) -> Result<Arrival, TableFault>
 
 /// How a visit's container went, if it did: an open visit has 0 and no moment.
 pub(crate) fn read_exit(row: &Row) -> Result<Option<Departure>, TableFault>
-    ensures { Reads itself SaysExit row.now result }
+    ensures { ReadsAs itself SaysExit row.now result }
 {
     if number_at(row, 10)? == 0 {
         check_open(row)?;

@@ -1,7 +1,7 @@
-ghost use Rattle.std.specs.Prelude.{◌≡◌, [], ⊤, IfErr, OnOk};
+ghost use Rattle.std.specs.Prelude.{[], ⊤, IfErr};
 ghost use Rattle.sqlite.specs.Held.{state};
-ghost use Rattle.sqlite.specs.State.{HasCleanDisk, IsUnchanged};
-ghost use Rattle.office_selecting.specs.Reads.{OnlyReads, OnlyShows, WritesNothing};
+ghost use Rattle.sqlite.specs.State.{HasCleanDisk};
+ghost use Rattle.office_tables.specs.Reading.{OnlyShows, Reads};
 ghost use Rattle.office_tables.specs.Faults.{IsOfStoreOr};
 ghost use Rattle.office_loading.specs.Decoded.{ReadsShown};
 
@@ -21,11 +21,8 @@ pub(crate) fn read_shown<S: Alter, T: Record>(
     requires { OnlyShows query.now }
     ensures read { HasCleanDisk (state S.Store conn.new) →
         ReadsShown T.says T.is_said query.now (state S.Store conn.old) (state S.Store conn.new) result }
-    ensures reads { OnlyReads (state S.Store conn.old) (state S.Store conn.new) }
-    ensures unchanged { HasCleanDisk (state S.Store conn.new) →
-        OnOk result (IsUnchanged (state S.Store conn.old) (state S.Store conn.new)) }
-    ensures unwritten { WritesNothing (state S.Store conn.old) (state S.Store conn.new) }
     ensures version { IfErr result (IsOfStoreOr ⊤) }
+    ensures reads { Reads (state S.Store conn.old) (state S.Store conn.new) result }
 {
     let mut records = Vec::new(alloc);
     let mut rows = conn.query(query, &[])?;

@@ -1,6 +1,6 @@
-ghost use Rattle.std.specs.Prelude.{◌≡◌, ⊤, IfErr, OnOk};
+ghost use Rattle.std.specs.Prelude.{◌≡◌, ⊤, IfErr};
 ghost use Rattle.sqlite.specs.Held.{state};
-ghost use Rattle.sqlite.specs.State.{HasCleanDisk, IsUnchanged};
+ghost use Rattle.sqlite.specs.State.{HasCleanDisk};
 ghost use Rattle.terminal_core.specs.Rows.{visit_content};
 ghost use Rattle.office_rows.specs.Tables.{office_schema};
 ghost use Rattle.office_rows.specs.Layouts.{Layout, bare_schema, schema_in};
@@ -11,7 +11,7 @@ ghost use Rattle.office_checks.specs.Contents.{partner_content, number_content, 
 ghost use Rattle.office_tables.specs.Faults.{IsOfStoreOr};
 ghost use Rattle.office_loading.specs.Decoded.{itself};
 ghost use Rattle.office_loading.specs.Fits.{FitsPartner, FitsNumber, FitsVisit, FitsPlace, FitsLine, FitsBlock};
-ghost use Rattle.office_selecting.specs.Reads.{OnlyReads, WritesNothing};
+ghost use Rattle.office_tables.specs.Reading.{Reads};
 ghost use Rattle.office_loading.specs.Tables.{ReadsTable, ShowsPartners, ShowsVisits, ShowsPlaces, ShowsLines, ShowsBlocks};
 
 use crate::record::read_all;
@@ -32,13 +32,8 @@ pub(crate) fn read_partners<S: Alter>(
     ensures read { HasCleanDisk (state S.Store conn.new) → (layout : Layout) →
         (state S.Store conn.old).now.schema ≡ schema_in layout →
         ReadsTable partner_content FitsPartner (ShowsPartners (weighed_in layout (state S.Store conn.old).now)) result }
-    ensures same { HasCleanDisk (state S.Store conn.new) → (state S.Store conn.old).now.schema ≡ office_schema →
-        OnOk result (IsUnchanged (state S.Store conn.old) (state S.Store conn.new)) }
-    ensures reads { OnlyReads (state S.Store conn.old) (state S.Store conn.new) }
-    ensures unchanged { HasCleanDisk (state S.Store conn.new) →
-        OnOk result (IsUnchanged (state S.Store conn.old) (state S.Store conn.new)) }
-    ensures unwritten { WritesNothing (state S.Store conn.old) (state S.Store conn.new) }
     ensures version { IfErr result (IsOfStoreOr ⊤) }
+    ensures reads { Reads (state S.Store conn.old) (state S.Store conn.new) result }
 {
     let rows = select_partners(conn)?;
     read_all(alloc, &rows)
@@ -52,13 +47,8 @@ pub(crate) fn read_numbers<S: Alter>(
     ensures read { HasCleanDisk (state S.Store conn.new) → (layout : Layout) →
         (state S.Store conn.old).now.schema ≡ schema_in layout →
         ReadsTable number_content FitsNumber (ShowsNumbers (weighed_in layout (state S.Store conn.old).now)) result }
-    ensures same { HasCleanDisk (state S.Store conn.new) → (state S.Store conn.old).now.schema ≡ office_schema →
-        OnOk result (IsUnchanged (state S.Store conn.old) (state S.Store conn.new)) }
-    ensures reads { OnlyReads (state S.Store conn.old) (state S.Store conn.new) }
-    ensures unchanged { HasCleanDisk (state S.Store conn.new) →
-        OnOk result (IsUnchanged (state S.Store conn.old) (state S.Store conn.new)) }
-    ensures unwritten { WritesNothing (state S.Store conn.old) (state S.Store conn.new) }
     ensures version { IfErr result (IsOfStoreOr ⊤) }
+    ensures reads { Reads (state S.Store conn.old) (state S.Store conn.new) result }
 {
     read_shown(
         alloc,
@@ -74,13 +64,8 @@ pub(crate) fn read_visits<S: Alter>(
 ) -> Result<Vec<Visit>, TableFault>
     ensures read { HasCleanDisk (state S.Store conn.new) → (state S.Store conn.old).now.schema ≡ office_schema →
         ReadsTable visit_content FitsVisit (ShowsVisits (state S.Store conn.old).now) result }
-    ensures same { HasCleanDisk (state S.Store conn.new) → (state S.Store conn.old).now.schema ≡ office_schema →
-        OnOk result (IsUnchanged (state S.Store conn.old) (state S.Store conn.new)) }
-    ensures reads { OnlyReads (state S.Store conn.old) (state S.Store conn.new) }
-    ensures unchanged { HasCleanDisk (state S.Store conn.new) →
-        OnOk result (IsUnchanged (state S.Store conn.old) (state S.Store conn.new)) }
-    ensures unwritten { WritesNothing (state S.Store conn.old) (state S.Store conn.new) }
     ensures version { IfErr result (IsOfStoreOr ⊤) }
+    ensures reads { Reads (state S.Store conn.old) (state S.Store conn.new) result }
 {
     read_shown(
         alloc,
@@ -96,11 +81,8 @@ pub(crate) fn read_bare_visits<S: Alter>(
 ) -> Result<Vec<Visit>, TableFault>
     ensures read { HasCleanDisk (state S.Store conn.new) → (state S.Store conn.old).now.schema ≡ bare_schema →
         ReadsTable visit_content FitsVisit (ShowsVisits (with_weights (state S.Store conn.old).now)) result }
-    ensures reads { OnlyReads (state S.Store conn.old) (state S.Store conn.new) }
-    ensures unchanged { HasCleanDisk (state S.Store conn.new) →
-        OnOk result (IsUnchanged (state S.Store conn.old) (state S.Store conn.new)) }
-    ensures unwritten { WritesNothing (state S.Store conn.old) (state S.Store conn.new) }
     ensures version { IfErr result (IsOfStoreOr ⊤) }
+    ensures reads { Reads (state S.Store conn.old) (state S.Store conn.new) result }
 {
     read_shown(
         alloc,
@@ -117,13 +99,8 @@ pub(crate) fn read_places<S: Alter>(
     ensures read { HasCleanDisk (state S.Store conn.new) → (layout : Layout) →
         (state S.Store conn.old).now.schema ≡ schema_in layout →
         ReadsTable place_content FitsPlace (ShowsPlaces (weighed_in layout (state S.Store conn.old).now)) result }
-    ensures same { HasCleanDisk (state S.Store conn.new) → (state S.Store conn.old).now.schema ≡ office_schema →
-        OnOk result (IsUnchanged (state S.Store conn.old) (state S.Store conn.new)) }
-    ensures reads { OnlyReads (state S.Store conn.old) (state S.Store conn.new) }
-    ensures unchanged { HasCleanDisk (state S.Store conn.new) →
-        OnOk result (IsUnchanged (state S.Store conn.old) (state S.Store conn.new)) }
-    ensures unwritten { WritesNothing (state S.Store conn.old) (state S.Store conn.new) }
     ensures version { IfErr result (IsOfStoreOr ⊤) }
+    ensures reads { Reads (state S.Store conn.old) (state S.Store conn.new) result }
 {
     let rows = select_places(conn)?;
     read_all(alloc, &rows)
@@ -137,13 +114,8 @@ pub(crate) fn read_lines<S: Alter>(
     ensures read { HasCleanDisk (state S.Store conn.new) → (layout : Layout) →
         (state S.Store conn.old).now.schema ≡ schema_in layout →
         ReadsTable listing_content FitsLine (ShowsLines (weighed_in layout (state S.Store conn.old).now)) result }
-    ensures same { HasCleanDisk (state S.Store conn.new) → (state S.Store conn.old).now.schema ≡ office_schema →
-        OnOk result (IsUnchanged (state S.Store conn.old) (state S.Store conn.new)) }
-    ensures reads { OnlyReads (state S.Store conn.old) (state S.Store conn.new) }
-    ensures unchanged { HasCleanDisk (state S.Store conn.new) →
-        OnOk result (IsUnchanged (state S.Store conn.old) (state S.Store conn.new)) }
-    ensures unwritten { WritesNothing (state S.Store conn.old) (state S.Store conn.new) }
     ensures version { IfErr result (IsOfStoreOr ⊤) }
+    ensures reads { Reads (state S.Store conn.old) (state S.Store conn.new) result }
 {
     read_shown(
         alloc,
@@ -160,13 +132,8 @@ pub(crate) fn read_blocks<S: Alter>(
     ensures read { HasCleanDisk (state S.Store conn.new) → (layout : Layout) →
         (state S.Store conn.old).now.schema ≡ schema_in layout →
         ReadsTable itself FitsBlock (ShowsBlocks (weighed_in layout (state S.Store conn.old).now)) result }
-    ensures same { HasCleanDisk (state S.Store conn.new) → (state S.Store conn.old).now.schema ≡ office_schema →
-        OnOk result (IsUnchanged (state S.Store conn.old) (state S.Store conn.new)) }
-    ensures reads { OnlyReads (state S.Store conn.old) (state S.Store conn.new) }
-    ensures unchanged { HasCleanDisk (state S.Store conn.new) →
-        OnOk result (IsUnchanged (state S.Store conn.old) (state S.Store conn.new)) }
-    ensures unwritten { WritesNothing (state S.Store conn.old) (state S.Store conn.new) }
     ensures version { IfErr result (IsOfStoreOr ⊤) }
+    ensures reads { Reads (state S.Store conn.old) (state S.Store conn.new) result }
 {
     let rows = select_blocks(conn)?;
     read_all(alloc, &rows)

@@ -1,12 +1,12 @@
-ghost use Rattle.std.specs.Prelude.{◌≡◌, ℕ, OnOk, IsErrAnd};
+ghost use Rattle.std.specs.Prelude.{◌≡◌, ℕ, IsErrAnd};
 ghost use Rattle.std.specs.List.{list_any};
 ghost use Rattle.sqlite.specs.Held.{state};
 ghost use Rattle.sqlite.specs.Order.{column};
-ghost use Rattle.sqlite.specs.State.{HasCleanDisk, IsUnchanged};
+ghost use Rattle.sqlite.specs.State.{HasCleanDisk};
 ghost use Rattle.office_rows.specs.Tables.{office_schema};
 ghost use Rattle.office_checks.specs.Contents.{setting_content};
 ghost use Rattle.office_loading.specs.Columns.{is_text, names_version};
-ghost use Rattle.office_selecting.specs.Reads.{OnlyReads, WritesNothing};
+ghost use Rattle.office_tables.specs.Reading.{Reads};
 ghost use Rattle.office_selecting.specs.Settings.{HasNoSettings, HasSettings};
 ghost use Rattle.office_tables.specs.Faults.{IsOfStore};
 ghost use Rattle.office_loading.specs.Tables.{ReadsSettings, TellsVersion};
@@ -26,17 +26,12 @@ pub(crate) fn read_settings<S: Alter>(
 ) -> Result<Vec<Setting>, TableFault>
     ensures read { HasCleanDisk (state S.Store conn.new) → (state S.Store conn.old).now.schema ≡ office_schema →
         ReadsSettings setting_content (state S.Store conn.old).now result }
-    ensures same { HasCleanDisk (state S.Store conn.new) → (state S.Store conn.old).now.schema ≡ office_schema →
-        OnOk result (IsUnchanged (state S.Store conn.old) (state S.Store conn.new)) }
-    ensures reads { OnlyReads (state S.Store conn.old) (state S.Store conn.new) }
-    ensures unchanged { HasCleanDisk (state S.Store conn.new) →
-        OnOk result (IsUnchanged (state S.Store conn.old) (state S.Store conn.new)) }
-    ensures unwritten { WritesNothing (state S.Store conn.old) (state S.Store conn.new) }
     ensures missing { HasCleanDisk (state S.Store conn.new) → HasNoSettings (state S.Store conn.old).now.schema →
         IsErrAnd result IsOfStore }
     ensures version { HasCleanDisk (state S.Store conn.new) → (tree : ℕ) →
         HasSettings (state S.Store conn.old).now.schema tree →
         TellsVersion ((state S.Store conn.old).now.trees tree) result }
+    ensures reads { Reads (state S.Store conn.old) (state S.Store conn.new) result }
 {
     let rows = select_settings(conn)?;
     if !has_version(&rows, b"3") {

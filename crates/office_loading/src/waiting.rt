@@ -1,12 +1,12 @@
-ghost use Rattle.std.specs.Prelude.{◌≡◌, ◌^◌, ⊤, IfOk, IfErr, OnOk, IsTrue, false, map};
+ghost use Rattle.std.specs.Prelude.{◌≡◌, ◌^◌, ⊤, IfOk, IfErr, map};
 ghost use Rattle.std.specs.List.Sorted.{IsPermutation};
 ghost use Rattle.sqlite.specs.Order.{column};
 ghost use Rattle.sqlite.specs.Held.{state};
-ghost use Rattle.sqlite.specs.State.{HasCleanDisk, IsUnchanged, KeepsCommit, Survives};
-ghost use Rattle.office_rows.specs.Tables.{office_schema};
+ghost use Rattle.sqlite.specs.State.{HasCleanDisk};
 ghost use Rattle.office_rows.specs.Stored.{HasRows};
 ghost use Rattle.office_rows.specs.Values.{number};
 ghost use Rattle.office_tables.specs.Faults.{IsOfStoreOr};
+ghost use Rattle.office_tables.specs.Reading.{Reads};
 ghost use Rattle.office_selecting.specs.Waiting.{waiting_numbers};
 ghost use Rattle.office_loading.specs.Columns.{SaysNumber};
 ghost use Rattle.office_loading.specs.Decoded.{Said, FailsOne};
@@ -35,16 +35,7 @@ pub fn waiting_numbers<S: Alter>(
         IfErr result (λ fault. (rows : _) → HasRows rows (state S.Store conn.old).now →
         IsOfStoreOr (HasHighWaiting partner next rows) fault) }
     ensures version { IfErr result (IsOfStoreOr ⊤) }
-    ensures same { HasCleanDisk (state S.Store conn.new) → (state S.Store conn.old).now.schema ≡ office_schema →
-        OnOk result (IsUnchanged (state S.Store conn.old) (state S.Store conn.new)) }
-    ensures keeps { HasCleanDisk (state S.Store conn.new) → (state S.Store conn.old).now.schema ≡ office_schema →
-        KeepsCommit (state S.Store conn.old) (state S.Store conn.new) }
-    ensures clean { HasCleanDisk (state S.Store conn.new) → HasCleanDisk (state S.Store conn.old) }
-    ensures was_open { HasCleanDisk (state S.Store conn.new) → IsTrue (state S.Store conn.new).is_open →
-        IsTrue (state S.Store conn.old).is_open }
-    ensures mode { conn.old.in_transaction ≡ false → conn.new.in_transaction ≡ false }
-    ensures survives { (state S.Store conn.old).now.schema ≡ office_schema →
-        Survives (state S.Store conn.old) (state S.Store conn.new) (λ _. ⊥) }
+    ensures reads { Reads (state S.Store conn.old) (state S.Store conn.new) result }
 {
     let rows = select_waiting(conn, u32::from(partner), next)?;
     read_numbers(alloc, &rows)

@@ -3,8 +3,6 @@ use Rattle.sqlite.specs.Held.{state}
 use Rattle.std.proofs.Common.{subst}
 use Rattle.office_checks.specs.Contents.{opened_rows}
 use Rattle.office_checks.specs.Refusals.{RefusesTables}
-use Rattle.office_selecting.proofs.ReadLemmas.{quiet}
-use Rattle.office_loading.proofs.ChainLemmas.{clean_before}
 use Rattle.office_loading.proofs.OfficeLemmas.{tables_fail, none_shown}
 use Rattle.office_loading.proofs.loading.load.Goals as goal
 
@@ -12,12 +10,6 @@ pub returns-in_err-tables-clause-refused : goal.returns-in_err-tables-clause-ref
 returns-in_err-tables-clause-refused g c clean is =
     let p = err_from_is_err_and c.from_residual.result c.from_residual.ensures.1 in
     rw (p.1, p.2) (tables_fail (state g.S.Store c.args.conn.now).now c.in_err-tables.field-0.0 (c.in_err-tables.ensures.read clean is))
-
-pub returns-in_err-tables-clause-survives : goal.returns-in_err-tables-clause-survives
-returns-in_err-tables-clause-survives g c is = quiet (state g.S.Store c.args.conn.now) (state g.S.Store c.read_tables.new.conn) c.read_tables.ensures.reads is
-
-pub returns-in-Ok-clause-survives : goal.returns-in-Ok-clause-survives
-returns-in-Ok-clause-survives g c is = quiet (state g.S.Store c.args.conn.now) (state g.S.Store c.read_tables.new.conn) c.read_tables.ensures.reads is
 
 pub returns-in-Ok-clause-loaded : goal.returns-in-Ok-clause-loaded
 returns-in-Ok-clause-loaded g c clean is =
@@ -28,12 +20,6 @@ pub returns-in-Err-Unsound-clause-refused : goal.returns-in-Err-Unsound-clause-r
 returns-in-Err-Unsound-clause-refused g c clean is =
     let read = c.in_ok-tables.ensures.read clean is in
     (read.0, none_shown (state g.S.Store c.args.conn.now).now (opened_rows c.in_ok-tables.tables) read.1 read.2 (subst (RefusesTables (opened_rows c.in_ok-tables.tables)) c.in-Err-Unsound.field-0-is c.in-Err-Unsound.ensures.refused))
-
-pub returns-in_err-tables-clause-clean : goal.returns-in_err-tables-clause-clean
-returns-in_err-tables-clause-clean g c clean = clean_before (state g.S.Store c.args.conn.now) (state g.S.Store c.read_tables.new.conn) c.read_tables.ensures.reads clean
-
-pub returns-in_err-tables-clause-was_open : goal.returns-in_err-tables-clause-was_open
-returns-in_err-tables-clause-was_open g c clean is = c.read_tables.ensures.reads.was_open clean is
 
 pub returns-in-Ok-clause-given : goal.returns-in-Ok-clause-given
 returns-in-Ok-clause-given g c = c.in-Ok.ensures.ok.given

@@ -4,20 +4,10 @@ use Rattle.sqlite.specs.Held.{state}
 use Rattle.sqlite.specs.Given.{HasGiven}
 use Rattle.sqlite.specs.State.{HasCleanDisk, IsUnchanged, FailsToQuery, Survives, CommitsShowing}
 use Rattle.office_tables.specs.Faults.{IsOfStoreOr}
-use Rattle.office_selecting.proofs.ReadLemmas.{writes_nothing_failed}
+use Rattle.office_tables.proofs.ReadingLemmas.{reads_same, reads_failed, query_survives, ◌then◌}
 use Rattle.office_loading.specs.Decoded.{ShowsUnsaid, ReadsShown}
-use Rattle.office_loading.proofs.ChainLemmas.{◌then◌}
-use Rattle.office_loading.proofs.StreamLemmas.{only_reads, begins_quietly, moves_quietly, begun_shows, stands_first, stands_next, row_refused, all_read}
+use Rattle.office_loading.proofs.StreamLemmas.{begun_shows, stands_first, stands_next, row_refused, all_read}
 use Rattle.office_loading.proofs.streaming.read_shown.Goals as goal
-
-pub returns-in_err-rows-clause-unwritten : goal.returns-in_err-rows-clause-unwritten
-returns-in_err-rows-clause-unwritten g c =
-    let old = state g.S.Store c.args.conn.now in
-    let new = state g.S.Store c.query.follows.lender-at-none in
-    let held = c.query.follows.holds-at-none in
-    let kept : Survives old new (CommitsShowing c.args.query.now [] old) = search rules in
-    let fails : HasCleanDisk new → IfErr c.query.result (FailsToQuery c.args.query.now [] old new) = search rules in
-    writes_nothing_failed c.args.query.now [] old new c.requires _ (λ clean. rw c.in_err-rows.was at (fails clean)) kept
 
 pub returns-in_err-rows-clause-reads : goal.returns-in_err-rows-clause-reads
 returns-in_err-rows-clause-reads g c =
@@ -25,7 +15,9 @@ returns-in_err-rows-clause-reads g c =
     let new = state g.S.Store c.query.follows.lender-at-none in
     let held = c.query.follows.holds-at-none in
     let mode : c.args.conn.now.in_transaction ≡ false → c.query.follows.lender-at-none.in_transaction ≡ false = search rules in
-    only_reads old new mode (returns-in_err-rows-clause-unwritten g c)
+    let kept : Survives old new (CommitsShowing c.args.query.now [] old) = search rules in
+    let fails : HasCleanDisk new → IfErr c.query.result (FailsToQuery c.args.query.now [] old new) = search rules in
+    reads_failed c.args.query.now [] old new c.requires _ _ c.from_residual.ensures.0 (λ clean. rw c.in_err-rows.was at (fails clean)) mode kept
 
 pub each-init : goal.each-init
 each-init g c =
@@ -35,8 +27,7 @@ each-init g c =
     let begun : HasCleanDisk new → HasGiven g.S.Store c.args.query.now [] c.in_ok-rows.rows.conn.now [] × IsUnchanged old new =
     λ clean. begun_shows g.S.Store c.args.query.now [] c.args.conn.now c.in_ok-rows.rows.conn.now c.requires (made.begun clean) in (
       refl,
-      made.mode,
-      begins_quietly c.args.query.now [] old new c.requires (λ clean. (begun clean).1) made.survives,
+      reads_same old new tt (λ clean. (begun clean).1) made.mode (query_survives c.args.query.now [] old new c.requires made.survives),
       λ clean. rw c.new-records.ensures.items (stands_first g.S.Store g.T.Record.says c.args.query.now c.args.conn.now c.in_ok-rows.rows.conn.now (begun clean)),
     )
 
@@ -45,7 +36,7 @@ returns-in_default-clause-read g c clean =
     let moved = c.next.follows.holds-at-none in
     let now = c.next.follows.lender-at-none.conn.now in
     let late : HasCleanDisk (state g.S.Store now) = search rules in
-    let was = c.each.invariant.3 (omega (arith, moved.survives.clean)) in
+    let was = c.each.invariant.2 (omega (arith, moved.survives.clean)) in
     let done = rw (c.in_ok-row.was, c.in_default.is) at (moved.ok late) in
     let read : ReadsShown g.T.Record.says g.T.Record.is_said c.args.query.now (state g.S.Store c.args.conn.now) (state g.S.Store now) (Ok c.each.records) =
     all_read g.S.Store g.T.Record.says c.args.query.now c.args.conn.now c.each.rows.conn.now now c.each.records.items was c.requires _ g.T.Record.is_said c.each.records refl done in
@@ -56,7 +47,7 @@ returns-in_err-record-clause-read g c clean =
     let moved = c.next.follows.holds-at-none in
     let now = c.next.follows.lender-at-none.conn.now in
     let late : HasCleanDisk (state g.S.Store now) = search rules in
-    let was = c.each.invariant.3 (omega (arith, moved.survives.clean)) in
+    let was = c.each.invariant.2 (omega (arith, moved.survives.clean)) in
     let one = rw (c.in_ok-row.was, c.in-Some.is) at (moved.ok late) in
     let same = rw c.in_ok-row.was at (moved.same late) in
     let p = err_from_is_err_and c.from_residual-in_err-record.result c.from_residual-in_err-record.ensures.1 in
@@ -72,10 +63,9 @@ each-preserved g c =
     let now = c.next.follows.lender-at-none.conn.now in
     let same : HasCleanDisk (state g.S.Store now) → IsUnchanged (state g.S.Store before) (state g.S.Store now) = λ clean. rw c.in_ok-row.was at (moved.same clean) in (
       moved.same_reference ∙ c.each.invariant.0,
-      λ outside. moved.mode (c.each.invariant.1 outside),
-      c.each.invariant.2 then moves_quietly (state g.S.Store before) (state g.S.Store now) same moved.survives,
+      c.each.invariant.1 then reads_same (state g.S.Store before) (state g.S.Store now) tt same moved.mode moved.survives,
       λ clean.
-          let was = c.each.invariant.3 (omega (arith, moved.survives.clean)) in
+          let was = c.each.invariant.2 (omega (arith, moved.survives.clean)) in
           let one = rw (c.in_ok-row.was, c.in-Some.is) at (moved.ok clean) in
           stands_next g.S.Store g.T.Record.says c.args.query.now c.args.conn.now before now c.each.records.items was c.append.new.records.items c.in-Some.row.now c.in_ok-record.record one (same clean) c.in_ok-record.ensures c.in_ok-append.ensures,
     )

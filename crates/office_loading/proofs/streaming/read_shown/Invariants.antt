@@ -1,7 +1,7 @@
-use Rattle.std.proofs.Common.{◌≡◌, false}
+use Rattle.std.proofs.Common.{◌≡◌, Ok}
 use Rattle.sqlite.specs.Held.{state}
 use Rattle.sqlite.specs.State.{HasCleanDisk}
-use Rattle.office_selecting.specs.Reads.{WritesNothing}
+use Rattle.office_tables.specs.Reading.{Reads}
 use Rattle.office_loading.proofs.StreamLemmas.{Stands}
 use Rattle.office_loading.proofs.streaming.read_shown.Given as goal
 
@@ -9,5 +9,5 @@ abbrev pub invariant-each : goal.invariant-each
 invariant-each g l =
     let old = state g.S.Store l.fn.conn in
     let now = state g.S.Store l.rows.conn.now in
-    (l.rows.conn.ghost_name ≡ l.initial.rows.conn.ghost_name) × (l.fn.conn.in_transaction ≡ false → l.rows.conn.now.in_transaction ≡ false) × WritesNothing old now
+    (l.rows.conn.ghost_name ≡ l.initial.rows.conn.ghost_name) × Reads {T = Unit {0}} old now (Ok tt)
     × (HasCleanDisk now → Stands g.S.Store g.T.Record.says l.query l.fn.conn l.rows.conn.now l.records.items)
