@@ -1,5 +1,5 @@
 -- Writing a list in turn, and committing what was written.
-use Rattle.std.proofs.Common.{◌≡◌, ℕ, ◌+◌, List, [], ◌∷◌, ◌++◌, IsTrue, false, Result, Ok, map, fold, refl, sym, ap, ◌∙◌}
+use Rattle.std.proofs.Common.{◌≡◌, ℕ, ◌+◌, List, [], ◌∷◌, ◌++◌, IsTrue, false, Result, Ok, Err, OnErr, map, fold, refl, sym, ap, ◌∙◌}
 use Rattle.std.proofs.lemmas.List.{map-append}
 use Rattle.std.proofs.lemmas.List.Sums.{fold_push}
 use Rattle.sqlite.specs.State.{State, Shows}
@@ -41,6 +41,11 @@ committed change old begun last end same steps alone shows = record {
   is_open = shows.is_open;
   alone = alone shows.is_open;
 }
+
+-- what a call that failed has undone
+pub on_failed : {X E : Type 0} {P Q : Type 0} (r : Result X E) → (P → Q) → OnErr r P → OnErr r Q
+on_failed (Ok x) f is = is
+on_failed (Err e) f is = f is
 
 -- ---- a text that is taken at once
 

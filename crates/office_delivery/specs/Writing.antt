@@ -1,9 +1,11 @@
 -- What writing a delivery commits.
-use Rattle.std.specs.Prelude.{◌≡◌, IsTrue}
-use Rattle.sqlite.specs.State.{State}
+use Rattle.std.specs.Prelude.{◌≡◌, false, Result, IfErr, IsTrue, OnErr, OnOk}
+use Rattle.sqlite.specs.State.{State, HasCleanDisk, Survives}
 use Rattle.sqlite.specs.Tree.{Trees}
 use Rattle.office_rows.specs.Rows.{Rows}
 use Rattle.office_rows.specs.Stored.{HasRows, StoresRows}
+use Rattle.office_tables.specs.Faults.{IsOfStore}
+use Rattle.office_tables.specs.declared.table_fault.TableFault.{TableFault}
 
 -- the change is committed: the rows are these, and a crash leaves these alone
 pub record Commits (change : Rows → Rows) (old new : State) : Type 0 where
@@ -20,3 +22,18 @@ pub record IsUndone (old new : State) : Type 0 where
 -- these are the rows after the change, whole
 abbrev pub IsWhole : (Rows → Rows) → State → Trees → Type 0
 IsWhole change old db = (rows : Rows) → HasRows rows old.committed → StoresRows (change rows) db
+
+-- no transaction stays open; if the disk is clean in the end, it was before, and if the connection is open then too, it was
+pub record EndsIdle (old new : State) : Type 0 where
+  pub idle : new.in_transaction ≡ false
+  pub clean : HasCleanDisk new → HasCleanDisk old
+  pub was_open : HasCleanDisk new → IsTrue new.is_open → IsTrue old.is_open
+
+-- The change is written whole or not at all. At Ok it is committed. At Err what was committed stays, while the connection
+-- is open, and the store failed or memory was refused. A crash leaves what it left before, or the rows after the change.
+pub record WritesWhole {X : Type 0} (change : Rows → Rows) (old new : State) (result : Result X TableFault) : Type 0 where
+  pub ends : EndsIdle old new
+  pub ok : HasCleanDisk new → OnOk result (Commits change old new)
+  pub err : HasCleanDisk new → IsTrue new.is_open → OnErr result (new.committed ≡ old.committed)
+  pub crash : Survives old new (IsWhole change old)
+  pub fault : IfErr result IsOfStore

@@ -5,7 +5,7 @@ ghost use Rattle.office_rows.specs.Effects.{with_kept, with_partner};
 ghost use Rattle.office_tables.specs.Faults.{IsOfStore};
 ghost use Rattle.office_history.specs.Cascade.{with_run};
 ghost use Rattle.office_delivery.specs.Taken.{taken_contents};
-ghost use Rattle.office_delivery.specs.Writing.{Commits, IsUndone, IsWhole};
+ghost use Rattle.office_delivery.specs.Writing.{IsUndone, WritesWhole};
 
 use crate::taken::Taken;
 use crate::writing::write_all;
@@ -23,17 +23,10 @@ pub fn write_run<S: Alter>(
 ) -> Result<(), TableFault>
     requires idle { (state S.Store conn.old).in_transaction ≡ false }
     requires numbers { All (λ t. t.number < 1000000000) taken.now }
-    ensures idle { (state S.Store conn.new).in_transaction ≡ false }
-    ensures ok { HasCleanDisk (state S.Store conn.new) →
-        OnOk result (Commits (with_run partner number text.now (taken_contents taken.now)) (state S.Store conn.old)
-        (state S.Store conn.new)) }
-    ensures was_open { HasCleanDisk (state S.Store conn.new) → IsTrue (state S.Store conn.new).is_open →
-        IsTrue (state S.Store conn.old).is_open }
-    ensures err { HasCleanDisk (state S.Store conn.new) → IsTrue (state S.Store conn.new).is_open →
-        OnErr result (IsUndone (state S.Store conn.old) (state S.Store conn.new)) }
-    ensures crash { Survives (state S.Store conn.old) (state S.Store conn.new)
-        (IsWhole (with_run partner number text.now (taken_contents taken.now)) (state S.Store conn.old)) }
-    ensures fault { IfErr result IsOfStore }
+    ensures writes { WritesWhole (with_run partner number text.now (taken_contents taken.now)) (state S.Store conn.old)
+        (state S.Store conn.new) result }
+    ensures undone { HasCleanDisk (state S.Store conn.new) → IsTrue (state S.Store conn.new).is_open →
+        OnErr result ((state S.Store conn.new).now ≡ (state S.Store conn.old).committed) }
 {
     let is_idle = conn.is_autocommit();
     prove!(is_idle);
@@ -50,16 +43,9 @@ pub fn write_early<S: Alter>(
     text: &[u8],
 ) -> Result<(), TableFault>
     requires idle { (state S.Store conn.old).in_transaction ≡ false }
-    ensures idle { (state S.Store conn.new).in_transaction ≡ false }
-    ensures ok { HasCleanDisk (state S.Store conn.new) →
-        OnOk result (Commits (with_kept partner number text.now) (state S.Store conn.old) (state S.Store conn.new)) }
-    ensures was_open { HasCleanDisk (state S.Store conn.new) → IsTrue (state S.Store conn.new).is_open →
-        IsTrue (state S.Store conn.old).is_open }
-    ensures err { HasCleanDisk (state S.Store conn.new) → IsTrue (state S.Store conn.new).is_open →
-        OnErr result (IsUndone (state S.Store conn.old) (state S.Store conn.new)) }
-    ensures crash { Survives (state S.Store conn.old) (state S.Store conn.new)
-        (IsWhole (with_kept partner number text.now) (state S.Store conn.old)) }
-    ensures fault { IfErr result IsOfStore }
+    ensures writes { WritesWhole (with_kept partner number text.now) (state S.Store conn.old) (state S.Store conn.new) result }
+    ensures undone { HasCleanDisk (state S.Store conn.new) → IsTrue (state S.Store conn.new).is_open →
+        OnErr result ((state S.Store conn.new).now ≡ (state S.Store conn.old).committed) }
 {
     write_run(conn, partner, number, text, &[])
 }
@@ -72,16 +58,9 @@ pub fn write_account<S: Alter>(
     kind: PartnerKind,
 ) -> Result<(), TableFault>
     requires idle { (state S.Store conn.old).in_transaction ≡ false }
-    ensures idle { (state S.Store conn.new).in_transaction ≡ false }
-    ensures ok { HasCleanDisk (state S.Store conn.new) →
-        OnOk result (Commits (with_partner id code.now kind) (state S.Store conn.old) (state S.Store conn.new)) }
-    ensures was_open { HasCleanDisk (state S.Store conn.new) → IsTrue (state S.Store conn.new).is_open →
-        IsTrue (state S.Store conn.old).is_open }
-    ensures err { HasCleanDisk (state S.Store conn.new) → IsTrue (state S.Store conn.new).is_open →
-        OnErr result (IsUndone (state S.Store conn.old) (state S.Store conn.new)) }
-    ensures crash { Survives (state S.Store conn.old) (state S.Store conn.new)
-        (IsWhole (with_partner id code.now kind) (state S.Store conn.old)) }
-    ensures fault { IfErr result IsOfStore }
+    ensures writes { WritesWhole (with_partner id code.now kind) (state S.Store conn.old) (state S.Store conn.new) result }
+    ensures undone { HasCleanDisk (state S.Store conn.new) → IsTrue (state S.Store conn.new).is_open →
+        OnErr result ((state S.Store conn.new).now ≡ (state S.Store conn.old).committed) }
 {
     let is_idle = conn.is_autocommit();
     prove!(is_idle);

@@ -5,13 +5,12 @@ ghost use Rattle.sqlite.specs.Held.{state};
 ghost use Rattle.sqlite.specs.State.{HasCleanDisk};
 ghost use Rattle.office_rows.specs.Rows.{Rows};
 ghost use Rattle.office_rows.specs.Stored.{HasRows};
-ghost use Rattle.office_rows.specs.Tables.{office_schema};
 ghost use Rattle.office_admission.specs.Outcomes.{IsAdmitted};
 ghost use Rattle.office_taking.specs.Taking.{machine_of};
 ghost use Rattle.office_tables.specs.Answers.{HasUnfitReply};
 ghost use Rattle.office_tables.specs.Faults.{IsOfStoreOr};
 ghost use Rattle.office_history.specs.Cascade.{AreTakenFrom, text_in, texts_with};
-ghost use Rattle.office_delivery.specs.Reading.{HasUnfitBehind, IsSame, OnlyReads};
+ghost use Rattle.office_delivery.specs.Reading.{HasUnfitBehind, OnlyReads};
 ghost use Rattle.office_delivery.specs.Taken.{taken_contents};
 ghost use Rattle.office_delivery.specs.Taking.{IsNumbered};
 
@@ -49,9 +48,7 @@ pub fn take_run<S: Alter>(
     ensures numbers { IfOk result (λ taken. All (λ t. t.number < 1000000000) taken.items) }
     ensures fault { HasCleanDisk (state S.Store conn.new) → IfErr result (λ fault. (rows : Rows) →
         HasRows rows (state S.Store conn.old).now → IsOfStoreOr (HasUnfitBehind admitted.now.partner number rows) fault) }
-    ensures same { HasCleanDisk (state S.Store conn.new) → (state S.Store conn.old).now.schema ≡ office_schema →
-        OnOk result (IsSame (state S.Store conn.old) (state S.Store conn.new)) }
-    ensures reads { OnlyReads (state S.Store conn.old) (state S.Store conn.new) }
+    ensures reads { OnlyReads (state S.Store conn.old) (state S.Store conn.new) result }
 {
     let mut taken = Vec::new(alloc);
     let partner = admitted.partner;
@@ -79,9 +76,7 @@ fn text_behind<S: Alter>(
     ensures last { IfOk result (λ found. IfSome found (λ text. number < LAST_NUMBER)) }
     ensures fault { HasCleanDisk (state S.Store conn.new) → IfErr result (λ fault. (rows : Rows) →
         HasRows rows (state S.Store conn.old).now → IsOfStoreOr (HasUnfitReply partner (number + 1) rows) fault) }
-    ensures same { HasCleanDisk (state S.Store conn.new) → (state S.Store conn.old).now.schema ≡ office_schema →
-        OnOk result (IsSame (state S.Store conn.old) (state S.Store conn.new)) }
-    ensures reads { OnlyReads (state S.Store conn.old) (state S.Store conn.new) }
+    ensures reads { OnlyReads (state S.Store conn.old) (state S.Store conn.new) result }
 {
     if number == LAST_NUMBER {
         return Ok(None);

@@ -1,4 +1,4 @@
-use Rattle.std.proofs.Common.{◌≡◌, ◌+◌, ◌++◌, [], ◌∷◌, ◌<◌, All, length, None, Some, ap, subst, sym, ◌∙◌, arith}
+use Rattle.std.proofs.Common.{◌≡◌, ◌+◌, ◌++◌, [], ◌∷◌, ◌<◌, All, length, None, Ok, Some, ap, subst, sym, ◌∙◌, arith}
 use Rattle.std.proofs.lemmas.List.{length-append}
 use Rattle.std.proofs.lemmas.List.Elements.{All-push}
 use Rattle.sqlite.specs.Held.{state}
@@ -8,7 +8,7 @@ use Rattle.office_history.specs.Cascade.{text_in, texts_with}
 use Rattle.office_delivery.specs.Reading.{IsSame}
 use Rattle.office_delivery.specs.Taken.{taken_contents}
 use Rattle.office_delivery.specs.declared.taken.Taken.{Taken}
-use Rattle.office_delivery.proofs.ReadLemmas.{reads_here, reads_then, same_here, same_then}
+use Rattle.office_delivery.proofs.ReadLemmas.{nothing_read, only_on, only_stopped, only_then, was_clean}
 use Rattle.office_delivery.proofs.RunLemmas.{first_pushed, more_pushed, all_taken, texts_behind, below_last}
 use Rattle.office_delivery.proofs.running.take_run.Goals as goal
 
@@ -22,42 +22,35 @@ loop-taken-init g c =
       last = c.requires.number;
       some = omega (arith, ap length pushed);
       numbers = subst (All (λ (t : Taken). t.number < 1000000000)) (sym pushed) (All-push (λ (t : Taken). t.number < 1000000000) [] c.in_ok-first.first (λ k d below. absurd (omega (arith, below))) (below_last c.in_ok-first.first.number c.args.number c.in_ok-first.ensures.number c.requires.number));
-      same = λ clean at. same_here old;
-      reads = reads_here old;
+      reads = nothing_read old (Ok c.args.number);
       taken = λ rows text clean has numbered admits.
           first_pushed rows c.args.admitted.now.partner c.args.number _ _ text c.in_ok-first.first c.append.new.taken.items pushed (is text admits);
     }
 
+pub returns-in_err-first-clause-reads : goal.returns-in_err-first-clause-reads
+returns-in_err-first-clause-reads g c = nothing_read (state g.S.Store c.args.conn.now) _
+
+pub returns-in_err-append-clause-reads : goal.returns-in_err-append-clause-reads
+returns-in_err-append-clause-reads g c = nothing_read (state g.S.Store c.args.conn.now) _
+
 pub returns-in_err-text-clause-reads : goal.returns-in_err-text-clause-reads
-returns-in_err-text-clause-reads g c =
-    reads_then (state g.S.Store c.args.conn.now) (state g.S.Store c.loop-taken.conn) (state g.S.Store c.text_behind.new.conn) c.loop-taken.invariant.same c.loop-taken.invariant.reads c.text_behind.ensures.reads
+returns-in_err-text-clause-reads g c = only_then c.loop-taken.invariant.reads (only_stopped _ c.from_residual-in_err-text.ensures.0 c.text_behind.ensures.reads)
 
 pub returns-in_err-next-clause-reads : goal.returns-in_err-next-clause-reads
-returns-in_err-next-clause-reads g c =
-    reads_then (state g.S.Store c.args.conn.now) (state g.S.Store c.loop-taken.conn) (state g.S.Store c.text_behind.new.conn) c.loop-taken.invariant.same c.loop-taken.invariant.reads c.text_behind.ensures.reads
+returns-in_err-next-clause-reads g c = only_then c.loop-taken.invariant.reads (only_on _ c.in_ok-text.ensures.reads)
 
 pub returns-in_err-append-2-clause-reads : goal.returns-in_err-append-2-clause-reads
-returns-in_err-append-2-clause-reads g c =
-    reads_then (state g.S.Store c.args.conn.now) (state g.S.Store c.loop-taken.conn) (state g.S.Store c.text_behind.new.conn) c.loop-taken.invariant.same c.loop-taken.invariant.reads c.text_behind.ensures.reads
+returns-in_err-append-2-clause-reads g c = only_then c.loop-taken.invariant.reads (only_on _ c.in_ok-text.ensures.reads)
 
 pub returns-clause-reads : goal.returns-clause-reads
-returns-clause-reads g c =
-    reads_then (state g.S.Store c.args.conn.now) (state g.S.Store c.loop-taken.conn) (state g.S.Store c.text_behind.new.conn) c.loop-taken.invariant.same c.loop-taken.invariant.reads c.text_behind.ensures.reads
-
-pub returns-clause-same : goal.returns-clause-same
-returns-clause-same g c clean at =
-    let old = state g.S.Store c.args.conn.now in
-    let mid = state g.S.Store c.loop-taken.conn in
-    let new = state g.S.Store c.text_behind.new.conn in
-    let first : IsSame old mid = c.loop-taken.invariant.same (c.text_behind.ensures.reads.clean clean) at in
-    same_then old mid new first (c.in_ok-text.ensures.same clean (ap (λ db. db.schema) first.now ∙ at))
+returns-clause-reads g c = only_then c.loop-taken.invariant.reads (only_on _ c.in_ok-text.ensures.reads)
 
 pub returns-clause-taken : goal.returns-clause-taken
 returns-clause-taken g c clean rows text has numbered admits =
     let old = state g.S.Store c.args.conn.now in
     let mid = state g.S.Store c.loop-taken.conn in
-    let before : HasCleanDisk mid = c.text_behind.ensures.reads.clean clean in
-    let first : IsSame old mid = c.loop-taken.invariant.same before has.schema in
+    let before : HasCleanDisk mid = was_clean c.text_behind.ensures.reads clean in
+    let first : IsSame old mid = c.loop-taken.invariant.reads.same before in
     let found = c.in_ok-text.ensures.text clean rows (subst (HasRows rows) (sym first.now) has) numbered in
     let partner = c.args.admitted.now.partner in
     let none : text_in rows partner (c.loop-taken.last + 1) ≡ None = rw c.in_default.is at found in
@@ -79,14 +72,11 @@ loop-taken-preserved g c =
       last = omega (arith, below);
       some = omega (arith, before.some, ap length pushed ∙ length-append c.loop-taken.taken.items (next ∷ []));
       numbers = subst (All (λ (t : Taken). t.number < 1000000000)) (sym pushed) (All-push (λ (t : Taken). t.number < 1000000000) c.loop-taken.taken.items next before.numbers (below_last next.number (c.loop-taken.last + 1) is.number_is (omega (arith, below))));
-      same = λ clean at.
-          let first : IsSame old mid = before.same (c.text_behind.ensures.reads.clean clean) at in
-          same_then old mid new first (c.in_ok-text.ensures.same clean (ap (λ db. db.schema) first.now ∙ at));
-      reads = reads_then old mid new before.same before.reads c.text_behind.ensures.reads;
+      reads = only_then before.reads (only_on _ c.in_ok-text.ensures.reads);
       taken = λ rows text clean has numbered admits.
-          let first : IsSame old mid = before.same (c.text_behind.ensures.reads.clean clean) has.schema in
+          let first : IsSame old mid = before.reads.same (was_clean c.text_behind.ensures.reads clean) in
           let partner = c.args.admitted.now.partner in
           let found : text_in rows partner (c.loop-taken.last + 1) ≡ Some c.in-Some.text.items = rw c.in-Some.is at (c.in_ok-text.ensures.text clean rows (subst (HasRows rows) (sym first.now) has) numbered) in
           more_pushed rows partner c.args.number c.loop-taken.last _ _ _ text c.in-Some.text.items c.loop-taken.taken.items next c.append-in-Some.new.taken.items pushed before.after found
-          (before.taken rows text (c.text_behind.ensures.reads.clean clean) has numbered admits) (rw c.deref.ensures.value at is);
+          (before.taken rows text (was_clean c.text_behind.ensures.reads clean) has numbered admits) (rw c.deref.ensures.value at is);
     }

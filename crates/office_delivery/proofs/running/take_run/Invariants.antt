@@ -1,13 +1,12 @@
-use Rattle.std.proofs.Common.{◌≡◌, ℕ, List, ◌+◌, ◌<◌, ◌≤◌, ◌-◌, All, length}
+use Rattle.std.proofs.Common.{◌≡◌, ℕ, List, ◌+◌, ◌<◌, ◌≤◌, ◌-◌, All, Ok, length}
 use Rattle.sqlite.specs.Held.{state}
 use Rattle.sqlite.specs.State.{HasCleanDisk}
 use Rattle.office_rows.specs.Rows.{Rows}
 use Rattle.office_rows.specs.Stored.{HasRows}
-use Rattle.office_rows.specs.Tables.{office_schema}
 use Rattle.office_admission.specs.Outcomes.{IsAdmitted}
 use Rattle.office_taking.specs.Taking.{machine_of}
 use Rattle.office_history.specs.Cascade.{texts_with}
-use Rattle.office_delivery.specs.Reading.{IsSame, OnlyReads}
+use Rattle.office_delivery.specs.Reading.{OnlyReads}
 use Rattle.office_delivery.specs.Taken.{taken_contents}
 use Rattle.office_delivery.specs.Taking.{IsNumbered}
 use Rattle.office_delivery.specs.declared.taken.Taken.{Taken}
@@ -23,8 +22,7 @@ invariant-loop-taken g l =
       last : l.last ≤ 999999999;
       some : 1 ≤ length l.taken.items;
       numbers : All (λ (t : Taken). t.number < 1000000000) l.taken.items;
-      same : HasCleanDisk now → old.now.schema ≡ office_schema → IsSame old now;
-      reads : OnlyReads old now;
+      reads : OnlyReads old now (Ok l.last);
       taken : (rows : Rows) (text : List ℕ) → HasCleanDisk now → HasRows rows old.now → IsNumbered l.admitted.partner rows → IsAdmitted l.setup text l.admitted →
           AreTakenTo l.admitted.partner (texts_with rows l.admitted.partner l.number text) l.number (machine_of l.setup l.fn.terminal) (taken_contents l.taken.items) (l.last + 1) (machine_of l.setup l.terminal);
     }
