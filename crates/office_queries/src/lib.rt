@@ -1,5 +1,5 @@
 //! What can be asked of the office besides deliveries, and the keys by which it is asked, accounts that are to be
-//! added among them.
+//! added among them; and the number that digits write.
 #![tactic(auto)]
 
 mod account_key;
