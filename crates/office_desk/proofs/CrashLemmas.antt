@@ -11,7 +11,6 @@ use Rattle.office_replies.specs.declared.response.Response.TheVariants as respon
 use Rattle.office_rows.specs.Rows.{Rows}
 use Rattle.office_rows.specs.Effects.{with_kept}
 use Rattle.office_rows.specs.Stored.{HasRows, StoresRows}
-use Rattle.office_rows.specs.Tables.{office_schema}
 use Rattle.office_rows.proofs.StepLemmas.{stores}
 use Rattle.office_setup.specs.Given.{IsGiven}
 use Rattle.office_setup.specs.Setups.{SetupContent}
@@ -20,7 +19,6 @@ use Rattle.office_history.specs.After.{AreAfter, content_after, deliveries_of, m
 use Rattle.office_history.specs.Cascade.{AreTakenFrom, text_in, texts_with, with_run}
 use Rattle.office_history.specs.Laws.{IsFor}
 use Rattle.office_history.proofs.Lawful.{refused_adds, used_adds, early_adds, next_adds}
-use Rattle.office_delivery.specs.Reading.{OnlyReads}
 use Rattle.office_desk.specs.Crashes.{IsAfter, Leaves, LeavesBehind}
 use Rattle.office_desk.specs.Beside.{IsAt}
 use Rattle.office_desk.specs.Telling.{Comes, Holds, IsRunDone}
@@ -35,9 +33,6 @@ or_never (inr never) = absurd never
 -- what only reads gives a crash nothing else to leave
 pub leaves_less : (old new : State) → HasCleanDisk new → Survives old new (λ _. ⊥) → (db : Trees) → new.may_leave db → old.may_leave db
 leaves_less old new clean survives db leaves = or_never (survives.crash clean db leaves)
-
-pub reads_less : (old new : State) → HasCleanDisk new → old.now.schema ≡ office_schema → OnlyReads old new → (db : Trees) → new.may_leave db → old.may_leave db
-reads_less old new clean schema reads = leaves_less old new clean (reads.survives clean schema)
 
 -- ---- one delivery more
 

@@ -1,7 +1,6 @@
 -- What holds of the rows of an office, whether or not deliveries led to them.
 use Rattle.std.proofs.Common.{◌≡◌, Option, None, sym, subst, ◌∙◌}
 use Rattle.sqlite.specs.Effect.{Database}
-use Rattle.sqlite.specs.State.{State, IsUnchanged}
 use Rattle.terminal_core.specs.State.{TerminalState}
 use Rattle.office_rows.specs.Rows.{Rows}
 use Rattle.office_rows.specs.Stored.{HasRows}
@@ -14,21 +13,6 @@ use Rattle.office_desk.specs.Beside.{IsOrNone}
 use Rattle.office_desk.specs.Finding.{StaysBeside}
 use Rattle.office_desk.specs.Offices.{HoldsOffice}
 use Rattle.office_desk.specs.declared.beside.Beside.{Beside}
-
--- ---- calls that change nothing
-
-pub unchanged_then : (a b c : State) → IsUnchanged a b → IsUnchanged b c → IsUnchanged a c
-unchanged_then a b c p q = (
-  record {
-    was_open = p.0.was_open;
-    is_open = q.0.is_open;
-    now_is = q.0.now_is ∙ p.0.now_is;
-    committed_is = q.0.committed_is ∙ p.0.committed_is;
-    mode = q.0.mode ∙ p.0.mode;
-  },
-  record { changes = q.1.changes ∙ p.1.changes; last_rowid = q.1.last_rowid ∙ p.1.last_rowid },
-  q.2 ∙ p.2,
-)
 
 -- ---- what stands beside the rows
 

@@ -2,7 +2,6 @@ pub mod Answers
 pub mod Beside
 pub mod Telling
 pub mod Crashes
-pub mod Writing
 pub mod Offices
 pub mod Desks
 pub mod Reports

@@ -9,7 +9,6 @@ use Rattle.office_replies.specs.Events.{Event, delivered}
 use Rattle.office_replies.specs.declared.response.Response.{Response}
 use Rattle.office_rows.specs.Rows.{Rows}
 use Rattle.office_rows.specs.Stored.{HasRows}
-use Rattle.office_rows.specs.Tables.{office_schema}
 use Rattle.office_setup.specs.Setups.{SetupContent}
 use Rattle.office_setup.specs.declared.setup.Setup.{Setup}
 use Rattle.office_admission.specs.Outcomes.{IsAdmitted}
@@ -53,7 +52,7 @@ pub record TakesRun (d : Delivery) (code : List ℕ) (setup : Setup) (there : Be
     (result : Result (Response × Beside) TableFault) (new : State) : Type 0 where
   pub ok : IfOk result (λ taken. (rows : Rows) → HasNumbered rows d.partner old →
       TakesNext rows d code setup there taken.0 taken.1 new)
-  pub err : IsTrue new.is_open → old.now.schema ≡ office_schema → OnErr result (new.committed ≡ old.committed)
+  pub err : IsTrue new.is_open → OnErr result (new.committed ≡ old.committed)
   pub crash : OnErr result ((rows : Rows) → HasNumbered rows d.partner old → (db : Trees) → new.may_leave db →
       old.may_leave db ⊎ IsRunDone rows d (machine_of setup there.terminal) db)
   pub fault : IfErr result (λ fault. (rows : Rows) → HasRows rows old.now →

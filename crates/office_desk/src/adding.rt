@@ -6,7 +6,7 @@ ghost use Rattle.office_setup.specs.Limits.{most_partners};
 ghost use Rattle.office_setup.specs.PartyCodes.{is_party_code};
 ghost use Rattle.office_setup.specs.Setups.{setup_content, setup_with_account};
 ghost use Rattle.office_desk.specs.Accounts.{IsLengthened, IsSameOrNone};
-ghost use Rattle.office_desk.specs.Writing.{WritesWhole};
+ghost use Rattle.office_delivery.specs.Writing.{WritesWhole};
 
 use crate::beside::Beside;
 use edi_messages::PartnerKind;

@@ -4,7 +4,7 @@ ghost use Rattle.partner_core.specs.Answers.{Waiting};
 ghost use Rattle.office_replies.specs.Contents.{content_of};
 ghost use Rattle.office_rows.specs.Effects.{with_kept};
 ghost use Rattle.office_desk.specs.Answers.{told_answer};
-ghost use Rattle.office_desk.specs.Writing.{WritesWhole};
+ghost use Rattle.office_delivery.specs.Writing.{WritesWhole};
 
 use crate::answers::answer_waiting;
 use crate::delivery::Delivery;

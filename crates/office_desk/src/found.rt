@@ -2,8 +2,7 @@ ghost use Rattle.std.specs.Prelude.{◌≡◌, ◌≤◌, None, Some, IfOk, IfEr
 ghost use Rattle.sqlite.specs.Held.{state};
 ghost use Rattle.sqlite.specs.State.{HasCleanDisk};
 ghost use Rattle.partner_core.specs.Numbered.{with_number};
-ghost use Rattle.office_rows.specs.Tables.{office_schema};
-ghost use Rattle.office_delivery.specs.Reading.{IsSame, OnlyReads};
+ghost use Rattle.office_tables.specs.Reading.{Reads};
 ghost use Rattle.office_desk.specs.Finding.{IsFound, IsNotFound};
 
 use crate::beside::Beside;
@@ -39,9 +38,7 @@ pub(crate) fn look<S: Alter>(
         IfOk result (IsFound partner number (state S.Store conn.old).now beside.old) }
     ensures not_found { HasCleanDisk (state S.Store conn.new) → IfErr result
         (λ fault. IsNotFound partner number (state S.Store conn.old).now beside.old fault beside.new) }
-    ensures same { HasCleanDisk (state S.Store conn.new) → (state S.Store conn.old).now.schema ≡ office_schema →
-        OnOk result (IsSame (state S.Store conn.old) (state S.Store conn.new)) }
-    ensures reads { OnlyReads (state S.Store conn.old) (state S.Store conn.new) }
+    ensures reads { Reads (state S.Store conn.old) (state S.Store conn.new) result }
 {
     let there = beside_of(alloc, conn, beside.take())?;
     let Some(next) = there.next_of(partner) else {

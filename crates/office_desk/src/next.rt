@@ -5,7 +5,7 @@ ghost use Rattle.sqlite.specs.State.{HasCleanDisk};
 ghost use Rattle.office_desk.specs.Noting.{IsNow};
 ghost use Rattle.office_desk.specs.Taking.{IsDelivered, TakesRun};
 ghost use Rattle.office_desk.specs.Telling.{delivery_of};
-ghost use Rattle.office_desk.specs.Writing.{EndsIdle};
+ghost use Rattle.office_delivery.specs.Writing.{EndsIdle};
 
 use crate::beside::Beside;
 use crate::delivery::Delivery;

@@ -3,10 +3,10 @@ ghost use Rattle.sqlite.specs.Held.{state};
 ghost use Rattle.sqlite.specs.State.{HasCleanDisk};
 ghost use Rattle.office_rows.specs.Rows.{Rows};
 ghost use Rattle.office_rows.specs.Stored.{HasRows};
-ghost use Rattle.office_rows.specs.Tables.{office_schema};
 ghost use Rattle.office_setup.specs.Limits.{most_partners};
 ghost use Rattle.office_setup.specs.Setups.{account_contents};
-ghost use Rattle.office_delivery.specs.Reading.{IsSame, OnlyReads};
+ghost use Rattle.office_tables.specs.Reading.{Reads};
+ghost use Rattle.office_delivery.specs.Reading.{OnlyReads};
 ghost use Rattle.office_lookups.specs.Partners.{partner_content};
 ghost use Rattle.office_desk.specs.Reports.{AreLookedUp, IsLookedUp, TellsPartners};
 
@@ -28,7 +28,7 @@ pub(crate) fn tell_partners<S: Alter>(
     ensures told { HasCleanDisk (state S.Store conn.new) → IfOk result (λ text. (rows : Rows) →
         HasRows rows (state S.Store conn.old).now →
         TellsPartners rows (account_contents accounts.now) (Some (string_bytes text))) }
-    ensures reads { OnlyReads (state S.Store conn.old) (state S.Store conn.new) }
+    ensures reads { OnlyReads (state S.Store conn.old) (state S.Store conn.new) result }
 {
     let partners = look_all_up(alloc, conn, accounts)?;
     Ok(partners_report(alloc, &partners)?)
@@ -43,7 +43,7 @@ fn look_all_up<S: Alter>(
     ensures are { HasCleanDisk (state S.Store conn.new) → IfOk result (λ partners. (rows : Rows) →
         HasRows rows (state S.Store conn.old).now →
         AreLookedUp rows 1 (account_contents accounts.now) (map partner_content partners.items)) }
-    ensures reads { OnlyReads (state S.Store conn.old) (state S.Store conn.new) }
+    ensures reads { OnlyReads (state S.Store conn.old) (state S.Store conn.new) result }
 {
     let mut partners = Vec::new(alloc);
     let mut id = 0;
@@ -65,9 +65,7 @@ fn look_up<S: Alter>(
     ensures is { HasCleanDisk (state S.Store conn.new) → IfOk result (λ partner. (rows : Rows) →
         HasRows rows (state S.Store conn.old).now →
         IsLookedUp rows id (string_bytes account.now.code, account.now.kind) (partner_content partner)) }
-    ensures same { HasCleanDisk (state S.Store conn.new) → (state S.Store conn.old).now.schema ≡ office_schema →
-        OnOk result (IsSame (state S.Store conn.old) (state S.Store conn.new)) }
-    ensures reads { OnlyReads (state S.Store conn.old) (state S.Store conn.new) }
+    ensures reads { Reads (state S.Store conn.old) (state S.Store conn.new) result }
 {
     let next = next_of(conn, id)?;
     let waiting = waiting_numbers(alloc, conn, id, next)?;

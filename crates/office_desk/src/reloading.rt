@@ -1,6 +1,6 @@
-ghost use Rattle.std.specs.Prelude.{◌≡◌, Some, IfOk, IfErr, OnOk, false};
+ghost use Rattle.std.specs.Prelude.{◌≡◌, Some, IfOk, IfErr};
 ghost use Rattle.sqlite.specs.Held.{state};
-ghost use Rattle.sqlite.specs.State.{HasCleanDisk, IsUnchanged};
+ghost use Rattle.sqlite.specs.State.{HasCleanDisk};
 ghost use Rattle.office_rows.specs.Rows.{Rows};
 ghost use Rattle.office_rows.specs.Shown.{AreNexts};
 ghost use Rattle.office_rows.specs.Stored.{HasRows};
@@ -8,8 +8,9 @@ ghost use Rattle.office_rows.specs.Tables.{office_schema};
 ghost use Rattle.office_setup.specs.Given.{IsGiven};
 ghost use Rattle.office_setup.specs.Setups.{SetupContent, setup_content};
 ghost use Rattle.office_tables.specs.Faults.{IsOfStore};
+ghost use Rattle.office_tables.specs.Reading.{Reads};
 ghost use Rattle.office_loading.specs.Tables.{Loads};
-ghost use Rattle.office_delivery.specs.Reading.{IsSame, OnlyReads};
+ghost use Rattle.office_delivery.specs.Reading.{OnlyReads};
 ghost use Rattle.terminal_core.specs.State.{TerminalState};
 ghost use Rattle.office_desk.specs.Finding.{StaysBeside};
 ghost use Rattle.office_desk.specs.Offices.{FailsToOpen, HoldsOffice};
@@ -37,10 +38,7 @@ pub fn load_beside<S: Alter>(
     ensures given { IfOk result (λ p. IsGiven (setup_content p.0)) }
     ensures refused { HasCleanDisk (state S.Store conn.new) → (state S.Store conn.old).now.schema ≡ office_schema →
         IfErr result (FailsToOpen (state S.Store conn.old).now) }
-    ensures same { HasCleanDisk (state S.Store conn.new) → (state S.Store conn.old).now.schema ≡ office_schema →
-        OnOk result (IsUnchanged (state S.Store conn.old) (state S.Store conn.new)) }
-    ensures mode { conn.old.in_transaction ≡ false → conn.new.in_transaction ≡ false }
-    ensures reads { OnlyReads (state S.Store conn.old) (state S.Store conn.new) }
+    ensures reads { Reads (state S.Store conn.old) (state S.Store conn.new) result }
 {
     let (setup, terminal) = load(alloc, conn)?;
     let nexts = nexts(alloc, conn)?;
@@ -58,9 +56,7 @@ pub(crate) fn beside_of<S: Alter>(
     ensures fault { HasCleanDisk (state S.Store conn.new) →
         IfErr result (λ fault. (content : SetupContent) (rows : Rows) (terminal : TerminalState) →
         HoldsOffice content rows terminal (state S.Store conn.old).now beside → IsOfStore fault) }
-    ensures same { HasCleanDisk (state S.Store conn.new) → (state S.Store conn.old).now.schema ≡ office_schema →
-        OnOk result (IsSame (state S.Store conn.old) (state S.Store conn.new)) }
-    ensures reads { OnlyReads (state S.Store conn.old) (state S.Store conn.new) }
+    ensures reads { OnlyReads (state S.Store conn.old) (state S.Store conn.new) result }
 {
     match beside {
         Some(there) => Ok(there),

@@ -6,7 +6,7 @@ ghost use Rattle.office_setup.specs.Setups.{setup_content};
 ghost use Rattle.office_desk.specs.Noting.{IsNow};
 ghost use Rattle.office_desk.specs.Taking.{IsDelivered, IsNew, TakesDelivery};
 ghost use Rattle.office_desk.specs.Telling.{delivery_of};
-ghost use Rattle.office_desk.specs.Writing.{EndsIdle};
+ghost use Rattle.office_delivery.specs.Writing.{EndsIdle};
 
 use crate::answers::answer_used;
 use crate::beside::Beside;

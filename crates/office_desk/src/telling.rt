@@ -3,12 +3,12 @@ ghost use Rattle.sqlite.specs.Held.{state};
 ghost use Rattle.sqlite.specs.State.{HasCleanDisk};
 ghost use Rattle.office_rows.specs.Rows.{Rows};
 ghost use Rattle.office_rows.specs.Stored.{HasRows};
-ghost use Rattle.office_rows.specs.Tables.{office_schema};
 ghost use Rattle.office_setup.specs.Limits.{most_partners};
 ghost use Rattle.office_setup.specs.Setups.{setup_content};
 ghost use Rattle.office_history.specs.After.{AreKeptOnce, reply_in};
 ghost use Rattle.office_history.specs.Cascade.{text_in};
-ghost use Rattle.office_delivery.specs.Reading.{IsSame, OnlyReads};
+ghost use Rattle.office_tables.specs.Reading.{Reads};
+ghost use Rattle.office_delivery.specs.Reading.{OnlyReads};
 ghost use Rattle.std.specs.Option.{option_and_then};
 ghost use Rattle.office_lookups.specs.Contrls.{contrl_in};
 ghost use Rattle.office_picture.specs.Picture.{IsPicture};
@@ -27,6 +27,7 @@ use std::alloc::{AllocError, Global};
 use terminal_core::Terminal;
 
 /// What the rows tell at a query, and the terminal that stands beside them. It changes nothing.
+#[tactic(auto, using(office_delivery::proofs::ReadLemmas::nothing_read, office_delivery::proofs::ReadLemmas::one_read))]
 pub(crate) fn tell<S: Alter>(
     alloc: Global,
     conn: &mut Connection<S>,
@@ -38,7 +39,7 @@ pub(crate) fn tell<S: Alter>(
     ensures told { HasCleanDisk (state S.Store conn.new) → IfOk result (λ found. (rows : Rows) →
         HasRows rows (state S.Store conn.old).now → AreKeptOnce rows.interchanges →
         TellsOf (setup_content setup.now) terminal.now rows query.now (option_map string_bytes found)) }
-    ensures reads { OnlyReads (state S.Store conn.old) (state S.Store conn.new) }
+    ensures reads { OnlyReads (state S.Store conn.old) (state S.Store conn.new) result }
 {
     match query {
         Query::Yard => Ok(Some(yard_report(alloc, terminal)?)),
@@ -84,7 +85,7 @@ fn tell_contrl<S: Alter>(
     ensures told { HasCleanDisk (state S.Store conn.new) → IfOk result (λ found. (rows : Rows) →
         HasRows rows (state S.Store conn.old).now → AreKeptOnce rows.interchanges →
         option_map string_bytes found ≡ option_and_then contrl_in (reply_in rows partner number)) }
-    ensures reads { OnlyReads (state S.Store conn.old) (state S.Store conn.new) }
+    ensures reads { Reads (state S.Store conn.old) (state S.Store conn.new) result }
 {
     match reply_of(kept(conn, partner, number)?) {
         Some(reply) => Ok(contrl_in(alloc, reply.as_str())?),
@@ -114,7 +115,7 @@ fn tell_ticket<S: Alter>(
         HasRows rows (state S.Store conn.old).now → AreKeptOnce rows.interchanges →
         option_map string_bytes found
         ≡ ticket_told terminal.now.visits code.now partner number (reply_in rows partner number)) }
-    ensures reads { OnlyReads (state S.Store conn.old) (state S.Store conn.new) }
+    ensures reads { Reads (state S.Store conn.old) (state S.Store conn.new) result }
 {
     if was_taken(kept(conn, partner, number)?) {
         return Ok(Some(ticket(alloc, terminal, code, partner, number)?));
@@ -144,7 +145,7 @@ fn tell_reply<S: Alter>(
         HasRows rows (state S.Store conn.old).now → AreKeptOnce rows.interchanges →
         TellsReply rows code.now partner number (text_in rows partner number) (reply_in rows partner number)
         (option_map string_bytes found)) }
-    ensures reads { OnlyReads (state S.Store conn.old) (state S.Store conn.new) }
+    ensures reads { Reads (state S.Store conn.old) (state S.Store conn.new) result }
 {
     match kept(conn, partner, number)? {
         Some(kept) => {

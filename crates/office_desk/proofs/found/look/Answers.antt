@@ -1,10 +1,12 @@
-use Rattle.std.proofs.Common.{Some, sym, subst, ◌∙◌}
+use Rattle.std.proofs.Common.{Err, Some, refl, sym, subst, ◌∙◌}
 use Rattle.std.proofs.lemmas.Result.{err_from_is_err_and}
 use Rattle.sqlite.specs.Held.{state}
 use Rattle.office_rows.specs.Stored.{HasRows}
+use Rattle.office_tables.specs.declared.table_fault.TableFault.TheVariants.{Damaged}
 use Rattle.office_tables.proofs.FaultLemmas.{of_store_or}
-use Rattle.office_delivery.specs.Reading.{IsSame, OnlyReads}
-use Rattle.office_delivery.proofs.ReadLemmas.{reads_then}
+use Rattle.office_tables.proofs.ReadingLemmas.{clean_first, reads_on, reads_stopped}
+use Rattle.office_delivery.specs.Reading.{IsSame}
+use Rattle.office_delivery.proofs.ReadLemmas.{stopped_reads, then_read}
 use Rattle.office_desk.specs.Finding.{StaysBeside}
 use Rattle.office_desk.specs.Offices.{HoldsOffice}
 use Rattle.office_desk.proofs.Faults.{next_known}
@@ -15,20 +17,23 @@ use Rattle.office_desk.proofs.found.look.Goals as goal
 pub returns-in-Ok-clause-found : goal.returns-in-Ok-clause-found
 returns-in-Ok-clause-found g c clean =
     let was = state g.S.Store c.args.conn.now in
-    let before = c.kept.ensures.clean clean in
+    let before = clean_first c.kept.ensures.reads clean in
     record {
-      kept = λ rows has. c.in-Ok.ensures.answer clean rows (subst (HasRows rows) (sym (c.in_ok-there.ensures.same before has.schema).now) has);
+      kept = λ rows has. c.in-Ok.ensures.answer clean rows (subst (HasRows rows) (sym (c.in_ok-there.ensures.reads.same before).now) has);
       beside = subst (λ b. StaysBeside was.now b (Some c.in_ok-there.there)) c.take.ensures.value (c.in_ok-there.ensures.beside before);
     }
 
+pub returns-in-Ok-clause-reads : goal.returns-in-Ok-clause-reads
+returns-in-Ok-clause-reads g c = then_read c.in_ok-there.ensures.reads (reads_on _ c.in-Ok.ensures.reads)
+
 pub returns-in-Err-clause-reads : goal.returns-in-Err-clause-reads
-returns-in-Err-clause-reads g c =
-    let old = state g.S.Store c.args.conn.now in
-    let mid = state g.S.Store c.beside_of.new.conn in
-    let new = state g.S.Store c.kept.new.conn in
-    let kept = c.kept.ensures in
-    let second : OnlyReads mid new = record { clean = kept.clean; was_open = kept.was_open; mode = kept.mode; keeps = kept.keeps; survives = λ clean is. kept.survives is } in
-    reads_then old mid new c.in_ok-there.ensures.same c.beside_of.ensures.reads second
+returns-in-Err-clause-reads g c = then_read c.in_ok-there.ensures.reads (reads_stopped (Err c.in-Err.fault) refl c.kept.ensures.reads)
+
+pub returns-in_err-there-clause-reads : goal.returns-in_err-there-clause-reads
+returns-in_err-there-clause-reads g c = stopped_reads _ c.from_residual.ensures.0 c.beside_of.ensures.reads
+
+pub returns-in_default-clause-reads : goal.returns-in_default-clause-reads
+returns-in_default-clause-reads g c = stopped_reads (Err Damaged) refl c.in_ok-there.ensures.reads
 
 -- ---- why nothing was found
 
@@ -56,10 +61,10 @@ pub returns-in-Err-clause-not_found : goal.returns-in-Err-clause-not_found
 returns-in-Err-clause-not_found g c clean =
     let was = state g.S.Store c.args.conn.now in
     let mid = state g.S.Store c.beside_of.new.conn in
-    let before = c.kept.ensures.clean clean in
+    let before = clean_first c.kept.ensures.reads clean in
     record {
       beside = subst (λ b. StaysBeside was.now b (Some c.in_ok-there.there)) c.take.ensures.value (c.in_ok-there.ensures.beside before);
       why = λ content rows terminal holds known.
-          let same : IsSame was mid = c.in_ok-there.ensures.same before holds.has.schema in
+          let same : IsSame was mid = c.in_ok-there.ensures.reads.same before in
           c.in-Err.ensures.fault clean rows (subst (HasRows rows) (sym same.now) holds.has);
     }

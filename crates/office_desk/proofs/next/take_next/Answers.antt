@@ -1,4 +1,4 @@
-use Rattle.std.proofs.Common.{◌≡◌, ◌⊎◌, inl, ◌+◌, ◌-◌, length, arith, sym, ap, subst, ◌∙◌}
+use Rattle.std.proofs.Common.{◌≡◌, ◌⊎◌, inl, ◌+◌, ◌-◌, ◌<◌, length, arith, sym, ap, subst, ◌∙◌}
 use Rattle.std.specs.Prelude.{slice_index_or, slice_set}
 use Rattle.std.proofs.lemmas.Result.{err_from_is_err_and}
 use Rattle.sqlite.specs.Held.{state}
@@ -6,13 +6,14 @@ use Rattle.sqlite.specs.State.{HasCleanDisk}
 use Rattle.office_taking.specs.Taking.{machine_of}
 use Rattle.office_history.specs.Cascade.{AreTakenFrom, texts_with, with_run}
 use Rattle.office_delivery.specs.Reading.{IsSame}
+use Rattle.office_delivery.proofs.ReadLemmas.{was_clean, was_open}
 use Rattle.office_delivery.specs.Taken.{taken_contents}
 use Rattle.office_delivery.specs.declared.taken.Taken.{Taken}
 use Rattle.office_rows.specs.Stored.{HasRows}
 use Rattle.office_delivery.specs.Writing.{Commits, IsWhole}
 use Rattle.office_tables.proofs.FaultLemmas.{of_store_or}
 use Rattle.office_desk.proofs.AnswerLemmas.{takes_next}
-use Rattle.office_desk.proofs.CrashLemmas.{either_of, reads_less}
+use Rattle.office_desk.proofs.CrashLemmas.{either_of, leaves_less}
 use Rattle.office_desk.proofs.NumberLemmas.{number_at}
 use Rattle.office_desk.proofs.next.take_next.Goals as goal
 
@@ -23,14 +24,14 @@ returns-clause-takes g c clean =
     let mid = state g.S.Store c.take_run.new.conn in
     let new = state g.S.Store c.write_run.new.conn in
     let items = c.in_ok-taken.taken.items in
-    let before : HasCleanDisk mid = omega (arith, c.write_run.ensures.crash.clean) in
-    let wrote : Commits (with_run d.admitted.partner d.number d.text.now (taken_contents items)) mid new = rw c.deref.ensures.value at (c.in_ok-write_run.ensures.ok clean) in
+    let before : HasCleanDisk mid = c.write_run.ensures.writes.ends.clean clean in
+    let wrote : Commits (with_run d.admitted.partner d.number d.text.now (taken_contents items)) mid new = rw c.deref.ensures.value at (c.in_ok-write_run.ensures.writes.ok clean) in
     let many = length items in
     let last = c.index-2.result.now in
     let is_last : last ≡ slice_index_or items (many - 1) last = c.index-2.ensures ∙ ap (λ k. slice_index_or items (k - 1) last) (c.len.ensures ∙ sym c.deref.ensures.len ∙ ap length c.deref.ensures.value) in
     record {
       ok = λ rows there.
-          let same : IsSame old mid = c.in_ok-taken.ensures.same before there.has.schema in
+          let same : IsSame old mid = c.in_ok-taken.ensures.reads.same before in
           let texts = texts_with rows d.admitted.partner d.number d.text.now in
           let taken : AreTakenFrom d.admitted.partner texts d.number (machine_of c.args.setup.now c.args.beside.terminal) (taken_contents items) (machine_of c.args.setup.now c.raise.new.self.terminal) =
           subst (λ t. AreTakenFrom d.admitted.partner texts d.number (machine_of c.args.setup.now c.args.beside.terminal) (taken_contents items) (machine_of c.args.setup.now t)) (sym c.raise.ensures.terminal)
@@ -42,7 +43,7 @@ returns-clause-takes g c clean =
           c.raise.ensures.nexts ∙ ap (slice_set c.args.beside.nexts.items (d.admitted.partner - 1)) after in
           takes_next rows d.admitted.partner d.number d.text.now d.code.now c.args.setup.now c.args.beside c.raise.new.self c.in_ok-body.body c.index.result.now items old mid new
           c.in_ok-taken.ensures.first c.index.ensures taken raised (rw c.as_str.ensures.value at c.in_ok-body.ensures.bytes) there.has there.settled same wrote;
-      err = λ is_open schema. tt;
+      err = λ is_open. tt;
       crash = tt;
       fault = tt;
     }
@@ -56,8 +57,8 @@ returns-in_err-taken-clause-takes g c clean =
     let p = err_from_is_err_and c.from_residual.result c.from_residual.ensures.1 in
     rw (p.1, p.2) (record {
       ok = tt;
-      err = λ is_open schema. (c.take_run.ensures.reads.keeps clean schema).committed is_open;
-      crash = λ rows there db left. inl (reads_less old new clean there.has.schema c.take_run.ensures.reads db left);
+      err = λ is_open. (c.take_run.ensures.reads.reads.keeps clean).committed is_open;
+      crash = λ rows there db left. inl (leaves_less old new clean c.take_run.ensures.reads.reads.survives db left);
       fault = c.in_err-taken.ensures.fault clean;
     })
 
@@ -68,8 +69,8 @@ returns-in_err-body-clause-takes g c clean =
     let p = err_from_is_err_and c.from_residual-in_err-body.result c.from_residual-in_err-body.ensures.1 in
     rw (p.1, p.2) (record {
       ok = tt;
-      err = λ is_open schema. (c.take_run.ensures.reads.keeps clean schema).committed is_open;
-      crash = λ rows there db left. inl (reads_less old new clean there.has.schema c.take_run.ensures.reads db left);
+      err = λ is_open. (c.take_run.ensures.reads.reads.keeps clean).committed is_open;
+      crash = λ rows there db left. inl (leaves_less old new clean c.take_run.ensures.reads.reads.survives db left);
       fault = λ rows has. tt;
     })
 
@@ -80,45 +81,55 @@ returns-in_err-write_run-clause-takes g c clean =
     let old = state g.S.Store a.conn.now in
     let mid = state g.S.Store c.take_run.new.conn in
     let items = c.in_ok-taken.taken.items in
-    let before : HasCleanDisk mid = omega (arith, c.write_run.ensures.crash.clean, clean) in
+    let before : HasCleanDisk mid = c.write_run.ensures.writes.ends.clean clean in
     let p = err_from_is_err_and c.from_residual-in_err-write_run.result c.from_residual-in_err-write_run.ensures.1 in
     rw (p.1, p.2) (record {
       ok = tt;
-      err = λ is_open schema. (c.in_err-write_run.ensures.err clean is_open).committed ∙ (c.in_ok-taken.ensures.same before schema).committed;
+      err = λ is_open. c.in_err-write_run.ensures.writes.err clean is_open ∙ (c.in_ok-taken.ensures.reads.same before).committed;
       crash = λ rows there db left.
-          let wrote : mid.may_leave db ⊎ IsWhole (with_run d.admitted.partner d.number d.text.now (taken_contents items)) mid db = rw c.deref.ensures.value at (c.write_run.ensures.crash.crash clean db left) in
-          either_of (reads_less old mid before there.has.schema c.take_run.ensures.reads db)
+          let wrote : mid.may_leave db ⊎ IsWhole (with_run d.admitted.partner d.number d.text.now (taken_contents items)) mid db = rw c.deref.ensures.value at (c.write_run.ensures.writes.crash.crash clean db left) in
+          either_of (leaves_less old mid before c.take_run.ensures.reads.reads.survives db)
           (λ is. record {
             taken = taken_contents items;
             new = machine_of a.setup.now c.take_run.new.terminal;
             are_taken = c.in_ok-taken.ensures.taken before rows d.text.now there.has there.numbered c.requires.delivered.admitted;
-            are = is rows (subst (HasRows rows) (there.settled ∙ sym (c.in_ok-taken.ensures.same before there.has.schema).committed) there.has);
+            are = is rows (subst (HasRows rows) (there.settled ∙ sym (c.in_ok-taken.ensures.reads.same before).committed) there.has);
           }) wrote;
-      fault = λ rows has. of_store_or _ _ c.in_err-write_run.ensures.fault;
+      fault = λ rows has. of_store_or _ _ c.in_err-write_run.ensures.writes.fault;
     })
 
 -- ---- the connection
 
+pub returns-in_err-taken-clause-ends : goal.returns-in_err-taken-clause-ends
+returns-in_err-taken-clause-ends g c = let reads = c.take_run.ensures.reads in record { idle = reads.reads.mode c.requires.idle; clean = λ clean. was_clean reads clean; was_open = λ clean. was_open reads clean }
+
+pub returns-in_err-body-clause-ends : goal.returns-in_err-body-clause-ends
+returns-in_err-body-clause-ends g c = let reads = c.take_run.ensures.reads in record { idle = reads.reads.mode c.requires.idle; clean = λ clean. was_clean reads clean; was_open = λ clean. was_open reads clean }
+
 pub returns-clause-ends : goal.returns-clause-ends
 returns-clause-ends g c =
     let reads = c.take_run.ensures.reads in
-    record {
-      idle = c.write_run.ensures.idle;
-      clean = λ clean. reads.clean (omega (arith, c.write_run.ensures.crash.clean));
-      was_open = λ clean is_open. reads.was_open (omega (arith, c.write_run.ensures.crash.clean)) (c.write_run.ensures.was_open clean is_open);
-    }
+    let ends = c.write_run.ensures.writes.ends in
+    record { idle = ends.idle; clean = λ clean. was_clean reads (ends.clean clean); was_open = λ clean is_open. was_open reads (ends.clean clean) (ends.was_open clean is_open) }
 
 pub returns-in_err-write_run-clause-ends : goal.returns-in_err-write_run-clause-ends
 returns-in_err-write_run-clause-ends g c =
     let reads = c.take_run.ensures.reads in
-    record {
-      idle = c.write_run.ensures.idle;
-      clean = λ clean. reads.clean (omega (arith, c.write_run.ensures.crash.clean));
-      was_open = λ clean is_open. reads.was_open (omega (arith, c.write_run.ensures.crash.clean)) (c.write_run.ensures.was_open clean is_open);
-    }
+    let ends = c.write_run.ensures.writes.ends in
+    record { idle = ends.idle; clean = λ clean. was_clean reads (ends.clean clean); was_open = λ clean is_open. was_open reads (ends.clean clean) (ends.was_open clean is_open) }
 
 pub write_run-requires-clause-idle : goal.write_run-requires-clause-idle
-write_run-requires-clause-idle g c = c.take_run.ensures.reads.mode c.requires.idle
+write_run-requires-clause-idle g c = c.take_run.ensures.reads.reads.mode c.requires.idle
 
 pub write_run-requires-clause-numbers : goal.write_run-requires-clause-numbers
 write_run-requires-clause-numbers g c = rw c.deref.ensures.value c.in_ok-taken.ensures.numbers
+
+-- each number of the run is a number that there is
+pub overflow_add-index : goal.overflow_add-index
+overflow_add-index g c =
+    let items = c.in_ok-taken.taken.items in
+    let many = length items in
+    let last = c.index-2.result.now in
+    let is_last : last ≡ slice_index_or items (many - 1) last = c.index-2.ensures ∙ ap (λ k. slice_index_or items (k - 1) last) (c.len.ensures ∙ sym c.deref.ensures.len ∙ ap length c.deref.ensures.value) in
+    let below : (slice_index_or items (many - 1) last).number < 1000000000 = c.in_ok-taken.ensures.numbers (many - 1) last (omega (arith, c.in_ok-taken.ensures.first)) in
+    omega (arith, ap (λ (t : Taken). t.number) is_last, below)

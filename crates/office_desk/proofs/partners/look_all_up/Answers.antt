@@ -1,4 +1,4 @@
-use Rattle.std.proofs.Common.{◌+◌, List, [], map, refl, sym, ap, subst, ◌∙◌, arith}
+use Rattle.std.proofs.Common.{◌+◌, List, [], Ok, map, refl, sym, ap, subst, ◌∙◌, arith}
 use Rattle.std.proofs.lemmas.List.{take_all}
 use Rattle.sqlite.specs.Held.{state}
 use Rattle.sqlite.specs.State.{HasCleanDisk}
@@ -6,7 +6,8 @@ use Rattle.office_rows.specs.Stored.{HasRows}
 use Rattle.office_setup.specs.Setups.{account_contents}
 use Rattle.office_setup.specs.declared.account.Account.{Account}
 use Rattle.office_delivery.specs.Reading.{IsSame}
-use Rattle.office_delivery.proofs.ReadLemmas.{reads_here, reads_then, same_here, same_then}
+use Rattle.office_tables.proofs.ReadingLemmas.{clean_first, reads_on, reads_stopped}
+use Rattle.office_delivery.proofs.ReadLemmas.{nothing_read, one_read, only_on, only_then}
 use Rattle.office_lookups.specs.Partners.{partner_content}
 use Rattle.office_lookups.specs.declared.partner.Partner.{Partner}
 use Rattle.office_desk.specs.Reports.{AreLookedUp, IsLookedUp}
@@ -18,18 +19,18 @@ loop-account-init g c =
     let old = state g.S.Store c.args.conn.now in
     record {
       id = refl;
-      same = λ clean at. same_here old;
-      reads = reads_here old;
+      reads = nothing_read old (Ok 0);
       are = λ rows clean has. subst (λ (l : List Partner). AreLookedUp rows 1 [] (map partner_content l)) (sym c.new-partners.ensures.items) tt;
     }
 
 pub returns-in_err-partner-clause-reads : goal.returns-in_err-partner-clause-reads
-returns-in_err-partner-clause-reads g c =
-    reads_then (state g.S.Store c.args.conn.now) (state g.S.Store c.loop-account.conn) (state g.S.Store c.look_up.new.conn) c.loop-account.invariant.same c.loop-account.invariant.reads c.look_up.ensures.reads
+returns-in_err-partner-clause-reads g c = only_then c.loop-account.invariant.reads (one_read (reads_stopped _ c.from_residual.ensures.0 c.look_up.ensures.reads))
 
 pub returns-in_err-append-clause-reads : goal.returns-in_err-append-clause-reads
-returns-in_err-append-clause-reads g c =
-    reads_then (state g.S.Store c.args.conn.now) (state g.S.Store c.loop-account.conn) (state g.S.Store c.look_up.new.conn) c.loop-account.invariant.same c.loop-account.invariant.reads c.look_up.ensures.reads
+returns-in_err-append-clause-reads g c = only_then c.loop-account.invariant.reads (one_read (reads_on _ c.in_ok-partner.ensures.reads))
+
+pub returns-clause-reads : goal.returns-clause-reads
+returns-clause-reads g c = only_on _ c.loop-account.invariant.reads
 
 pub loop-account-preserved : goal.loop-account-preserved
 loop-account-preserved g c =
@@ -42,13 +43,10 @@ loop-account-preserved g c =
     let partner = c.in_ok-partner.partner in
     record {
       id = ap (λ n. n + 1) before.id;
-      same = λ clean at.
-          let first : IsSame old mid = before.same (c.look_up.ensures.reads.clean clean) at in
-          same_then old mid new first (c.in_ok-partner.ensures.same clean (ap (λ db. db.schema) first.now ∙ at));
-      reads = reads_then old mid new before.same before.reads c.look_up.ensures.reads;
+      reads = only_then before.reads (one_read (reads_on _ c.in_ok-partner.ensures.reads));
       are = λ rows clean has.
-          let was : HasCleanDisk mid = c.look_up.ensures.reads.clean clean in
-          let first : IsSame old mid = before.same was has.schema in
+          let was : HasCleanDisk mid = clean_first c.look_up.ensures.reads clean in
+          let first : IsSame old mid = before.reads.same was in
           let one = c.in_ok-partner.ensures.is clean rows (subst (HasRows rows) (sym first.now) has) in
           looked_up_more rows c.args.accounts.now i account c.loop-account.partners.items c.append.new.partners.items partner c.loop-account-test.true c.account-item.is c.in_ok-append.ensures
           (before.are rows was has) (subst (λ n. IsLookedUp rows (n + 1) (said account) (partner_content partner)) before.id one);

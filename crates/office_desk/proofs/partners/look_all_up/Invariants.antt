@@ -1,11 +1,10 @@
-use Rattle.std.proofs.Common.{◌≡◌, map, take}
+use Rattle.std.proofs.Common.{◌≡◌, Ok, map, take}
 use Rattle.sqlite.specs.Held.{state}
 use Rattle.sqlite.specs.State.{HasCleanDisk}
 use Rattle.office_rows.specs.Rows.{Rows}
 use Rattle.office_rows.specs.Stored.{HasRows}
-use Rattle.office_rows.specs.Tables.{office_schema}
 use Rattle.office_setup.specs.Setups.{account_contents}
-use Rattle.office_delivery.specs.Reading.{IsSame, OnlyReads}
+use Rattle.office_delivery.specs.Reading.{OnlyReads}
 use Rattle.office_lookups.specs.Partners.{partner_content}
 use Rattle.office_desk.specs.Reports.{AreLookedUp}
 use Rattle.office_desk.proofs.partners.look_all_up.Given as goal
@@ -16,7 +15,6 @@ invariant-loop-account g l =
     let now = state g.S.Store l.conn in
     record {
       id : l.id ≡ l.account-index;
-      same : HasCleanDisk now → old.now.schema ≡ office_schema → IsSame old now;
-      reads : OnlyReads old now;
+      reads : OnlyReads old now (Ok l.id);
       are : (rows : Rows) → HasCleanDisk now → HasRows rows old.now → AreLookedUp rows 1 (account_contents (take l.account-index l.accounts)) (map partner_content l.partners.items);
     }

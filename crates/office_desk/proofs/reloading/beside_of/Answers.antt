@@ -2,6 +2,8 @@ use Rattle.std.proofs.Common.{subst}
 use Rattle.std.proofs.lemmas.Result.{err_from_is_err_and}
 use Rattle.sqlite.specs.Held.{state}
 use Rattle.office_setup.specs.Setups.{setup_content}
+use Rattle.office_tables.proofs.ReadingLemmas.{reads_on, reads_stopped}
+use Rattle.office_delivery.proofs.ReadLemmas.{nothing_read, one_read}
 use Rattle.office_desk.proofs.Faults.{opens_alone}
 use Rattle.office_desk.proofs.NumberLemmas.{nexts_loaded}
 use Rattle.office_desk.proofs.OfficeLemmas.{loaded_is, same_beside}
@@ -13,6 +15,15 @@ pub returns-in-Some-clause-beside : goal.returns-in-Some-clause-beside
 returns-in-Some-clause-beside g c clean =
     let db = (state g.S.Store c.args.conn.now).now in
     subst (λ b. StaysBeside db c.args.beside b) c.in-Some.is (same_beside db c.args.beside)
+
+pub returns-in-Some-clause-reads : goal.returns-in-Some-clause-reads
+returns-in-Some-clause-reads g c = nothing_read (state g.S.Store c.args.conn.now) _
+
+pub returns-in_ok-there-in-None-clause-reads : goal.returns-in_ok-there-in-None-clause-reads
+returns-in_ok-there-in-None-clause-reads g c = one_read (reads_on _ c.in_ok-there-in-None.ensures.reads)
+
+pub returns-in_err-there-in-None-clause-reads : goal.returns-in_err-there-in-None-clause-reads
+returns-in_err-there-in-None-clause-reads g c = one_read (reads_stopped _ c.from_residual.ensures.0 c.load_beside.ensures.reads)
 
 pub returns-in_ok-there-in-None-clause-beside : goal.returns-in_ok-there-in-None-clause-beside
 returns-in_ok-there-in-None-clause-beside g c clean =

@@ -6,12 +6,13 @@ use Rattle.office_rows.specs.Stored.{HasRows}
 use Rattle.office_setup.specs.Setups.{setup_content}
 use Rattle.office_tables.specs.Answers.{HasUnfitReply, IsKept}
 use Rattle.office_tables.specs.Faults.{IsOfStoreOr}
+use Rattle.office_tables.proofs.ReadingLemmas.{clean_first}
 use Rattle.office_delivery.specs.Reading.{IsSame}
-use Rattle.office_delivery.proofs.ReadLemmas.{no_text, text_kept}
+use Rattle.office_delivery.proofs.ReadLemmas.{no_text, same_unchanged, text_kept}
 use Rattle.office_desk.specs.Beside.{IsAt}
 use Rattle.office_desk.specs.Taking.{IsNew}
 use Rattle.office_desk.specs.Telling.{delivery_of}
-use Rattle.office_desk.proofs.CrashLemmas.{reads_less, used_leaves}
+use Rattle.office_desk.proofs.CrashLemmas.{leaves_less, used_leaves}
 use Rattle.office_desk.proofs.DeliverLemmas.{is_now}
 use Rattle.office_desk.proofs.HoldLemmas.{held_with, next_is, used_answers}
 use Rattle.office_desk.proofs.KeptLemmas.{failed_stays, next_found, used_by_kept}
@@ -22,7 +23,7 @@ use Rattle.office_desk.proofs.taking.take_in.Goals as goal
 -- ---- a number that is used
 
 pub returns-in_ok-answer_used-in-Some-clause-ends : goal.returns-in_ok-answer_used-in-Some-clause-ends
-returns-in_ok-answer_used-in-Some-clause-ends g c = let reads = c.look.ensures.reads in record { idle = reads.mode c.requires.idle; clean = reads.clean; was_open = reads.was_open }
+returns-in_ok-answer_used-in-Some-clause-ends g c = let reads = c.look.ensures.reads in record { idle = reads.mode c.requires.idle; clean = λ clean. clean_first reads clean; was_open = λ clean. (reads.keeps clean).was_open }
 
 pub returns-in_ok-answer_used-in-Some-clause-now : goal.returns-in_ok-answer_used-in-Some-clause-now
 returns-in_ok-answer_used-in-Some-clause-now g c = is_now c.in_ok-answer_used-in-Some.field-0 c.args.delivery.now.code.now c.args.delivery.now.number _ c.in_ok-answer_used-in-Some.ensures
@@ -41,9 +42,9 @@ returns-in_ok-answer_used-in-Some-clause-takes g c =
     let idle = c.is_autocommit-is_idle.ensures.value ∙ ap not c.requires.idle in
     record {
       events = λ clean is_open opening es holds. λ sent comes.
-          let settled : old.now ≡ old.committed = c.is_autocommit-is_idle.ensures.settled idle (c.look.ensures.reads.was_open clean is_open) in
+          let settled : old.now ≡ old.committed = c.is_autocommit-is_idle.ensures.settled idle ((c.look.ensures.reads.keeps clean).was_open is_open) in
           let has : HasRows holds.rows old.now = subst (HasRows holds.rows) (sym settled) holds.has in
-          let same : IsSame old mid = c.in_ok-kept.ensures.same clean has.schema in
+          let same : IsSame old mid = same_unchanged old mid (c.in_ok-kept.ensures.reads.unchanged clean) in
           let is_found = c.in_ok-kept.ensures.found clean in
           let kept : IsKept partner d.number holds.rows (Some c.in-Some.kept) = subst (IsKept partner d.number holds.rows) kept_is (is_found.kept holds.rows has) in
           let at : IsAt opening es found.there = is_found.beside.events opening es holds.rows holds.given has holds.after holds.beside in
@@ -54,11 +55,11 @@ returns-in_ok-answer_used-in-Some-clause-takes g c =
           let has : HasRows holds.rows old.now = subst (HasRows holds.rows) (sym settled) holds.has in
           let kept : IsKept partner d.number holds.rows (Some c.in-Some.kept) = subst (IsKept partner d.number holds.rows) kept_is ((c.in_ok-kept.ensures.found clean).kept holds.rows has) in
           used_leaves opening es sent holds.rows partner d.number c.in-Some.kept.text.items old mid holds.after comes.is_for
-          (text_kept partner d.number holds.rows c.in-Some.kept holds.after.kept_once kept) (reads_less old mid clean has.schema c.look.ensures.reads) leaves;
+          (text_kept partner d.number holds.rows c.in-Some.kept holds.after.kept_once kept) (leaves_less old mid clean c.look.ensures.reads.survives) leaves;
       office = λ clean is_open office holds.
-          let settled : old.now ≡ old.committed = c.is_autocommit-is_idle.ensures.settled idle (c.look.ensures.reads.was_open clean is_open) in
+          let settled : old.now ≡ old.committed = c.is_autocommit-is_idle.ensures.settled idle ((c.look.ensures.reads.keeps clean).was_open is_open) in
           let held = office_with content office.rows office.terminal old.committed old.now a.beside.now a.beside.now settled holds.beside holds in
-          let same : IsSame old mid = c.in_ok-kept.ensures.same clean held.has.schema in
+          let same : IsSame old mid = same_unchanged old mid (c.in_ok-kept.ensures.reads.unchanged clean) in
           let is_found = c.in_ok-kept.ensures.found clean in
           let kept : IsKept partner d.number office.rows (Some c.in-Some.kept) = subst (IsKept partner d.number office.rows) kept_is (is_found.kept office.rows held.has) in
           let is_of = is_found.beside.office content office.rows office.terminal held in
@@ -68,6 +69,16 @@ returns-in_ok-answer_used-in-Some-clause-takes g c =
     }
 
 -- ---- one that is new
+
+pub returns-in-None-clause-ends : goal.returns-in-None-clause-ends
+returns-in-None-clause-ends g c =
+    let reads = c.look.ensures.reads in
+    let ends = c.take_new.ensures.ends in
+    record {
+      idle = ends.idle;
+      clean = λ clean. clean_first reads (ends.clean clean);
+      was_open = λ clean is_open. (reads.keeps (ends.clean clean)).was_open (ends.was_open clean is_open);
+    }
 
 pub returns-in-None-clause-takes : goal.returns-in-None-clause-takes
 returns-in-None-clause-takes g c =
@@ -89,9 +100,9 @@ returns-in-None-clause-takes g c =
     record {
       events = λ clean is_open opening es holds.
           let before = ends.clean clean in
-          let settled : old.now ≡ old.committed = c.is_autocommit-is_idle.ensures.settled idle (c.look.ensures.reads.was_open before (ends.was_open clean is_open)) in
+          let settled : old.now ≡ old.committed = c.is_autocommit-is_idle.ensures.settled idle ((c.look.ensures.reads.keeps before).was_open (ends.was_open clean is_open)) in
           let has : HasRows holds.rows old.now = subst (HasRows holds.rows) (sym settled) holds.has in
-          let same : IsSame old mid = c.in_ok-kept.ensures.same before has.schema in
+          let same : IsSame old mid = same_unchanged old mid (c.in_ok-kept.ensures.reads.unchanged before) in
           let at : IsAt opening es found.there = (c.in_ok-kept.ensures.found before).beside.events opening es holds.rows holds.given has holds.after holds.beside in
           (c.take_new.ensures.takes (is_new before settled same)).events clean is_open opening es
           (held_with holds mid.committed (Some found.there) (subst (HasRows holds.rows) (sym same.committed) holds.has) at);
@@ -99,16 +110,16 @@ returns-in-None-clause-takes g c =
           let before = ends.clean clean in
           let settled : old.now ≡ old.committed = c.is_autocommit-is_idle.ensures.settled idle was_open in
           let has : HasRows holds.rows old.now = subst (HasRows holds.rows) (sym settled) holds.has in
-          let same : IsSame old mid = c.in_ok-kept.ensures.same before has.schema in
+          let same : IsSame old mid = same_unchanged old mid (c.in_ok-kept.ensures.reads.unchanged before) in
           let at : IsAt opening es found.there = (c.in_ok-kept.ensures.found before).beside.events opening es holds.rows holds.given has holds.after holds.beside in
-          (c.take_new.ensures.takes (is_new before settled same)).crash clean (same.stays_open was_open) opening es sent
+          (c.take_new.ensures.takes (is_new before settled same)).crash clean (c.in_ok-kept.ensures.reads.unchanged before).0.is_open opening es sent
           (held_with holds mid.committed (Some found.there) (subst (HasRows holds.rows) (sym same.committed) holds.has) at)
-          (λ db left. leaves db (reads_less old mid before has.schema c.look.ensures.reads db left)) comes;
+          (λ db left. leaves db (leaves_less old mid before c.look.ensures.reads.survives db left)) comes;
       office = λ clean is_open office holds.
           let before = ends.clean clean in
-          let settled : old.now ≡ old.committed = c.is_autocommit-is_idle.ensures.settled idle (c.look.ensures.reads.was_open before (ends.was_open clean is_open)) in
+          let settled : old.now ≡ old.committed = c.is_autocommit-is_idle.ensures.settled idle ((c.look.ensures.reads.keeps before).was_open (ends.was_open clean is_open)) in
           let held = office_with content office.rows office.terminal old.committed old.now a.beside.now a.beside.now settled holds.beside holds in
-          let same : IsSame old mid = c.in_ok-kept.ensures.same before held.has.schema in
+          let same : IsSame old mid = same_unchanged old mid (c.in_ok-kept.ensures.reads.unchanged before) in
           let is_of = (c.in_ok-kept.ensures.found before).beside.office content office.rows office.terminal held in
           (c.take_new.ensures.takes (is_new before settled same)).office clean is_open office
           (office_with content office.rows office.terminal old.now mid.committed a.beside.now (Some found.there) (same.committed ∙ sym settled) is_of held);
@@ -126,24 +137,24 @@ returns-in_err-kept-clause-takes g c =
     let idle = c.is_autocommit-is_idle.ensures.value ∙ ap not c.requires.idle in
     record {
       events = λ clean is_open opening es holds.
-          let settled : old.now ≡ old.committed = c.is_autocommit-is_idle.ensures.settled idle (c.look.ensures.reads.was_open clean is_open) in
+          let settled : old.now ≡ old.committed = c.is_autocommit-is_idle.ensures.settled idle ((c.look.ensures.reads.keeps clean).was_open is_open) in
           let has : HasRows holds.rows old.now = subst (HasRows holds.rows) (sym settled) holds.has in
           failed_holds opening es _ (delivery_of d) d.code.now c.from_residual.result content mid.committed c.look.new.beside c.from_residual.ensures.1
-          (held_with holds mid.committed c.look.new.beside (subst (HasRows holds.rows) (sym ((c.look.ensures.reads.keeps clean has.schema).committed is_open)) holds.has)
+          (held_with holds mid.committed c.look.new.beside (subst (HasRows holds.rows) (sym ((c.look.ensures.reads.keeps clean).committed is_open)) holds.has)
           ((c.in_err-kept.ensures.not_found clean).beside.events opening es holds.rows holds.given has holds.after holds.beside));
       crash = λ clean was_open opening es sent holds leaves comes. failed_leaves opening es _ sent c.from_residual.result mid c.from_residual.ensures.1 (λ db left.
           let settled : old.now ≡ old.committed = c.is_autocommit-is_idle.ensures.settled idle was_open in
           let has : HasRows holds.rows old.now = subst (HasRows holds.rows) (sym settled) holds.has in
-          inl (leaves db (reads_less old mid clean has.schema c.look.ensures.reads db left)));
+          inl (leaves db (leaves_less old mid clean c.look.ensures.reads.survives db left)));
       office = λ clean is_open office holds.
-          let settled : old.now ≡ old.committed = c.is_autocommit-is_idle.ensures.settled idle (c.look.ensures.reads.was_open clean is_open) in
+          let settled : old.now ≡ old.committed = c.is_autocommit-is_idle.ensures.settled idle ((c.look.ensures.reads.keeps clean).was_open is_open) in
           let held = office_with content office.rows office.terminal old.committed old.now a.beside.now a.beside.now settled holds.beside holds in
           let most = c.requires.delivered.admitted.known in
           let many : length content.partners ≡ length a.setup.now.partners.items = length-map a.setup.now.partners.items _ in
           let not_found = c.in_err-kept.ensures.not_found clean in
           failed_stays _ content office (delivery_of d) d.code.now c.from_residual.result _ _ c.from_residual.ensures.1
           (λ fault is. subst (IsOfStoreOr (HasUnfitReply d.admitted.partner d.number office.rows)) (sym is) (not_found.why content office.rows office.terminal held (omega (arith, most, many))))
-          (office_with content office.rows office.terminal old.committed mid.committed a.beside.now c.look.new.beside ((c.look.ensures.reads.keeps clean held.has.schema).committed is_open)
+          (office_with content office.rows office.terminal old.committed mid.committed a.beside.now c.look.new.beside ((c.look.ensures.reads.keeps clean).committed is_open)
           (not_found.beside.office content office.rows office.terminal held) holds);
     }
 
@@ -162,20 +173,20 @@ returns-in_err-answer_used-in-Some-clause-takes g c =
     let idle = c.is_autocommit-is_idle.ensures.value ∙ ap not c.requires.idle in
     record {
       events = λ clean is_open opening es holds.
-          let settled : old.now ≡ old.committed = c.is_autocommit-is_idle.ensures.settled idle (c.look.ensures.reads.was_open clean is_open) in
+          let settled : old.now ≡ old.committed = c.is_autocommit-is_idle.ensures.settled idle ((c.look.ensures.reads.keeps clean).was_open is_open) in
           let has : HasRows holds.rows old.now = subst (HasRows holds.rows) (sym settled) holds.has in
-          let same : IsSame old mid = c.in_ok-kept.ensures.same clean has.schema in
+          let same : IsSame old mid = same_unchanged old mid (c.in_ok-kept.ensures.reads.unchanged clean) in
           failed_holds opening es _ (delivery_of d) d.code.now result content mid.committed (Some found.there) failed
           (held_with holds mid.committed (Some found.there) (subst (HasRows holds.rows) (sym same.committed) holds.has)
           ((c.in_ok-kept.ensures.found clean).beside.events opening es holds.rows holds.given has holds.after holds.beside));
       crash = λ clean was_open opening es sent holds leaves comes. failed_leaves opening es _ sent result mid failed (λ db left.
           let settled : old.now ≡ old.committed = c.is_autocommit-is_idle.ensures.settled idle was_open in
           let has : HasRows holds.rows old.now = subst (HasRows holds.rows) (sym settled) holds.has in
-          inl (leaves db (reads_less old mid clean has.schema c.look.ensures.reads db left)));
+          inl (leaves db (leaves_less old mid clean c.look.ensures.reads.survives db left)));
       office = λ clean is_open office holds.
-          let settled : old.now ≡ old.committed = c.is_autocommit-is_idle.ensures.settled idle (c.look.ensures.reads.was_open clean is_open) in
+          let settled : old.now ≡ old.committed = c.is_autocommit-is_idle.ensures.settled idle ((c.look.ensures.reads.keeps clean).was_open is_open) in
           let held = office_with content office.rows office.terminal old.committed old.now a.beside.now a.beside.now settled holds.beside holds in
-          let same : IsSame old mid = c.in_ok-kept.ensures.same clean held.has.schema in
+          let same : IsSame old mid = same_unchanged old mid (c.in_ok-kept.ensures.reads.unchanged clean) in
           failed_stays _ content office (delivery_of d) d.code.now result _ _ failed
           (λ fault is. subst (IsOfStoreOr (HasUnfitReply d.admitted.partner d.number office.rows)) (sym is) tt)
           (office_with content office.rows office.terminal old.committed mid.committed a.beside.now (Some found.there) same.committed

@@ -126,7 +126,7 @@ returns-in_err-answer-clause-takes g c new =
     let runs = rw c.in_err-answer.was at c.take_next.ensures.takes in
     record {
       events = λ clean is_open opening es holds.
-          let kept = (runs clean).err is_open (ap (λ db. db.schema) new.settled ∙ holds.has.schema) in
+          let kept = (runs clean).err is_open in
           failed_holds opening es _ (delivery_of d) d.code.now c.from_residual.result content end.committed a.beside.now c.from_residual.ensures.1
           (held_with holds end.committed a.beside.now (subst (HasRows holds.rows) (sym kept) holds.has) (subst (IsBeside opening es) (sym c.requires.out) tt));
       crash = λ clean was_open opening es sent holds leaves comes. failed_leaves opening es _ sent c.from_residual.result end c.from_residual.ensures.1 (λ db left.
@@ -136,12 +136,11 @@ returns-in_err-answer-clause-takes g c new =
           (subst (λ m. IsRunDone rows (delivery_of d) m db) (machine_same a.setup.now a.there.terminal ∙ ap (λ k. machine_with k a.there.terminal) (sym holds.now_is)) done))
           ((runs clean).crash rows (record { settled = new.settled; has = subst (HasRows rows) (sym new.settled) holds.has; numbered = numbered opening es rows partner holds.after }) db left));
       office = λ clean is_open old holds.
-          let schema = ap (λ db. db.schema) new.settled ∙ holds.has.schema in
           let its = (keeps_accounts content old.rows old.terminal was.committed holds.has holds.loads).0 in
           let is_next = next_found content old was.committed (Some a.there) holds partner a.next a.there one holds.beside c.requires.next in
           let follows = next_follows content old.rows its partner a.next is_next in
           let stored = of_store_alone _ (behind_fits content old.rows its partner d.number (omega (arith, same, follows))) _ ((runs clean).fault old.rows (subst (HasRows old.rows) (sym new.settled) holds.has)) in
           failed_stays _ content old (delivery_of d) d.code.now c.from_residual.result _ _ c.from_residual.ensures.1
           (λ fault is. of_store_or _ fault (subst IsOfStore (sym is) stored))
-          (office_with content old.rows old.terminal was.committed end.committed (Some a.there) a.beside.now ((runs clean).err is_open schema) (subst (IsOrNone old.rows old.terminal) (sym c.requires.out) tt) holds);
+          (office_with content old.rows old.terminal was.committed end.committed (Some a.there) a.beside.now ((runs clean).err is_open) (subst (IsOrNone old.rows old.terminal) (sym c.requires.out) tt) holds);
     }

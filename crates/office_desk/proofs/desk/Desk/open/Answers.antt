@@ -8,6 +8,7 @@ use Rattle.office_setup.specs.Setups.{SetupContent, setup_content}
 use Rattle.office_history.specs.After.{SaysSame, content_after}
 use Rattle.office_history.proofs.Alike.{reopens}
 use Rattle.office_loading.specs.Tables.{Loads}
+use Rattle.office_tables.proofs.ReadingLemmas.{clean_first}
 use Rattle.office_desk.specs.Beside.{IsBeside, IsOrNone}
 use Rattle.office_desk.specs.Telling.{Holds}
 use Rattle.office_desk.proofs.AlikeLemmas.{codes_after}
@@ -30,10 +31,10 @@ returns g c = record {
       let new = state g.S.Store c.load_beside.new.conn in
       let clean : HasCleanDisk new = subst (λ k. HasCleanDisk (state g.S.Store k)) c.new.ensures.conn sound.0 in
       let is_open : IsTrue new.is_open = subst (λ k. IsTrue (state g.S.Store k).is_open) c.new.ensures.conn sound.1 in
-      let settled : old.now ≡ old.committed = c.is_autocommit-is_idle.ensures.settled (c.is_autocommit-is_idle.ensures.value ∙ ap not c.requires.idle) (c.load_beside.ensures.reads.was_open clean is_open) in
+      let settled : old.now ≡ old.committed = c.is_autocommit-is_idle.ensures.settled (c.is_autocommit-is_idle.ensures.value ∙ ap not c.requires.idle) ((c.load_beside.ensures.reads.keeps clean).was_open is_open) in
       let held_rows : HasRows rows old.now = subst (HasRows rows) (sym settled) has in
       let loads : Loads old.now (setup_content own) there.terminal = c.in_ok-setup.ensures.loaded clean held_rows.schema in
-      let still : IsUnchanged old new = c.in_ok-setup.ensures.same clean held_rows.schema in
+      let still : IsUnchanged old new = c.in_ok-setup.ensures.reads.unchanged clean in
       let back = reopens content es rows old.now loads.0 (setup_content own) there.terminal after given held_rows loads.1 loads.2 in
       let opening : SetupContent = record content { codes = own.codes } in
       let beside : IsBeside opening es (Some there) = record {
@@ -63,11 +64,11 @@ returns g c = record {
       let new = state g.S.Store c.load_beside.new.conn in
       let clean : HasCleanDisk new = subst (λ k. HasCleanDisk (state g.S.Store k)) c.new.ensures.conn sound.0 in
       let is_open : IsTrue new.is_open = subst (λ k. IsTrue (state g.S.Store k).is_open) c.new.ensures.conn sound.1 in
-      let settled : old.now ≡ old.committed = c.is_autocommit-is_idle.ensures.settled (c.is_autocommit-is_idle.ensures.value ∙ ap not c.requires.idle) (c.load_beside.ensures.reads.was_open clean is_open) in
+      let settled : old.now ≡ old.committed = c.is_autocommit-is_idle.ensures.settled (c.is_autocommit-is_idle.ensures.value ∙ ap not c.requires.idle) ((c.load_beside.ensures.reads.keeps clean).was_open is_open) in
       let tables : old.now.schema ≡ office_schema = ap (λ db. db.schema) settled ∙ schema in
       let loads : Loads old.committed (setup_content desk.setup) there.terminal =
       subst (λ s. Loads old.committed (setup_content s) there.terminal) (sym c.new.ensures.setup) (subst (λ db. Loads db (setup_content own) there.terminal) settled (c.in_ok-setup.ensures.loaded clean tables)) in
-      let still : IsUnchanged old (state g.S.Store desk.conn) = subst (λ k. IsUnchanged old (state g.S.Store k)) (sym c.new.ensures.conn) (c.in_ok-setup.ensures.same clean tables) in
+      let still : IsUnchanged old (state g.S.Store desk.conn) = subst (λ k. IsUnchanged old (state g.S.Store k)) (sym c.new.ensures.conn) (c.in_ok-setup.ensures.reads.unchanged clean) in
       record {
         there = there;
         beside = c.new.ensures.beside;
@@ -78,5 +79,5 @@ returns g c = record {
             (record { has = has; loads = loads; beside = tt });
         unchanged = still;
       };
-  stays = λ sound. c.load_beside.ensures.reads.clean (subst (λ k. HasCleanDisk (state g.S.Store k)) c.new.ensures.conn sound.0);
+  stays = λ sound. clean_first c.load_beside.ensures.reads (subst (λ k. HasCleanDisk (state g.S.Store k)) c.new.ensures.conn sound.0);
 }

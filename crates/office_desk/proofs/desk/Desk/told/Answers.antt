@@ -2,16 +2,16 @@ use Rattle.std.proofs.Common.{◌≡◌, Some, not, option_map, string_bytes, sy
 use Rattle.sqlite.specs.Held.{state}
 use Rattle.sqlite.specs.State.{HasCleanDisk}
 use Rattle.office_rows.specs.Stored.{HasRows}
-use Rattle.office_rows.specs.Tables.{office_schema}
 use Rattle.office_rows.proofs.StepLemmas.{if_ok}
 use Rattle.office_history.specs.After.{machine_after}
 use Rattle.office_setup.specs.Setups.{setup_content}
 use Rattle.office_delivery.specs.Reading.{IsSame}
+use Rattle.office_delivery.proofs.ReadLemmas.{was_clean, was_open}
 use Rattle.office_desk.specs.Beside.{IsBeside, IsOrNone}
 use Rattle.office_desk.specs.Finding.{StaysBeside}
 use Rattle.office_desk.specs.Offices.{HoldsOffice}
 use Rattle.office_desk.specs.Reports.{TellsOf}
-use Rattle.office_desk.proofs.CrashLemmas.{reads_less}
+use Rattle.office_desk.proofs.CrashLemmas.{leaves_less}
 use Rattle.office_desk.proofs.HoldLemmas.{held_with}
 use Rattle.office_desk.proofs.OfficeLemmas.{office_once, office_with}
 use Rattle.office_desk.proofs.desk.Desk.told.Goals as goal
@@ -25,13 +25,13 @@ returns-clause-told g c = λ sound.
     let mid = state g.S.Store c.beside_of.new.conn in
     let there = c.in_ok-there.there in
     let reads = c.tell-found.ensures.reads in
-    let clean : HasCleanDisk mid = reads.clean sound.0 in
-    let settled : old.now ≡ old.committed = c.is_autocommit-is_idle.ensures.settled (c.is_autocommit-is_idle.ensures.value ∙ ap not c.args.self.now.idle) (c.beside_of.ensures.reads.was_open clean (reads.was_open sound.0 sound.1)) in
+    let clean : HasCleanDisk mid = was_clean reads sound.0 in
+    let settled : old.now ≡ old.committed = c.is_autocommit-is_idle.ensures.settled (c.is_autocommit-is_idle.ensures.value ∙ ap not c.args.self.now.idle) (was_open c.beside_of.ensures.reads clean (was_open reads sound.0 sound.1)) in
     let stays : StaysBeside old.now c.args.self.now.beside (Some there) = subst (λ b. StaysBeside old.now b (Some there)) c.take.ensures.value (c.in_ok-there.ensures.beside clean) in
     if_ok c.tell-found.result (λ found told. record {
       after = λ opening es holds.
           let has : HasRows holds.rows old.now = subst (HasRows holds.rows) (sym settled) holds.has in
-          let same : IsSame old mid = c.in_ok-there.ensures.same clean has.schema in
+          let same : IsSame old mid = c.in_ok-there.ensures.reads.same clean in
           let beside : IsBeside opening es (Some there) = stays.events opening es holds.rows holds.given has holds.after holds.beside in
           record {
             rows = holds.rows;
@@ -42,7 +42,7 @@ returns-clause-told g c = λ sound.
           };
       office = λ rows kept holds.
           let now : HoldsOffice content rows kept old.now c.args.self.now.beside = office_with content rows kept old.committed old.now c.args.self.now.beside c.args.self.now.beside settled holds.beside holds in
-          let same : IsSame old mid = c.in_ok-there.ensures.same clean now.has.schema in
+          let same : IsSame old mid = c.in_ok-there.ensures.reads.same clean in
           subst (λ t. TellsOf content t rows c.args.query.now (option_map string_bytes found)) (stays.office content rows kept now).terminal_is
           (told rows (subst (HasRows rows) (sym same.now) now.has) (office_once content rows kept old.now c.args.self.now.beside now));
     })
@@ -61,26 +61,21 @@ returns-clause-looks g c =
     let stays : HasCleanDisk mid → StaysBeside old.now c.args.self.now.beside (Some there) = λ clean. subst (λ b. StaysBeside old.now b (Some there)) c.take.ensures.value (c.in_ok-there.ensures.beside clean) in
     record {
       same = λ sound opening es stands.
-          let clean : HasCleanDisk mid = reads.clean sound.0 in
-          let settled : old.now ≡ old.committed = c.is_autocommit-is_idle.ensures.settled idle (first.was_open clean (reads.was_open sound.0 sound.1)) in
+          let clean : HasCleanDisk mid = was_clean reads sound.0 in
+          let settled : old.now ≡ old.committed = c.is_autocommit-is_idle.ensures.settled idle (was_open first clean (was_open reads sound.0 sound.1)) in
           let has : HasRows stands.rows old.now = subst (HasRows stands.rows) (sym settled) stands.has in
-          let same : IsSame old mid = c.in_ok-there.ensures.same clean has.schema in
-          let kept : end.committed ≡ old.committed = (reads.keeps sound.0 (ap (λ db. db.schema) same.now ∙ has.schema)).committed sound.1 ∙ same.committed in
+          let same : IsSame old mid = c.in_ok-there.ensures.reads.same clean in
+          let kept : end.committed ≡ old.committed = (reads.reads.keeps sound.0).committed sound.1 ∙ same.committed in
           held_with stands end.committed (Some there) (subst (HasRows stands.rows) (sym kept) stands.has) ((stays clean).events opening es stands.rows stands.given has stands.after stands.beside);
       holds = λ sound rows kept holds.
-          let clean : HasCleanDisk mid = reads.clean sound.0 in
-          let settled : old.now ≡ old.committed = c.is_autocommit-is_idle.ensures.settled idle (first.was_open clean (reads.was_open sound.0 sound.1)) in
+          let clean : HasCleanDisk mid = was_clean reads sound.0 in
+          let settled : old.now ≡ old.committed = c.is_autocommit-is_idle.ensures.settled idle (was_open first clean (was_open reads sound.0 sound.1)) in
           let now : HoldsOffice content rows kept old.now c.args.self.now.beside = office_with content rows kept old.committed old.now c.args.self.now.beside c.args.self.now.beside settled holds.beside holds in
-          let same : IsSame old mid = c.in_ok-there.ensures.same clean now.has.schema in
-          office_with content rows kept old.committed end.committed c.args.self.now.beside (Some there) ((reads.keeps sound.0 (ap (λ db. db.schema) same.now ∙ now.has.schema)).committed sound.1 ∙ same.committed)
+          let same : IsSame old mid = c.in_ok-there.ensures.reads.same clean in
+          office_with content rows kept old.committed end.committed c.args.self.now.beside (Some there) ((reads.reads.keeps sound.0).committed sound.1 ∙ same.committed)
           ((stays clean).office content rows kept now) holds;
-      crash = λ sound clean schema db left.
-          let before : HasCleanDisk mid = reads.clean clean in
-          let settled : old.now ≡ old.committed = c.is_autocommit-is_idle.ensures.settled idle sound.1 in
-          let tables : old.now.schema ≡ office_schema = ap (λ d. d.schema) settled ∙ schema in
-          let same : IsSame old mid = c.in_ok-there.ensures.same before tables in
-          reads_less old mid before tables first db (reads_less mid end clean (ap (λ d. d.schema) same.now ∙ tables) reads db left);
-      stays = λ sound. (first.clean (reads.clean sound.0), first.was_open (reads.clean sound.0) (reads.was_open sound.0 sound.1));
+      crash = λ sound clean schema db left. leaves_less old mid (was_clean reads clean) first.reads.survives db (leaves_less mid end clean reads.reads.survives db left);
+      stays = λ sound. (was_clean first (was_clean reads sound.0), was_open first (was_clean reads sound.0) (was_open reads sound.0 sound.1));
     }
 
 -- What stands beside the rows is given up where it could not be loaded.
@@ -91,18 +86,11 @@ returns-in_err-there-clause-looks g c =
     let mid = state g.S.Store c.beside_of.new.conn in
     let after = c.take.new.self in
     let reads = c.beside_of.ensures.reads in
-    let idle = c.is_autocommit-is_idle.ensures.value ∙ ap not c.args.self.now.idle in
     record {
       same = λ sound opening es stands.
-          let settled : old.now ≡ old.committed = c.is_autocommit-is_idle.ensures.settled idle (reads.was_open sound.0 sound.1) in
-          let schema : old.now.schema ≡ office_schema = ap (λ d. d.schema) settled ∙ stands.has.schema in
-          held_with stands mid.committed after (subst (HasRows stands.rows) (sym ((reads.keeps sound.0 schema).committed sound.1)) stands.has) (subst (IsBeside opening es) (sym c.take.ensures.after) tt);
+          held_with stands mid.committed after (subst (HasRows stands.rows) (sym ((reads.reads.keeps sound.0).committed sound.1)) stands.has) (subst (IsBeside opening es) (sym c.take.ensures.after) tt);
       holds = λ sound rows kept holds.
-          let settled : old.now ≡ old.committed = c.is_autocommit-is_idle.ensures.settled idle (reads.was_open sound.0 sound.1) in
-          let schema : old.now.schema ≡ office_schema = ap (λ d. d.schema) settled ∙ holds.has.schema in
-          office_with content rows kept old.committed mid.committed c.args.self.now.beside after ((reads.keeps sound.0 schema).committed sound.1) (subst (IsOrNone rows kept) (sym c.take.ensures.after) tt) holds;
-      crash = λ sound clean schema db left.
-          let settled : old.now ≡ old.committed = c.is_autocommit-is_idle.ensures.settled idle sound.1 in
-          reads_less old mid clean (ap (λ d. d.schema) settled ∙ schema) reads db left;
-      stays = λ sound. (reads.clean sound.0, reads.was_open sound.0 sound.1);
+          office_with content rows kept old.committed mid.committed c.args.self.now.beside after ((reads.reads.keeps sound.0).committed sound.1) (subst (IsOrNone rows kept) (sym c.take.ensures.after) tt) holds;
+      crash = λ sound clean schema db left. leaves_less old mid clean reads.reads.survives db left;
+      stays = λ sound. (was_clean reads sound.0, was_open reads sound.0 sound.1);
     }
