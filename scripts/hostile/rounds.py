@@ -7,10 +7,10 @@ from collections import Counter
 from functools import partial
 
 from model.beside import kinds_of
+from model.counts import counting
 from model.cuts import cut
 from model.days import Day
 from model.http import response
-from model.office import Office
 from model.reports import printed, text_of
 from model.requests import get, known, of_length, post, question, random_request, report_path, request
 from model.setup import DEMO, is_utf8, read_setup
@@ -49,10 +49,11 @@ class Round:
         with tempfile.TemporaryDirectory(prefix='fuzz-', dir=room()) as folder:
             self.program = Sampled(self.path, folder)
             setup = self.setups()
-            self.office, self.day = Office(setup, keeps_fold=True), Day(self.seed, setup)
+            self.office, self.day = counting(setup), Day(self.seed, setup)
             self.streams()
             self.keys()
             self.requests()
+            self.beside.counted += self.office.kept.counted
             if self.is_thorough:
                 self.beside.rows(self.name, self.program, self.office)
             return self.inputs, self.beside.counted, self.beside.shown, self.program.peaks
@@ -131,7 +132,9 @@ class Round:
         self.answered('deliver DB FILE', self.office, lambda front, end: self.program.deliver(front + end))
         self.answered('deliver DB -', self.office, partial(self.program.fed, ['deliver', store, '-']))
         if self.office.setup == DEMO:
-            self.answered('demo', Office(DEMO, keeps_fold=True), partial(self.program.fed, ['demo']))
+            in_memory = counting(DEMO)
+            self.answered('demo', in_memory, partial(self.program.fed, ['demo']))
+            self.beside.counted += in_memory.kept.counted
 
     def answered(self, kind, office, program):
         """A stream: every line, and the status. The model cuts each of its texts by itself, and in thorough rounds the whole
