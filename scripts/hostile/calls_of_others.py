@@ -1,7 +1,7 @@
 """Each call of the system of `report`, `serve` and `init`: a process is killed as it begins, or it is refused. With strace:
 scripts/kill9 others.
 
-Calls of whatever kind are tried, from the first that names a file of the store on; of the reads of a file some. A report is
+Calls of whatever kind are tried, from the first that names a file of the store on; of those that are many some. A report is
 told whole and right, or a fault by its name, and changes nothing. A server takes a delivery, a question and an account: what
 it answers is what the model does, or `not now`, and it goes on; behind it the store holds what was answered, and what was
 not, whole or not at all. A store that is made is whole, or there is none.
@@ -24,7 +24,7 @@ from model.rows import rows_in, rows_of
 from model.stream import status
 
 from .books import Book, Different, answer, expect, prefilled
-from .calls import MOST_READS, STRACE, moving
+from .calls import STRACE, moving
 from .commands import CODE, DELIVERED, KIND
 from .working import SECONDS, Served, request_of, run
 
@@ -34,16 +34,18 @@ NOT_NOW = response_text(503, 'application/json', '{"answer":"not now"}')
 STORE, MEMORY, UNWRITTEN = ('', 'store: Store\n', 3), ('', 'store: Memory\n', 3), ('', '', 3)
 UNREAD, NO_SETUP, NO_PORT = ('', 'cannot read\n', 3), ('', 'setup: Memory\n', 1), ('', 'cannot listen\n', 3)
 
-# what a call is refused with. Others are killed at alone: they can't fail, or nobody asks whether they did.
+# what a call is refused with. Others are killed at alone: they can't fail, or nobody asks whether they did, or, as `brk`, don't
+# tell it by a number of a fault (scripts/memory refuses memory).
 FAULTS = {
     'openat': ['EMFILE', 'EACCES'], 'statx': ['EIO'], 'newfstatat': ['EIO'], 'fstat': ['EIO'], 'readlink': ['EIO'],
     'getcwd': ['ENOENT'], 'fcntl': ['ENOLCK'], 'fchown': ['EPERM'], 'fchmod': ['EPERM'], 'fadvise64': ['EINVAL'],
     'getrandom': ['ENOSYS'], 'lseek': ['EIO'], 'read': ['EIO'], 'pread64': ['EIO'], 'pwrite64': ['EIO', 'ENOSPC'],
     'write': ['EIO', 'ENOSPC'], 'fsync': ['EIO'], 'fdatasync': ['EIO', 'ENOSPC'], 'ftruncate': ['EIO'], 'close': ['EIO'],
-    'mmap': ['ENOMEM'], 'brk': ['ENOMEM'], 'mremap': ['ENOMEM'], 'socket': ['EMFILE'], 'setsockopt': ['ENOPROTOOPT'],
+    'mmap': ['ENOMEM'], 'mremap': ['ENOMEM'], 'socket': ['EMFILE'], 'setsockopt': ['ENOPROTOOPT'],
     'bind': ['EADDRINUSE'], 'listen': ['EADDRINUSE'], 'getsockname': ['ENOBUFS'], 'accept4': ['ECONNABORTED', 'EMFILE'],
     'poll': ['ENOMEM'], 'recvfrom': ['ECONNRESET'], 'sendto': ['EPIPE'], 'shutdown': ['ENOTCONN']}
 SYNCS = {'fsync', 'fdatasync'}
+MANY, MOST_OF_MANY = ('pread64', 'pwrite64', 'brk'), 20     # of which some alone are tried
 KILLED = 'SIGKILL'
 
 
@@ -76,10 +78,12 @@ def calls_of(make, mark):
 
 
 def thinned(calls, chance):
-    """All but some of the reads of a file."""
-    reads = [call for call in calls if call[0] == 'pread64']
-    kept = chance.sample(reads, min(MOST_READS, len(reads)))
-    return [call for call in calls if call[0] != 'pread64' or call in kept]
+    """All calls, but of those that are many some alone."""
+    dropped = set()
+    for kind in MANY:
+        every = [call for call in calls if call[0] == kind]
+        dropped.update(set(every) - set(chance.sample(every, min(MOST_OF_MANY, len(every)))))
+    return [call for call in calls if call not in dropped]
 
 
 def each_call(make, calls, counted, is_killed=True):
@@ -121,7 +125,6 @@ class Report:
             raise Different('%r' % (given,))
         self.book.found(None)
         expect('the report behind it', self.wanted, run(*self.words))
-        self.book.found(None)
         return 'the report' if given[0] == self.wanted[0] else told_by(given)
 
 
@@ -225,7 +228,7 @@ class Service:
     def __init__(self, name, book):
         self.name, self.book = name, book
         self.sent = [book.upcoming(1)[0], Added(CODE, KIND)]
-        asked = next(path_of(kind, key) for kind, key in every_key(book.office) if kind == 'reply')
+        asked = path_of('reply', dict(keys_of(book.office))['reply'])
         self.requests = [request_of(self.sent[0]), 'GET %s HTTP/1.1\r\n\r\n' % asked, request_of(self.sent[1])]
 
     def tried(self, front, kind, fault):
@@ -269,15 +272,14 @@ class Service:
 # ---- all
 
 def try_reports(book, counted):
-    """A report of each kind; of all but the first the calls alone that the first doesn't make too."""
-    first = None
-    for kind, key in keys_of(book.office):
+    """A report of each kind, all of which open the store by the same calls: the first with all of its calls, the others with
+    those from their last read of the store on."""
+    for place, (kind, key) in enumerate(keys_of(book.office)):
         def make(other, kind=kind, key=key):
             return Report(book.copied(other), kind, key)
         calls = calls_of(make, None)
-        same = len(os.path.commonprefix([calls, first or []]))
-        each_call(make, thinned(calls[same:], book.chance), counted)
-        first = first or calls
+        reads = [at for at, call in enumerate(calls) if call[0] == 'pread64']
+        each_call(make, thinned(calls[reads[-1]:] if place else calls, book.chance), counted)
 
 
 def keys_of(office):

@@ -1,12 +1,13 @@
 """A round of mutated inputs, from its seed alone: set-up files, streams, keys and requests over a new store, each held
 against the model, and in some rounds the rows of the store behind them."""
+import json
 import os
 import random
 import tempfile
 from collections import Counter
 from functools import partial
 
-from model.beside import kinds_of
+from model.beside import EVERY_KIND, kinds_of
 from model.counts import counting
 from model.cuts import cut
 from model.days import Day
@@ -176,6 +177,7 @@ class Round:
         self.random.shuffle(found)
         responses = [(text, response(self.office, text)) for text, _is_mutated in found]
         self.program.serve(responses, partial(self.beside.served, self.name))
+        self.beside.counted.update(kind for _text, wanted in responses for kind in kinds_told(wanted))
 
     def bodies(self):
         """Those that no stream could take, and more."""
@@ -213,6 +215,13 @@ class Round:
         length = len(text) + self.random.choice([-3, -1, 1, 2, 4096, -len(text)])
         behind = self.random.choice(['', '', 'X', "'", text, 'GET /yard HTTP/1.1\r\n\r\n'])
         return request(self.random, 'POST /interchanges HTTP/1.1', ['Content-Length: %d' % max(length, 0)], text + behind)
+
+
+def kinds_told(told):
+    """What the answer of a response is counted as, if it is one of those that may come in a stream."""
+    body = told.partition('\r\n\r\n')[2]
+    kinds = kinds_of(json.loads(body)) if body.startswith('{"answer":') else []
+    return [kind for kind in kinds if kind in EVERY_KIND]
 
 
 def room():
