@@ -7,6 +7,7 @@ or all of them, and the old one stays byte for byte.
 import os
 import shutil
 import tempfile
+from collections import namedtuple
 from copy import deepcopy
 from functools import partial
 
@@ -62,22 +63,25 @@ class Addition:
         return 'added' if is_added else 'not added'
 
 
+# a store of an old version: its file, what that holds, and the rows and the yard of the new store
+Old = namedtuple('Old', 'path version bytes rows yard')
+
+
 class Migration:
     """`migrate` of an old store, which holds an office, to a path at which nothing stands."""
 
     ready = 'ready\n'
     wants = {MEMORY, UNWRITTEN}
 
-    def __init__(self, program, folder, template, office):
+    def __init__(self, program, folder, kept):
         self.program, self.old, self.new = program, os.path.join(folder, 'old.db'), os.path.join(folder, 'new.db')
-        shutil.copyfile(template, self.old)
-        self.after, self.bytes, self.name = deepcopy(office), contents(self.old), 'migrate, version %d' % office.version
-        self.after.migrate()
+        self.kept, self.name = kept, 'migrate, version %d' % kept.version
+        shutil.copyfile(kept.path, self.old)
         self.words = [program, 'migrate', self.old, self.new]
 
     def found(self, given):
         """Whether the new store is there behind a process that printed, told and ended so."""
-        expect('the old store', self.bytes, contents(self.old))
+        expect('the old store', self.kept.bytes, contents(self.old))
         got, faults = rows_in(self.new)
         expect('integrity and foreign keys', [], [] if faults == UNMADE and not got else faults)
         if given[0] not in (self.ready, '') or (given[2] == 0 or given[0]) and not got:
@@ -86,18 +90,18 @@ class Migration:
             raise Different('%r, and the new store has tables' % (given,))
         again = ('', 'store: Store\n', 3) if got else ('ready\n', '', 0)
         if got:
-            expect('the rows of the new store', rows_of(self.after), got)
+            expect('the rows of the new store', self.kept.rows, got)
         expect('migrate again', again, run(*self.words))
-        expect('the rows of the new store', (rows_of(self.after), []), rows_in(self.new))
-        expect('report', (printed(self.after, 'yard')[0], '', 0), run(self.program, 'report', self.new, 'yard'))
-        expect('the old store', self.bytes, contents(self.old))
+        expect('the rows of the new store', (self.kept.rows, []), rows_in(self.new))
+        expect('report', (self.kept.yard, '', 0), run(self.program, 'report', self.new, 'yard'))
+        expect('the old store', self.kept.bytes, contents(self.old))
         return 'whole' if got else 'no tables'
 
     def found_early(self, given):
         """The same of a process that may not have come so far as to open the new store: then there is no such file."""
         if given not in self.wants or os.path.exists(self.new):
             return self.found(given)
-        expect('the old store', self.bytes, contents(self.old))
+        expect('the old store', self.kept.bytes, contents(self.old))
         return 'not begun'
 
 
@@ -148,33 +152,35 @@ def try_all(program, seed, counted):
         each_call(addition, book.chance, counted)
         each_room(addition, counted)
         for version in (1, 2):
-            migration = partial(new_migration, program, *old_store(folder, seed, version))
+            migration = partial(new_migration, program, old_store(folder, seed, version))
             each_call(migration, book.chance, counted)
             each_room(migration, counted)
 
 
 def old_store(folder, seed, version):
-    """A store that the model played by old rules, and its office."""
+    """A store that the model played by old rules."""
     office, day = Office(DEMO, keeps_fold=True, version=version), Day('old %s' % seed)
     for _text in range(PLAYED):
         office.answer(day.delivery())
-    template = os.path.join(folder, 'version%d' % version)
-    write_store(template, office)
-    return template, office
+    path = os.path.join(folder, 'version%d' % version)
+    write_store(path, office)
+    office.migrate()
+    return Old(path, version, contents(path), rows_of(office), printed(office, 'yard')[0])
 
 
-def new_migration(program, template, office, folder):
+def new_migration(program, kept, folder):
     """A migration in that folder."""
-    return Migration(program, folder, template, office)
+    return Migration(program, folder, kept)
 
 
 # ---- allocations
 
 PRINTING = 20               # more allocations than printing an answer takes
+SHARES = 4                  # in which the allocations of a migration are refused, each by itself
 
 
-def refuse_commands(refusing, office, steps, counted):
-    """Allocations of an addition over the store, and of a migration."""
+def refuse_addition(refusing, office, _text, steps, counted):
+    """Allocations of an addition over the store."""
     start = os.path.join(refusing.folder, 'start.db')
     refusing.copy_to(start)
 
@@ -184,9 +190,6 @@ def refuse_commands(refusing, office, steps, counted):
     opened, every = made_by(refusing, addition, 'none'), made_by(refusing, addition, KIND)
     places = [*range(1, opened + 1, steps[0]), *range(opened + 1, every + 1, steps[1])]
     refuse_each(refusing, addition, Addition.found, places, counted)
-    refusing.copy_from(start)
-    for version in (1, 2):
-        refuse_migration(refusing, partial(anew, refusing, *old_store(refusing.folder, version, version)), steps[1], counted)
 
 
 def made_by(refusing, make, last):
@@ -196,22 +199,24 @@ def made_by(refusing, make, last):
     return refusing.allocations() - (PRINTING if words[-1] != last else 0)
 
 
-def anew(refusing, template, office):
+def anew(refusing, kept):
     """A migration of an old store, beside which nothing lies, to a path at which nothing stands."""
     for name in ('old.db-wal', 'new.db', 'new.db-wal'):
         if os.path.exists(os.path.join(refusing.folder, name)):
             os.remove(os.path.join(refusing.folder, name))
-    return Migration(refusing.program, refusing.folder, template, office)
+    return Migration(refusing.program, refusing.folder, kept)
 
 
-def refuse_migration(refusing, make, step, counted):
-    """Allocations of a migration, before the new store is opened and behind it: as many are before as a process makes whose new
-    store can't be opened."""
+def refuse_migration(version, share, refusing, _office, _text, steps, counted):
+    """A share of the allocations of a migration, before the new store is opened and behind it: as many are before as a process
+    makes whose new store can't be opened."""
+    make = partial(anew, refusing, old_store(refusing.folder, version, version))
     new = make().words[-1]
     opened = made_by(refusing, make, os.path.join(refusing.folder, 'none', 'new.db'))
     every = made_by(refusing, make, new)
-    refuse_each(refusing, make, Migration.found_early, range(1, opened + 1, step), counted)
-    refuse_each(refusing, make, Migration.found, range(opened + 1, every + 1, step), counted)
+    early, late = range(1, opened + 1, steps[1]), range(opened + 1, every + 1, steps[1])
+    refuse_each(refusing, make, Migration.found_early, early[share::SHARES], counted)
+    refuse_each(refusing, make, Migration.found, late[share::SHARES], counted)
 
 
 def told_by(given):

@@ -6,10 +6,12 @@ is in the rows, and nothing else; and the text once more gets what it is owed.
 """
 import os
 import shutil
+import signal
 import subprocess
 import sys
 import tempfile
 from collections import Counter
+from concurrent.futures import ProcessPoolExecutor, as_completed
 from copy import deepcopy
 
 from model.office import Office
@@ -18,7 +20,7 @@ from model.setup import DEMO
 from model.stream import lines
 
 from .books import Different, expect
-from .memory_of_others import try_others
+from .memory_of_others import OTHERS, SETUP
 from .rounds import room
 
 HERE = os.path.dirname(os.path.abspath(__file__))
@@ -132,24 +134,50 @@ def refuse_each(refusing, name, before, text, steps, counted):
     refusing.copy_from(start)
 
 
-def try_day(program, steps, counted):
-    """The texts of the day in examples/day, one after the other."""
-    folder = os.path.join(TOP, 'examples/day')
-    texts = []
+def texts_of_day():
+    """The texts of examples/day, by their names, in their turn."""
+    texts, folder = {}, os.path.join(TOP, 'examples/day')
     for name in sorted(os.listdir(folder)):
         if name.endswith('.edi'):
             with open(os.path.join(folder, name), encoding='latin-1', newline='') as file:
-                texts.append((name, file.read().strip()))
-    with tempfile.TemporaryDirectory(prefix='memory-', dir=room()) as folder:
-        refusing, office = Refusing(program, folder), Office(DEMO, keeps_fold=True)
-        setup = [os.path.join(TOP, 'examples/setup', name) for name in ('partners.csv', 'blocks.csv')]
-        refusing.run(['init', refusing.store, *setup])
-        for name, text in texts:
-            if name == LAST_TAKEN:
-                try_others(refusing, office, setup, text, steps, counted)
-            refuse_each(refusing, name, office, text, steps, counted)
-            wanted = line_of(office, text) + '\n'
-            expect(name, wanted, refusing.run(['deliver', refusing.store, refusing.file('once.edi', text)])[0])
+                texts[name] = file.read().strip()
+    return texts
+
+
+def before(program, folder, last):
+    """A store to which the texts of the day before one were delivered, its office, and that text."""
+    refusing, office = Refusing(program, folder), Office(DEMO, keeps_fold=True)
+    refusing.run(['init', refusing.store, *SETUP])
+    for name, text in texts_of_day().items():
+        if name == last:
+            return refusing, office, text
+        wanted = line_of(office, text) + '\n'
+        expect(name, wanted, refusing.run(['deliver', refusing.store, refusing.file('once.edi', text)])[0])
+    raise KeyError(last)
+
+
+def tried(program, what, steps):
+    """What was counted of one of OTHERS, over the store before the last text that is taken, or of a text by its name."""
+    counted = Counter()
+    with tempfile.TemporaryDirectory(prefix='memory-') as folder:
+        refusing, office, text = before(program, folder, LAST_TAKEN if what in OTHERS else what)
+        if what in OTHERS:
+            OTHERS[what](refusing, office, text, steps, counted)
+        else:
+            refuse_each(refusing, what, office, text, steps, counted)
+    return counted
+
+
+def try_all(program, steps, jobs, counted):
+    """All of OTHERS, and each text of the day, some at a time, each over a store of its own."""
+    with ProcessPoolExecutor(jobs, initializer=signal.signal, initargs=(signal.SIGINT, signal.SIG_IGN)) as pool:
+        running = [pool.submit(tried, program, what, steps) for what in [*OTHERS, *texts_of_day()]]
+        try:
+            for done in as_completed(running):
+                counted += done.result()
+        finally:
+            for left in running:
+                left.cancel()
 
 
 def main():
@@ -158,9 +186,11 @@ def main():
     if not os.access(program, os.X_OK):
         print('%s is not built: make build' % program, file=sys.stderr)
         return 2
+    tempfile.tempdir = room()
+    steps = ([int(word) for word in sys.argv[1:]] + [100, 1][len(sys.argv) - 1:])[:2]
     counted, fault = Counter(), None
     try:
-        try_day(program, ([int(word) for word in sys.argv[1:]] + [100, 1][len(sys.argv) - 1:])[:2], counted)
+        try_all(program, steps, int(os.environ.get('JOBS', '2')), counted)
     except Different as different:
         fault = different
     for what, count in sorted(counted.items()):

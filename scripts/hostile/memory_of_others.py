@@ -6,6 +6,7 @@ With one allocation refused, a command does what it does with all of them, or it
 import os
 import subprocess
 from copy import deepcopy
+from functools import partial
 
 from model.http import response, response_text
 from model.office import Office
@@ -16,10 +17,12 @@ from model.setup import DEMO
 from model.stores import exchanged
 
 from .books import Different, expect
-from .commands import CODE, KIND, refuse_commands
+from .commands import CODE, KIND, SHARES, refuse_addition, refuse_migration
 from .sampled import free_port
 from .served import account, get, post
 
+TOP = os.path.dirname(os.path.dirname(os.path.dirname(os.path.abspath(__file__))))
+SETUP = [os.path.join(TOP, 'examples/setup', name) for name in ('partners.csv', 'blocks.csv')]
 NOT_NOW = response_text(503, 'application/json', '{"answer":"not now"}')
 
 UNUSED = 'ABCU9999990'      # a container that never came
@@ -44,12 +47,12 @@ def remove(store):
 
 # ---- init
 
-def refuse_init(refusing, setup, step, counted):
-    """Each allocation of `init` by these files."""
-    words = ['init', refusing.store, *setup]
+def refuse_init(refusing, _office, _text, steps, counted):
+    """Allocations of `init`, each of the second step."""
+    words = ['init', refusing.store, *SETUP]
     remove(refusing.store)
     wanted = rows_of(Office(DEMO)), []
-    for refused in range(1, allocations_of(refusing, words) + 1, step):
+    for refused in range(1, allocations_of(refusing, words) + 1, steps[1]):
         remove(refusing.store)
         what = 'init, allocation %d' % refused
         given = refusing.run(words, refused)
@@ -73,7 +76,7 @@ def keys_of(office):
     return [*WHOLE, *found.items()]
 
 
-def refuse_reports(refusing, office, steps, counted):
+def refuse_reports(refusing, office, _text, steps, counted):
     """Allocations of a report of each kind: of those by which it opens the store each of a first step, of those behind them
     each of a second."""
     before = rows_in(refusing.store)
@@ -144,13 +147,8 @@ def serve(refusing, before, requests, refused, counted, what):
     return refusing.allocations()
 
 
-def try_others(refusing, office, setup, text, steps, counted):
-    """All of them, over a store that holds an office, with a text that is next."""
-    kept = os.path.join(refusing.folder, 'kept.db')
-    refusing.copy_to(kept)
-    refuse_init(refusing, setup, steps[1], counted)
-    refusing.copy_from(kept)
-    refuse_reports(refusing, office, steps, counted)
-    refuse_commands(refusing, office, steps, counted)
-    refusing.copy_from(kept)
-    refuse_requests(refusing, office, text, steps, counted)
+# each with whatever it is tried on: the program, the office that its store holds, and a text that is next
+OTHERS = {
+    **{'migrate, version %d, share %d' % (version, share): partial(refuse_migration, version, share)
+       for version in (1, 2) for share in range(SHARES)},
+    'init': refuse_init, 'serve': refuse_requests, 'reports': refuse_reports, 'account': refuse_addition}

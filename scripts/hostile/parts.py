@@ -4,18 +4,18 @@ import sys
 from collections import Counter
 from time import monotonic
 
-from . import calls, commands, flips, full, kills, pairs, places, power
+from . import calls, calls_of_others, commands, flips, full, kills, pairs, places, power
 from .books import Different
 
 TOP = os.path.dirname(os.path.dirname(os.path.dirname(os.path.abspath(__file__))))
 PROGRAM = os.path.join(TOP, 'crates/office/out/office')
 KILLS = 1000
 PARTS = {
-    'calls': calls.try_calls, 'commands': commands.try_all, 'power': power.try_losses, 'full': full.try_all,
-    'places': places.try_all, 'pairs': pairs.try_all, 'flips': flips.try_all}
+    'calls': calls.try_calls, 'others': calls_of_others.try_all, 'commands': commands.try_all, 'power': power.try_losses,
+    'full': full.try_all, 'places': places.try_all, 'pairs': pairs.try_all, 'flips': flips.try_all}
 
 USAGE = """usage: scripts/kill9 [KILLS [SEED]]
-       scripts/kill9 calls|commands|power|full|places|pairs|flips [SEED]
+       scripts/kill9 calls|others|commands|power|full|places|pairs|flips [SEED]
 
 SIGKILL while deliveries are under way, KILLS times (%d), and then each of the other parts; or one of these alone. The
 program is crates/office/out/office, or the one that OFFICE names in the environment.

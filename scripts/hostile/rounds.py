@@ -1,16 +1,17 @@
 """A round of mutated inputs, from its seed alone: set-up files, streams, keys and requests over a new store, each held
 against the model, and in some rounds the rows of the store behind them."""
+import json
 import os
 import random
 import tempfile
 from collections import Counter
 from functools import partial
 
-from model.beside import kinds_of
+from model.beside import EVERY_KIND, kinds_of
+from model.counts import counting
 from model.cuts import cut
 from model.days import Day
 from model.http import response
-from model.office import Office
 from model.reports import printed, text_of
 from model.requests import get, known, of_length, post, question, random_request, report_path, request
 from model.setup import DEMO, is_utf8, read_setup
@@ -49,10 +50,11 @@ class Round:
         with tempfile.TemporaryDirectory(prefix='fuzz-', dir=room()) as folder:
             self.program = Sampled(self.path, folder)
             setup = self.setups()
-            self.office, self.day = Office(setup, keeps_fold=True), Day(self.seed, setup)
+            self.office, self.day = counting(setup), Day(self.seed, setup)
             self.streams()
             self.keys()
             self.requests()
+            self.beside.counted += self.office.kept.counted
             if self.is_thorough:
                 self.beside.rows(self.name, self.program, self.office)
             return self.inputs, self.beside.counted, self.beside.shown, self.program.peaks
@@ -131,7 +133,9 @@ class Round:
         self.answered('deliver DB FILE', self.office, lambda front, end: self.program.deliver(front + end))
         self.answered('deliver DB -', self.office, partial(self.program.fed, ['deliver', store, '-']))
         if self.office.setup == DEMO:
-            self.answered('demo', Office(DEMO, keeps_fold=True), partial(self.program.fed, ['demo']))
+            in_memory = counting(DEMO)
+            self.answered('demo', in_memory, partial(self.program.fed, ['demo']))
+            self.beside.counted += in_memory.kept.counted
 
     def answered(self, kind, office, program):
         """A stream: every line, and the status. The model cuts each of its texts by itself, and in thorough rounds the whole
@@ -173,6 +177,7 @@ class Round:
         self.random.shuffle(found)
         responses = [(text, response(self.office, text)) for text, _is_mutated in found]
         self.program.serve(responses, partial(self.beside.served, self.name))
+        self.beside.counted.update(kind for _text, wanted in responses for kind in kinds_told(wanted))
 
     def bodies(self):
         """Those that no stream could take, and more."""
@@ -210,6 +215,13 @@ class Round:
         length = len(text) + self.random.choice([-3, -1, 1, 2, 4096, -len(text)])
         behind = self.random.choice(['', '', 'X', "'", text, 'GET /yard HTTP/1.1\r\n\r\n'])
         return request(self.random, 'POST /interchanges HTTP/1.1', ['Content-Length: %d' % max(length, 0)], text + behind)
+
+
+def kinds_told(told):
+    """What the answer of a response is counted as, if it is one of those that may come in a stream."""
+    body = told.partition('\r\n\r\n')[2]
+    kinds = kinds_of(json.loads(body)) if body.startswith('{"answer":') else []
+    return [kind for kind in kinds if kind in EVERY_KIND]
 
 
 def room():

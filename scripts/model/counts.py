@@ -8,7 +8,7 @@ from .deliveries import order
 from .messages import READ_WEIGHT, code_of, container_groups, groups_of, header_of, kilos_in, message_fault, type_of
 from .moments import are_digits
 from .names import length_of
-from .office import Fold, newest
+from .office import Fold, Office, newest
 from .setup import orders_of
 from .syntax import messages_of
 from .terminal import Terminal
@@ -102,6 +102,13 @@ class Counting(Fold):
             if message_fault(message, may_order, rules) is None:
                 count_weights(self.counted, message, may_order[type_of(message), code_of(message)])
         super().take(partner, number, text, rules)
+
+
+def counting(setup):
+    """An office that counts what it takes as it takes it, in `kept.counted`."""
+    office = Office(setup, keeps_fold=True)
+    office.kept = Counting(setup)
+    return office
 
 
 def counted_in(setup, deliveries):
