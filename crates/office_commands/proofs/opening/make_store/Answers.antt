@@ -20,7 +20,7 @@ returns g c = record {
       let now = file_state c.create.new.conn in
       let early : HasCleanDisk (file_state c.in_ok-conn.conn) = omega (arith, c.create.ensures.crash.clean, clean) in
       let made = c.in_ok-create.ensures.ok clean in
-      committed_leaves content [] now (opening_rows content) (record { is_open = made.is_open; alone = made.alone })
+      committed_leaves content [] now (opening_rows content) made.alone
       (made.rows (c.in_ok-conn.ensures.empty early none)) (opening_after content);
   new = λ clean db held.
       let was = file_state c.in_ok-conn.conn in
