@@ -1,4 +1,4 @@
-ghost use Rattle.std.specs.Prelude.{◌≡◌, List, None, Some, false, IfOk, option_map};
+ghost use Rattle.std.specs.Prelude.{◌≡◌, List, None, Some, false, IfOk, OnOk, option_map};
 ghost use Rattle.office_replies.specs.Events.{Event};
 ghost use Rattle.office_setup.specs.Given.{IsGiven};
 ghost use Rattle.office_setup.specs.Setups.{SetupContent, setup_content};
@@ -87,7 +87,7 @@ impl<S: Alter + Drop> Desk<S> {
     ghost use Rattle.office_desk.specs.Calls.{Enrols, Leads, Looks, OnlyLooks};
     ghost use Rattle.office_desk.specs.Desks.{IsSound, OpensAt};
     ghost use Rattle.office_desk.specs.Offices.{OpensOffice};
-    ghost use Rattle.office_desk.specs.Reports.{DeskTells};
+    ghost use Rattle.office_desk.specs.Reports.{DeskTells, IsOpenFor};
 
     /// The desk of a store that holds an office: its set-up, its terminal and its partners' numbers are those that the
     /// tables hold. If it is refused, the connection is given up: `load_beside`, which it calls, says why, and that nothing is
@@ -115,6 +115,8 @@ impl<S: Alter + Drop> Desk<S> {
         ensures told { IsSound S.Store self.new →
             IfOk result (λ found. DeskTells S.Store self.old query.now (option_map string_bytes found)) }
         ensures looks { OnlyLooks S.Store self.old self.new }
+        ensures open { HasCleanDisk (state S.Store self.new.conn) →
+            OnOk result (IsOpenFor query.now (state S.Store self.new.conn)) }
         ensures last_fault { self.new.last_fault ≡ self.old.last_fault }
     {
         let is_idle = self.conn.is_autocommit();
