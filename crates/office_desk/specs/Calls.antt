@@ -78,7 +78,7 @@ pub record Looks {S : Type 0} (g : Ghosts S) (old : Desk S g) (query : Query) (f
   pub told : IsSound g new → Tells (DeskTells g old query) found
   pub looks : OnlyLooks g old new
   pub noted : NotesLook found old.last_fault new.last_fault
-  pub open : HasCleanDisk (state g new.conn) → OnOk found (IsOpenFor query (state g new.conn))
+  pub is_open : HasCleanDisk (state g new.conn) → OnOk found (IsOpenFor query (state g new.conn))
 
 -- ---- what follows of deliveries, one behind the other
 

@@ -115,7 +115,7 @@ impl<S: Alter + Drop> Desk<S> {
         ensures told { IsSound S.Store self.new →
             IfOk result (λ found. DeskTells S.Store self.old query.now (option_map string_bytes found)) }
         ensures looks { OnlyLooks S.Store self.old self.new }
-        ensures open { HasCleanDisk (state S.Store self.new.conn) →
+        ensures is_open { HasCleanDisk (state S.Store self.new.conn) →
             OnOk result (IsOpenFor query.now (state S.Store self.new.conn)) }
         ensures last_fault { self.new.last_fault ≡ self.old.last_fault }
     {

@@ -41,7 +41,7 @@ pub(crate) fn tell<S: Alter>(
         HasRows rows (state S.Store conn.old).now → AreKeptOnce rows.interchanges →
         TellsOf (setup_content setup.now) terminal.now rows query.now (option_map string_bytes found)) }
     ensures reads { OnlyReads (state S.Store conn.old) (state S.Store conn.new) result }
-    ensures open { HasCleanDisk (state S.Store conn.new) → OnOk result (IsOpenFor query.now (state S.Store conn.new)) }
+    ensures is_open { HasCleanDisk (state S.Store conn.new) → OnOk result (IsOpenFor query.now (state S.Store conn.new)) }
 {
     match query {
         Query::Yard => Ok(Some(yard_report(alloc, terminal)?)),
