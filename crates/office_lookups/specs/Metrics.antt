@@ -20,13 +20,13 @@ ready_text = codes "{\"answer\":\"ready\"}"
 abbrev pub is_here : VisitContent → Bool
 is_here visit = is_none visit.departure
 
--- some of its interchanges wait
-abbrev pub is_waited_for : PartnerContent → Bool
-is_waited_for partner = has_some partner.waiting
-
 abbrev has_some : List ℕ → Bool
 has_some [] = false
 has_some (first ∷ others) = true
+
+-- some of its interchanges wait
+abbrev pub is_waited_for : PartnerContent → Bool
+is_waited_for partner = has_some partner.waiting
 
 -- a value, under its name, and what it is
 pub record GaugeContent : Type 0 where
