@@ -1,7 +1,7 @@
 ghost use Rattle.std.specs.Prelude.{◌≡◌, IfOk, true, false};
 ghost use Rattle.clap.specs.Words.{app_of, rule_of};
 ghost use Rattle.clap.specs.declared.builder.command.Command.TheViews.{out-Command};
-ghost use Rattle.office_command_line.specs.Commands.{word, word_if_any, flag, init_app, deliver_app, serve_app, report_app, account_app, migrate_app, demo_app};
+ghost use Rattle.office_command_line.specs.Commands.{word, word_if_any, flag, valued, init_app, deliver_app, serve_app, report_app, account_app, migrate_app, demo_app};
 
 use clap::{Arg, ArgAction, Command};
 use std::alloc::{AllocError, Global};
@@ -42,7 +42,7 @@ pub(crate) fn deliver_command<'a>(alloc: Global) -> Result<Command<'a>, AllocErr
     Ok(deliver)
 }
 
-/// `serve DB PORT COUNT [--log]`
+/// `serve DB PORT COUNT [--log] [--ahead N]`
 pub(crate) fn serve_command<'a>(alloc: Global) -> Result<Command<'a>, AllocError>
     ensures app { IfOk result (λ command. app_of command ≡ serve_app) }
     ensures local { IfOk result (λ command. (out-Command command).has_globals ≡ false) }
@@ -55,13 +55,20 @@ pub(crate) fn serve_command<'a>(alloc: Global) -> Result<Command<'a>, AllocError
         "log",
         "Write a line for each request to the stream of errors, also if it is no terminal",
     );
+    let ahead = valued(
+        alloc,
+        "ahead",
+        "N",
+        "Refuse a partner's number above its next one and N, by the path of that partner",
+    );
     let serve = Command::new(alloc, "serve")
         .about("Serves connections by HTTP, one after the other")
         .after_help("Example: office serve office.db 8080 1000")
         .arg(store)?
         .arg(port)?
         .arg(count)?
-        .arg(log)?;
+        .arg(log)?
+        .arg(ahead)?;
     Ok(serve)
 }
 
@@ -74,9 +81,13 @@ pub(crate) fn report_command<'a>(alloc: Global) -> Result<Command<'a>, AllocErro
     let kind = word(
         alloc,
         "KIND",
-        "yard, yardcsv, picture, blocks, partners, container, visits, list, work, ticket, reply or contrl",
+        "yard, yardcsv, picture, blocks, partners, metrics, container, visits, list, work, ticket, reply, contrl or partner",
     );
-    let key = word_if_any(alloc, "KEY", "BOX, VESSEL/VOYAGE/SIDE or PARTNER/NUMBER");
+    let key = word_if_any(
+        alloc,
+        "KEY",
+        "BOX, VESSEL/VOYAGE/SIDE, PARTNER/NUMBER or PARTNER",
+    );
     let report = Command::new(alloc, "report")
         .about("Prints a report; those from container on want a KEY")
         .after_help("Example: office report office.db visits ABCU0000017")
@@ -153,6 +164,18 @@ fn word_if_any<'a>(alloc: Global, id: &'a str, help: &'a str) -> Arg<'a>
     ensures local { result.global ≡ false }
 {
     Arg::new(alloc, id).action(ArgAction::Set).help(help)
+}
+
+/// An option with a value, which may be left out.
+fn valued<'a>(alloc: Global, name: &'a str, value: &'a str, help: &'a str) -> Arg<'a>
+    ensures rule { rule_of result ≡ valued name.entry.now }
+    ensures local { result.global ≡ false }
+{
+    Arg::new(alloc, name)
+        .long(name)
+        .action(ArgAction::Set)
+        .value_name(value)
+        .help(help)
 }
 
 /// An option without a value.

@@ -124,7 +124,7 @@ fn answer_delivery<W: Write, D: Report>(
     desk: &mut D,
     text: &[u8],
 ) -> io::Result<()>
-    ensures does { DoesDelivery D.is_sound D.stands D.answers D.added D.tells D.leads D.looks text.now desk.old desk.new
+    ensures does { DoesDelivery D.is_sound D.stands D.answers D.added D.tells D.leads D.enrols D.looks text.now desk.old desk.new
         (λ bytes. OnOk result (Appends (W.contents writer.old.inner) (W.contents writer.new.inner) bytes)) }
     ensures kept { OnOk result (writer.new.failed ≡ writer.old.failed) }
     ensures fails { OnErr result (writer.new.failed ≡ true) }
@@ -142,7 +142,7 @@ fn answer_own<W: Write, D: Report>(
     ahead: Option<u32>,
     own: &OwnText,
 ) -> io::Result<()>
-    ensures does { DoesOwn D.is_sound D.stands D.answers D.added D.tells D.leads D.looks ahead own.now desk.old desk.new
+    ensures does { DoesOwn D.is_sound D.stands D.answers D.added D.tells D.leads D.enrols D.looks ahead own.now desk.old desk.new
         (λ bytes. OnOk result (Appends (W.contents writer.old.inner) (W.contents writer.new.inner) bytes)) }
     ensures kept { OnOk result (writer.new.failed ≡ writer.old.failed) }
     ensures fails { OnErr result (writer.new.failed ≡ true) }
