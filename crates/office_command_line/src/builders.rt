@@ -81,7 +81,7 @@ pub(crate) fn report_command<'a>(alloc: Global) -> Result<Command<'a>, AllocErro
     let kind = word(
         alloc,
         "KIND",
-        "yard, yardcsv, picture, blocks, partners, metrics, container, visits, list, work, ticket, reply, contrl or partner",
+        "yard, yardcsv, picture, blocks, partners, health, metrics, container, visits, list, work, ticket, reply, contrl or partner",
     );
     let key = word_if_any(
         alloc,
