@@ -18,6 +18,7 @@ use office_queries::{NotNow, Query, Report};
 use office_replies::{AccountAnswer, AccountFault, AddAccount, Deliver, Response, account_known};
 use office_setup::Setup;
 use office_tables::TableFault;
+use office_taking::Tally;
 use sqlite::{Alter, Connection};
 use std::alloc::Global;
 
@@ -31,6 +32,8 @@ pub struct Desk<S: Alter> {
     beside: Option<Beside>,
     // Why it last answered NotNow.
     last_fault: Option<TableFault>,
+    // What became of the interchanges that it took last.
+    last_taken: Tally,
     ghost idle: { conn.in_transaction ≡ false },
     ghost given: { IsGiven (setup_content setup) },
 }
@@ -44,12 +47,14 @@ impl<S: Alter> Desk<S> {
         ensures setup { result.setup ≡ setup }
         ensures beside { result.beside ≡ Some beside }
         ensures no_fault { result.last_fault ≡ None }
+        ensures nothing_taken { result.last_taken ≡ Tally.NOTHING }
     {
         Desk {
             conn,
             setup,
             beside: Some(beside),
             last_fault: None,
+            last_taken: Tally::NOTHING,
         }
     }
 
@@ -58,6 +63,14 @@ impl<S: Alter> Desk<S> {
         ensures { option_map (λ fault. fault.now) result ≡ self.now.last_fault }
     {
         self.last_fault.as_ref()
+    }
+
+    /// What became of the interchanges that it took last: of the one that was delivered, and of those that had waited for
+    /// it. Nothing, if it has taken none.
+    pub fn last_taken(&self) -> Tally
+        ensures { result ≡ self.now.last_taken }
+    {
+        self.last_taken
     }
 
     /// The connection to its tables.
@@ -69,6 +82,7 @@ impl<S: Alter> Desk<S> {
             setup: _,
             beside: _,
             last_fault: _,
+            last_taken: _,
         } = self;
         conn
     }
@@ -163,7 +177,14 @@ impl<S: Alter + Drop> Desk<S> {
             number,
             text,
         };
-        let taken = take_in(alloc, &mut self.conn, setup, &mut self.beside, &delivery);
+        let taken = take_in(
+            alloc,
+            &mut self.conn,
+            setup,
+            &mut self.beside,
+            &delivery,
+            &mut self.last_taken,
+        );
         match taken {
             Ok(response) => response,
             Err(fault) => {

@@ -17,16 +17,19 @@ use crate::next::take_next;
 use office_replies::Response;
 use office_setup::Setup;
 use office_tables::TableFault;
+use office_taking::Tally;
 use sqlite::{Alter, Connection};
 use std::alloc::Global;
 
-/// Answers a partner's text by what is kept, and keeps and takes it if it is new.
+/// Answers a partner's text by what is kept, and keeps and takes it if it is new. If it is taken, `last_taken` tells what
+/// became of it and of those that had waited for it.
 pub(crate) fn take_in<S: Alter>(
     alloc: Global,
     conn: &mut Connection<S>,
     setup: &Setup,
     beside: &mut Option<Beside>,
     delivery: &Delivery<'_>,
+    last_taken: &mut Tally,
 ) -> Result<Response, TableFault>
     requires idle { (state S.Store conn.old).in_transaction ≡ false }
     requires given { IsGiven (setup_content setup.now) }
@@ -45,7 +48,9 @@ pub(crate) fn take_in<S: Alter>(
             *beside = Some(there);
             Ok(answer_used(alloc, kept, next, delivery)?)
         }
-        None => take_new(alloc, conn, setup, beside, there, next, delivery),
+        None => take_new(
+            alloc, conn, setup, beside, there, next, delivery, last_taken,
+        ),
     }
 }
 
@@ -59,6 +64,7 @@ fn take_new<S: Alter>(
     there: Beside,
     next: u32,
     delivery: &Delivery<'_>,
+    last_taken: &mut Tally,
 ) -> Result<Response, TableFault>
     requires idle { (state S.Store conn.old).in_transaction ≡ false }
     requires given { IsGiven (setup_content setup.now) }
@@ -78,7 +84,7 @@ fn take_new<S: Alter>(
         *beside = Some(there);
         return take_early(alloc, conn, next, delivery);
     }
-    let (answer, now) = take_next(alloc, conn, setup, there, delivery)?;
+    let (answer, now) = take_next(alloc, conn, setup, there, delivery, last_taken)?;
     *beside = Some(now);
     Ok(answer)
 }

@@ -58,7 +58,8 @@ fn assert_streamed<R: Read, W: Write>(
     expected: (Result<Worst, StreamFault>, usize),
 ) {
     let mut desk = Logbook::new(Port::new(Vec::new(alloc)));
-    let left = run_stream(alloc, reader, writer, &mut desk, turns);
+    let mut cut = None;
+    let left = run_stream(alloc, reader, writer, &mut desk, turns, &mut cut);
     let (became, delivered) = expected;
     assert!(rt; left == became);
     let book = desk.into_pages().into_inner();
