@@ -1,6 +1,6 @@
 -- What one call does to a desk: all that is said of it, in one piece, so that whoever knows a desk by its traits alone can
 -- hand it on.
-use Rattle.std.specs.Prelude.{◌≡◌, ℕ, List, Ok, Option, Result}
+use Rattle.std.specs.Prelude.{◌≡◌, ℕ, List, Ok, Option, Result, OnOk}
 use Rattle.sqlite.specs.Held.{state}
 use Rattle.sqlite.specs.State.{HasCleanDisk}
 use Rattle.sqlite_trees.specs.declared.store.Store.{Ghosts}
@@ -29,7 +29,7 @@ use Rattle.office_desk.specs.Desks.{IsSound, StandsFor, Refuses}
 use Rattle.office_desk.specs.Kept.{AnswersOver, Office}
 use Rattle.office_desk.specs.Noting.{IsNow, NotesCause, NotesFault, NotesLook, NotesStore}
 use Rattle.office_desk.specs.Offices.{DeskHolds}
-use Rattle.office_desk.specs.Reports.{DeskTells}
+use Rattle.office_desk.specs.Reports.{DeskTells, IsOpenFor}
 use Rattle.office_desk.specs.declared.desk.Desk.{Desk}
 
 -- A text was delivered, with that response. From whatever events it is answered at its place; over any office's rows by
@@ -75,8 +75,9 @@ pub record OnlyLooks {S : Type 0} (g : Ghosts S) (old new : Desk S g) : Type 0 w
       LeavesNoMore (state g old.conn) (state g new.conn)
   pub stays : IsSound g new → IsSound g old
 
--- A report was asked for. What was found is what the rows tell; the desk only looked; and why it can't be told now: over
--- an office's rows by the store or the memory alone, or by the reply that is asked for.
+-- A report was asked for. What was found is what the rows tell; the desk only looked; why it can't be told now: over an
+-- office's rows by the store or the memory alone, or by what is asked for; and where it's told that the office can be asked,
+-- the store is open.
 pub record Looks {S : Type 0} (g : Ghosts S) (old : Desk S g) (query : Query) (found : Result (Option (List ℕ)) NotNow)
     (new : Desk S g) : Type 0 where
   pub told : IsSound g new → Tells (DeskTells g old query) found
@@ -84,6 +85,7 @@ pub record Looks {S : Type 0} (g : Ghosts S) (old : Desk S g) (query : Query) (f
   pub noted : NotesLook found old.last_fault new.last_fault
   pub cause : IsSound g new → (rows : Rows) (terminal : TerminalState) → DeskHolds g old rows terminal →
       NotesCause (AsksUnfitReply (setup_content old.setup) rows query) found new.last_fault
+  pub is_open : HasCleanDisk (state g new.conn) → OnOk found (IsOpenFor query (state g new.conn))
 
 -- ---- what follows of deliveries, one behind the other
 

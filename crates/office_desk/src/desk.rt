@@ -1,4 +1,4 @@
-ghost use Rattle.std.specs.Prelude.{◌≡◌, List, None, Some, false, IfErr, IfOk, option_map};
+ghost use Rattle.std.specs.Prelude.{◌≡◌, List, None, Some, false, IfErr, IfOk, option_map, OnOk};
 ghost use Rattle.office_replies.specs.Events.{Event};
 ghost use Rattle.office_setup.specs.Given.{IsGiven};
 ghost use Rattle.office_setup.specs.Setups.{SetupContent, setup_content};
@@ -104,7 +104,7 @@ impl<S: Alter + Drop> Desk<S> {
     ghost use Rattle.office_desk.specs.Causes.{AsksUnfitReply};
     ghost use Rattle.office_desk.specs.Desks.{IsSound, OpensAt};
     ghost use Rattle.office_desk.specs.Offices.{DeskHolds, OpensOffice, RefusesToOpen};
-    ghost use Rattle.office_desk.specs.Reports.{DeskTells};
+    ghost use Rattle.office_desk.specs.Reports.{DeskTells, IsOpenFor};
 
     /// The desk of a store that holds an office: its set-up, its terminal and its partners' numbers are those that the
     /// tables hold. If it is refused, nothing is written, and the connection is given up.
@@ -138,6 +138,8 @@ impl<S: Alter + Drop> Desk<S> {
             DeskHolds S.Store self.old rows terminal →
             IsOfStoreOr (AsksUnfitReply (setup_content self.old.setup) rows query.now) fault) }
         ensures looks { OnlyLooks S.Store self.old self.new }
+        ensures is_open { HasCleanDisk (state S.Store self.new.conn) →
+            OnOk result (IsOpenFor query.now (state S.Store self.new.conn)) }
         ensures last_fault { self.new.last_fault ≡ self.old.last_fault }
     {
         let is_idle = self.conn.is_autocommit();

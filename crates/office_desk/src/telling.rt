@@ -1,4 +1,4 @@
-ghost use Rattle.std.specs.Prelude.{◌≡◌, ◌≤◌, ◌⊎◌, IfErr, IfOk, is_some, length, string_bytes, option_map};
+ghost use Rattle.std.specs.Prelude.{◌≡◌, ◌≤◌, ◌⊎◌, IfErr, IfOk, is_some, length, string_bytes, option_map, OnOk};
 ghost use Rattle.sqlite.specs.Held.{state};
 ghost use Rattle.sqlite.specs.State.{HasCleanDisk};
 ghost use Rattle.office_rows.specs.Rows.{Rows};
@@ -15,9 +15,10 @@ ghost use Rattle.std.specs.Option.{option_and_then};
 ghost use Rattle.office_lookups.specs.Contrls.{contrl_in};
 ghost use Rattle.office_picture.specs.Picture.{IsPicture};
 ghost use Rattle.office_desk.specs.Causes.{AsksUnreadable};
-ghost use Rattle.office_desk.specs.Reports.{TellsOf, TellsReply, reply_text, ticket_told};
+ghost use Rattle.office_desk.specs.Reports.{TellsOf, TellsReply, reply_text, ticket_told, IsOpenFor};
 
-use crate::partners::tell_partners;
+use crate::partners::{tell_next, tell_partner, tell_partners};
+use crate::supervision::{tell_health, tell_metrics};
 use office_lookups::{blocks_report, container_report, contrl_in, work_report};
 use office_picture::picture;
 use office_queries::Query;
@@ -45,11 +46,14 @@ pub(crate) fn tell<S: Alter>(
     ensures fault { HasCleanDisk (state S.Store conn.new) → IfErr result (λ fault. (rows : Rows) →
         HasRows rows (state S.Store conn.old).now → IsOfStoreOr (AsksUnreadable (setup_content setup.now) rows query.now) fault) }
     ensures reads { OnlyReads (state S.Store conn.old) (state S.Store conn.new) result }
+    ensures is_open { HasCleanDisk (state S.Store conn.new) → OnOk result (IsOpenFor query.now (state S.Store conn.new)) }
 {
     match query {
         Query::Yard => Ok(Some(yard_report(alloc, terminal)?)),
         Query::YardTable => Ok(Some(yard_csv(alloc, terminal)?)),
         Query::Partners => Ok(Some(tell_partners(alloc, conn, setup.partners.as_slice())?)),
+        Query::Partner(code) => tell_partner(alloc, conn, setup, code),
+        Query::Next(code) => tell_next(alloc, conn, setup, code),
         Query::Blocks => Ok(Some(blocks_report(alloc, terminal)?)),
         Query::Picture => Ok(Some(tell_picture(alloc, setup, terminal)?)),
         Query::Visits(container) => Ok(visit_report(alloc, setup, terminal, *container)?),
@@ -68,6 +72,8 @@ pub(crate) fn tell<S: Alter>(
             Some(id) => tell_contrl(alloc, conn, id, *number),
             None => Ok(None),
         },
+        Query::Health => tell_health(alloc, conn),
+        Query::Metrics => tell_metrics(alloc, conn, setup, terminal),
     }
 }
 
