@@ -5,7 +5,7 @@ ghost use Rattle.office_http.specs.Served.{AtMost};
 ghost use Rattle.office_commands.specs.Ending.{Tells};
 ghost use Rattle.office_commands.specs.Serving.{AreServedBy, EndsServing, IsServedOver, ServesNone, listening_line, served_line};
 
-use crate::faults::Faults;
+use crate::faults::{Faults, Tallied};
 use crate::named::Named;
 use crate::noted::Noted;
 use crate::notes::Notes;
@@ -52,7 +52,7 @@ pub fn serve_over<S: Start, N: Notes, W: Write, E: Write>(
 }
 
 /// Serves what a desk over the store at a path answers, whatever desk it is, and gives it back as it was left.
-fn serve_named<D: Report + AddAccount + Faults, N: Notes, W: Write, E: Write>(
+fn serve_named<D: Report + AddAccount + Faults + Tallied, N: Notes, W: Write, E: Write>(
     rt: &HostRuntime,
     path: &str,
     desk: D,

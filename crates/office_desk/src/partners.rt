@@ -1,14 +1,16 @@
-ghost use Rattle.std.specs.Prelude.{◌≡◌, ◌≤◌, ◌++◌, [], ◌∷◌, Some, IfOk, OnOk, length, map, option_map, string_bytes};
+ghost use Rattle.std.specs.Prelude.{◌≡◌, ◌≤◌, ◌++◌, [], ◌∷◌, Some, IfErr, IfOk, OnOk, length, map, string_bytes, option_map};
 ghost use Rattle.sqlite.specs.Held.{state};
 ghost use Rattle.sqlite.specs.State.{HasCleanDisk};
 ghost use Rattle.office_rows.specs.Rows.{Rows};
 ghost use Rattle.office_rows.specs.Stored.{HasRows};
 ghost use Rattle.office_setup.specs.Limits.{most_partners};
 ghost use Rattle.office_setup.specs.Setups.{account_contents, setup_content};
+ghost use Rattle.office_tables.specs.Faults.{IsOfStoreOr};
 ghost use Rattle.office_tables.specs.Reading.{Reads};
 ghost use Rattle.office_delivery.specs.Reading.{OnlyReads};
 ghost use Rattle.office_lookups.specs.Partners.{partner_content};
-ghost use Rattle.office_desk.specs.Reports.{AreLookedUp, IsLookedUp, TellsNext, TellsPartner, TellsPartners, partner_called};
+ghost use Rattle.office_desk.specs.Causes.{LacksNumbers, LacksSome};
+ghost use Rattle.office_desk.specs.Reports.{AreLookedUp, IsLookedUp, TellsPartners, TellsNext, TellsPartner, partner_called};
 
 use office_loading::waiting_numbers;
 use office_lookups::{Partner, partner_report, partners_report};
@@ -28,6 +30,8 @@ pub(crate) fn tell_partners<S: Alter>(
     ensures told { HasCleanDisk (state S.Store conn.new) → IfOk result (λ text. (rows : Rows) →
         HasRows rows (state S.Store conn.old).now →
         TellsPartners rows (account_contents accounts.now) (Some (string_bytes text))) }
+    ensures fault { HasCleanDisk (state S.Store conn.new) → IfErr result (λ fault. (rows : Rows) →
+        HasRows rows (state S.Store conn.old).now → IsOfStoreOr (LacksSome rows (length accounts.now)) fault) }
     ensures reads { OnlyReads (state S.Store conn.old) (state S.Store conn.new) result }
 {
     let partners = look_all_up(alloc, conn, accounts)?;
@@ -44,6 +48,8 @@ pub(crate) fn look_all_up<S: Alter>(
     ensures are { HasCleanDisk (state S.Store conn.new) → IfOk result (λ partners. (rows : Rows) →
         HasRows rows (state S.Store conn.old).now →
         AreLookedUp rows 1 (account_contents accounts.now) (map partner_content partners.items)) }
+    ensures fault { HasCleanDisk (state S.Store conn.new) → IfErr result (λ fault. (rows : Rows) →
+        HasRows rows (state S.Store conn.old).now → IsOfStoreOr (LacksSome rows (length accounts.now)) fault) }
     ensures reads { OnlyReads (state S.Store conn.old) (state S.Store conn.new) result }
 {
     let mut partners = Vec::new(alloc);
@@ -109,6 +115,8 @@ fn look_up<S: Alter>(
     ensures is { HasCleanDisk (state S.Store conn.new) → IfOk result (λ partner. (rows : Rows) →
         HasRows rows (state S.Store conn.old).now →
         IsLookedUp rows id (string_bytes account.now.code, account.now.kind) (partner_content partner)) }
+    ensures fault { HasCleanDisk (state S.Store conn.new) → IfErr result (λ fault. (rows : Rows) →
+        HasRows rows (state S.Store conn.old).now → IsOfStoreOr (LacksNumbers rows id) fault) }
     ensures reads { Reads (state S.Store conn.old) (state S.Store conn.new) result }
 {
     let next = next_of(conn, id)?;
