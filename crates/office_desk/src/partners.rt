@@ -102,8 +102,8 @@ pub(crate) fn tell_next<S: Alter>(
 {
     match setup.partner_called(code) {
         Some(id) => {
-            let next = next_of(conn, id)?;
-            Ok(Some(next.to_string(alloc)?))
+            let number = next_of(conn, id)?;
+            Ok(Some(number.to_string(alloc)?))
         }
         None => Ok(None),
     }
