@@ -141,9 +141,15 @@ fn push_versions(
         "office_info",
         "Versions of the program and of its store.",
     )?;
-    text.push_str("office_info{version=\"")?;
-    text.push_str(versions.program)?;
-    text.push_str("\",store_version=\"")?;
-    text.push_str(versions.store)?;
-    text.push_str("\"} 1\n")
+    push_text(text, "office_info{version=\"")?;
+    push_text(text, versions.program)?;
+    push_text(text, "\",store_version=\"")?;
+    push_text(text, versions.store)?;
+    push_text(text, "\"} 1\n")
+}
+
+fn push_text(text: &mut String, more: &str) -> Result<(), AllocError>
+    ensures { OnOk result (string_bytes text.new ≡ string_bytes text.old ++ more.now) }
+{
+    text.push_str(more)
 }
