@@ -37,7 +37,11 @@ pub(crate) fn run<R: Read, W: Write, E: Write>(
             port,
             count,
             log,
-        } => serve(rt, store, Service { port, count }, log, writer, errors),
+            ahead,
+        } => {
+            let service = Service { port, count, ahead };
+            serve(rt, store, service, log, writer, errors)
+        }
         Request::Report { store, kind, key } => report(rt, store, kind, key, writer, errors),
         Request::Account { store, code, kind } => account(rt, store, code, kind, writer, errors),
         Request::Migrate { old, new } => migrate(rt, old, new, writer, errors),

@@ -1,14 +1,14 @@
 ghost use Rattle.std.specs.Prelude.{◌≡◌, IfOk, true, false};
 ghost use Rattle.clap.specs.Words.{app_of, rule_of};
 ghost use Rattle.clap.specs.declared.builder.command.Command.TheViews.{out-Command};
-ghost use Rattle.office_command_line.specs.Commands.{word, word_if_any, flag, init_app, deliver_app, serve_app, report_app, account_app, migrate_app, demo_app};
+ghost use Rattle.office_command_line.specs.Commands.{word, word_if_any, flag, valued, init_app, deliver_app, serve_app, report_app, account_app, migrate_app, demo_app};
 
 use clap::{Arg, ArgAction, Command};
 use std::alloc::{AllocError, Global};
 
 /// The kinds of reports. Those from `container` on want a key.
 pub const REPORT_KINDS: &str =
-    "yard, yardcsv, picture, blocks, partners, container, visits, list, work, ticket, reply or contrl";
+    "yard, yardcsv, picture, blocks, partners, metrics, container, visits, list, work, ticket, reply, contrl or partner";
 
 /// `init DB PARTNERS BLOCKS`
 pub(crate) fn init_command<'a>(alloc: Global) -> Result<Command<'a>, AllocError>
@@ -50,7 +50,7 @@ pub(crate) fn deliver_command<'a>(alloc: Global) -> Result<Command<'a>, AllocErr
     Ok(deliver)
 }
 
-/// `serve DB PORT COUNT [--log]`
+/// `serve DB PORT COUNT [--log] [--ahead N]`
 pub(crate) fn serve_command<'a>(alloc: Global) -> Result<Command<'a>, AllocError>
     ensures app { IfOk result (λ command. app_of command ≡ serve_app) }
     ensures local { IfOk result (λ command. (out-Command command).has_globals ≡ false) }
@@ -67,13 +67,20 @@ pub(crate) fn serve_command<'a>(alloc: Global) -> Result<Command<'a>, AllocError
         "log",
         "Write a line for each request to standard error, even if that is no terminal",
     );
+    let ahead = valued(
+        alloc,
+        "ahead",
+        "N",
+        "Refuse a partner's number above its next one and N, by the path of that partner",
+    );
     let serve = Command::new(alloc, "serve")
         .about("Serve connections over HTTP, one after the other")
         .after_help("Example: office serve office.db 8080 1000")
         .arg(store)?
         .arg(port)?
         .arg(count)?
-        .arg(log)?;
+        .arg(log)?
+        .arg(ahead)?;
     Ok(serve)
 }
 
@@ -84,7 +91,11 @@ pub(crate) fn report_command<'a>(alloc: Global) -> Result<Command<'a>, AllocErro
 {
     let store = word(alloc, "DB", "The store");
     let kind = word(alloc, "KIND", REPORT_KINDS);
-    let key = word_if_any(alloc, "KEY", "BOX, VESSEL/VOYAGE/SIDE or PARTNER/NUMBER");
+    let key = word_if_any(
+        alloc,
+        "KEY",
+        "BOX, VESSEL/VOYAGE/SIDE, PARTNER/NUMBER or PARTNER",
+    );
     let report = Command::new(alloc, "report")
         .about("Print a report; KEY is required from `container` on")
         .after_help("Example: office report office.db visits ABCU0000017")
@@ -161,6 +172,18 @@ fn word_if_any<'a>(alloc: Global, id: &'a str, help: &'a str) -> Arg<'a>
     ensures local { result.global ≡ false }
 {
     Arg::new(alloc, id).action(ArgAction::Set).help(help)
+}
+
+/// An option with a value, which may be left out.
+fn valued<'a>(alloc: Global, name: &'a str, value: &'a str, help: &'a str) -> Arg<'a>
+    ensures rule { rule_of result ≡ valued name.entry.now }
+    ensures local { result.global ≡ false }
+{
+    Arg::new(alloc, name)
+        .long(name)
+        .action(ArgAction::Set)
+        .value_name(value)
+        .help(help)
 }
 
 /// An option without a value.

@@ -1,4 +1,4 @@
-ghost use Rattle.std.specs.Prelude.{◌≡◌, List, None, Some, false, IfOk, option_map};
+ghost use Rattle.std.specs.Prelude.{◌≡◌, List, None, Some, false, IfErr, IfOk, option_map, OnOk};
 ghost use Rattle.office_replies.specs.Events.{Event};
 ghost use Rattle.office_setup.specs.Given.{IsGiven};
 ghost use Rattle.office_setup.specs.Setups.{SetupContent, setup_content};
@@ -8,7 +8,7 @@ use crate::adding::add_new;
 use crate::beside::Beside;
 use crate::delivery::Delivery;
 use crate::judging::{asked, judge_account};
-use crate::noting::note_memory;
+use crate::noting::{note_memory, noted};
 use crate::reloading::{beside_of, load_beside};
 use crate::taking::take_in;
 use crate::telling::tell;
@@ -98,14 +98,19 @@ impl<S: Alter + Drop> Desk<S> {
     ghost use Rattle.office_rows.specs.Stored.{HasRows};
     ghost use Rattle.office_rows.specs.Tables.{office_schema};
     ghost use Rattle.office_history.specs.After.{AreAfter};
+    ghost use Rattle.office_tables.specs.Faults.{IsOfStoreOr};
+    ghost use Rattle.terminal_core.specs.State.{TerminalState};
     ghost use Rattle.office_desk.specs.Calls.{Enrols, Leads, Looks, OnlyLooks};
+    ghost use Rattle.office_desk.specs.Causes.{AsksUnfitReply};
     ghost use Rattle.office_desk.specs.Desks.{IsSound, OpensAt};
-    ghost use Rattle.office_desk.specs.Offices.{OpensOffice};
-    ghost use Rattle.office_desk.specs.Reports.{DeskTells};
+    ghost use Rattle.office_desk.specs.Offices.{DeskHolds, OpensOffice, RefusesToOpen};
+    ghost use Rattle.office_desk.specs.Reports.{DeskTells, IsOpenFor};
 
     /// The desk of a store that holds an office: its set-up, its terminal and its partners' numbers are those that the
-    /// tables hold. If it is refused, the connection is given up: `load_beside`, which it calls, says why, and that nothing is
-    /// written.
+    /// tables hold. If it is refused, nothing is written, and the connection is given up.
+    ///
+    /// Version if no setting names this version; Damaged if the rows are those of no office; Store and Memory say
+    /// nothing of the rows.
     pub fn open(alloc: Global, conn: Connection<S>) -> Result<Desk<S>, TableFault>
         requires idle { conn.in_transaction ≡ false }
         ensures opens { IfOk result
@@ -116,6 +121,7 @@ impl<S: Alter + Drop> Desk<S> {
             (λ desk. IsSound S.Store desk → (state S.Store conn).committed.schema ≡ office_schema →
             OpensOffice S.Store (state S.Store conn) desk) }
         ensures stays { IfOk result (λ desk. IsSound S.Store desk → HasCleanDisk (state S.Store conn)) }
+        ensures refused { IfErr result (RefusesToOpen S.Store (state S.Store conn)) }
     {
         let mut conn = conn;
         let is_idle = conn.is_autocommit();
@@ -128,7 +134,12 @@ impl<S: Alter + Drop> Desk<S> {
     pub fn told(&mut self, alloc: Global, query: &Query) -> Result<Option<String>, TableFault>
         ensures told { IsSound S.Store self.new →
             IfOk result (λ found. DeskTells S.Store self.old query.now (option_map string_bytes found)) }
+        ensures fault { IsSound S.Store self.new → IfErr result (λ fault. (rows : Rows) (terminal : TerminalState) →
+            DeskHolds S.Store self.old rows terminal →
+            IsOfStoreOr (AsksUnfitReply (setup_content self.old.setup) rows query.now) fault) }
         ensures looks { OnlyLooks S.Store self.old self.new }
+        ensures is_open { HasCleanDisk (state S.Store self.new.conn) →
+            OnOk result (IsOpenFor query.now (state S.Store self.new.conn)) }
         ensures last_fault { self.new.last_fault ≡ self.old.last_fault }
     {
         let is_idle = self.conn.is_autocommit();
@@ -144,13 +155,8 @@ impl<S: Alter + Drop> Desk<S> {
         ensures looks { Looks S.Store self.old query.now
             (result_map_both (option_map string_bytes) (λ refusal. refusal) result) self.new }
     {
-        match self.told(alloc, query) {
-            Ok(found) => Ok(found),
-            Err(fault) => {
-                self.last_fault = Some(fault);
-                Err(NotNow)
-            }
-        }
+        let told = self.told(alloc, query);
+        noted(&mut self.last_fault, told)
     }
 
     /// Delivers a text, and answers it. A refusal without a CONTRL takes no memory and no store, so it is never answered NotNow.
@@ -185,12 +191,9 @@ impl<S: Alter + Drop> Desk<S> {
             &delivery,
             &mut self.last_taken,
         );
-        match taken {
+        match noted(&mut self.last_fault, taken) {
             Ok(response) => response,
-            Err(fault) => {
-                self.last_fault = Some(fault);
-                Response::NotNow
-            }
+            Err(NotNow) => Response::NotNow,
         }
     }
 
@@ -222,12 +225,9 @@ impl<S: Alter + Drop> Desk<S> {
                     code,
                     kind,
                 );
-                match added {
+                match noted(&mut self.last_fault, added) {
                     Ok(body) => AccountAnswer::Added { id, body },
-                    Err(fault) => {
-                        self.last_fault = Some(fault);
-                        AccountAnswer::NotNow
-                    }
+                    Err(NotNow) => AccountAnswer::NotNow,
                 }
             }
         }

@@ -1,4 +1,4 @@
-ghost use Rattle.std.specs.Prelude.{◌≡◌, ◌≤◌, false, length, IfOk};
+ghost use Rattle.std.specs.Prelude.{◌≡◌, ◌≤◌, false, length, IfOk, IsTrue, OnOk};
 ghost use Rattle.office_setup.specs.Limits.{most_partners};
 ghost use Rattle.sqlite.specs.Held.{state};
 ghost use Rattle.sqlite.specs.State.{HasCleanDisk};
@@ -33,6 +33,7 @@ pub(crate) fn take_next<S: Alter>(
     requires known { delivery.now.admitted.partner ≤ length beside.nexts.items }
     ensures ends { EndsIdle (state S.Store conn.old) (state S.Store conn.new) }
     ensures now { IfOk result (λ taken. IsNow taken.0) }
+    ensures is_open { HasCleanDisk (state S.Store conn.new) → OnOk result (IsTrue (state S.Store conn.new).is_open) }
     ensures takes { HasCleanDisk (state S.Store conn.new) →
         TakesRun (delivery_of delivery.now) delivery.now.code.now setup.now beside (state S.Store conn.old) result
         (state S.Store conn.new) }

@@ -1,5 +1,6 @@
-ghost use Rattle.std.specs.Prelude.{◌≡◌, None, Some, false, IfOk};
+ghost use Rattle.std.specs.Prelude.{◌≡◌, None, Some, false, IfOk, IsTrue, OnOk};
 ghost use Rattle.sqlite.specs.Held.{state};
+ghost use Rattle.sqlite.specs.State.{HasCleanDisk};
 ghost use Rattle.partner_core.specs.Numbered.{with_number};
 ghost use Rattle.office_setup.specs.Given.{IsGiven};
 ghost use Rattle.office_setup.specs.Setups.{setup_content};
@@ -36,6 +37,7 @@ pub(crate) fn take_in<S: Alter>(
     requires delivered { IsDelivered setup.now delivery.now }
     ensures ends { EndsIdle (state S.Store conn.old) (state S.Store conn.new) }
     ensures now { IfOk result IsNow }
+    ensures is_open { HasCleanDisk (state S.Store conn.new) → OnOk result (IsTrue (state S.Store conn.new).is_open) }
     ensures takes { TakesDelivery (setup_content setup.now) (delivery_of delivery.now) delivery.now.code.now
         (state S.Store conn.old) beside.old result (state S.Store conn.new) beside.new }
 {
@@ -73,6 +75,7 @@ fn take_new<S: Alter>(
     requires out { beside.old ≡ None }
     ensures ends { EndsIdle (state S.Store conn.old) (state S.Store conn.new) }
     ensures now { IfOk result IsNow }
+    ensures is_open { HasCleanDisk (state S.Store conn.new) → OnOk result (IsTrue (state S.Store conn.new).is_open) }
     ensures takes { IsNew (delivery_of delivery.now) (state S.Store conn.old) →
         TakesDelivery (setup_content setup.now) (delivery_of delivery.now) delivery.now.code.now
         (state S.Store conn.old) (Some there) result (state S.Store conn.new) beside.new }
