@@ -167,9 +167,8 @@ class Beside:
             model, stored = Counter(wanted.get(table, [])), Counter(got.get(table, []))
             self.expect('table ' + table, name, sorted(model - stored), sorted(stored - model))
 
-    def serve(self, name, program, office, requests):
+    def serve(self, name, program, office, requests, ahead=None):
         """Requests by HTTP, each with the response that it should have."""
-        ahead = random.Random(name).choice(BOUNDS)
         responses = [(request, response(office, request, ahead)) for request in requests]
         program.serve(responses, partial(self.served, name), ahead=ahead)
 
@@ -229,7 +228,7 @@ def try_list(beside, seed, requests):
             beside.report(name, program, office, kind, key)
         beside.rows(name, program, office)
         if requests:
-            beside.serve(name, program, office, random_requests(chance, day, office, requests))
+            beside.serve(name, program, office, random_requests(chance, day, office, requests), chance.choice(BOUNDS))
             beside.rows(name, program, office)
 
 
