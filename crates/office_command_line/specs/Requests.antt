@@ -62,6 +62,7 @@ kind_said word =
     else if bytes_eq word (codes "contrl") then Some Contrl
     else if bytes_eq word (codes "picture") then Some Picture
     else if bytes_eq word (codes "partner") then Some Partner
+    else if bytes_eq word (codes "health") then Some Health
     else if bytes_eq word (codes "metrics") then Some Metrics
     else None
 

@@ -8,7 +8,7 @@ use std::alloc::{AllocError, Global};
 
 /// The kinds of reports. Those from `container` on want a key.
 pub const REPORT_KINDS: &str =
-    "yard, yardcsv, picture, blocks, partners, metrics, container, visits, list, work, ticket, reply, contrl or partner";
+    "yard, yardcsv, picture, blocks, partners, health, metrics, container, visits, list, work, ticket, reply, contrl or partner";
 
 /// `init DB PARTNERS BLOCKS`
 pub(crate) fn init_command<'a>(alloc: Global) -> Result<Command<'a>, AllocError>

@@ -182,6 +182,7 @@ fn kind_of(word: &str) -> Option<ReportKind>
         "contrl" => Some(ReportKind::Contrl),
         "picture" => Some(ReportKind::Picture),
         "partner" => Some(ReportKind::Partner),
+        "health" => Some(ReportKind::Health),
         "metrics" => Some(ReportKind::Metrics),
         _ => None,
     }

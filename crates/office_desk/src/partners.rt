@@ -76,12 +76,14 @@ pub(crate) fn tell_partner<S: Alter>(
         (option_map string_bytes found)) }
     ensures reads { OnlyReads (state S.Store conn.old) (state S.Store conn.new) result }
 {
-    let Some(id) = setup.partner_called(code) else {
-        return Ok(None);
-    };
     let accounts = setup.partners.as_slice();
-    let partner = look_up(alloc, conn, id, &accounts[usize::from(id) - 1])?;
-    Ok(Some(partner_report(alloc, &partner)?))
+    match setup.partners.index_called(code) {
+        Some(index) => {
+            let partner = look_up(alloc, conn, index as u16 + 1, &accounts[index])?;
+            Ok(Some(partner_report(alloc, &partner)?))
+        }
+        None => Ok(None),
+    }
 }
 
 /// The number that the next interchange of the partner of that code has, in digits, if it has an account. It changes
@@ -98,11 +100,13 @@ pub(crate) fn tell_next<S: Alter>(
         TellsNext rows (partner_called (setup_content setup.now) code.now) (option_map string_bytes found)) }
     ensures reads { OnlyReads (state S.Store conn.old) (state S.Store conn.new) result }
 {
-    let Some(id) = setup.partner_called(code) else {
-        return Ok(None);
-    };
-    let next = next_of(conn, id)?;
-    Ok(Some(next.to_string(alloc)?))
+    match setup.partner_called(code) {
+        Some(id) => {
+            let number = next_of(conn, id)?;
+            Ok(Some(number.to_string(alloc)?))
+        }
+        None => Ok(None),
+    }
 }
 
 /// The partner that has an account under this id.

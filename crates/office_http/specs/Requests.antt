@@ -5,7 +5,7 @@ use Rattle.httparse.specs.Grammar.{RequestHead}
 use Rattle.httparse.specs.Spans.{name_and_value}
 use Rattle.edi_segments.specs.Interchange.{interchange_of}
 use Rattle.office_queries.specs.AccountKeys.{account_in, account_named, sender_in}
-use Rattle.office_queries.specs.Keys.{Asked, next, query_asked, query_of}
+use Rattle.office_queries.specs.Keys.{Asked, next_number, query_asked, query_of}
 use Rattle.office_queries.specs.declared.report_kind.ReportKind.{ReportKind}
 use Rattle.office_http.specs.Heads.{IsHead, HasNoHead}
 use Rattle.office_http.specs.Routes.{endpoint_of, path_of, key_in, partner_key_in}
@@ -30,7 +30,7 @@ IsDelivery text other = ⊥
 -- it asks that the text is delivered, by the partner of that code and under that number
 abbrev pub IsOwnDelivery : (code : List ℕ) → (number : ℕ) → (text : List ℕ) → Request → Type 0
 IsOwnDelivery code number text (OwnDelivery own) =
-    (query_asked own.next ≡ next code) × (own.number ≡ number) × (own.text.items ≡ text)
+    (query_asked own.next ≡ next_number code) × (own.number ≡ number) × (own.text.items ≡ text)
 IsOwnDelivery code number text other = ⊥
 
 -- it asks that the account of that code and kind is added

@@ -82,8 +82,11 @@ abbrev pub refusal_bytes : Refusal → List ℕ
 refusal_bytes refusal = response_bytes (refusal_status refusal) Json (allowed_method refusal) (refusal_body refusal)
 
 -- a number that is too far above the next one, which is told
+abbrev pub early_front : List ℕ
+early_front = codes "{\"answer\":\"refused\",\"fault\":\"TooEarly\",\"next\":"
+
 abbrev pub early_body : (next : ℕ) → List ℕ
-early_body next = codes "{\"answer\":\"refused\",\"fault\":\"TooEarly\",\"next\":" ++ (decimal next ++ codes "}")
+early_body next = early_front ++ (decimal next ++ codes "}")
 
 abbrev pub early_bytes : (next : ℕ) → List ℕ
 early_bytes next = response_bytes 429 Json None (early_body next)

@@ -3,7 +3,7 @@ ghost use Rattle.http.specs.StatusCode.{reason_phrase};
 ghost use Rattle.office_replies.specs.AccountAnswers.{account_body, account_status};
 ghost use Rattle.office_replies.specs.Responses.{body_of, status_of};
 ghost use Rattle.office_http.specs.Ports.{Puts};
-ghost use Rattle.office_http.specs.Responses.{allow_line, close_lines, early_bytes, field_line, refusal_bytes};
+ghost use Rattle.office_http.specs.Responses.{allow_line, close_lines, early_bytes, early_front, field_line, refusal_bytes};
 ghost use Rattle.office_http.specs.Responses.{response_bytes, response_head, retry_line, status_line};
 ghost use Rattle.office_http.specs.declared.content_type.ContentType.TheVariants.{Json};
 
@@ -13,9 +13,6 @@ use http::{Method, StatusCode};
 use office_replies::{AccountAnswer, Response};
 use office_stream::Port;
 use std::io::{Result, Write};
-
-/// What stands before the next number in the body of a text that comes too early.
-const EARLY: &str = "{\"answer\":\"refused\",\"fault\":\"TooEarly\",\"next\":";
 
 /// Writes a response with that body.
 pub(crate) fn write_text<W: Write>(
@@ -53,12 +50,20 @@ pub(crate) fn write_early<W: Write>(port: &mut Port<W>, next: u64) -> Result<()>
         (W.contents port.old.inner) (W.contents port.new.inner) port.old port.new result }
 {
     let mut digits = itoa::Buffer::new();
+    let front = early_front();
     let next = digits.format(next);
-    let size = EARLY.len() as u128 + next.len() as u128 + 1;
+    let size = front.len() as u128 + next.len() as u128 + 1;
     write_head(port, StatusCode::TOO_MANY_REQUESTS, ContentType::Json, None, size)?;
-    port.write_all(EARLY.as_bytes())?;
+    port.write_all(front.as_bytes())?;
     port.write_all(next.as_bytes())?;
     port.write_all(b"}")
+}
+
+/// The body of a text that comes too early, up to the next number.
+fn early_front() -> &'static str
+    ensures { result.now ≡ early_front }
+{
+    "{\"answer\":\"refused\",\"fault\":\"TooEarly\",\"next\":"
 }
 
 /// Writes the response of a delivery.

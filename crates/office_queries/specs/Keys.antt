@@ -23,7 +23,7 @@ pub data Asked : Type 0 where
   visits container : BoxNumber → Asked
   list work : List ℕ → List ℕ → Side → Asked
   ticket reply contrl : List ℕ → ℕ → Asked
-  partner next : List ℕ → Asked
+  one_partner next_number : List ℕ → Asked
 
 abbrev pub query_asked : Query → Asked
 query_asked query.Yard = yard
@@ -38,8 +38,8 @@ query_asked query.Partners = partners
 query_asked query.Blocks = blocks
 query_asked (query.Contrl partner number) = contrl (string_bytes partner) number
 query_asked query.Picture = picture
-query_asked (query.Partner code) = partner (string_bytes code)
-query_asked (query.Next code) = next (string_bytes code)
+query_asked (query.Partner code) = one_partner (string_bytes code)
+query_asked (query.Next code) = next_number (string_bytes code)
 query_asked query.Health = health
 query_asked query.Metrics = metrics
 
@@ -148,6 +148,6 @@ query_of kind.Partners key = if_empty key partners
 query_of kind.Blocks key = if_empty key blocks
 query_of kind.Contrl key = option_map (λ of. contrl of.0 of.1) (interchange_of key)
 query_of kind.Picture key = if_empty key picture
-query_of kind.Partner key = option_map partner (partner_of key)
+query_of kind.Partner key = option_map one_partner (partner_of key)
 query_of kind.Health key = if_empty key health
 query_of kind.Metrics key = if_empty key metrics

@@ -36,7 +36,7 @@ returns-in-Ok-clause-version g c clean tree has = c.in_ok-tables.ensures.version
 
 pub returns-in-Err-clause-version : goal.returns-in-Err-clause-version
 returns-in-Err-clause-version g c clean tree has =
-    rw c.fault_of_restoring.ensures (fault_tells _ _ (fault_of_restoring c.in-Err.fault) (c.in_ok-tables.ensures.version clean tree has) (restoring_tells c.in-Err.fault))
+    rw c.fault_of_restoring.ensures (fault_tells (Unit {0}) _ (fault_of_restoring c.in-Err.fault) (c.in_ok-tables.ensures.version clean tree has) (restoring_tells c.in-Err.fault))
 
 pub returns-in-Ok-clause-missing : goal.returns-in-Ok-clause-missing
 returns-in-Ok-clause-missing g c clean none = absurd (c.in_ok-tables.ensures.missing clean none)
