@@ -4,3 +4,4 @@ pub mod Cutting
 pub mod PieceLemmas
 pub mod StreamLemmas
 pub mod OneCut
+pub mod PlaceLemmas
