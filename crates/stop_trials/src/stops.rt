@@ -2,43 +2,45 @@
 //! crash may leave of both then is opened again: it has the rows from before the request that was stopped, or those after
 //! it, and all requests, sent again from the first, lead to the same end.
 
+mod expected;
 mod files;
 mod office;
 mod old_store;
-mod trial;
 mod trial_file;
-mod worked;
+mod worked_rows;
 
-use crate::stops::files::{Held, Left, NO_STOP, Side, Stop, files, forms, left_of, stop_after};
-use crate::stops::office::{Run, made, reopened, run};
-use crate::stops::trial::{Counts, NONE, Trial, assert_both, count, trial};
-use crate::stops::worked::{ADDING, LOADING, WAITING, Worked};
+use crate::stops::expected::{Counts, NO_COUNTS, Trial, assert_both, count, trial_of};
+use crate::stops::files::{
+    Held, Left, NO_STOP, Stop, StoreFile, files_with, forms, left_of, stop_after,
+};
+use crate::stops::office::{Progress, made, reopened, send};
+use crate::stops::worked_rows::{ADDING, LOADING, WAITING, Worked};
 use std::alloc::Global;
 use std::process::Abort;
 use std::test::Fail;
 
-/// More calls of a file than any run makes.
+/// More calls of a file than any office here makes.
 pub(crate) const MOST_CALLS: u64 = 1000;
 
-/// Each reading of a crash, and each file that stops under it.
-pub(crate) const CASES: [(bool, Side); 4] = [
-    (false, Side::Log),
-    (false, Side::Database),
-    (true, Side::Log),
-    (true, Side::Database),
+/// Each reading of a crash, with each file that stops under it.
+pub(crate) const CASES: [(bool, StoreFile); 4] = [
+    (false, StoreFile::Log),
+    (false, StoreFile::Database),
+    (true, StoreFile::Log),
+    (true, StoreFile::Database),
 ];
 
-/// What files hold as a run begins, and the stage of which they have the rows.
+/// What files hold, and the stage of the worked row of which they have the rows.
 #[derive(Drop)]
 struct Start {
     held: Held,
     stage: usize,
 }
 
-/// The calls at which a file stops, one a run: each so many calls behind the one before.
+/// The calls at which a file stops, one after the other: the first, and each so many further on.
 #[derive(Clone, Copy)]
 struct Stops {
-    side: Side,
+    file: StoreFile,
     first: u64,
     step: u64,
 }
@@ -50,7 +52,7 @@ pub(crate) fn assert_end(
     trial: &Trial,
     held: &Held,
 ) -> Result<String, Fail> {
-    let files = files(alloc, held, NO_STOP)?;
+    let files = files_with(alloc, held, NO_STOP)?;
     let worked = trial.worked;
     let opened = reopened(alloc, files, worked.requests).ok_or("an office")?;
     assert!(rt; opened.answered == worked.requests.len());
@@ -60,7 +62,7 @@ pub(crate) fn assert_end(
     Ok(opened.first.ok_or("rows")?)
 }
 
-/// Counts an opening, which has the rows of one of two stages.
+/// Counts what was opened with the rows of one of two stages.
 fn count_rows(
     rt: &impl Abort,
     trial: &Trial,
@@ -74,18 +76,19 @@ fn count_rows(
     count(rt, counts, is_before, is_after);
 }
 
-/// What a run has left, and the stages of which it has the rows; none, if the desk could not be opened.
-fn left_by_run(
+/// Sends all requests to an office whose files stop so: what is left of them, and the stages of which one has its rows. None,
+/// if the desk could not be opened.
+fn left_after(
     alloc: Global,
     trial: &Trial,
     start: &Start,
     stop: Stop,
 ) -> Result<Option<(Left, [usize; 2])>, Fail> {
-    let files = files(alloc, &start.held, stop)?;
-    let (stages, files) = match run(alloc, files, trial.worked.requests) {
-        Run::Unopened(files) => ([start.stage; 2], files),
-        Run::Unloaded => return Ok(None),
-        Run::Answered(answered, files) => {
+    let files = files_with(alloc, &start.held, stop)?;
+    let (stages, files) = match send(alloc, files, trial.worked.requests) {
+        Progress::Unopened(files) => ([start.stage; 2], files),
+        Progress::Unloaded => return Ok(None),
+        Progress::Answered(answered, files) => {
             let next = answered.saturating_add(1);
             ([answered.max(start.stage), next.max(start.stage)], files)
         }
@@ -93,9 +96,9 @@ fn left_by_run(
     Ok(Some((left_of(alloc, files)?, stages)))
 }
 
-/// Sends all requests to the office over files that stop so. Whatever a crash leaves of them is opened again. Whether none
-/// of them has stopped.
-fn assert_run(
+/// Sends all requests to an office whose files stop so, and opens again whatever a crash leaves of them. Whether neither
+/// has stopped.
+fn assert_stop(
     rt: &impl Abort,
     alloc: Global,
     trial: &Trial,
@@ -103,7 +106,7 @@ fn assert_run(
     stop: Stop,
     counts: &mut Counts,
 ) -> Result<bool, Fail> {
-    let Some((left, stages)) = left_by_run(alloc, trial, start, stop)? else {
+    let Some((left, stages)) = left_after(alloc, trial, start, stop)? else {
         return Ok(false);
     };
     for form in forms(alloc, &left)?.as_slice() {
@@ -113,8 +116,8 @@ fn assert_run(
     Ok(left.is_whole)
 }
 
-/// Stops a file in each of these runs, until it doesn't stop.
-fn assert_stops(
+/// The same for each of these calls, until the file doesn't stop.
+fn assert_each_stop(
     rt: &impl Abort,
     alloc: Global,
     trial: &Trial,
@@ -124,27 +127,27 @@ fn assert_stops(
 ) -> Result<(), Fail> {
     for turn in 0..MOST_CALLS {
         let calls = stops.first.saturating_add(stops.step.saturating_mul(turn));
-        let stop = stop_after(stops.side, calls);
-        if assert_run(rt, alloc, trial, start, stop, counts)? {
+        let stop = stop_after(stops.file, calls);
+        if assert_stop(rt, alloc, trial, start, stop, counts)? {
             return Ok(());
         }
     }
-    Err(Fail::from("each run stops"))
+    Err(Fail::from("it stops at each call"))
 }
 
 /// Stops either file of a new office at each call, under both readings of a crash.
 fn assert_row(rt: &impl Abort, alloc: Global, worked: Worked) -> Result<(), Fail> {
-    let trial = trial(alloc, worked)?;
-    let mut counts = NONE;
-    for (mixes, side) in CASES {
+    let trial = trial_of(alloc, worked)?;
+    let mut counts = NO_COUNTS;
+    for (mixes, file) in CASES {
         let held = made(rt, alloc, mixes)?;
         let start = Start { held, stage: 0 };
         let stops = Stops {
-            side,
+            file,
             first: 0,
             step: 1,
         };
-        assert_stops(rt, alloc, &trial, &start, stops, &mut counts)?;
+        assert_each_stop(rt, alloc, &trial, &start, stops, &mut counts)?;
     }
     assert_both(rt, counts);
     Ok(())
@@ -161,43 +164,43 @@ fn stage_of(rt: &impl Abort, alloc: Global, trial: &Trial, held: &Held) -> Resul
     Err(Fail::from("rows of no stage"))
 }
 
-/// How many calls apart a second stop is from the next.
+/// How many calls lie between two second stops.
 const STEP: u64 = 23;
 
-/// Stops a file of the office that goes on from what a first stop has left, which came after so many calls.
+/// Stops a file of an office that goes on from what a first stop has left, which came after so many calls.
 fn assert_second_stops(
     rt: &impl Abort,
     alloc: Global,
     trial: &Trial,
     held: Held,
-    stopped: (Side, u64),
+    second: (StoreFile, u64),
     counts: &mut Counts,
 ) -> Result<(), Fail> {
-    let (side, calls) = stopped;
+    let (file, calls) = second;
     let stage = stage_of(rt, alloc, trial, &held)?;
     let start = Start { held, stage };
     let stops = Stops {
-        side,
+        file,
         first: calls % STEP,
         step: STEP,
     };
-    assert_stops(rt, alloc, trial, &start, stops, counts)
+    assert_each_stop(rt, alloc, trial, &start, stops, counts)
 }
 
-/// Stops one file at each call in turn, as the program reads a crash, and then one a second time.
+/// Stops one file of a new office at each call, and then one a second time, as the program reads a crash.
 fn assert_twice(
     rt: &impl Abort,
     alloc: Global,
     trial: &Trial,
-    sides: [Side; 2],
+    stopped: [StoreFile; 2],
     counts: &mut Counts,
 ) -> Result<(), Fail> {
-    let [first, second] = sides;
+    let [first, second] = stopped;
     let held = made(rt, alloc, true)?;
     let start = Start { held, stage: 0 };
     for calls in 0..MOST_CALLS {
         let stop = stop_after(first, calls);
-        let Some((left, _)) = left_by_run(alloc, trial, &start, stop)? else {
+        let Some((left, _)) = left_after(alloc, trial, &start, stop)? else {
             continue;
         };
         let is_whole = left.is_whole;
@@ -207,7 +210,7 @@ fn assert_twice(
             return Ok(());
         }
     }
-    Err(Fail::from("each run stops"))
+    Err(Fail::from("it stops at each call"))
 }
 
 #[test]
@@ -225,16 +228,19 @@ fn a_stop_leaves_an_account_whole_or_not_at_all(rt: HostRuntime) -> Result<(), F
     assert_row(&rt, rt.alloc(), ADDING)
 }
 
+/// Which file stops first, and which then.
+const PAIRS: [[StoreFile; 2]; 3] = [
+    [StoreFile::Log, StoreFile::Log],
+    [StoreFile::Log, StoreFile::Database],
+    [StoreFile::Database, StoreFile::Log],
+];
+
 #[test]
 fn a_second_stop_leaves_it_whole_or_not_at_all(rt: HostRuntime) -> Result<(), Fail> {
-    let trial = trial(rt.alloc(), WAITING)?;
-    let mut counts = NONE;
-    for sides in [
-        [Side::Log, Side::Log],
-        [Side::Log, Side::Database],
-        [Side::Database, Side::Log],
-    ] {
-        assert_twice(&rt, rt.alloc(), &trial, sides, &mut counts)?;
+    let trial = trial_of(rt.alloc(), WAITING)?;
+    let mut counts = NO_COUNTS;
+    for stopped in PAIRS {
+        assert_twice(&rt, rt.alloc(), &trial, stopped, &mut counts)?;
     }
     assert_both(&rt, counts);
     Ok(())

@@ -15,34 +15,34 @@ pub(crate) struct Held {
     pub(crate) db: Vec<u8>,
 }
 
-/// One of the two files.
+/// One of the two files of a store.
 #[derive(Clone, Copy)]
-pub(crate) enum Side {
+pub(crate) enum StoreFile {
     Log,
     Database,
 }
 
-/// How many calls each of the two files passes on. From then on each call of it fails, and changes nothing.
+/// How many calls each of the two files passes on. After them each call of it fails, and changes nothing.
 #[derive(Clone, Copy)]
 pub(crate) struct Stop {
     log: u64,
     db: u64,
 }
 
-/// More calls than any run makes.
+/// More calls than any office makes.
 pub(crate) const NO_STOP: Stop = Stop {
     log: u64::MAX,
     db: u64::MAX,
 };
 
 /// One file stops after so many calls, and the other goes on.
-pub(crate) fn stop_after(side: Side, calls: u64) -> Stop {
-    match side {
-        Side::Log => Stop {
+pub(crate) fn stop_after(file: StoreFile, calls: u64) -> Stop {
+    match file {
+        StoreFile::Log => Stop {
             log: calls,
             db: u64::MAX,
         },
-        Side::Database => Stop {
+        StoreFile::Database => Stop {
             log: u64::MAX,
             db: calls,
         },
@@ -58,7 +58,7 @@ fn file(alloc: Global, mixes: bool, bytes: &[u8], calls: u64) -> Result<Fuse<Tri
 }
 
 /// Files that hold this, and stop so.
-pub(crate) fn files(
+pub(crate) fn files_with(
     alloc: Global,
     held: &Held,
     stop: Stop,
@@ -131,7 +131,7 @@ enum Form {
     Garbage,
 }
 
-const FORMS: [Form; 7] = [
+const ALL_FORMS: [Form; 7] = [
     Form::Read,
     Form::Synced,
     Form::Cut,
@@ -178,7 +178,11 @@ fn push_forms(
 
 /// The forms of a file that reads so, and of which that was synced: one, if all of it was.
 fn forms_of(read: &[u8], synced: &[u8]) -> &'static [Form] {
-    if read == synced { &FORMS[..1] } else { &FORMS }
+    if read == synced {
+        &ALL_FORMS[..1]
+    } else {
+        &ALL_FORMS
+    }
 }
 
 /// The bytes in a form. Where both differ something was written since the sync, and any bytes may be there; if a crash

@@ -3,8 +3,8 @@
 
 ghost use Rattle.std.specs.Prelude.{◌≡◌, ◌≤◌, false, IfOk, length, string_bytes};
 
-use crate::stops::files::{Held, NO_STOP, empty, files, left_of};
-use crate::stops::worked::Request;
+use crate::stops::files::{Held, NO_STOP, empty, files_with, left_of};
+use crate::stops::worked_rows::Request;
 use edi_messages::{CodeTable, PartnerKind};
 use office_desk::Desk;
 use office_queries::{ReportKind, read_query};
@@ -19,7 +19,7 @@ use std::test::Fail;
 use yard_core::Block;
 
 /// The rows of the tables that requests change, one text each: the table and the columns, with `|` between them.
-const ROWS: &str =
+const CHANGING_ROWS: &str =
     "SELECT 'partner|' || id || '|' || code || '|' || kind || '|' || next FROM partner
     UNION ALL SELECT 'interchange|' || partner || '|' || number || '|' || CAST(body AS TEXT) || '|' || reply FROM interchange
     UNION ALL SELECT 'visit|' || visit || '|' || box || '|' || size || '|' || laden || '|' || booking || '|' || in_by || '|' || in_partner || '|' || in_number || '|' || in_at || '|' || in_slot || '|' || out_by || '|' || out_partner || '|' || out_number || '|' || out_at || '|' || kilos FROM visit
@@ -33,9 +33,9 @@ const SET_UP_ROWS: &str =
     UNION ALL SELECT 'setting|' || name || '|' || value FROM setting
     ORDER BY 1";
 
-/// The log is moved into the database file behind so many pages, and the seed of its sums is fixed. With 1,000, as of the
-/// program, none of the rows here would move it.
-const OPTIONS: Options = Options {
+/// As the program opens its store, but that the log is moved into the database file after 8 pages and not 1,000, to which
+/// none of the rows here would come. The seed is of the log's sums.
+const STORE_OPTIONS: Options = Options {
     cache_pages: 2000,
     spill_pages: 2000,
     checkpoint_frames: 8,
@@ -47,7 +47,7 @@ const NOT_NOW: u16 = 503;
 
 /// How far an office came over files that may stop, and the files as they are then, without another call.
 #[derive(Drop)]
-pub(crate) enum Run<D: Disk> {
+pub(crate) enum Progress<D: Disk> {
     /// They could not be opened.
     Unopened(Files<D>),
     /// The desk could not be opened. It gives up the store, which it has only read.
@@ -79,7 +79,7 @@ pub(crate) fn connected<D: Disk + Drop>(
     if !files.may_be_used() {
         return Err(files);
     }
-    match Connection::open_files(alloc, files, OPTIONS) {
+    match Connection::open_files(alloc, files, STORE_OPTIONS) {
         Ok(conn) => Ok(conn),
         Err((_, left)) => Err(left.into_files()),
     }
@@ -120,12 +120,16 @@ fn answered<S: Alter + Drop>(
 }
 
 /// Sends requests to the office over files, until one is not now.
-pub(crate) fn run<D: Disk + Drop>(alloc: Global, files: Files<D>, requests: &[Request]) -> Run<D> {
+pub(crate) fn send<D: Disk + Drop>(
+    alloc: Global,
+    files: Files<D>,
+    requests: &[Request],
+) -> Progress<D> {
     match connected(alloc, files) {
-        Err(files) => Run::Unopened(files),
+        Err(files) => Progress::Unopened(files),
         Ok(conn) => match answered(alloc, conn, requests) {
-            None => Run::Unloaded,
-            Some((count, store)) => Run::Answered(count, store.close()),
+            None => Progress::Unloaded,
+            Some((count, store)) => Progress::Answered(count, store.close()),
         },
     }
 }
@@ -150,7 +154,7 @@ fn rows<S: Alter>(alloc: Global, conn: &mut Connection<S>) -> Result<String, Err
     ensures idle { conn.old.in_transaction ≡ false → conn.new.in_transaction ≡ false }
 {
     let mut text = String::new(alloc);
-    push_rows(conn, ROWS, &mut text)?;
+    push_rows(conn, CHANGING_ROWS, &mut text)?;
     push_rows(conn, SET_UP_ROWS, &mut text)?;
     Ok(text)
 }
@@ -254,7 +258,7 @@ fn with_tables<S: Alter + Drop>(conn: Connection<S>, setup: &Setup) -> (bool, S)
 /// What the files of an office hold to which nothing was sent.
 pub(crate) fn made(rt: &impl Abort, alloc: Global, mixes: bool) -> Result<Held, Fail> {
     let setup = setup(rt, alloc)?;
-    let files = files(alloc, &empty(alloc, mixes), NO_STOP)?;
+    let files = files_with(alloc, &empty(alloc, mixes), NO_STOP)?;
     let conn = connected(alloc, files).ok().ok_or("files that open")?;
     let (is_made, store) = with_tables(conn, &setup);
     assert!(rt; is_made);

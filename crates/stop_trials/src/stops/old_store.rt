@@ -3,10 +3,12 @@
 
 ghost use Rattle.std.specs.Prelude.{◌≡◌, false};
 
-use crate::stops::files::{Held, NO_STOP, Side, Stop, empty, files, forms, left_of, stop_after};
+use crate::stops::expected::{Counts, NO_COUNTS, Trial, assert_both, count, trial_of};
+use crate::stops::files::{
+    Held, NO_STOP, Stop, StoreFile, empty, files_with, forms, left_of, stop_after,
+};
 use crate::stops::office::connected;
-use crate::stops::trial::{Counts, NONE, Trial, assert_both, count, trial};
-use crate::stops::worked::{DONE_1_17, IN_1_17, IN_3_38, MIGRATED};
+use crate::stops::worked_rows::{DONE_1_17, IN_1_17, IN_3_38, MIGRATED};
 use crate::stops::{CASES, MOST_CALLS, assert_end};
 use office_migration::migrate;
 use sqlite::types::ValueRef;
@@ -76,8 +78,8 @@ fn filled<S: Alter + Drop>(conn: Connection<S>) -> (bool, S) {
 }
 
 /// What the files of the old store hold.
-fn old_store(rt: &impl Abort, alloc: Global, mixes: bool) -> Result<Held, Fail> {
-    let files = files(alloc, &empty(alloc, mixes), NO_STOP)?;
+fn filled_files(rt: &impl Abort, alloc: Global, mixes: bool) -> Result<Held, Fail> {
+    let files = files_with(alloc, &empty(alloc, mixes), NO_STOP)?;
     let conn = connected(alloc, files).ok().ok_or("files that open")?;
     let (is_filled, store) = filled(conn);
     assert!(rt; is_filled);
@@ -87,7 +89,7 @@ fn old_store(rt: &impl Abort, alloc: Global, mixes: bool) -> Result<Held, Fail> 
 
 /// What a migration has left of both stores.
 #[derive(Drop)]
-struct Migrated<D: Disk> {
+struct Stores<D: Disk> {
     is_done: bool,
     old: Files<D>,
     new: Files<D>,
@@ -108,22 +110,22 @@ fn brought_over<S: Alter + Drop, T: Alter + Drop>(
 }
 
 /// The same of files, which may not open.
-fn migrated<D: Disk + Drop>(alloc: Global, old: Files<D>, new: Files<D>) -> Migrated<D> {
+fn migrate_files<D: Disk + Drop>(alloc: Global, old: Files<D>, new: Files<D>) -> Stores<D> {
     match connected(alloc, old) {
-        Err(old) => Migrated {
+        Err(old) => Stores {
             is_done: false,
             old,
             new,
         },
         Ok(old) => match connected(alloc, new) {
-            Err(new) => Migrated {
+            Err(new) => Stores {
                 is_done: false,
                 old: old.into_store().close(),
                 new,
             },
             Ok(new) => {
                 let (is_done, old, new) = brought_over(alloc, old, new);
-                Migrated {
+                Stores {
                     is_done,
                     old: old.close(),
                     new: new.close(),
@@ -144,10 +146,10 @@ fn assert_new(
     counts: &mut Counts,
 ) -> Result<(), Fail> {
     let [old, new] = stores;
-    let again = migrated(
+    let again = migrate_files(
         alloc,
-        files(alloc, old, NO_STOP)?,
-        files(alloc, new, NO_STOP)?,
+        files_with(alloc, old, NO_STOP)?,
+        files_with(alloc, new, NO_STOP)?,
     );
     assert!(rt; !(is_answered && again.is_done));
     let left = left_of(alloc, again.new)?;
@@ -169,15 +171,15 @@ fn assert_migration(
 ) -> Result<bool, Fail> {
     let [old_stop, new_stop] = stops;
     let none = empty(alloc, start.mixes);
-    let run = migrated(
+    let tried = migrate_files(
         alloc,
-        files(alloc, start, old_stop)?,
-        files(alloc, &none, new_stop)?,
+        files_with(alloc, start, old_stop)?,
+        files_with(alloc, &none, new_stop)?,
     );
-    let is_done = run.is_done;
-    let old = left_of(alloc, run.old)?;
+    let is_done = tried.is_done;
+    let old = left_of(alloc, tried.old)?;
     assert!(rt; old.read.log == start.log && old.read.db == start.db);
-    let new = left_of(alloc, run.new)?;
+    let new = left_of(alloc, tried.new)?;
     for form in forms(alloc, &new)?.as_slice() {
         assert_new(rt, alloc, trial, [start, form], is_done, counts)?;
     }
@@ -197,12 +199,12 @@ fn assert_migrations(
     alloc: Global,
     trial: &Trial,
     start: &Held,
-    stopped: (Store, Side),
+    stopped: (Store, StoreFile),
     counts: &mut Counts,
 ) -> Result<(), Fail> {
-    let (store, side) = stopped;
+    let (store, file) = stopped;
     for calls in 0..MOST_CALLS {
-        let stop = stop_after(side, calls);
+        let stop = stop_after(file, calls);
         let stops = match store {
             Store::Old => [stop, NO_STOP],
             Store::New => [NO_STOP, stop],
@@ -211,16 +213,16 @@ fn assert_migrations(
             return Ok(());
         }
     }
-    Err(Fail::from("each run stops"))
+    Err(Fail::from("it stops at each call"))
 }
 
 /// Stops either file of one of the stores, under both readings of a crash.
 fn count_migrations(rt: &impl Abort, alloc: Global, store: Store) -> Result<Counts, Fail> {
-    let trial = trial(alloc, MIGRATED)?;
-    let mut counts = NONE;
-    for (mixes, side) in CASES {
-        let start = old_store(rt, alloc, mixes)?;
-        assert_migrations(rt, alloc, &trial, &start, (store, side), &mut counts)?;
+    let trial = trial_of(alloc, MIGRATED)?;
+    let mut counts = NO_COUNTS;
+    for (mixes, file) in CASES {
+        let start = filled_files(rt, alloc, mixes)?;
+        assert_migrations(rt, alloc, &trial, &start, (store, file), &mut counts)?;
     }
     Ok(counts)
 }

@@ -1,6 +1,6 @@
 //! A worked row with its rows as texts, and the counts of what was opened again.
 
-use crate::stops::worked::{SET_UP, Worked};
+use crate::stops::worked_rows::{SET_UP, Worked};
 use std::alloc::{AllocError, Global};
 use std::process::Abort;
 
@@ -22,7 +22,7 @@ pub(crate) struct Counts {
     pub(crate) either: u64,
 }
 
-pub(crate) const NONE: Counts = Counts {
+pub(crate) const NO_COUNTS: Counts = Counts {
     before: 0,
     after: 0,
     either: 0,
@@ -48,7 +48,7 @@ fn rows_at(alloc: Global, stage: &[&[&str]]) -> Result<String, AllocError> {
     Ok(text)
 }
 
-pub(crate) fn trial(alloc: Global, worked: Worked) -> Result<Trial, AllocError> {
+pub(crate) fn trial_of(alloc: Global, worked: Worked) -> Result<Trial, AllocError> {
     let mut stages = Vec::new(alloc);
     for stage in worked.stages {
         stages.push(rows_at(alloc, stage)?)?;
