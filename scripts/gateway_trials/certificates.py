@@ -9,7 +9,7 @@ from model.setup import DEMO
 
 from .asking import Asking, delivery, head_of, parted
 from .installed import Authority, Installed
-from .judged import BAD_REQUEST, CERTIFICATE, NONE, Judge
+from .judged import CERTIFICATE, NONE, Judge
 
 OVER = 3                    # seconds that a list of revoked certificates holds in a trial
 
@@ -32,7 +32,7 @@ def nobody(clients, judge):
     judge.same('a partner at the port of people', CERTIFICATE, clients.get('HAULA', '/yard', installed.people))
     judge.same('nobody at the port of people', CERTIFICATE, clients.get(None, '/yard', installed.people))
     for port in (installed.port, installed.people):
-        judge.checks.expect('HTTP without TLS', BAD_REQUEST, without_tls(port)[:2])
+        judge.checks.expect('HTTP without TLS', CERTIFICATE, without_tls(port)[:2])
     judge.same('and the partner itself', judge.delivered(text), clients.post('HAULA', text))
 
 

@@ -87,7 +87,7 @@ def ahead(clients, judge):
     for number in (following + AHEAD + 1, 999999):
         came = clients.post('LINEA', gate_in(number, 'LINEA', 30))
         judge.same('number %d' % number, too_early, came)
-        judge.checks.expect('it says when to try again', True, 'Retry-After: ' in came.head)
+        judge.checks.expect('it says when to try again', True, 'retry-after: ' in came.head.lower())
     text = gate_in(following + AHEAD, 'LINEA', 30)
     judge.same('the last that may come', judge.delivered(text), clients.post('LINEA', text))
 

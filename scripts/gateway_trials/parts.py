@@ -1,17 +1,20 @@
 """All parts: scripts/gateway."""
 import os
 import shutil
+import signal
 import sys
 from time import monotonic
 
 from hostile.served import Checks
 
-from . import certificates, partners, people
+from . import certificates, copies, health, load, partners, people, units
 from .installed import TOP
 
 PROGRAM = os.path.join(TOP, 'crates/office/out/office')
 WANTED = ['nginx', 'haproxy', 'openssl', 'curl']
-PARTS = {'partners': partners.try_all, 'certificates': certificates.try_all, 'people': people.try_all}
+PARTS = {
+    'partners': partners.try_all, 'certificates': certificates.try_all, 'people': people.try_all, 'load': load.try_all,
+    'copies': copies.try_all, 'health': health.try_all, 'units': units.try_all}
 
 
 def tried(checks, name, trial, program):
@@ -38,6 +41,7 @@ def main():
     if not os.access(program, os.X_OK):
         print('gateway: %s is not built (make build)' % program, file=sys.stderr)
         return 2
+    signal.signal(signal.SIGTERM, lambda *_signal: sys.exit(143))      # so that each part ends what it started
     checks = Checks()
     for name in names:
         tried(checks, name, PARTS[name], program)

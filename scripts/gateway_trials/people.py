@@ -8,7 +8,7 @@ from model.setup import DEMO
 
 from .asking import Asking, delivery, head_of
 from .installed import GROUP, Installed
-from .judged import ROLE, Judge
+from .judged import NONE, ROLE, Judge
 
 ROLES = ['gate', 'planner', 'quay', 'edi']
 # what is asked, as a report of the model, and who may
@@ -27,7 +27,7 @@ LOAD_LIST = (
 # what no role may ask
 NOBODYS = [
     ('GET', '/'), ('GET', '/nothing'), ('GET', '/yard/'), ('GET', '/yard?x'), ('GET', '/%79ard'), ('GET', '/partners/../yard'),
-    ('GET', '//yard'), ('GET', '/containers/ABCU0000017/'), ('GET', '/containers/..'), ('GET', '/interchanges'), ('POST', '/interchanges'),
+    ('GET', '//yard'), ('GET', '/containers/ABCU0000017/'), ('GET', '/interchanges'), ('POST', '/interchanges'),
     ('POST', '/partners/HAULA/interchanges'), ('POST', '/partners/HAULC/port'), ('POST', '/partners/%48AULC/gate'),
     ('POST', '/partners/HAULC/gate?x'), ('POST', '/yard'), ('PUT', '/partners/HAULC/gate'), ('DELETE', '/partners/HAULA')]
 
@@ -55,6 +55,7 @@ def nobodys(clients, judge):
         for role in ROLES:
             request = delivery(gate_in(2), path) if method == 'POST' else head_of(method, path)
             judge.same('%s: %s %s' % (role, method, path), ROLE, clients.ask(role, request, clients.installed.people))
+    judge.same('dots are a key like any other', NONE, clients.get('gate', '/containers/..', clients.installed.people))
 
 
 def accounts(clients, judge):
