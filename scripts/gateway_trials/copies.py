@@ -25,7 +25,7 @@ class Copying:
 
     def run(self, name, *words, **given):
         """A script: what it prints, what it tells of faults, and its status."""
-        given = dict(os.environ, OFFICE=self.installed.office.program, **given)
+        given = {**os.environ, 'OFFICE': self.installed.office.program, **given}
         done = subprocess.run(
             [script(name), *words], env=given, stdin=subprocess.DEVNULL, capture_output=True, encoding='utf-8', check=False)
         return done.stdout.strip(), done.stderr.strip(), done.returncode
@@ -82,7 +82,7 @@ def under_load(checks, program):
                 senders.texts[code, number] = text_of(code, number)
                 senders.send(code, number)
 
-        threads = [threading.Thread(target=partner, args=[code]) for code in SENDERS]
+        threads = [threading.Thread(target=partner, args=[code], daemon=True) for code in SENDERS]
         for thread in threads:
             thread.start()
         began = time.monotonic()

@@ -77,7 +77,7 @@ def word_of(body):
 
 def at_once(works):
     """Threads that begin together; gives how many seconds all took."""
-    began, threads = time.monotonic(), [threading.Thread(target=work) for work in works]
+    began, threads = time.monotonic(), [threading.Thread(target=work, daemon=True) for work in works]
     for thread in threads:
         thread.start()
     for thread in threads:

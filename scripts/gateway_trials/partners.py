@@ -204,7 +204,7 @@ def slow(clients, judge):
             except OSError as fault:
                 came.append(repr(fault).encode())
 
-    threads = [threading.Thread(target=trickle, args=[gate_in(10, 'HAULB', 70) + ' ' * 1000, 0.1]) for _client in range(SLOW)]
+    threads = [threading.Thread(target=trickle, args=[gate_in(10, 'HAULB', 70) + ' ' * 1000, 0.1], daemon=True) for _client in range(SLOW)]
     for thread in threads:
         thread.start()
     longest = 0
