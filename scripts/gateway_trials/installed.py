@@ -203,10 +203,12 @@ class Installed:
 
     def start_nginx(self):
         """nginx, which has to be listening at both ports."""
+        os.makedirs(self.file('snippets'))
         put('nginx/office.conf', self.file('office.conf'), [
-            ('/etc/office-authority/', self.file('authority/')), ('/var/log/office-gateway/', self.file('logs/')),
-            ('/run/office-queue.sock', self.file('queue.sock')), ('listen 443 ssl', 'listen 127.0.0.1:%d ssl' % self.port),
-            ('listen 8443 ssl', 'listen 127.0.0.1:%d ssl' % self.people)])
+            ('/var/log/office-gateway/', self.file('logs/')), ('/run/office-queue.sock', self.file('queue.sock')),
+            ('listen 443 ssl', 'listen 127.0.0.1:%d ssl' % self.port), ('listen 8443 ssl', 'listen 127.0.0.1:%d ssl' % self.people)])
+        put('nginx/office-shared.conf', self.file('snippets/office-shared.conf'), [
+            ('/etc/office-authority/', self.file('authority/')), ('/var/log/office-gateway/', self.file('logs/'))])
         text = NGINX % (GROUP, *[self.folder] * 8)
         with open(self.file('nginx.conf'), 'w', encoding='utf-8') as file:
             file.write(text if not os.geteuid() else text.partition('\n')[2])
