@@ -10,7 +10,7 @@ from datetime import datetime, timezone
 
 from .installed import Installed, free_port, script, until
 from .judged import Replayed, texts_in
-from .load import PARTNERS, SETUP, Senders, prepared, text_of
+from .load import PARTNERS, SETUP, Senders, prepared, text_of, word_of
 
 COPIES = int(os.environ.get('COPIES', 200))
 SENDERS = PARTNERS[:6]      # partners that send meanwhile, without a pause
@@ -68,42 +68,90 @@ def looked_at(checks, name, folder, senders, model):
     return len(answered)
 
 
+def begun(senders):
+    """Partners that send in order, each without a pause, until it is over."""
+    senders.texts = {}
+
+    def partner(code):
+        """One of them."""
+        number = 0
+        while not senders.over.is_set():
+            number += 1
+            senders.texts[code, number] = text_of(code, number)
+            senders.send(code, number)
+
+    threads = [threading.Thread(target=partner, args=[code], daemon=True) for code in SENDERS]
+    for thread in threads:
+        thread.start()
+    return threads
+
+
+def copied(checks, copying, senders, model):
+    """Copies, one after the other, each looked at. Gives the one in the middle; the last one stays too."""
+    middle, counts, began = copying.installed.file('middle'), [], time.monotonic()
+    for place in range(COPIES):
+        name = 'copy %d' % place
+        folder, told, status = copying.copy(KEEP='all')
+        checks.expect(name, ('', 0), (told, status))
+        checks.expect(name + ': the office goes on', False, state_of(copying.installed.office.process) == 'T')
+        if status:
+            continue
+        counts.append(looked_at(checks, name, folder, senders, model))
+        if place == COPIES // 2:
+            shutil.copytree(folder, middle)
+        if place + 1 < COPIES:
+            shutil.rmtree(folder)
+    name = '%d copies, with %d to %d answered interchanges in them' % (COPIES, min(counts, default=0), max(counts, default=0))
+    senders.measured(checks, name, time.monotonic() - began)
+    return middle
+
+
 def under_load(checks, program):
-    """Copies, one after the other, while partners send without a pause."""
+    """Copies while partners send; the drill; and a copy put back."""
     with Installed(program, SETUP) as installed:
         senders, copying, model = Senders(prepared(installed)), Copying(installed), Replayed(SETUP)
-        senders.texts, counts = {}, []
-
-        def partner(code):
-            """One of them sends in order until it is over."""
-            number = 0
-            while not senders.over.is_set():
-                number += 1
-                senders.texts[code, number] = text_of(code, number)
-                senders.send(code, number)
-
-        threads = [threading.Thread(target=partner, args=[code], daemon=True) for code in SENDERS]
-        for thread in threads:
-            thread.start()
-        began = time.monotonic()
-        for place in range(COPIES):
-            name = 'copy %d' % place
-            folder, told, status = copying.copy(KEEP='all')
-            checks.expect(name, ('', 0), (told, status))
-            if status == 0:
-                counts.append(looked_at(checks, name, folder, senders, model))
-                if place + 1 < COPIES:
-                    shutil.rmtree(folder)
-            checks.expect(name + ': the office goes on', False, state_of(installed.office.process) == 'T')
+        threads = begun(senders)
+        middle = copied(checks, copying, senders, model)
         senders.over.set()
         for thread in threads:
             thread.join()
-        senders.measured(checks, '%d copies, with %d to %d interchanges in them' % (
-            COPIES, min(counts, default=0), max(counts, default=0)), time.monotonic() - began)
         model.holds(checks, 'the store in the end', installed.office.store)
         for _time, code, number, body in senders.answers:
             model.replied(checks, 'the store in the end', code, number, body)
         drilled(checks, copying)
+        put_back(checks, installed, senders, middle)
+
+
+def slots_of(office):
+    """Where each container of a model's office stands."""
+    return {box: place.slot for box, place in office.fold().terminal.yard.items()}
+
+
+def put_back(checks, installed, senders, folder):
+    """A copy is put back, and partners send again, each from its next number on, one partner after the other: all is in
+    effect once, and the slots are those of the new order."""
+    before, after = Replayed(SETUP), Replayed(SETUP)
+    before.holds(checks, 'before the loss', installed.office.store)
+    installed.office.stop()
+    for end in ('', '-wal'):
+        if os.path.exists(installed.office.store + end):
+            os.remove(installed.office.store + end)
+        if os.path.exists(os.path.join(folder, 'office.db' + end)):
+            shutil.copy(os.path.join(folder, 'office.db' + end), installed.office.store + end)
+    installed.office.start()
+    for code in SENDERS:
+        line = senders.clients.get(code, '/standing').body
+        following = int(line.split(' NEXT ')[1].split()[0])
+        last = max(number for (sender, number), text in senders.texts.items() if sender == code and text in before.texts)
+        for number in range(max(1, following - 1), last + 1):
+            came = senders.clients.post(code, senders.texts[code, number])
+            wanted = 'repeat' if number < following else 'taken'
+            checks.expect('put back: %s %d' % (code, number), (200, wanted), (came.status, word_of(came.body)))
+    after.holds(checks, 'put back', installed.office.store)
+    checks.expect('put back: the same texts', sorted(before.texts), sorted(after.texts))
+    old, new = slots_of(before.office), slots_of(after.office)
+    checks.measured.append('put back and sent again, one partner after the other: %d of %d containers in another slot' % (
+        sum(old[box] != new[box] for box in old), len(old)))
 
 
 def drilled(checks, copying):
