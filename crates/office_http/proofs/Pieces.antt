@@ -1,5 +1,5 @@
 -- What a few writes in a row append.
-use Rattle.std.proofs.Common.{◌≡◌, ℕ, List, ◌++◌, length, Option, refl, subst}
+use Rattle.std.proofs.Common.{◌≡◌, ℕ, List, [], ◌++◌, length, Option, refl, ap, subst, ◌∙◌, append-nil}
 use Rattle.std.specs.Io.KnownBytes.{Appends}
 use Rattle.std.proofs.KnownBytes.{Appends-trans}
 use Rattle.office_http.specs.Responses.{response_head, response_bytes}
@@ -27,3 +27,10 @@ whole a b c status status' kind allowed allowed' body body' text same_status sam
     let is : response_head status kind allowed (length body) ++ text ≡ response_head status' kind allowed' (length body') ++ body' =
     rw (same_status, same_allowed, same_text, same_body) refl in
     subst (Appends a c) is (two_pieces a b c (response_head status kind allowed (length body)) text head written)
+
+-- one whose head was gathered
+pub gathered : (status : ℕ) (kind : ContentType) (allowed : Option (List ℕ)) (head text body : List ℕ) →
+    head ≡ response_head status kind allowed (length body) → text ≡ body → head ++ (text ++ []) ≡ response_bytes status kind allowed body
+unfolding response_bytes
+gathered status kind allowed head text body head_is text_is =
+    ap (λ (l : List ℕ). head ++ l) (append-nil text ∙ text_is) ∙ ap (λ (l : List ℕ). l ++ body) head_is

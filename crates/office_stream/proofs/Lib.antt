@@ -4,3 +4,5 @@ pub mod Cutting
 pub mod PieceLemmas
 pub mod StreamLemmas
 pub mod OneCut
+pub mod WriteLemmas
+pub mod PartLemmas
