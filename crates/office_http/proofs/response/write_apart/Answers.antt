@@ -1,7 +1,7 @@
 use Rattle.std.proofs.Common.{refl, ◌∙◌}
 use Rattle.std.proofs.lemmas.Result.{on_ok_weaker}
 use Rattle.office_http.proofs.Pieces.{whole}
-use Rattle.office_http.proofs.response.write_text.Goals as goal
+use Rattle.office_http.proofs.response.write_apart.Goals as goal
 
 pub returns : goal.returns
 returns g c = record {
