@@ -1,5 +1,5 @@
-use Rattle.std.proofs.Common.{◌≡◌, ◌-◌, ◌++◌, ◌+◌, ◌∷◌, [], Ok, Err, ℕ, List, length, take, drop, sym, ap, subst, ◌∙◌, arith, refl, length-take, length-append, ◌<◌}
-use lib.Seq.{take-add, take-take, drop-drop}
+use Rattle.std.proofs.Common.{◌-◌, ◌++◌, ◌+◌, ◌∷◌, [], Ok, Err, ℕ, length, take, drop, sym, ap, subst, ◌∙◌, arith, refl, length-take, length-append}
+use lib.Seq.{take-add, take-take}
 use Rattle.std.specs.Io.KnownBytes.{Appends}
 use Rattle.std.proofs.KnownBytes.{Appends-trans, Appends-kept, Appends-nil}
 use Rattle.std.proofs.lemmas.List.{take_rest}
