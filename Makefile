@@ -1,4 +1,4 @@
-.PHONY: demo test build check strength refusals beside program picture kill9 memory clients fuzz bench
+.PHONY: demo test build check strength refusals beside program picture kill9 memory clients gateway fuzz bench
 
 # The main job on a real interchange, by a build that proves nothing (`make build` leaves the proved program).
 demo:
@@ -57,6 +57,10 @@ memory:
 # Real clients against `office serve`, curl and sockets, kind ones and others: once it is built, half a minute.
 clients:
 	scripts/clients
+
+# The gateway of examples/gateway with nginx, HAProxy, OpenSSL and curl before the program, beside the model: once it is built.
+gateway:
+	scripts/gateway
 
 # A million mutated inputs beside the model, in rounds: `make fuzz` or `make fuzz COUNT=1000 SEED=7`. Once it is built.
 fuzz:
