@@ -103,7 +103,7 @@ impl<D: Faults, F> Faults for Named<D, F> {
     }
 }
 
-impl<D: Tallied> Tallied for Named<D> {
+impl<D: Tallied, F> Tallied for Named<D, F> {
     fn last_taken(&self) -> Tally {
         self.desk.last_taken()
     }
