@@ -10,14 +10,10 @@ demo:
 test:
 	scripts/gate
 
-# The proved program, as crates/office/out/office, which then answers the example. Proofs are kept, so that the next build
-# proves what has changed.
+# The proved program, as crates/office/out/office, which then answers the example: an hour or two. Proofs are kept, so that the
+# next build proves what has changed.
 build:
-	@scripts/step build 1 3 "prove $$(grep -c '^[a-z]' crates.txt) crates, over the proofs that are kept"
-	@rt all check --jobs $$(nproc)
-	@scripts/step build 2 3 "build the program"
-	@cd crates/office && rt run -- demo < ../../examples/gate-in.edi
-	@scripts/step build 3 3 "done: crates/office/out/office"
+	@scripts/build
 
 # One crate, and those above it that its change reaches, over the proofs that are kept: `make check NAME=yard_core`.
 check:
