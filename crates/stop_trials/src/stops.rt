@@ -13,7 +13,7 @@ use crate::stops::expected::{Counts, NO_COUNTS, Trial, assert_both, count, trial
 use crate::stops::files::{
     Held, Left, NO_STOP, Stop, StoreFile, files_with, forms, left_of, stop_after,
 };
-use crate::stops::office::{Progress, made, reopened, send};
+use crate::stops::office::{Progress, made, open_again, send};
 use crate::stops::worked_rows::{ADDING, LOADING, WAITING, Worked};
 use std::alloc::Global;
 use std::process::Abort;
@@ -54,7 +54,7 @@ pub(crate) fn assert_end(
 ) -> Result<String, Fail> {
     let files = files_with(alloc, held, NO_STOP)?;
     let worked = trial.worked;
-    let opened = reopened(alloc, files, worked.requests).ok_or("an office")?;
+    let opened = open_again(alloc, files, worked.requests).ok_or("an office")?;
     assert!(rt; opened.answered == worked.requests.len());
     assert!(rt; opened.yard.as_deref() == Some(worked.yard));
     assert!(rt; opened.load_list.as_deref() == worked.load_list);
