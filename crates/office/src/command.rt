@@ -66,11 +66,19 @@ fn refuse<W: Write, E: Write>(
         _ if fault.is_asked() => print(writer, text.as_str(), DONE),
         _ => {
             let status = tell_with(errors, text.as_str(), COMMAND_LINE);
-            if let (CommandFault::Values(_), Some(&"report")) = (fault, words.get(1)) {
+            if is_of_report(words, fault) {
                 tell_kinds(rt, errors);
             }
             status
         }
+    }
+}
+
+/// Whether the kind of a report, or its key, is at fault.
+fn is_of_report(words: &[&str], fault: &CommandFault) -> bool {
+    match (words.get(1), fault) {
+        (Some(command), CommandFault::Values(_)) => *command == "report",
+        _ => false,
     }
 }
 

@@ -36,10 +36,10 @@ fn deliver_all<R: Read, W: Write, E: Write>(
 ) -> u8 {
     let watch = DeliveryWatch::new(rt, is_looked_at(rt), store);
     let (status, ended) = deliver_over(rt, store, Unknown, &watch, reader, writer, errors);
-    match ended {
-        Ok(_) if watch.is_unread() => tell_unread_cause(rt, errors, file),
-        Ok(_) => {}
-        Err(fault) => tell_store_cause(rt, errors, store, &fault),
+    match ended.err() {
+        Some(fault) => tell_store_cause(rt, errors, store, &fault),
+        None if watch.is_unread() => tell_unread_cause(rt, errors, file),
+        None => {}
     }
     status
 }

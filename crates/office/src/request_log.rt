@@ -156,6 +156,7 @@ fn account_words(alloc: Global, code: &[u8], note: &AccountNote<'_>) -> Option<S
 }
 
 /// How a delivery was answered; of what was taken also what became of it.
+#[derive(Clone, Copy)]
 struct DeliveryWords<'a>(&'a DeliveryNote<'a>);
 
 impl fmt::Display for DeliveryWords<'_> {
@@ -181,16 +182,22 @@ struct Code<'a>(&'a [u8]);
 
 impl fmt::Display for Code<'_> {
     fn fmt<W: fmt::Write>(&self, f: &mut fmt::Formatter<W>) -> fmt::Result {
-        for byte in self.0.iter().take(MOST_BYTES) {
-            if byte.is_ascii_alphanumeric() || matches!(*byte, b'-' | b'.' | b'_') {
-                f.write_char(char::from(*byte))?;
-            } else {
-                write!(f, "%{byte:02X}")?;
-            }
+        let front = self.0.get(..MOST_BYTES).unwrap_or(self.0);
+        for byte in front {
+            write_byte(*byte, f)?;
         }
         if self.0.len() > MOST_BYTES {
             f.write_str("..")?;
         }
         Ok(())
+    }
+}
+
+/// Writes a byte of a code.
+fn write_byte<W: fmt::Write>(byte: u8, f: &mut fmt::Formatter<W>) -> fmt::Result {
+    if byte.is_ascii_alphanumeric() || matches!(byte, b'-' | b'.' | b'_') {
+        write!(f, "{}", char::from(byte))
+    } else {
+        write!(f, "%{byte:02X}")
     }
 }
