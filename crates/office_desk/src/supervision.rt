@@ -55,11 +55,5 @@ pub(crate) fn tell_metrics<S: Alter>(
         store: STORE_VERSION,
     };
     let partners = look_all_up(alloc, conn, setup.partners.as_slice())?;
-    Ok(Some(metrics_report(
-        alloc,
-        versions,
-        terminal,
-        setup.visit_limit,
-        &partners,
-    )?))
+    Ok(Some(metrics_report(alloc, versions, terminal, setup.visit_limit, &partners)?))
 }

@@ -92,7 +92,12 @@ pub(crate) fn write_early<W: Write>(port: &mut Port<W>, next: u64) -> Result<()>
     let front = early_front().as_bytes();
     let next = digits.format(next).as_bytes();
     let size = front.len() as u128 + next.len() as u128 + 1;
-    match gathered_head(StatusCode::TOO_MANY_REQUESTS, ContentType::Json, &None, size) {
+    match gathered_head(
+        StatusCode::TOO_MANY_REQUESTS,
+        ContentType::Json,
+        &None,
+        size,
+    ) {
         Ok(head) => port.write_parts(&[head.as_slice(), front, next, b"}".as_slice()]),
         Err(_) => write_early_apart(port, front, next, size),
     }
@@ -109,7 +114,13 @@ fn write_early_apart<W: Write>(
     ensures { Puts (response_bytes 429 Json None (front.now ++ (next.now ++ codes "}")))
         (W.contents port.old.inner) (W.contents port.new.inner) port.old port.new result }
 {
-    write_head(port, StatusCode::TOO_MANY_REQUESTS, ContentType::Json, &None, size)?;
+    write_head(
+        port,
+        StatusCode::TOO_MANY_REQUESTS,
+        ContentType::Json,
+        &None,
+        size,
+    )?;
     port.write_all(front)?;
     port.write_all(next)?;
     port.write_all(b"}")

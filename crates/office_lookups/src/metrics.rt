@@ -127,11 +127,7 @@ fn push_head(alloc: Global, text: &mut String, name: &str, help: &str) -> Result
 }
 
 /// The versions, as labels of a value that is always 1.
-fn push_versions(
-    alloc: Global,
-    text: &mut String,
-    versions: Versions<'_>,
-) -> Result<(), AllocError>
+fn push_versions(alloc: Global, text: &mut String, versions: Versions<'_>) -> Result<(), AllocError>
     ensures { OnOk result (string_bytes text.new
         ≡ string_bytes text.old ++ versions_text versions.entry.program.now versions.entry.store.now) }
 {

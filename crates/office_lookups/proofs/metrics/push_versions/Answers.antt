@@ -7,12 +7,11 @@ both : (first mid last : List ℕ) (a b : List ℕ) → mid ≡ first ++ a → l
 both first mid last a b is then = then ∙ ap (λ (t : List ℕ). t ++ b) is ∙ append_assoc first a b
 
 six : (s t u v w x y : List ℕ) (a b c d e f : List ℕ) → t ≡ s ++ a → u ≡ t ++ b → v ≡ u ++ c → w ≡ v ++ d → x ≡ w ++ e → y ≡ x ++ f →
-    y ≡ s ++ (a ++ (b ++ (c ++ (d ++ (e ++ f)))))
+    y ≡ s ++ (((((a ++ b) ++ c) ++ d) ++ e) ++ f)
 six s t u v w x y a b c d e f first second third fourth fifth sixth =
-    both s t y a (b ++ (c ++ (d ++ (e ++ f)))) first
-    (both t u y b (c ++ (d ++ (e ++ f))) second
-    (both u v y c (d ++ (e ++ f)) third
-    (both v w y d (e ++ f) fourth (both w x y e f fifth sixth))))
+    both s x y ((((a ++ b) ++ c) ++ d) ++ e) f
+    (both s w x (((a ++ b) ++ c) ++ d) e
+    (both s v w ((a ++ b) ++ c) d (both s u v (a ++ b) c (both s t u a b first second) third) fourth) fifth) sixth
 
 pub returns : goal.returns
 returns c =
