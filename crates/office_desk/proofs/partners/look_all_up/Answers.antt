@@ -69,5 +69,5 @@ returns-in_err-partner-clause-fault g c clean =
     let before = c.loop-account.invariant in
     let same : IsSame old mid = before.reads.same (clean_first c.look_up.ensures.reads clean) in
     rw (p.1, p.2) (λ rows has.
-    of_store_weaker _ _ (λ lacks. (c.loop-account.id + 1, omega arith, omega (arith, before.id, c.loop-account-test.true), lacks)) _
-    (c.in_err-partner.ensures.fault clean rows (subst (HasRows rows) (sym same.now) has)))
+        of_store_weaker _ _ (λ lacks. (c.loop-account.id + 1, omega arith, omega (arith, before.id, c.loop-account-test.true), lacks)) _
+        (c.in_err-partner.ensures.fault clean rows (subst (HasRows rows) (sym same.now) has)))
