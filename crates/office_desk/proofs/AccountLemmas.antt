@@ -193,5 +193,5 @@ not_added content es was is db db' old new holds set same (inr none) = record {
 -- the set-up that an addition leaves is one that can be given: the one with the account, or the old one
 pub given_left : {A S : Type 0} (met : Result A TableFault) (content : S → SetupContent) (old new : S) (grown : SetupContent) → OnOk met (content new ≡ grown) → OnErr met (new ≡ old)
     → IsGiven (content old) → IsGiven grown → IsGiven (content new)
-given_left (Ok added) content old new grown with_it same was is = subst IsGiven (sym with_it) is
+given_left (Ok body) content old new grown with_it same was is = subst IsGiven (sym with_it) is
 given_left (Err fault) content old new grown with_it same was is = subst IsGiven (sym (ap content same)) was
