@@ -16,9 +16,9 @@ word_if_any id = record (new_rule id) { action = Some Set }
 abbrev pub flag : Text → Rule
 flag name = record (new_rule name) { long = Some name; action = Some SetTrue }
 
--- an option with a value, as --ahead N, which may be left out
+-- an option with a value, as --ahead N, which may be left out; help has a name for the value
 abbrev pub valued : Text → Rule
-valued name = record (new_rule name) { long = Some name; action = Some Set }
+valued name = record (new_rule name) { long = Some name; action = Some Set; value_names = 1 }
 
 -- init DB PARTNERS BLOCKS
 unfoldable pub init_app : App
