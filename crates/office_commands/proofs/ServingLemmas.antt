@@ -22,6 +22,7 @@ use Rattle.office_setup.specs.Setups.{SetupContent}
 use Rattle.office_history.specs.After.{SaysSame}
 use Rattle.office_stream.specs.Fronts.{AppendsFront}
 use Rattle.office_stream.specs.declared.port.Port.{Port}
+use Rattle.office_http.specs.Served.{calls_of}
 use Rattle.office_http.specs.Steps.{Step, delivery, account, report, with_step, events_after, StepLeads, StepsLead}
 use Rattle.office_desk.specs.Answers.{AnswersNext}
 use Rattle.office_desk.specs.Accounts.{AnswersAccount}
@@ -236,7 +237,7 @@ tells_none {W} contents old new same fine = subst (λ (port : Port W). Appends (
 
 -- it listened and served, and printed the second line, or a front of it
 pub ends_by : {W : Type 0} (port count : ℕ) (old mid new : Port W) (a b c : Option (List ℕ)) (tells : List ℕ → Type 0) (Served : ℕ → Type 0) (text : List ℕ) (status : ℕ) → text ≡ served_line count
-    → Appends a b (listening_line port) → mid.failed ≡ old.failed → tells [] → Served count → Prints mid.failed new.failed new.flushed b c text 0 status → EndsServing port count old new a c tells Served status
+    → Appends a b (listening_line port) → mid.failed ≡ old.failed → tells [] → Served (calls_of count) → Prints mid.failed new.failed new.flushed b c text 0 status → EndsServing port count old new a c tells Served status
 ends_by port count old mid new a b c tells Served text status is one well told served (inl (zero, more, same, flushed)) =
     inl (zero, Appends-trans a b c (listening_line port) (served_line count) one (subst (Appends b c) is more), flushed, same ∙ well, told, served)
 ends_by port count old mid new a b c tells Served text status is one well told served (inr (three, more, fails)) =
@@ -245,6 +246,6 @@ ends_by port count old mid new a b c tells Served text status is one well told s
 -- what was served of a desk, as what was served of what that is in
 pub ends_as : {W : Type 0} (port count : ℕ) (old new : Port W) (a b : Option (List ℕ)) (tells : List ℕ → Type 0) (Served Served' : ℕ → Type 0) (status : ℕ) → ((n : ℕ) → Served n → Served' n)
     → EndsServing port count old new a b tells Served status → EndsServing port count old new a b tells Served' status
-ends_as port count old new a b tells Served Served' status on (inl (zero, writes, flushed, well, told, served)) = inl (zero, writes, flushed, well, told, on count served)
-ends_as port count old new a b tells Served Served' status on (inr (inl (three, fails, first, told, served))) = inr (inl (three, fails, first, told, on count served))
+ends_as port count old new a b tells Served Served' status on (inl (zero, writes, flushed, well, told, served)) = inl (zero, writes, flushed, well, told, on (calls_of count) served)
+ends_as port count old new a b tells Served Served' status on (inr (inl (three, fails, first, told, served))) = inr (inl (three, fails, first, told, on (calls_of count) served))
 ends_as port count old new a b tells Served Served' status on (inr (inr (three, none, served))) = inr (inr (three, none, on 0 served))

@@ -3,10 +3,11 @@ ghost use Rattle.office_replies.specs.declared.account_answer.AccountAnswer.{Acc
 ghost use Rattle.office_replies.specs.declared.response.Response.{Response};
 ghost use Rattle.office_commands.specs.Serving.{EnrolsNamed, LeadsNamed};
 
-use crate::faults::Faults;
+use crate::faults::{Faults, Tallied};
 use office_queries::{NotNow, Query, Report};
 use office_replies::{AccountAnswer, AddAccount, Deliver, Response};
 use office_tables::TableFault;
+use office_taking::Tally;
 use std::alloc::Global;
 use std::fs::File;
 use std::os::unix::fs::MetadataExt;
@@ -105,5 +106,11 @@ impl<D: Faults> Faults for Named<D> {
 
     fn is_nameless(&self) -> bool {
         self.is_nameless
+    }
+}
+
+impl<D: Tallied> Tallied for Named<D> {
+    fn last_taken(&self) -> Tally {
+        self.desk.last_taken()
     }
 }

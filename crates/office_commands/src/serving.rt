@@ -5,7 +5,7 @@ ghost use Rattle.office_http.specs.Served.{AtMost};
 ghost use Rattle.office_commands.specs.Ending.{Tells};
 ghost use Rattle.office_commands.specs.Serving.{AreServedBy, EndsServing, IsServedOver, ServesNone, listening_line, served_line};
 
-use crate::faults::Faults;
+use crate::faults::{Faults, Tallied};
 use crate::named::Named;
 use crate::noted::Noted;
 use crate::notes::Notes;
@@ -38,7 +38,7 @@ pub fn serve_over<S: Start, N: Notes, W: Write, E: Write>(
     writer: &mut Port<W>,
     errors: &mut Port<E>,
 ) -> Result<(u8, Named<Desk<FileStore<FileFrom<S>>>>), TableFault>
-    // What was printed and told, and how many requests at most were served. From whatever events the files held the
+    // What was printed and told, and how many calls at most were made for requests. From whatever events the files held the
     // rows, each is answered by that office at its place, or `not now`, and what was answered outlasts a crash. And what
     // each did to the desk, whatever the files held.
     ensures ok { IfOk result (λ ended. EndsServing service.port service.count writer.old writer.new
@@ -52,7 +52,7 @@ pub fn serve_over<S: Start, N: Notes, W: Write, E: Write>(
 }
 
 /// Serves what a desk over the store at a path answers, whatever desk it is, and gives it back as it was left.
-fn serve_named<D: Report + AddAccount + Faults, N: Notes, W: Write, E: Write>(
+fn serve_named<D: Report + AddAccount + Faults + Tallied, N: Notes, W: Write, E: Write>(
     rt: &HostRuntime,
     path: &str,
     desk: D,
@@ -94,6 +94,7 @@ fn serve_at<D: Report + AddAccount, N: Notes, W: Write, E: Write>(
                 rt,
                 &listener,
                 service.count,
+                service.ahead,
                 desk,
                 &mut watching,
             );
@@ -119,7 +120,11 @@ fn listen<W: Write, E: Write>(
         (Tells errors.new.failed (E.contents errors.old.inner) (E.contents errors.new.inner)) }
 {
     let alloc = rt.alloc();
-    let Service { port, count } = service;
+    let Service {
+        port,
+        count,
+        ahead: _,
+    } = service;
     let (Ok(address), Ok(listening), Ok(served)) = (
         format!(in alloc; "127.0.0.1:{port}"),
         format!(in alloc; "listening 127.0.0.1:{port}\n"),

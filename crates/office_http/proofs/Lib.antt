@@ -6,5 +6,6 @@ pub mod Asking
 pub mod Keys
 pub mod Values
 pub mod OneRequest
+pub mod Senders
 pub mod Serving
 pub mod Deciding

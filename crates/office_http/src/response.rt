@@ -1,10 +1,10 @@
-ghost use Rattle.std.specs.Prelude.{◌≡◌, unwrap_or, codes};
+ghost use Rattle.std.specs.Prelude.{◌≡◌, ◌++◌, unwrap_or, codes};
 ghost use Rattle.http.specs.StatusCode.{reason_phrase};
 ghost use Rattle.office_replies.specs.AccountAnswers.{account_body, account_status};
 ghost use Rattle.office_replies.specs.Responses.{body_of, status_of};
 ghost use Rattle.office_http.specs.Ports.{Puts};
-ghost use Rattle.office_http.specs.Responses.{allow_line, close_lines, field_line, refusal_bytes};
-ghost use Rattle.office_http.specs.Responses.{response_bytes, response_head, status_line};
+ghost use Rattle.office_http.specs.Responses.{allow_line, close_lines, early_bytes, early_front, field_line, refusal_bytes};
+ghost use Rattle.office_http.specs.Responses.{response_bytes, response_head, retry_line, status_line};
 ghost use Rattle.office_http.specs.declared.content_type.ContentType.TheVariants.{Json};
 
 use crate::content_type::ContentType;
@@ -42,6 +42,28 @@ pub(crate) fn write_refusal<W: Write>(port: &mut Port<W>, refusal: Refusal) -> R
         body.len() as u128,
     )?;
     port.write_all(body.as_bytes())
+}
+
+/// Writes that a number is too far above the next one.
+pub(crate) fn write_early<W: Write>(port: &mut Port<W>, next: u64) -> Result<()>
+    ensures { Puts (early_bytes next)
+        (W.contents port.old.inner) (W.contents port.new.inner) port.old port.new result }
+{
+    let mut digits = itoa::Buffer::new();
+    let front = early_front();
+    let next = digits.format(next);
+    let size = front.len() as u128 + next.len() as u128 + 1;
+    write_head(port, StatusCode::TOO_MANY_REQUESTS, ContentType::Json, None, size)?;
+    port.write_all(front.as_bytes())?;
+    port.write_all(next.as_bytes())?;
+    port.write_all(b"}")
+}
+
+/// The body of a text that comes too early, up to the next number.
+fn early_front() -> &'static str
+    ensures { result.now ≡ early_front }
+{
+    "{\"answer\":\"refused\",\"fault\":\"TooEarly\",\"next\":"
 }
 
 /// Writes the response of a delivery.
@@ -99,6 +121,7 @@ fn write_head<W: Write>(
     write_field(port, b"Content-Type", kind.name().as_bytes())?;
     write_field(port, b"Content-Length", digits.format(size).as_bytes())?;
     write_allowed(port, allowed)?;
+    write_retry(port, status)?;
     write_close(port)
 }
 
@@ -130,6 +153,17 @@ fn write_allowed<W: Write>(port: &mut Port<W>, allowed: Option<Method>) -> Resul
     match allowed {
         Some(method) => write_field(port, b"Allow", method.as_str().as_bytes()),
         None => port.write_all(b""),
+    }
+}
+
+/// Writes in how many seconds it may come again, if it may.
+fn write_retry<W: Write>(port: &mut Port<W>, status: StatusCode) -> Result<()>
+    ensures { Puts (retry_line status)
+        (W.contents port.old.inner) (W.contents port.new.inner) port.old port.new result }
+{
+    match status.as_u16() {
+        429 | 503 => write_field(port, b"Retry-After", b"5"),
+        _ => port.write_all(b""),
     }
 }
 

@@ -5,3 +5,4 @@ pub mod Pieces
 pub mod Faults
 pub mod Gathering
 pub mod Accounts
+pub mod Places

@@ -10,6 +10,7 @@ ghost use Rattle.office_stream.specs.Pieces.{AnsweredOne, DeliveredOne, EndsPiec
 ghost use Rattle.office_stream.specs.Streams.{LineCutShort};
 
 use crate::line::write_response;
+use crate::place::Place;
 use crate::port::Port;
 use crate::stream_fault::StreamFault;
 use edi_cutter::{CutFault, Cutter};
@@ -60,7 +61,7 @@ fn answer_one<W: Write, D: Deliver>(
 }
 
 /// Answers each interchange that a piece completes. Answers the worst of all answers so far, and the fault by which the
-/// stream can't be cut further, if there is one.
+/// stream can't be cut further, if there is one. `place` follows the stream.
 pub(crate) fn answer_piece<W: Write, D: Deliver>(
     alloc: Global,
     cutter: &mut Cutter,
@@ -68,6 +69,7 @@ pub(crate) fn answer_piece<W: Write, D: Deliver>(
     writer: &mut Port<W>,
     desk: &mut D,
     before: Worst,
+    place: &mut Place,
 ) -> Result<(Worst, Option<CutFault>), StreamFault>
     requires { cutter.old.fault ≡ None }
     ensures ok { IfOk result
@@ -88,12 +90,17 @@ pub(crate) fn answer_piece<W: Write, D: Deliver>(
     let mut worst = before;
     let mut rest = piece;
     'pieces: loop {
+        place.meet(rest, cutter.at_rest());
         match cutter.feed(rest) {
             Ok(Some(used)) => {
+                place.complete(used);
                 worst = worst.or(answer_one(alloc, cutter.interchange(), writer, desk)?);
                 rest = &rest[used..];
             }
-            Ok(None) => return Ok((worst, None)),
+            Ok(None) => {
+                place.pass(rest.len());
+                return Ok((worst, None));
+            }
             Err(fault) => return Ok((worst, Some(fault))),
         }
     }

@@ -7,6 +7,7 @@ mod answer;
 mod gathered;
 pub mod laws;
 mod line;
+mod place;
 mod port;
 mod stream;
 mod stream_end;
@@ -14,6 +15,7 @@ mod stream_fault;
 
 pub use account::answer_account;
 pub use gathered::Gathered;
+pub use place::Cut;
 pub use port::Port;
 pub use stream::run_stream;
 pub use stream_fault::StreamFault;

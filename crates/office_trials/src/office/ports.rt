@@ -7,7 +7,7 @@ use super::late_writer::LateWriter;
 use super::pieces::Pieces;
 use crate::logbook::Logbook;
 use office_replies::Worst;
-use office_stream::{Gathered, Port, StreamFault, run_stream};
+use office_stream::{Cut, Gathered, Port, StreamFault, run_stream};
 use std::alloc::Global;
 use std::io::{Read, Write};
 use std::process::Abort;
@@ -18,6 +18,9 @@ const STREAM: &[u8] = b"AAA+1'UNZ'\r\nBBB'UNZ'\nCCC'UNZ'";
 
 /// Where each of them ends.
 const ENDS: [usize; 3] = [10, 20, 29];
+
+/// Where each of them begins.
+const STARTS: [usize; 3] = [0, 12, 21];
 
 /// What was delivered of it.
 const TEXTS: &[u8] = b"AAA+1'UNZ'BBB'UNZ'CCC'UNZ'";
@@ -48,6 +51,45 @@ fn ended_within(count: usize) -> usize {
     ENDS.iter().filter(|end| **end <= count).count()
 }
 
+/// Where its front of so many bytes is cut.
+fn cut_within(count: usize) -> Option<Cut> {
+    let whole = ended_within(count);
+    match STARTS.get(whole) {
+        Some(start) if *start < count => Some(Cut {
+            interchange: (whole as u64).saturating_add(1),
+            byte: (*start as u64).saturating_add(1),
+            fault: None,
+        }),
+        _ => None,
+    }
+}
+
+/// Where a text is cut that comes in pieces of a size.
+fn cut_of(alloc: Global, text: &[u8], size: usize) -> Option<Cut> {
+    let mut input = Port::new(Pieces {
+        text,
+        next: size,
+        size,
+    });
+    let mut output = Port::new(Vec::new(alloc));
+    let mut desk = Logbook::new(Port::new(Vec::new(alloc)));
+    let mut cut = None;
+    let _ = run_stream(alloc, &mut input, &mut output, &mut desk, 100, &mut cut);
+    cut
+}
+
+#[test]
+fn a_cut_is_told_by_the_interchange_and_its_first_byte(rt: HostRuntime) -> Result<(), Fail> {
+    for count in 0..STREAM.len() + 1 {
+        let (front, _) = STREAM.split_at(count);
+        let expected = cut_within(count);
+        assert!(rt; cut_of(rt.alloc(), front, 1) == expected);
+        assert!(rt; cut_of(rt.alloc(), front, 5) == expected);
+        assert!(rt; cut_of(rt.alloc(), front, 64) == expected);
+    }
+    Ok(())
+}
+
 /// Streams what the reader gives, and holds what became of it, and what the book holds then, to what is expected.
 fn assert_streamed<R: Read, W: Write>(
     rt: &impl Abort,
@@ -58,7 +100,8 @@ fn assert_streamed<R: Read, W: Write>(
     expected: (Result<Worst, StreamFault>, usize),
 ) {
     let mut desk = Logbook::new(Port::new(Vec::new(alloc)));
-    let left = run_stream(alloc, reader, writer, &mut desk, turns);
+    let mut cut = None;
+    let left = run_stream(alloc, reader, writer, &mut desk, turns, &mut cut);
     let (became, delivered) = expected;
     assert!(rt; left == became);
     let book = desk.into_pages().into_inner();

@@ -1,4 +1,5 @@
 use Rattle.std.proofs.Common.{◌∙◌, ap, inl, inr}
+use Rattle.office_http.specs.Served.{calls_of}
 use Rattle.office_commands.specs.Serving.{LeadsNamed, EnrolsNamed}
 use Rattle.office_commands.proofs.ServingLemmas.{inner_steps, served_by}
 use Rattle.office_commands.proofs.serving.serve_named.Goals as goal
@@ -18,7 +19,7 @@ returns g c =
         done.2,
         done.3,
         done.4,
-        served_by leads enrols looks c.args.service.count c.args.desk before.desk.desk after.desk.desk _
+        served_by leads enrols looks (calls_of c.args.service.count) c.args.desk before.desk.desk after.desk.desk _
             (ap (λ named. named.desk) c.new-noted.ensures ∙ c.new-named.ensures) (ap (λ named. named.desk) c.into_desk.ensures) done.5.steps done.5.few
             (inner_steps (λ noted. noted.desk.desk) (LeadsNamed leads) (EnrolsNamed enrols) looks before done.5.steps after done.5.led),
       )
@@ -28,7 +29,7 @@ returns g c =
           cut.1,
           cut.2,
           cut.3,
-          served_by leads enrols looks c.args.service.count c.args.desk before.desk.desk after.desk.desk _
+          served_by leads enrols looks (calls_of c.args.service.count) c.args.desk before.desk.desk after.desk.desk _
               (ap (λ named. named.desk) c.new-noted.ensures ∙ c.new-named.ensures) (ap (λ named. named.desk) c.into_desk.ensures) cut.4.steps cut.4.few
               (inner_steps (λ noted. noted.desk.desk) (LeadsNamed leads) (EnrolsNamed enrols) looks before cut.4.steps after cut.4.led),
         ))

@@ -1,5 +1,8 @@
 use Rattle.std.proofs.Common.{◌≡◌, None, Some, option_map, string_bytes, refl, sym, ap, subst, ◌∙◌}
+use Rattle.std.proofs.lemmas.Result.{IfErr-weaker}
 use Rattle.office_rows.proofs.StepLemmas.{if_ok}
+use Rattle.office_tables.specs.Faults.{IsOfStoreOr}
+use Rattle.office_desk.specs.Causes.{AsksUnreadable, HasUnfitReplyOf, LacksReply}
 use Rattle.office_setup.specs.Setups.{setup_content}
 use Rattle.office_desk.specs.Reports.{TellsOf, TellsReplyOf, contrl_told, partner_called, ticket_of}
 use Rattle.office_desk.proofs.ReportLemmas.{called}
@@ -63,3 +66,38 @@ returns-in-None-partner_called-2-clause-told g c clean rows has once =
     let own = string_bytes c.in-Contrl.partner in
     let there : partner_called content own ≡ None = called a.setup.now c.deref-in-Contrl.result.now own None (sym c.in-None-partner_called-2.is ∙ c.partner_called-in-Contrl.ensures) c.deref-in-Contrl.ensures in
     subst (λ q. TellsOf content a.terminal.now rows q None) (sym c.in-Contrl.is) (sym (ap (contrl_told rows c.in-Contrl.number) there))
+
+-- ---- why it can't be told
+
+pub returns-in-Some-clause-fault : goal.returns-in-Some-clause-fault
+returns-in-Some-clause-fault g c clean =
+    let a = c.args in
+    let content = setup_content a.setup.now in
+    let own = string_bytes c.in-Ticket.partner in
+    let there : partner_called content own ≡ Some c.in-Some.id = called a.setup.now c.deref.result.now own (Some c.in-Some.id) (sym c.in-Some.is ∙ c.partner_called.ensures) c.deref.ensures in
+    IfErr-weaker c.tell_ticket.result _ _ (λ fault why rows has.
+        subst (λ q. IsOfStoreOr (AsksUnreadable content rows q) fault) (sym c.in-Ticket.is)
+        (subst (λ p. IsOfStoreOr (HasUnfitReplyOf rows c.in-Ticket.number p) fault) (sym there) (why rows has)))
+    (c.tell_ticket.ensures.fault clean)
+
+pub returns-in-Some-partner_called-clause-fault : goal.returns-in-Some-partner_called-clause-fault
+returns-in-Some-partner_called-clause-fault g c clean =
+    let a = c.args in
+    let content = setup_content a.setup.now in
+    let own = string_bytes c.in-Reply.partner in
+    let there : partner_called content own ≡ Some c.in-Some-partner_called.id = called a.setup.now c.deref-in-Reply.result.now own (Some c.in-Some-partner_called.id) (sym c.in-Some-partner_called.is ∙ c.partner_called-in-Reply.ensures) c.deref-in-Reply.ensures in
+    IfErr-weaker c.tell_reply.result _ _ (λ fault why rows has.
+        subst (λ q. IsOfStoreOr (AsksUnreadable content rows q) fault) (sym c.in-Reply.is)
+        (subst (λ p. IsOfStoreOr (LacksReply rows c.in-Reply.number p) fault) (sym there) (why rows has)))
+    (c.tell_reply.ensures.fault clean)
+
+pub returns-in-Some-partner_called-2-clause-fault : goal.returns-in-Some-partner_called-2-clause-fault
+returns-in-Some-partner_called-2-clause-fault g c clean =
+    let a = c.args in
+    let content = setup_content a.setup.now in
+    let own = string_bytes c.in-Contrl.partner in
+    let there : partner_called content own ≡ Some c.in-Some-partner_called-2.id = called a.setup.now c.deref-in-Contrl.result.now own (Some c.in-Some-partner_called-2.id) (sym c.in-Some-partner_called-2.is ∙ c.partner_called-in-Contrl.ensures) c.deref-in-Contrl.ensures in
+    IfErr-weaker c.tell_contrl.result _ _ (λ fault why rows has.
+        subst (λ q. IsOfStoreOr (AsksUnreadable content rows q) fault) (sym c.in-Contrl.is)
+        (subst (λ p. IsOfStoreOr (HasUnfitReplyOf rows c.in-Contrl.number p) fault) (sym there) (why rows has)))
+    (c.tell_contrl.ensures.fault clean)

@@ -30,7 +30,7 @@ reads-preserved g c =
     let piece = take c.in-Ok.count c.read.new.buf in
     let q = pending c.reads.cutter in
     let q' = pending c.answer_piece.new.cutter in
-    let done = piece_at call c.reads.desk c.in_ok-worst_now.cut None q' _ c.answer_piece.new.desk c.reads.worst c.in_ok-worst_now.worst_now _ _ c.in_default.is c.in_ok-worst_now.ensures.ok in
+    let done = piece_at call c.reads.desk c.in_ok-worst_now.fault None q' _ c.answer_piece.new.desk c.reads.worst c.in_ok-worst_now.worst_now _ _ c.in_default.is c.in_ok-worst_now.ensures.ok in
     record {
       running = c.in_ok-worst_now.ensures.running c.in_default.is;
       reader = c.in-Ok.ensures.succeeds ∙ c.reads.invariant.reader;
@@ -83,7 +83,7 @@ returns-in-Some-clause-streams g c =
     let piece = take c.in-Ok.count c.read.new.buf in
     let q = pending c.reads.cutter in
     let q' = pending c.answer_piece.new.cutter in
-    let done = piece_at call c.reads.desk c.in_ok-worst_now.cut (Some c.in-Some.fault) q' _ c.answer_piece.new.desk c.reads.worst c.in_ok-worst_now.worst_now _ _ c.in-Some.is c.in_ok-worst_now.ensures.ok in
+    let done = piece_at call c.reads.desk c.in_ok-worst_now.fault (Some c.in-Some.fault) q' _ c.answer_piece.new.desk c.reads.worst c.in_ok-worst_now.worst_now _ _ c.in-Some.is c.in_ok-worst_now.ensures.ok in
     streams_as _ _ (are_delivered g.D.Deliver.is_sound g.D.Deliver.stands g.D.Deliver.answers g.D.Deliver.leads c.args.desk.now c.answer_piece.new.desk) _ c.finish-in-Some.result
     (finished call c.args.desk.now _ _ (Cut c.in-Some.fault) c.answer_piece.new.desk c.in_ok-worst_now.worst_now _ _ _ c.finish-in-Some.result _
     (stream_cut call c.args.desk.now _ _ _ q q' piece c.in-Some.fault c.reads.desk c.answer_piece.new.desk c.reads.worst c.in_ok-worst_now.worst_now _ _ _
