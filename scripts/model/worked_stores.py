@@ -250,7 +250,7 @@ def is_response(cells, given):
     """Whether a response is what a row's cells say, to the byte but for what an answer is told in short."""
     request, status, cell = cells
     head, _empty, body = given.partition('\r\n\r\n')
-    is_report = request.startswith('GET') and status == '200 OK' and '/replies/' not in request
+    is_report = request.startswith('GET') and status == '200 OK' and '/replies/' not in request and 'health' not in request
     status, *allow = status.split(', ')
     wanted = ['HTTP/1.1 ' + status, 'Content-Type: ' + ('text/plain' if is_report else 'application/json')]
     wanted += ['Content-Length: %d' % len(body)] + [field.strip('`') for field in allow] + ['Connection: close']
@@ -399,5 +399,5 @@ def changed_rows(rows):
 
 
 EVERY = [
-    keys, setup_files, commands, requests, calls_of_their_own, full_on_empty, changed_rows, accounts, accounts_by_commands,
-    old_commands, old_stores]
+    keys, setup_files, commands, requests, calls_of_their_own, full_on_empty, changed_rows, accounts, own_paths,
+    accounts_by_commands, old_commands, old_stores]

@@ -7,5 +7,6 @@ pub mod Keys
 pub mod Values
 pub mod OneRequest
 pub mod Senders
+pub mod OwnPaths
 pub mod Serving
 pub mod Deciding

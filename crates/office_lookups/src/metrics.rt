@@ -31,7 +31,7 @@ pub fn metrics_report(
     visit_limit: u32,
     partners: &[Partner],
 ) -> Result<String, AllocError>
-    ensures { IfOk result (λ text. string_bytes text ≡ metrics_text versions.program.now versions.store.now
+    ensures { IfOk result (λ text. string_bytes text ≡ metrics_text versions.entry.program.now versions.entry.store.now
         terminal.now visit_limit (map partner_content partners.now)) }
 {
     let visits = terminal.visits();
@@ -133,7 +133,7 @@ fn push_versions(
     versions: Versions<'_>,
 ) -> Result<(), AllocError>
     ensures { OnOk result (string_bytes text.new
-        ≡ string_bytes text.old ++ versions_text versions.program.now versions.store.now) }
+        ≡ string_bytes text.old ++ versions_text versions.entry.program.now versions.entry.store.now) }
 {
     push_head(
         alloc,

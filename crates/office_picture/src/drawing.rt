@@ -59,7 +59,8 @@ fn push_page(
     push_index(alloc, text, blocks)?;
     text.push_str(legend())?;
     push_blocks(alloc, text, blocks, standings)?;
-    text.push_str("</main>\n</body>\n</html>\n")
+    text.push_str("</main>\n</body>\n</html>\n")?;
+    Ok(())
 }
 
 fn push_page_head(

@@ -1,7 +1,7 @@
 -- What a failed write leaves of a text, and what a write behind others makes.
-use Rattle.std.proofs.Common.{◌≡◌, ℕ, List, [], ◌++◌, take, drop, Option, Result, Ok, Err, OnOk, OnErr, append_assoc, append-nil, sym, ap, subst, ◌∙◌}
-use Rattle.std.specs.Io.KnownBytes.{Appends, Keeps, WriteAppends, append_known}
-use Rattle.std.proofs.KnownBytes.{Appends-trans, Appends-kept, Keeps-trans, append_known-kept, append_known-passed}
+use Rattle.std.proofs.Common.{◌≡◌, ℕ, List, [], ◌++◌, take, drop, Option, Result, Ok, Err, OnOk, OnErr, append_assoc, append-nil, sym, ap, ◌∙◌}
+use Rattle.std.specs.Io.KnownBytes.{Appends, Keeps}
+use Rattle.std.proofs.KnownBytes.{Appends-trans, Appends-kept}
 use Rattle.std.proofs.lemmas.List.{take-append-drop}
 use Rattle.office_stream.specs.Fronts.{AppendsFront}
 
@@ -32,10 +32,3 @@ on_err (Err e) P holds = holds
 pub on_err_weaker : {T E : Type 0} (r : Result T E) (P Q : Type 0) → (P → Q) → OnErr r P → OnErr r Q
 on_err_weaker (Ok value) P Q on holds = tt
 on_err_weaker (Err e) P Q on holds = on holds
-
--- a write past a buffer of which nothing is left
-pub written_past : {E : Type 0} (a b c : Option (List ℕ)) (held : List ℕ) (r : Result ℕ E) (text : List ℕ) → Keeps a (append_known b held) → held ≡ [] →
-    WriteAppends b c r text → WriteAppends a (append_known c held) r text
-written_past a b c held (Ok n) text keeps none writes =
-    subst (Appends a (append_known c held)) (append-nil (take n text)) (append_known-passed a b c held held (take n text) [] keeps none writes (sym (append-nil held)))
-written_past a b c held (Err e) text keeps none kept = Keeps-trans a (append_known b held) (append_known c held) keeps (append_known-kept b c held kept)

@@ -1,4 +1,4 @@
-ghost use Rattle.std.specs.Prelude.{◌≡◌, ◌++◌, None, true, IfOk, IfErr, OnOk, OnErr};
+ghost use Rattle.std.specs.Prelude.{◌≡◌, ◌++◌, ℕ, List, None, true, IfOk, IfErr, OnOk, OnErr};
 ghost use Rattle.std.specs.Io.KnownBytes.{Appends};
 ghost use Rattle.edi_cutter.specs.Cuts.{pending};
 ghost use Rattle.office_replies.specs.Calls.{IsDelivered};
@@ -7,6 +7,7 @@ ghost use Rattle.office_replies.specs.Responses.{body_of};
 ghost use Rattle.office_stream.specs.Fronts.{AppendsFront};
 ghost use Rattle.office_stream.specs.Lines.{line};
 ghost use Rattle.office_stream.specs.Pieces.{AnsweredOne, DeliveredOne, EndsPiece, PieceAnswered};
+ghost use Rattle.office_stream.specs.Places.{Follows, PassesPiece};
 ghost use Rattle.office_stream.specs.Streams.{LineCutShort};
 
 use crate::line::write_response;
@@ -76,6 +77,8 @@ pub(crate) fn answer_piece<W: Write, D: Deliver>(
         (λ done. PieceAnswered (IsDelivered D.is_sound D.stands D.answers D.leads) desk.old
         (EndsPiece done.1 (pending cutter.new)) (pending cutter.old ++ piece.now) desk.new before done.0
         (W.contents writer.old.inner) (W.contents writer.new.inner)) }
+    ensures placed { IfOk result (λ done. (bytes : List ℕ) → Follows place.old bytes (pending cutter.old) →
+        PassesPiece done.1 place.new (bytes ++ piece.now) (pending cutter.new)) }
     ensures running { IfOk result (λ done. done.1 ≡ None → cutter.new.fault ≡ None) }
     ensures kept { OnOk result (writer.new.failed ≡ writer.old.failed) }
     ensures flushed { OnOk result (writer.old.flushed ≡ true → writer.new.flushed ≡ true) }

@@ -6,7 +6,7 @@ ghost use Rattle.office_stream.specs.Fronts.{AppendsFront};
 ghost use Rattle.office_stream.specs.Lines.{end_text, end_worst};
 ghost use Rattle.office_stream.specs.Streams.{AreDelivered, Streams, port_bytes};
 ghost use Rattle.office_stream.specs.Faults.{MatchFault};
-ghost use Rattle.office_stream.specs.Places.{cut_by};
+ghost use Rattle.office_stream.specs.Places.{CutsAt, cut_by};
 
 use crate::answer::answer_piece;
 use crate::line::{end_worst, write_end};
@@ -37,6 +37,9 @@ pub fn run_stream<R: Read, W: Write, D: Deliver>(
     ensures streams { Streams (AreDelivered D.is_sound D.stands D.answers D.leads desk.old desk.new)
         (port_bytes (R.remaining reader.old.inner) (R.remaining reader.new.inner)
         (W.contents writer.old.inner) (W.contents writer.new.inner)) result }
+
+    // Where it is cut, if it is.
+    ensures cut { OnOk result (CutsAt (R.remaining reader.old.inner) (R.remaining reader.new.inner) cut.new) }
 
     // Nothing is said of the answers of a desk whose records have not told the truth.
     ensures stays { D.is_sound desk.new → D.is_sound desk.old }

@@ -1,0 +1,247 @@
+//! An office over a database file and its log, of which one stops at its nth call, for each n until it doesn't stop. What a
+//! crash may leave of both then is opened again: it has the rows from before the request that was stopped, or those after
+//! it, and all requests, sent again from the first, lead to the same end.
+
+mod expected;
+mod files;
+mod office;
+mod old_store;
+mod trial_file;
+mod worked_rows;
+
+use crate::stops::expected::{Counts, NO_COUNTS, Trial, assert_both, count, trial_of};
+use crate::stops::files::{
+    Held, Left, NO_STOP, Stop, StoreFile, files_with, forms, left_of, stop_after,
+};
+use crate::stops::office::{Progress, made, open_again, send};
+use crate::stops::worked_rows::{ADDING, LOADING, WAITING, Worked};
+use std::alloc::Global;
+use std::process::Abort;
+use std::test::Fail;
+
+/// More calls of a file than any office here makes.
+pub(crate) const MOST_CALLS: u64 = 1000;
+
+/// Each reading of a crash, with each file that stops under it.
+pub(crate) const CASES: [(bool, StoreFile); 4] = [
+    (false, StoreFile::Log),
+    (false, StoreFile::Database),
+    (true, StoreFile::Log),
+    (true, StoreFile::Database),
+];
+
+/// What files hold, and the stage of the worked row of which they have the rows.
+#[derive(Drop)]
+struct Start {
+    held: Held,
+    stage: usize,
+}
+
+/// The calls at which a file stops, one after the other: the first, and each so many further on.
+#[derive(Clone, Copy)]
+struct Stops {
+    file: StoreFile,
+    first: u64,
+    step: u64,
+}
+
+/// The rows that an office has on files that hold this. All requests are sent to it, and lead to the end of the worked row.
+pub(crate) fn assert_end(
+    rt: &impl Abort,
+    alloc: Global,
+    trial: &Trial,
+    held: &Held,
+) -> Result<String, Fail> {
+    let files = files_with(alloc, held, NO_STOP)?;
+    let worked = trial.worked;
+    let opened = open_again(alloc, files, worked.requests).ok_or("an office")?;
+    assert!(rt; opened.answered == worked.requests.len());
+    assert!(rt; opened.yard.as_deref() == Some(worked.yard));
+    assert!(rt; opened.load_list.as_deref() == worked.load_list);
+    assert!(rt; opened.last.as_ref() == trial.stages.last());
+    Ok(opened.first.ok_or("rows")?)
+}
+
+/// Counts what was opened with the rows of one of two stages.
+fn count_rows(
+    rt: &impl Abort,
+    trial: &Trial,
+    rows: &String,
+    stages: [usize; 2],
+    counts: &mut Counts,
+) {
+    let [before, after] = stages;
+    let is_before = trial.stages.get(before) == Some(rows);
+    let is_after = trial.stages.get(after) == Some(rows);
+    count(rt, counts, is_before, is_after);
+}
+
+/// Sends all requests to an office whose files stop so: what is left of them, and the stages of which one has its rows. None,
+/// if the desk could not be opened.
+fn left_after(
+    alloc: Global,
+    trial: &Trial,
+    start: &Start,
+    stop: Stop,
+) -> Result<Option<(Left, [usize; 2])>, Fail> {
+    let files = files_with(alloc, &start.held, stop)?;
+    let (stages, files) = match send(alloc, files, trial.worked.requests) {
+        Progress::Unopened(files) => ([start.stage; 2], files),
+        Progress::Unloaded => return Ok(None),
+        Progress::Answered(answered, files) => {
+            let next = answered.saturating_add(1);
+            ([answered.max(start.stage), next.max(start.stage)], files)
+        }
+    };
+    Ok(Some((left_of(alloc, files)?, stages)))
+}
+
+/// Sends all requests to an office whose files stop so, and opens again whatever a crash leaves of them. Whether neither
+/// has stopped.
+fn assert_stop(
+    rt: &impl Abort,
+    alloc: Global,
+    trial: &Trial,
+    start: &Start,
+    stop: Stop,
+    counts: &mut Counts,
+) -> Result<bool, Fail> {
+    let Some((left, stages)) = left_after(alloc, trial, start, stop)? else {
+        return Ok(false);
+    };
+    for form in forms(alloc, &left)?.as_slice() {
+        let rows = assert_end(rt, alloc, trial, form)?;
+        count_rows(rt, trial, &rows, stages, counts);
+    }
+    Ok(left.is_whole)
+}
+
+/// The same for each of these calls, until the file doesn't stop.
+fn assert_each_stop(
+    rt: &impl Abort,
+    alloc: Global,
+    trial: &Trial,
+    start: &Start,
+    stops: Stops,
+    counts: &mut Counts,
+) -> Result<(), Fail> {
+    for turn in 0..MOST_CALLS {
+        let calls = stops.first.saturating_add(stops.step.saturating_mul(turn));
+        let stop = stop_after(stops.file, calls);
+        if assert_stop(rt, alloc, trial, start, stop, counts)? {
+            return Ok(());
+        }
+    }
+    Err(Fail::from("it stops at each call"))
+}
+
+/// Stops either file of a new office at each call, under both readings of a crash.
+fn assert_row(rt: &impl Abort, alloc: Global, worked: Worked) -> Result<(), Fail> {
+    let trial = trial_of(alloc, worked)?;
+    let mut counts = NO_COUNTS;
+    for (mixes, file) in CASES {
+        let held = made(rt, alloc, mixes)?;
+        let start = Start { held, stage: 0 };
+        let stops = Stops {
+            file,
+            first: 0,
+            step: 1,
+        };
+        assert_each_stop(rt, alloc, &trial, &start, stops, &mut counts)?;
+    }
+    assert_both(rt, counts);
+    Ok(())
+}
+
+/// The stage of which an office has the rows on files that hold this.
+fn stage_of(rt: &impl Abort, alloc: Global, trial: &Trial, held: &Held) -> Result<usize, Fail> {
+    let rows = assert_end(rt, alloc, trial, held)?;
+    for (stage, rows_there) in trial.stages.iter().enumerate() {
+        if *rows_there == rows {
+            return Ok(stage);
+        }
+    }
+    Err(Fail::from("rows of no stage"))
+}
+
+/// How many calls lie between two second stops.
+const STEP: u64 = 23;
+
+/// Stops a file of an office that goes on from what a first stop has left, which came after so many calls.
+fn assert_second_stops(
+    rt: &impl Abort,
+    alloc: Global,
+    trial: &Trial,
+    held: Held,
+    second: (StoreFile, u64),
+    counts: &mut Counts,
+) -> Result<(), Fail> {
+    let (file, calls) = second;
+    let stage = stage_of(rt, alloc, trial, &held)?;
+    let start = Start { held, stage };
+    let stops = Stops {
+        file,
+        first: calls % STEP,
+        step: STEP,
+    };
+    assert_each_stop(rt, alloc, trial, &start, stops, counts)
+}
+
+/// Stops one file of a new office at each call, and then one a second time, as the program reads a crash.
+fn assert_twice(
+    rt: &impl Abort,
+    alloc: Global,
+    trial: &Trial,
+    stopped: [StoreFile; 2],
+    counts: &mut Counts,
+) -> Result<(), Fail> {
+    let [first, second] = stopped;
+    let held = made(rt, alloc, true)?;
+    let start = Start { held, stage: 0 };
+    for calls in 0..MOST_CALLS {
+        let stop = stop_after(first, calls);
+        let Some((left, _)) = left_after(alloc, trial, &start, stop)? else {
+            continue;
+        };
+        let is_whole = left.is_whole;
+        assert_second_stops(rt, alloc, trial, left.read, (second, calls), counts)?;
+        assert_second_stops(rt, alloc, trial, left.synced, (second, calls), counts)?;
+        if is_whole {
+            return Ok(());
+        }
+    }
+    Err(Fail::from("it stops at each call"))
+}
+
+#[test]
+fn a_stop_leaves_what_waits_whole_or_not_at_all(rt: HostRuntime) -> Result<(), Fail> {
+    assert_row(&rt, rt.alloc(), WAITING)
+}
+
+#[test]
+fn a_stop_leaves_a_list_whole_or_not_at_all(rt: HostRuntime) -> Result<(), Fail> {
+    assert_row(&rt, rt.alloc(), LOADING)
+}
+
+#[test]
+fn a_stop_leaves_an_account_whole_or_not_at_all(rt: HostRuntime) -> Result<(), Fail> {
+    assert_row(&rt, rt.alloc(), ADDING)
+}
+
+/// Which file stops first, and which then.
+const PAIRS: [[StoreFile; 2]; 3] = [
+    [StoreFile::Log, StoreFile::Log],
+    [StoreFile::Log, StoreFile::Database],
+    [StoreFile::Database, StoreFile::Log],
+];
+
+#[test]
+fn a_second_stop_leaves_it_whole_or_not_at_all(rt: HostRuntime) -> Result<(), Fail> {
+    let trial = trial_of(rt.alloc(), WAITING)?;
+    let mut counts = NO_COUNTS;
+    for stopped in PAIRS {
+        assert_twice(&rt, rt.alloc(), &trial, stopped, &mut counts)?;
+    }
+    assert_both(&rt, counts);
+    Ok(())
+}
