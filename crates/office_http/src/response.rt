@@ -1,4 +1,4 @@
-ghost use Rattle.std.specs.Prelude.{◌≡◌, ◌++◌, unwrap_or, codes, IfOk};
+ghost use Rattle.std.specs.Prelude.{◌≡◌, ◌++◌, ◌+◌, length, unwrap_or, codes, IfOk};
 ghost use Rattle.http.specs.StatusCode.{reason_phrase};
 ghost use Rattle.office_replies.specs.AccountAnswers.{account_body, account_status};
 ghost use Rattle.office_replies.specs.Responses.{body_of, status_of};
@@ -83,18 +83,46 @@ fn write_apart<W: Write>(
     port.write_all(body.as_bytes())
 }
 
-/// Writes that a number is too far above the next one.
+/// Writes that a number is too far above the next one, in one write.
 pub(crate) fn write_early<W: Write>(port: &mut Port<W>, next: u64) -> Result<()>
     ensures { Puts (early_bytes next)
         (W.contents port.old.inner) (W.contents port.new.inner) port.old port.new result }
 {
     let mut digits = itoa::Buffer::new();
-    let front = early_front();
-    let next = digits.format(next);
+    let front = early_front().as_bytes();
+    let next = digits.format(next).as_bytes();
     let size = front.len() as u128 + next.len() as u128 + 1;
-    write_head(port, StatusCode::TOO_MANY_REQUESTS, ContentType::Json, None, size)?;
-    port.write_all(front.as_bytes())?;
-    port.write_all(next.as_bytes())?;
+    match gathered_head(
+        StatusCode::TOO_MANY_REQUESTS,
+        ContentType::Json,
+        &None,
+        size,
+    ) {
+        Ok(head) => port.write_parts(&[head.as_slice(), front, next, b"}".as_slice()]),
+        Err(_) => write_early_apart(port, front, next, size),
+    }
+}
+
+/// Writes the same in as many writes as its head has parts, and three for its body.
+fn write_early_apart<W: Write>(
+    port: &mut Port<W>,
+    front: &[u8],
+    next: &[u8],
+    size: u128,
+) -> Result<()>
+    requires { size ≡ length front.now + length next.now + 1 }
+    ensures { Puts (response_bytes 429 Json None (front.now ++ (next.now ++ codes "}")))
+        (W.contents port.old.inner) (W.contents port.new.inner) port.old port.new result }
+{
+    write_head(
+        port,
+        StatusCode::TOO_MANY_REQUESTS,
+        ContentType::Json,
+        &None,
+        size,
+    )?;
+    port.write_all(front)?;
+    port.write_all(next)?;
     port.write_all(b"}")
 }
 

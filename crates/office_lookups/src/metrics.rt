@@ -127,11 +127,7 @@ fn push_head(alloc: Global, text: &mut String, name: &str, help: &str) -> Result
 }
 
 /// The versions, as labels of a value that is always 1.
-fn push_versions(
-    alloc: Global,
-    text: &mut String,
-    versions: Versions<'_>,
-) -> Result<(), AllocError>
+fn push_versions(alloc: Global, text: &mut String, versions: Versions<'_>) -> Result<(), AllocError>
     ensures { OnOk result (string_bytes text.new
         ≡ string_bytes text.old ++ versions_text versions.entry.program.now versions.entry.store.now) }
 {
@@ -141,9 +137,15 @@ fn push_versions(
         "office_info",
         "Versions of the program and of its store.",
     )?;
-    text.push_str("office_info{version=\"")?;
-    text.push_str(versions.program)?;
-    text.push_str("\",store_version=\"")?;
-    text.push_str(versions.store)?;
-    text.push_str("\"} 1\n")
+    push_text(text, "office_info{version=\"")?;
+    push_text(text, versions.program)?;
+    push_text(text, "\",store_version=\"")?;
+    push_text(text, versions.store)?;
+    push_text(text, "\"} 1\n")
+}
+
+fn push_text(text: &mut String, more: &str) -> Result<(), AllocError>
+    ensures { OnOk result (string_bytes text.new ≡ string_bytes text.old ++ more.now) }
+{
+    text.push_str(more)
 }
