@@ -43,19 +43,18 @@ use Rattle.office_commands.proofs.StreamLemmas.{answer_alike, stand_alike}
 -- steps of what a desk stands in are steps of the desk, if each one is
 pub inner_steps : {W D : Type 0} (inner : W → D) (outer_leads : W → List ℕ → Response → W → Type 0) (outer_enrols : W → List ℕ → List ℕ → AccountAnswer → W → Type 0)
     (leads : D → List ℕ → Response → D → Type 0) (enrols : D → List ℕ → List ℕ → AccountAnswer → D → Type 0)
-    (looks : D → Query → Result (Option (List ℕ)) NotNow → D → Type 0)
+    (looks : D → Query → Result (Option (List ℕ)) NotNow → D → Type 0) (old : W) (steps : List Step) (new : W)
+    → StepsLead outer_leads outer_enrols (λ o query found n. looks (inner o) query found (inner n)) old steps new
     → ((o : W) (text : List ℕ) (given : Response) (n : W) → outer_leads o text given n → leads (inner o) text given (inner n))
     → ((o : W) (code kind : List ℕ) (given : AccountAnswer) (n : W) → outer_enrols o code kind given n → enrols (inner o) code kind given (inner n))
-    → (old : W) (steps : List Step) (new : W)
-    → StepsLead outer_leads outer_enrols (λ o query found n. looks (inner o) query found (inner n)) old steps new
     → StepsLead leads enrols looks (inner old) steps (inner new)
-inner_steps inner outer_leads outer_enrols leads enrols looks by by' old [] new same = ap inner same
-inner_steps inner outer_leads outer_enrols leads enrols looks by by' old (delivery text given ∷ steps) new (next, led, rest) =
-    (inner next, by old text given next led, inner_steps inner outer_leads outer_enrols leads enrols looks by by' next steps new rest)
-inner_steps inner outer_leads outer_enrols leads enrols looks by by' old (account code kind given ∷ steps) new (next, led, rest) =
-    (inner next, by' old code kind given next led, inner_steps inner outer_leads outer_enrols leads enrols looks by by' next steps new rest)
-inner_steps inner outer_leads outer_enrols leads enrols looks by by' old (report query found ∷ steps) new (next, led, rest) =
-    (inner next, led, inner_steps inner outer_leads outer_enrols leads enrols looks by by' next steps new rest)
+inner_steps inner outer_leads outer_enrols leads enrols looks old [] new same by by' = ap inner same
+inner_steps inner outer_leads outer_enrols leads enrols looks old (delivery text given ∷ steps) new (next, led, rest) by by' =
+    (inner next, by old text given next led, inner_steps inner outer_leads outer_enrols leads enrols looks next steps new rest by by')
+inner_steps inner outer_leads outer_enrols leads enrols looks old (account code kind given ∷ steps) new (next, led, rest) by by' =
+    (inner next, by' old code kind given next led, inner_steps inner outer_leads outer_enrols leads enrols looks next steps new rest by by')
+inner_steps inner outer_leads outer_enrols leads enrols looks old (report query found ∷ steps) new (next, led, rest) by by' =
+    (inner next, led, inner_steps inner outer_leads outer_enrols leads enrols looks next steps new rest by by')
 
 -- what goes by the name of a file is done, or `not now`
 pub named_leads : {D : Type 0} (leads : D → List ℕ → Response → D → Type 0) (says : Bool → Type 0) (nameless : Bool) (old : D) (text : List ℕ) (given : Response) (new : D)

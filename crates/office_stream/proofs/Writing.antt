@@ -8,15 +8,6 @@ use Rattle.office_stream.specs.Fronts.{AppendsFront}
 pub in_two : (front rest : List ℕ) (n : ℕ) → front ++ rest ≡ (front ++ take n rest) ++ drop n rest
 in_two front rest n = ap (λ y. front ++ y) (sym (take-append-drop n rest)) ∙ sym (append_assoc front (take n rest) (drop n rest))
 
--- a front of a text is one of a longer text
-pub front_of_longer : (a b : Option (List ℕ)) (text more : List ℕ) → AppendsFront a b text → AppendsFront a b (text ++ more)
-front_of_longer a b text more (front, (behind, is), writes) = (front, (behind ++ more, ap (λ y. y ++ more) is ∙ append_assoc front behind more), writes)
-
--- a front of what stands behind a text that was written
-pub front_behind : (a b c : Option (List ℕ)) (text more : List ℕ) → Appends a b text → AppendsFront b c more → AppendsFront a c (text ++ more)
-front_behind a b c text more before (front, (behind, is), writes) =
-    (text ++ front, (behind, ap (λ y. text ++ y) is ∙ sym (append_assoc text front behind)), Appends-trans a b c text front before writes)
-
 -- a text that was written, and kept by a flush that failed
 pub front_kept : (a b c : Option (List ℕ)) (text : List ℕ) → Appends a b text → Keeps b c → AppendsFront a c text
 front_kept a b c text writes keeps = (text, ([], sym (append-nil text)), Appends-kept a b c text writes keeps)
