@@ -1,7 +1,7 @@
-use Rattle.std.proofs.Common.{◌≡◌, ℕ, List, length, Some, map, string_bytes, sym, ap, subst, ◌∙◌}
+use Rattle.std.proofs.Common.{◌≡◌, List, length, Some, map, string_bytes, sym, ap, subst, ◌∙◌}
 use Rattle.std.proofs.lemmas.List.{length-map}
 use Rattle.std.proofs.lemmas.Result.{err_from_is_err_and}
-use Rattle.office_tables.specs.Faults.{IsOfStoreOr}
+use Rattle.office_tables.proofs.FaultLemmas.{of_store_weaker}
 use Rattle.office_rows.specs.Opening.{tables_version}
 use Rattle.office_setup.specs.Setups.{account_contents}
 use Rattle.office_setup.specs.declared.account.Account.{Account}
@@ -26,4 +26,5 @@ returns-in_err-partners-clause-fault g c clean =
     let items = c.args.setup.now.partners.items in
     let many : length c.as_slice.result.now ≡ length (account_contents items) = ap length c.as_slice.ensures ∙ sym (length-map items said) in
     let p = err_from_is_err_and c.from_residual.result c.from_residual.ensures.1 in
-    rw (p.1, p.2) (λ rows has. subst (λ (n : ℕ). IsOfStoreOr (LacksSome rows n) _) many (c.in_err-partners.ensures.fault clean rows has))
+    rw (p.1, p.2) (λ rows has.
+        of_store_weaker (LacksSome rows (length c.as_slice.result.now)) (LacksSome rows (length (account_contents items))) (subst (LacksSome rows) many) _ (c.in_err-partners.ensures.fault clean rows has))
