@@ -18,7 +18,7 @@ flag name = record (new_rule name) { long = Some name; action = Some SetTrue }
 
 -- an option with a value, as --ahead N, which may be left out
 abbrev pub valued : Text → Rule
-valued name = record (new_rule name) { long = Some name; action = Some Set }
+valued name = record (new_rule name) { long = Some name; action = Some Set; value_names = 1 }
 
 -- init DB PARTNERS BLOCKS
 unfoldable pub init_app : App

@@ -18,7 +18,7 @@ pub(crate) fn number_upto(greatest: u32, text: &str) -> Option<u32>
 
 /// The same of a text that may be left out.
 pub(crate) fn number_if_any(greatest: u32, text: Option<&str>) -> Option<Option<u32>>
-    ensures { result ≡ number_if_any greatest (option_map (λ text. text.now) text) }
+    ensures { result ≡ number_if_any greatest (option_map (λ text. text.now) text.entry) }
 {
     match text {
         Some(text) => Some(Some(number_upto(greatest, text)?)),
