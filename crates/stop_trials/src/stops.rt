@@ -196,14 +196,14 @@ fn assert_twice(
     rt: &impl Abort,
     alloc: Global,
     worked: Worked,
-    stopped: [StoreFile; 2],
+    stopped: (StoreFile, StoreFile),
     step: u64,
 ) -> Result<(), Fail>
     requires { 0 < step }
 {
     let trial = trial_of(alloc, worked)?;
     let mut counts = NO_COUNTS;
-    let [first, file] = stopped;
+    let (first, file) = stopped;
     let held = made(rt, alloc, true)?;
     let start = Start { held, stage: 0 };
     for calls in 0..MOST_CALLS {
@@ -245,14 +245,14 @@ fn a_stop_leaves_an_account_whole_or_not_at_all(rt: HostRuntime) -> Result<(), F
 
 #[test]
 fn a_second_stop_of_the_log_leaves_it_whole_or_not_at_all(rt: HostRuntime) -> Result<(), Fail> {
-    let stopped = [StoreFile::Log, StoreFile::Log];
+    let stopped = (StoreFile::Log, StoreFile::Log);
     assert_twice(&rt, rt.alloc(), WAITING, stopped, 31)
 }
 
 #[test]
 fn a_stop_of_both_files_leaves_it_whole_or_not_at_all(rt: HostRuntime) -> Result<(), Fail> {
-    let stopped = [StoreFile::Log, StoreFile::Database];
+    let stopped = (StoreFile::Log, StoreFile::Database);
     assert_twice(&rt, rt.alloc(), WAITING, stopped, 7)?;
-    let stopped = [StoreFile::Database, StoreFile::Log];
+    let stopped = (StoreFile::Database, StoreFile::Log);
     assert_twice(&rt, rt.alloc(), WAITING, stopped, 31)
 }
