@@ -1,4 +1,4 @@
-.PHONY: demo test build check strength refusals beside program picture kill9 memory clients fuzz bench
+.PHONY: demo test build check strength refusals beside program picture kill9 memory clients gateway fuzz bench
 
 # The main job on a real interchange, by a build that proves nothing (`make build` leaves the proved program).
 demo:
@@ -10,14 +10,10 @@ demo:
 test:
 	scripts/gate
 
-# The proved program, as crates/office/out/office, which then answers the example. Proofs are kept, so that the next build
-# proves what has changed.
+# The proved program, as crates/office/out/office, which then answers the example: an hour or two. Proofs are kept, so that the
+# next build proves what has changed.
 build:
-	@scripts/step build 1 3 "prove $$(grep -c '^[a-z]' crates.txt) crates, over the proofs that are kept"
-	@rt all check --jobs $$(nproc)
-	@scripts/step build 2 3 "build the program"
-	@cd crates/office && rt run -- demo < ../../examples/gate-in.edi
-	@scripts/step build 3 3 "done: crates/office/out/office"
+	@scripts/build
 
 # One crate, and those above it that its change reaches, over the proofs that are kept: `make check NAME=yard_core`.
 check:
@@ -57,6 +53,10 @@ memory:
 # Real clients against `office serve`, curl and sockets, kind ones and others: once it is built, half a minute.
 clients:
 	scripts/clients
+
+# The gateway of examples/gateway with nginx, HAProxy, OpenSSL and curl before the program, beside the model: once it is built.
+gateway:
+	scripts/gateway
 
 # A million mutated inputs beside the model, in rounds: `make fuzz` or `make fuzz COUNT=1000 SEED=7`. Once it is built.
 fuzz:

@@ -38,6 +38,7 @@ and what holds the program to them:
     worked.py      the worked rows of docs/WORKED_ROWS.md, and the day of examples/day
     cases.py       streams and deliveries whose answers are written out, in cases.txt
     samples.py     docs/SAMPLES.md, made of some of them
+    told.py        what a person is told of deliveries: the tally, the log
     shown.py       the interchanges, answers and reports that other pages show
     directory.py   examples and samples, held to the order of segments of D.95B
     beside.py      the program beside all this: scripts/beside

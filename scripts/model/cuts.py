@@ -39,11 +39,17 @@ def first_of(stream, place):
 
 def cut(stream):
     """The interchanges of a stream, and the fault behind them, or None where the stream ends behind the last."""
+    interchanges, _place, fault = cut_at(stream)
+    return interchanges, fault
+
+
+def cut_at(stream):
+    """The interchanges of a stream, the place behind them and the CR and LF that follow, and the fault there, or None."""
     interchanges, place = [], past_breaks(stream, 0)
     while place < len(stream):
         end, fault = first_of(stream, place)
         if fault:
-            return interchanges, fault
+            return interchanges, place, fault
         interchanges.append(stream[place:end])
         place = past_breaks(stream, end)
-    return interchanges, None
+    return interchanges, place, None

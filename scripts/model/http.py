@@ -6,12 +6,13 @@ A request is bytes, and so is its response. The head is the shortest front of th
 import re
 from collections import namedtuple
 
+from .deliveries import run
 from .keys import decoded
 from .moments import are_digits
 from .office import json_text
 from .reports import report
 from .setup import is_utf8
-from .syntax import LONGEST_TEXT
+from .syntax import BREAKS, FAULTS, LONGEST_TEXT, is_printable, number_of, sender_of
 
 LONGEST_HEAD = 8192
 MOST_FIELDS = 64
@@ -27,12 +28,16 @@ HEAD = re.compile(r'(?:%s)*(%s) (%s) HTTP/1\.[01]%s((?:%s:%s%s)*)%s' % (
 # fields are pairs of name and value, `length` how many bytes the head has
 Head = namedtuple('Head', 'method target fields length')
 
-# where a path leads, the method that it has, and what is asked there: a kind of report, or one of the two that change the
+# where a path leads, the method that it has, and what is asked there: a kind of report, or one of the three that change the
 # office
 ROUTES = [
     (r'/interchanges', 'POST', 'delivery'),
+    (r'/partners/([^/]+)/interchanges', 'POST', 'own delivery'),
     (r'/partners/([^/]+/[^/]+)', 'POST', 'account'),
     (r'/partners', 'GET', 'partners'),
+    (r'/partners/([^/]+)', 'GET', 'partner'),
+    (r'/health', 'GET', 'health'),
+    (r'/metrics', 'GET', 'metrics'),
     (r'/yard', 'GET', 'yard'),
     (r'/yard\.csv', 'GET', 'yardcsv'),
     (r'/blocks', 'GET', 'blocks'),
@@ -47,21 +52,25 @@ ROUTES = [
 ]
 # what the body of a report is, if not plain text
 CONTENT_TYPES = {'reply': 'application/json', 'yardcsv': 'text/csv', 'contrl': 'application/EDIFACT',
-    'picture': 'text/html; charset=utf-8'}
+    'picture': 'text/html; charset=utf-8', 'health': 'application/json', 'metrics': 'text/plain; version=0.0.4'}
 
 PHRASES = {
-    200: 'OK', 202: 'Accepted', 400: 'Bad Request', 404: 'Not Found', 405: 'Method Not Allowed', 409: 'Conflict',
-    411: 'Length Required', 413: 'Payload Too Large', 503: 'Service Unavailable'}
+    200: 'OK', 202: 'Accepted', 400: 'Bad Request', 403: 'Forbidden', 404: 'Not Found', 405: 'Method Not Allowed',
+    409: 'Conflict', 411: 'Length Required', 413: 'Payload Too Large', 429: 'Too Many Requests', 503: 'Service Unavailable'}
+RETRY_LATER = (429, 503)
+LATER = 5                   # seconds
+# the faults of a head: where one of them applies, a text names nobody
+HEAD_FAULTS = FAULTS[:8]
 STATUSES = {'taken': 200, 'repeat': 200, 'waiting': 202, 'clash': 409, 'refused': 400}
 ACCOUNT_FAULTS = {'Partner': 400, 'Kind': 409, 'Accounts': 409}
 
 
 class Refusal(Exception):
-    """Why a request is answered without the office: a status, and the word of the answer."""
+    """Why a request is answered without the office: a status, and the answer, mostly a word."""
 
-    def __init__(self, status, word, allowed=None):
+    def __init__(self, status, word, allowed=None, **more):
         super().__init__()
-        self.status, self.word, self.allowed = status, word, allowed
+        self.status, self.answer, self.allowed = status, dict(more, answer=word), allowed
 
 
 # ---- the request
@@ -116,6 +125,7 @@ def response_text(status, content_type, body, allowed=None):
     lines = ['HTTP/1.1 %d %s' % (status, PHRASES[status])]
     lines += ['Content-Type: ' + content_type, 'Content-Length: %d' % len(body)]
     lines += ['Allow: ' + allowed] if allowed else []
+    lines += ['Retry-After: %d' % LATER] if status in RETRY_LATER else []
     lines += ['Connection: close', '', body]
     return '\r\n'.join(lines)
 
@@ -125,13 +135,42 @@ def added_by(key):
     return [part if decoded(part) is None else decoded(part) for part in key.split('/')]
 
 
-def answered(office, request):
+def code_of(part):
+    """The partner that a part of a path names: 1 to 35 printable bytes."""
+    code = decoded(part)
+    if code is None or not 1 <= len(code) <= 35 or not is_printable(code):
+        raise Refusal(404, 'none')
+    return code
+
+
+def pass_door(office, code, text, ahead):
+    """By the path of a partner a text may name no other as its sender, and a number may be above the partner's next one by
+    so many (own). A text whose head can't be read names nobody, and a partner without an account has no next number."""
+    if any(applies(text) for _name, applies in HEAD_FAULTS):
+        return
+    if sender_of(text) != code:
+        raise Refusal(403, 'refused', fault='OtherSender')
+    following = run(office.deliveries, code) + 1
+    if ahead is not None and code in office.setup.partners and number_of(text) > following + ahead:
+        raise Refusal(429, 'refused', fault='TooEarly', next=following)
+
+
+def delivered(office, text):
+    """Status, content type and body of the answer to a text."""
+    answer = office.answer(text)
+    return STATUSES[answer['answer']], 'application/json', json_text(answer)
+
+
+def answered(office, request, ahead):
     """Status, content type and body; a text that is delivered and an account that is added count from here on."""
     head = head_of(request)
     kind, key = route_of(head)
     if kind == 'delivery':
-        answer = office.answer(body_of(head, request))
-        return STATUSES[answer['answer']], 'application/json', json_text(answer)
+        return delivered(office, body_of(head, request))
+    if kind == 'own delivery':
+        code, text = code_of(key), body_of(head, request)
+        pass_door(office, code, text.strip(BREAKS), ahead)
+        return delivered(office, text)
     if kind == 'account':
         body_of(head, request)
         answer = office.add_account(*added_by(key))
@@ -142,10 +181,9 @@ def answered(office, request):
     return 200, CONTENT_TYPES.get(kind, 'text/plain'), text
 
 
-def response(office, request):
-    """The response to a request."""
+def response(office, request, ahead=None):
+    """The response to a request, by a server that takes numbers up to so many above the next ones; any, if that is None."""
     try:
-        return response_text(*answered(office, request))
+        return response_text(*answered(office, request, ahead))
     except Refusal as refusal:
-        return response_text(
-            refusal.status, 'application/json', json_text(dict(answer=refusal.word)), refusal.allowed)
+        return response_text(refusal.status, 'application/json', json_text(refusal.answer), refusal.allowed)

@@ -1,5 +1,5 @@
-"""What people look up: a container, what is left of a vessel's list, the partners, the blocks and a CONTRL
-(docs/PROFILE.md, Reports).
+"""What people look up: a container, what is left of a vessel's list, the partners, the blocks and a CONTRL; and what
+watches over the office (docs/PROFILE.md, Reports).
 
 Each is a text of whole lines, or None where there is nothing to tell, computed from all deliveries as the other reports
 are.
@@ -9,6 +9,7 @@ from .names import slot_text
 from .words import load_text, passage_text, text_of
 from .yard import blocker, cells
 
+PROGRAM_VERSION = '1.0.0'
 
 # ---- the yard
 
@@ -130,6 +131,39 @@ def partners(office):
     lines = [partner_line(office, partner, kind) for partner, kind in accounts.items()]
     count = sum(len(waiting(office, partner)) for partner in accounts)
     return text_of(['PARTNERS'] + lines + ['%d PARTNERS %d WAITING' % (len(lines), count)])
+
+
+def partner(office, code):
+    """The line of one account."""
+    kind = office.setup.partners.get(code)
+    return None if kind is None else text_of([partner_line(office, code, kind)])
+
+
+# ---- what watches over the office
+
+def health(_office):
+    """That it can be asked."""
+    return '{"answer":"ready"}'
+
+
+def gauge(name, what, value):
+    """A value in the text format of Prometheus, version 0.0.4."""
+    return ['# HELP %s %s' % (name, what), '# TYPE %s gauge' % name, '%s %s' % (name, value)]
+
+
+def metrics(office):
+    """How much there is of what, and the versions of program and store, which are labels of a value that is always 1."""
+    visits = office.fold().terminal.visits
+    waits = [len(waiting(office, partner)) for partner in office.setup.partners]
+    info = '{version="%s",store_version="%s"}' % (PROGRAM_VERSION, office.version)
+    return text_of(
+        gauge('office_accounts', 'Partners that have an account.', len(waits))
+        + gauge('office_containers', 'Containers in the yard.', len(office.fold().terminal.yard))
+        + gauge('office_visits', 'Visits recorded, open and closed.', len(visits))
+        + gauge('office_visits_limit', 'Visits that may be recorded.', office.setup.most_visits)
+        + gauge('office_interchanges_waiting', 'Interchanges that wait for a number that is missing.', sum(waits))
+        + gauge('office_partners_waiting', 'Partners of whom an interchange waits.', sum(count > 0 for count in waits))
+        + gauge('office_info', 'Versions of the program and of its store.', 1)[:2] + ['office_info%s 1' % info])
 
 
 # ---- the blocks

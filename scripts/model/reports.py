@@ -110,6 +110,7 @@ def reply(office, partner, number):
 
 REPORTS = {
     'yard': yard, 'yardcsv': yardcsv, 'picture': picture, 'blocks': lookups.blocks, 'partners': lookups.partners,
+    'partner': lookups.partner, 'health': lookups.health, 'metrics': lookups.metrics,
     'visits': visits, 'container': lookups.container, 'list': vessel_list, 'work': lookups.work, 'ticket': ticket,
     'reply': reply, 'contrl': lookups.contrl}
 
@@ -131,8 +132,8 @@ def report(office, kind, key=''):
 
 
 def printed(office, kind, key=''):
-    """What the command `report` prints, and its status: a reply has its line's end there."""
+    """What the command `report` prints, and its status: JSON has its line's end there."""
     text = report(office, kind, key)
     if text is None:
         return 'none\n', 1
-    return (text + '\n' if kind == 'reply' else text), 0
+    return (text + '\n' if kind in ('reply', 'health') else text), 0

@@ -11,11 +11,11 @@ ODD_KEYS = [
     '9123456/V12/', '9123456/V12/Load', '9123456/V12/move', '9123456/V99/load', '9123456/V12/load/', '%FF/%00/load',
     '%2F/1', '9123456%2FV12%2Fload']
 
-KEYED = ['visits', 'container', 'list', 'work', 'ticket', 'reply', 'contrl']
-WHOLE = ['yard', 'yard', 'yardcsv', 'blocks', 'partners', 'partners', 'picture']
+KEYED = ['visits', 'container', 'list', 'work', 'ticket', 'reply', 'contrl', 'partner']
+WHOLE = ['yard', 'yard', 'yardcsv', 'blocks', 'partners', 'partners', 'picture', 'health', 'metrics']
 
 KINDS = [
-    (14, 'delivery'), (2, 'altered delivery'), (8, 'report'), (2, 'odd report'), (1, 'method'), (1, 'route'),
+    (12, 'delivery'), (6, 'own delivery'), (2, 'altered delivery'), (8, 'report'), (2, 'odd report'), (1, 'method'), (1, 'route'),
     (2, 'length'), (1, 'cut'), (6, 'altered head'), (2, 'large'), (2, 'account'), (1, 'odd account')]
 METHODS = ['GET', 'POST', 'PUT', 'HEAD', 'get', 'OPTIONS', 'DELETE', 'X', 'PATCH', 'CONNECT', "!#$%&'*+-.^_`|~"]
 PATHS = [
@@ -45,6 +45,8 @@ ODD_ACCOUNTS = [
     'H' * 36 + '/gate', 'HAUL Z/gate', 'HAULA/1', '%/gate', 'HAULZ/gat%6', 'H\xc3\x84ULZ/gate', '\xff/gate', '%FF/gate',
     './gate', '../gate', '%2e%2E/line']
 
+ODD_CODES = [str.lower, lambda code: code + 'X', lambda code: code[:-1], lambda code: '?' + code, lambda code: code * 9]
+
 
 # ---- keys
 
@@ -57,13 +59,15 @@ def written(random, text, share=ESCAPED):
 
 def known(random, office):
     """A kind of report and a key under which something may be found."""
-    kind = random.choice(['visits', 'container', 'list', 'work', 'ticket', 'reply'])
+    kind = random.choice(['visits', 'container', 'list', 'work', 'ticket', 'reply', 'partner'])
     terminal, delivered = office.fold().terminal, office.deliveries
     if kind in ('visits', 'container') and terminal.visits:
         values = [random.choice(terminal.visits).number]
     elif kind in ('list', 'work') and terminal.lines:
         call, side, _number = random.choice(sorted(terminal.lines))
         values = [*call, random.choice([side, side, side, 'load', 'discharge'])]
+    elif kind == 'partner':
+        values = [random.choice(sorted(office.setup.partners))]
     elif kind == 'ticket' and terminal.visits and random.random() < 0.5:
         visit = random.choice(terminal.visits)
         partner, number = (visit.exit or visit.entry).source
@@ -97,7 +101,8 @@ def every_key(office):
     used = {'%s/%d' % (delivery.partner, delivery.number) for delivery in office.deliveries}
     return [
         (kind, key) for kind, keys in (
-            ('visits', boxes), ('container', boxes), ('list', lists), ('work', lists), ('ticket', used), ('reply', used), ('contrl', used))
+            ('visits', boxes), ('container', boxes), ('list', lists), ('work', lists), ('ticket', used), ('reply', used),
+            ('contrl', used), ('partner', office.setup.partners))
         for key in sorted(keys)]
 
 
@@ -125,6 +130,21 @@ def post(random, text, behind=''):
     return request(random, line, ['%s: %d' % (name, len(text))], text + behind)
 
 
+def post_as(random, code, text):
+    """A delivery by the path of a partner."""
+    line = 'POST /partners/%s/interchanges%s HTTP/1.1' % (written(random, code), weighted(random, QUERIES))
+    return request(random, line, ['Content-Length: %d' % len(text)], text)
+
+
+def own_delivery(random, day, office, text):
+    """A delivery by the path of a partner: mostly of the one that the text names, with what may make it name another."""
+    codes = sorted(office.setup.partners)
+    named = next((code for code in codes if '+%s+' % code in text), random.choice(codes))
+    code = random.choice([named] * 6 + [random.choice(codes)] + [alter(named) for alter in ODD_CODES])
+    front = random.choice([''] * 6 + ["UNA:+.? '", 'UNA:+.? ', ' ', '\r\n', "UNA+:.? '"])
+    return post_as(random, code, random.choice([front + text] * 4 + [day.altered(text)]))
+
+
 def get(random, path, method='GET'):
     """A request without a body."""
     return request(random, '%s %s%s HTTP/1.1' % (method, path, weighted(random, QUERIES)), [])
@@ -134,7 +154,7 @@ def path_of(kind, key):
     """Where a report stands."""
     fronts = {
         'yard': '/yard', 'yardcsv': '/yard.csv', 'picture': '/picture', 'blocks': '/blocks', 'partners': '/partners',
-        'visits': '/visits/', 'container': '/containers/', 'list': '/lists/', 'work': '/work/', 'ticket': '/tickets/',
+        'partner': '/partners/', 'health': '/health', 'metrics': '/metrics', 'visits': '/visits/', 'container': '/containers/', 'list': '/lists/', 'work': '/work/', 'ticket': '/tickets/',
         'reply': '/replies/', 'contrl': '/contrls/'}
     return fronts[kind] + key
 
@@ -197,6 +217,8 @@ def random_request(random, day, office):
     text = day.delivery() if kind == 'delivery' else day.again()
     if kind == 'delivery':
         return post(random, text + random.choice(['', '', '\r\n']), random.choice(['', '', 'AAAA', "UNB+"]))
+    if kind == 'own delivery':
+        return own_delivery(random, day, office, random.choice([day.delivery(), text]))
     if kind == 'altered delivery':
         return post(random, day.altered(text))
     if kind == 'report':

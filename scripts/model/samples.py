@@ -22,6 +22,7 @@ WANTED = [
     ('Orders', [meant.order for meant in CODE_NAMES.values()]),
     ('Answers', ['taken', 'repeat', 'waiting', 'clash', 'refused', 'cut']),
     ('Faults of an interchange', [name for name, _applies in FAULTS] + ['UnknownSender', 'WrongRecipient', 'End']),
+    ('Faults at the path of a partner', ['OtherSender', 'TooEarly']),
     ('Faults of a message', [name for name, _applies in MESSAGE_FAULTS]),
     ('Outcomes of a line', ['done', 'gone', 'listed', 'refused']),
     ('Faults of a line', LINE_FAULTS),
@@ -39,6 +40,9 @@ def kinds_in(case):
     kinds = {('Besides', 'GROSS') for _path, told in case.looks if ' GROSS ' in told}
     for place, line in enumerate(case.lines):
         kinds.update(kinds_of(json.loads(line), case.texts[place] if place < len(case.texts) else ''))
+    for _request, wanted in case.requests:
+        if wanted.startswith(('HTTP/1.1 403', 'HTTP/1.1 429')):
+            kinds.add(('Faults at the path of a partner', json.loads(wanted.partition('\r\n\r\n')[2])['fault']))
     return kinds
 
 
@@ -66,7 +70,7 @@ def order_of(text):
 
 def block(text):
     """A text that is set on lines of its own."""
-    return ''.join('    %s\n' % line for line in text.rstrip('\n').split('\n')) + '\n'
+    return ''.join('    %s\n' % line if line else '\n' for line in text.rstrip('\n').split('\n')) + '\n'
 
 
 def shown(case):
@@ -75,9 +79,9 @@ def shown(case):
     for word, value in case.said:
         if word == 'say':
             parts.append(value + '\n\n')
-        if word in ('deliver', 'stream', 'told'):
-            parts.append(block(value.replace(r'\n', '\n')))
-        if word in ('deliver', 'stream'):
+        if word in ('deliver', 'stream', 'told', 'request', 'response'):
+            parts.append(block(value.replace(r'\r', '').replace(r'\n', '\n')))
+        if word in ('deliver', 'stream', 'request'):
             parts.append('Answer:\n\n')
         if word == 'answer':
             parts.append(block(value))

@@ -27,6 +27,7 @@ ALTERED = 0.08              # of them with altered bytes
 QUESTIONS = 6
 SERVED = 6                  # lists that are followed by requests
 REQUESTS = 35
+BOUNDS = [None, 1, 2]       # how far above its next number a partner's may be
 
 
 class Program:
@@ -68,14 +69,15 @@ class Program:
         """A report; those on the whole terminal have no key."""
         return self.run('report', self.store, kind, *([key] if has_key(kind) else []))
 
-    def serve(self, requests, expect, exchange=None):
+    def serve(self, requests, expect, exchange=None, ahead=None):
         """Sends each request on a connection of its own, and hands on the response that it should have beside the one
-        that it has."""
+        that it has. By the path of a partner numbers may be above its next one by so many, or by any."""
         exchange = exchange or exchanged
         with socket.socket() as free:
             free.bind(('127.0.0.1', 0))
             port = free.getsockname()[1]
         words = [self.path, 'serve', self.store, str(port), str(len(requests))]
+        words += [] if ahead is None else ['--ahead', str(ahead)]
         with subprocess.Popen(words, stdout=subprocess.PIPE, encoding='utf-8') as process:
             try:
                 expect('listening', 'listening 127.0.0.1:%d\n' % port, process.stdout.readline())
@@ -165,10 +167,10 @@ class Beside:
             model, stored = Counter(wanted.get(table, [])), Counter(got.get(table, []))
             self.expect('table ' + table, name, sorted(model - stored), sorted(stored - model))
 
-    def serve(self, name, program, office, requests):
+    def serve(self, name, program, office, requests, ahead=None):
         """Requests by HTTP, each with the response that it should have."""
-        responses = [(request, response(office, request)) for request in requests]
-        program.serve(responses, partial(self.served, name))
+        responses = [(request, response(office, request, ahead)) for request in requests]
+        program.serve(responses, partial(self.served, name), ahead=ahead)
 
     def served(self, name, what, wanted, got):
         """What came over a connection."""
@@ -226,7 +228,7 @@ def try_list(beside, seed, requests):
             beside.report(name, program, office, kind, key)
         beside.rows(name, program, office)
         if requests:
-            beside.serve(name, program, office, random_requests(chance, day, office, requests))
+            beside.serve(name, program, office, random_requests(chance, day, office, requests), chance.choice(BOUNDS))
             beside.rows(name, program, office)
 
 

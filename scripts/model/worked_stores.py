@@ -239,17 +239,18 @@ def request_of(page, cell):
     if method != 'POST':
         fields = MANY_FIELDS.get(ending_of(words, MANY_FIELDS), [])
         return '\r\n'.join(['%s %s HTTP/1.1' % (method, words.split('`')[1])] + fields + ['', ''])
+    words, _by, path = words.partition(' by `')
     ending = ending_of(words, [*LENGTHS, *BODIES])
     text = page.interchange(words[:len(words) - len(ending)])
     fields = [field.replace('%d', str(len(text))) for field in LENGTHS.get(ending, ['Content-Length: %d'])]
-    return '\r\n'.join(['POST /interchanges HTTP/1.1'] + fields + ['', BODIES.get(ending, str)(text)])
+    return '\r\n'.join(['POST %s HTTP/1.1' % (path[:-1] or '/interchanges')] + fields + ['', BODIES.get(ending, str)(text)])
 
 
 def is_response(cells, given):
     """Whether a response is what a row's cells say, to the byte but for what an answer is told in short."""
     request, status, cell = cells
     head, _empty, body = given.partition('\r\n\r\n')
-    is_report = request.startswith('GET') and status == '200 OK' and '/replies/' not in request
+    is_report = request.startswith('GET') and status == '200 OK' and '/replies/' not in request and 'health' not in request
     status, *allow = status.split(', ')
     wanted = ['HTTP/1.1 ' + status, 'Content-Type: ' + ('text/plain' if is_report else 'application/json')]
     wanted += ['Content-Length: %d' % len(body)] + [field.strip('`') for field in allow] + ['Connection: close']
@@ -269,11 +270,11 @@ def requests(rows):
     requests_of_row(rows, 'Requests', [asked])
 
 
-def requests_of_row(rows, row, every):
+def requests_of_row(rows, row, every, ahead=None):
     """Requests one after the other, behind some to which nothing is held but the model; and what they leave in a store."""
     office = Office(rows.setup(row))
     every = every + [request_of(rows.page, cells[0]) for cells in rows.page.table(row)]
-    given = [response(office, request) for request in every]
+    given = [response(office, request, ahead) for request in every]
     for cells, answer in zip(rows.page.table(row), given[-len(rows.page.table(row)):]):
         rows.expect(row, '%s: %s' % (cells[0], answer), is_response(cells, answer))
     for word, _key, _what, text in told_in(rows.page, row):
@@ -281,7 +282,7 @@ def requests_of_row(rows, row, every):
     rows.told.add(row)
     if rows.beside:
         with Store(rows.beside, row, office.opening) as store:
-            rows.beside.serve(row, store.program, store.office, every)
+            rows.beside.serve(row, store.program, store.office, every, ahead)
             rows.beside.rows(row, store.program, store.office)
 
 
@@ -292,6 +293,12 @@ def accounts(rows):
     rows.expect(first, asked, response(Office(), asked) == ''.join(told_response(rows.page, first))[:-1])
     for name in (row, 'No more accounts'):
         requests_of_row(rows, name, [])
+
+
+def own_paths(rows):
+    """Partners that deliver by paths of their own, and a server that bounds how far ahead."""
+    requests_of_row(rows, 'By the path of a partner', [])
+    requests_of_row(rows, 'No further ahead', [], ahead=1)
 
 
 def told_response(page, row):
@@ -392,5 +399,5 @@ def changed_rows(rows):
 
 
 EVERY = [
-    keys, setup_files, commands, requests, calls_of_their_own, full_on_empty, changed_rows, accounts, accounts_by_commands,
-    old_commands, old_stores]
+    keys, setup_files, commands, requests, calls_of_their_own, full_on_empty, changed_rows, accounts, own_paths,
+    accounts_by_commands, old_commands, old_stores]

@@ -1,40 +1,76 @@
 use office_tables::TableFault;
 use sqlite::{Error, ErrorCode};
 use sqlite_resolve::CompileError;
-use std::fs;
 use std::os::unix::fs::MetadataExt;
+use std::{fmt, fs};
 
-/// What `init` meets where an office's tables are.
-const HAS_TABLES: &str = "it has its tables already: work on it, or name another file";
+/// Why something could not be done, and what to do about it, for a person. A path stands before the words, if they need one.
+#[derive(Clone, Copy, PartialEq, Eq)]
+pub(crate) struct Cause<'a> {
+    path: Option<&'a str>,
+    words: &'static str,
+}
 
-/// What a process meets whose store's file was removed while it worked.
-pub(crate) const NAMELESS: &str =
-    "the store's file was removed: reports still tell what was answered; stop, and put the last copy back";
+impl<'a> Cause<'a> {
+    /// The store's file was removed while a process worked on it.
+    pub(crate) const NAMELESS: Cause<'static> = Cause {
+        path: None,
+        words: "the store's file was removed: reports still tell what was answered; stop, and put the last copy back",
+    };
 
-/// Why a store could not be worked on, and what to do about it, for a person. `path` is the store's.
-pub(crate) fn cause_of(rt: &HostRuntime, path: &str, fault: &TableFault) -> &'static str {
-    match fault {
-        TableFault::Store(Error::SqliteFailure(code)) => cause_of_code(rt, path, *code),
-        TableFault::Store(Error::SqlInputError(CompileError::Exists)) => HAS_TABLES,
-        TableFault::Store(_) => {
-            "it is a database without the tables of an office: see that the path is right"
+    /// Memory was refused.
+    pub(crate) const MEMORY: Cause<'static> = Cause {
+        path: None,
+        words: "memory ran out: try again",
+    };
+
+    fn plain(words: &'static str) -> Cause<'a> {
+        Cause { path: None, words }
+    }
+
+    fn has_tables(path: &'a str) -> Cause<'a> {
+        Cause {
+            path: Some(path),
+            words: " has its tables already: work on it, or name another file",
         }
-        TableFault::Damaged => {
-            "its rows are those of no office: take the last copy, and deliver again what came since"
-        }
-        TableFault::Version => {
-            "its tables are of another version: `office migrate` brings those of version 1 and 2 to this one"
-        }
-        TableFault::Memory => "memory ran out: try again",
     }
 }
 
-fn cause_of_code(rt: &HostRuntime, path: &str, code: ErrorCode) -> &'static str {
+impl fmt::Display for Cause<'_> {
+    fn fmt<W: fmt::Write>(&self, f: &mut fmt::Formatter<W>) -> fmt::Result {
+        match self.path {
+            Some(path) => write!(f, "{path}{}", self.words),
+            None => f.write_str(self.words),
+        }
+    }
+}
+
+/// Why a store could not be worked on. `path` is the store's.
+pub(crate) fn cause_of<'a>(rt: &HostRuntime, path: &'a str, fault: &TableFault) -> Cause<'a> {
+    match fault {
+        TableFault::Store(Error::SqliteFailure(ErrorCode::NameTaken)) => Cause::has_tables(path),
+        TableFault::Store(Error::SqliteFailure(code)) => {
+            Cause::plain(words_of_code(rt, path, *code))
+        }
+        TableFault::Store(Error::SqlInputError(CompileError::Exists)) => Cause::has_tables(path),
+        TableFault::Store(_) => Cause::plain(
+            "it is a database without the tables of an office: see that the path is right",
+        ),
+        TableFault::Damaged => Cause::plain(
+            "its rows are those of no office: take the last copy, and deliver again what came since",
+        ),
+        TableFault::Version => Cause::plain(
+            "its tables are of another version: `office migrate` brings those of version 1 and 2 to this one",
+        ),
+        TableFault::Memory => Cause::MEMORY,
+    }
+}
+
+fn words_of_code(rt: &HostRuntime, path: &str, code: ErrorCode) -> &'static str {
     match code {
         ErrorCode::DatabaseBusy => {
             "another process works on it: wait for its end, or ask `office serve` over HTTP"
         }
-        ErrorCode::NameTaken => HAS_TABLES,
         ErrorCode::NotADatabase => "it is no database: see that the path is right",
         ErrorCode::DatabaseCorrupt => {
             "it is damaged, or the log beside it is not its own: put the last copy of both back"
@@ -44,13 +80,13 @@ fn cause_of_code(rt: &HostRuntime, path: &str, code: ErrorCode) -> &'static str 
             "a read or a write of it failed: look at the disk and at who may write there"
         }
         ErrorCode::Closed => "a write of it failed before: start the program again",
-        ErrorCode::CannotOpen => cause_at(rt, path),
+        ErrorCode::CannotOpen => words_at(rt, path),
         _ => "the database refuses what was asked: see that the path is right",
     }
 }
 
 /// Why the file at a path can't be opened.
-fn cause_at(rt: &HostRuntime, path: &str) -> &'static str {
+fn words_at(rt: &HostRuntime, path: &str) -> &'static str {
     match fs::metadata(rt, path) {
         Err(_) =>
             "no such file or folder: see that the path is right, or make a store by `office init`",
@@ -61,5 +97,21 @@ fn cause_at(rt: &HostRuntime, path: &str) -> &'static str {
         Ok(found) if found.len() == 0 => "the file is empty: make a store by `office init`",
         Ok(_) =>
             "the file can't be opened: look at who may read and write it and what lies beside it",
+    }
+}
+
+/// Why an input file can't be read. `-` is the standard input.
+pub(crate) fn cause_of_unread<'a>(rt: &HostRuntime, path: &'a str) -> Cause<'a> {
+    if path == "-" {
+        return Cause::plain("a read of the standard input failed: see what it is");
+    }
+    let words = match fs::metadata(rt, path) {
+        Err(_) => ": no such file: see that the path is right",
+        Ok(found) if found.is_dir() => ": it is a folder: name a file in it",
+        Ok(_) => ": the file can't be read: look at who may read it",
+    };
+    Cause {
+        path: Some(path),
+        words,
     }
 }

@@ -1,12 +1,11 @@
-use crate::cause::{NAMELESS, cause_of};
-use office_replies::Worst;
-use office_tables::TableFault;
+use crate::cause::{Cause, cause_of};
+use office_commands::WhyNotNow;
 
 /// What a person was told of why answers are `not now`: once, and again when it changes.
 #[derive(Clone, Copy)]
 pub(crate) struct Causes<'a> {
     path: &'a str,
-    told: Option<&'static str>,
+    told: Option<Cause<'a>>,
 }
 
 impl<'a> Causes<'a> {
@@ -15,31 +14,26 @@ impl<'a> Causes<'a> {
         Causes { path, told: None }
     }
 
-    /// The cause that has to be told behind an answer, with the fault for which the last one was `not now`.
+    /// The cause that has to be told behind an answer that was `not now` for that: one that was not told last. None behind any
+    /// other answer, after which the next cause is told again.
     pub(crate) fn behind(
         &mut self,
         rt: &HostRuntime,
-        worst: Worst,
-        fault: Option<&TableFault>,
-        is_nameless: bool,
-    ) -> Option<&'static str> {
-        match (worst, fault) {
-            (Worst::NotNow, _) if is_nameless => self.again(NAMELESS),
-            (Worst::NotNow, Some(fault)) => self.again(cause_of(rt, self.path, fault)),
-            (Worst::NotNow, None) => self.again("memory ran out: try again"),
-            _ => {
-                self.told = None;
-                None
-            }
-        }
+        why: Option<&WhyNotNow<'_>>,
+    ) -> Option<Cause<'a>> {
+        let was = self.told;
+        self.told = match why {
+            Some(why) => Some(self.cause(rt, why)),
+            None => None,
+        };
+        if self.told == was { None } else { self.told }
     }
 
-    /// A cause that was not told last.
-    fn again(&mut self, cause: &'static str) -> Option<&'static str> {
-        if self.told == Some(cause) {
-            return None;
+    fn cause(&self, rt: &HostRuntime, why: &WhyNotNow<'_>) -> Cause<'a> {
+        match why.fault {
+            _ if why.is_nameless => Cause::NAMELESS,
+            Some(fault) => cause_of(rt, self.path, fault),
+            None => Cause::MEMORY,
         }
-        self.told = Some(cause);
-        Some(cause)
     }
 }

@@ -18,10 +18,10 @@ pub(crate) fn init<W: Write, E: Write>(
     errors: &mut Port<E>,
 ) -> u8 {
     let Ok(partner_file) = fs::read(rt, partners) else {
-        return tell_unread(errors);
+        return tell_unread(rt, errors, partners);
     };
     let Ok(block_file) = fs::read(rt, blocks) else {
-        return tell_unread(errors);
+        return tell_unread(rt, errors, blocks);
     };
     let setup = match read_setup(rt.alloc(), &partner_file, &block_file) {
         Ok(setup) => setup,

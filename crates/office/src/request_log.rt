@@ -1,12 +1,14 @@
 use crate::causes::Causes;
 use crate::clock_time::ClockTime;
-use office_commands::Notes;
+use crate::tally::Became;
+use office_commands::{AccountNote, DeliveryNote, Notes, Sender, WhyNotNow};
 use office_http::Seen;
 use office_replies::Worst;
-use office_tables::TableFault;
+use office_stream::{Cut, StreamFault};
+use std::alloc::Global;
 use std::cell::Cell;
-use std::str;
 use std::time::Instant;
+use std::{fmt, str};
 
 /// A line for each request, on the stream of errors: what was done for it is noted first, and told when its connection is
 /// done with.
@@ -16,7 +18,7 @@ pub(crate) struct RequestLog<'a> {
     is_on: bool,
     begun: Cell<Option<Instant>>,
     microseconds: Cell<u128>,
-    answered: Cell<Option<String>>,
+    words: Cell<Option<String>>,
     causes: Cell<Causes<'a>>,
 }
 
@@ -28,7 +30,7 @@ impl<'a> RequestLog<'a> {
             is_on,
             begun: Cell::new(None),
             microseconds: Cell::new(0),
-            answered: Cell::new(None),
+            words: Cell::new(None),
             causes: Cell::new(Causes::new(path)),
         }
     }
@@ -44,25 +46,10 @@ impl<'a> RequestLog<'a> {
         }
     }
 
-    /// Notes how a delivery or an account was answered, by the body.
-    fn note_answer(&self, body: &str) {
-        let answer = text_behind(body, "\"answer\":\"");
-        let partner = text_behind(body, "\"partner\":\"");
-        let number = text_behind(body, "\"number\":");
-        let text = if partner.is_empty() {
-            format!(in self.rt.alloc(); " {answer}")
-        } else if number.is_empty() {
-            format!(in self.rt.alloc(); " {partner} {answer}")
-        } else {
-            format!(in self.rt.alloc(); " {partner}/{number} {answer}")
-        };
-        self.answered.set(text.ok());
-    }
-
     /// Tells why an answer is `not now`, if it is so for another cause than before.
-    fn tell_cause(&self, worst: Worst, fault: Option<&TableFault>, is_nameless: bool) {
+    fn tell_cause(&self, why: Option<&WhyNotNow<'_>>) {
         let mut causes = self.causes.get();
-        let cause = causes.behind(self.rt, worst, fault, is_nameless);
+        let cause = causes.behind(self.rt, why);
         self.causes.set(causes);
         if let Some(cause) = cause {
             let _ = eprintln!(self.rt; "{} not now: {cause}", ClockTime::now(self.rt));
@@ -73,36 +60,49 @@ impl<'a> RequestLog<'a> {
     fn tell(&self, method: &str, target: &str, status: u16, bytes: u64) {
         let time = ClockTime::now(self.rt);
         let spent = self.microseconds.replace(0);
-        let answered = match self.answered.replace(None) {
-            Some(text) => text,
+        let words = match self.words.replace(None) {
+            Some(words) => words,
             None => String::new(self.rt.alloc()),
         };
-        let about = answered.as_str();
         let _ = eprintln!(self.rt;
-            "{time} {method} {target} {status} {bytes} bytes {spent} us{about}"
+            "{time} {method} {target} {status} {bytes} bytes {spent} us{}",
+            words.as_str()
         );
     }
 }
 
 impl Notes for RequestLog<'_> {
+    fn is_on(&self) -> bool {
+        self.is_on
+    }
+
     fn begun(&self) {
         if self.is_on {
             self.begun.set(Instant::now(self.rt).ok());
         }
     }
 
-    fn answered(&self, body: &str, worst: Worst, fault: Option<&TableFault>, is_nameless: bool) {
+    fn answered(&self) {
         if self.is_on {
             self.note_time();
-            self.note_answer(body);
-            self.tell_cause(worst, fault, is_nameless);
         }
     }
 
-    fn looked(&self) {
-        if self.is_on {
-            self.note_time();
-        }
+    fn delivered(&self, sender: Option<&Sender>, note: &DeliveryNote<'_>) {
+        self.words
+            .set(delivery_words(self.rt.alloc(), sender, note));
+        self.tell_cause(match note {
+            DeliveryNote::NotNow(why) => Some(why),
+            _ => None,
+        });
+    }
+
+    fn enrolled(&self, code: &[u8], note: &AccountNote<'_>) {
+        self.words.set(account_words(self.rt.alloc(), code, note));
+        self.tell_cause(match note {
+            AccountNote::NotNow(why) => Some(why),
+            _ => None,
+        });
     }
 
     fn served(&self, seen: &Seen<'_>) {
@@ -115,6 +115,8 @@ impl Notes for RequestLog<'_> {
             );
         }
     }
+
+    fn ended(&self, _outcome: Result<Worst, StreamFault>, _cut: Option<Cut>) {}
 }
 
 /// A word of a request as text, and a hyphen if there is none.
@@ -125,13 +127,77 @@ fn word(bytes: &[u8]) -> &str {
     }
 }
 
-/// What stands behind the first such word of a body, up to a comma, a quote or a brace.
-fn text_behind<'b>(body: &'b str, word: &str) -> &'b str {
-    let Some((_, behind)) = body.split_once(word) else {
-        return "";
+/// How a delivery was answered, in the words of a line. None, if memory is refused.
+fn delivery_words(
+    alloc: Global,
+    sender: Option<&Sender>,
+    note: &DeliveryNote<'_>,
+) -> Option<String> {
+    let text = match sender {
+        Some(sender) => {
+            let (code, number) = (Code(&sender.code), sender.number);
+            format!(in alloc; " {code}/{number} {}", DeliveryWords(note))
+        }
+        None => format!(in alloc; " {}", DeliveryWords(note)),
     };
-    match behind.split_once(|letter: char| letter == ',' || letter == '"' || letter == '}') {
-        Some((text, _)) => text,
-        None => behind,
+    text.ok()
+}
+
+/// How an account was answered, in the words of a line. None, if memory is refused.
+fn account_words(alloc: Global, code: &[u8], note: &AccountNote<'_>) -> Option<String> {
+    let code = Code(code);
+    let text = match note {
+        AccountNote::Added => format!(in alloc; " {code} added"),
+        AccountNote::Known => format!(in alloc; " {code} known"),
+        AccountNote::Refused(fault) => format!(in alloc; " {code} refused {}", fault.name()),
+        AccountNote::NotNow(_) => format!(in alloc; " {code} not now"),
+    };
+    text.ok()
+}
+
+/// How a delivery was answered; of what was taken also what became of it.
+#[derive(Clone, Copy)]
+struct DeliveryWords<'a>(&'a DeliveryNote<'a>);
+
+impl fmt::Display for DeliveryWords<'_> {
+    fn fmt<W: fmt::Write>(&self, f: &mut fmt::Formatter<W>) -> fmt::Result {
+        match self.0 {
+            DeliveryNote::Taken(tally) => write!(f, "taken{}", Became(*tally)),
+            DeliveryNote::Repeat => f.write_str("repeat"),
+            DeliveryNote::Waiting => f.write_str("waiting"),
+            DeliveryNote::Clash => f.write_str("clash"),
+            DeliveryNote::Refused(fault) => write!(f, "refused {}", fault.name()),
+            DeliveryNote::NotNow(_) => f.write_str("not now"),
+        }
+    }
+}
+
+/// The most bytes of a partner's code.
+const MOST_BYTES: usize = 35;
+
+/// A code that was sent as a partner's: each byte that may stand in one as it is, any other as `%` and two hexadecimal
+/// digits. What is too long for one is cut off.
+#[derive(Clone, Copy)]
+struct Code<'a>(&'a [u8]);
+
+impl fmt::Display for Code<'_> {
+    fn fmt<W: fmt::Write>(&self, f: &mut fmt::Formatter<W>) -> fmt::Result {
+        let front = self.0.get(..MOST_BYTES).unwrap_or(self.0);
+        for byte in front {
+            write_byte(*byte, f)?;
+        }
+        if self.0.len() > MOST_BYTES {
+            f.write_str("..")?;
+        }
+        Ok(())
+    }
+}
+
+/// Writes a byte of a code.
+fn write_byte<W: fmt::Write>(byte: u8, f: &mut fmt::Formatter<W>) -> fmt::Result {
+    if byte.is_ascii_alphanumeric() || matches!(byte, b'-' | b'.' | b'_') {
+        write!(f, "{}", char::from(byte))
+    } else {
+        write!(f, "%{byte:02X}")
     }
 }

@@ -6,8 +6,8 @@ use office_stream::Port;
 use sqlite::Unknown;
 use std::io::Write;
 
-/// `serve DB PORT COUNT`: serves so many connections at a port of this machine, one after the other. It writes a line for
-/// each to the stream of errors if that is a terminal, or if a log is wanted.
+/// `serve DB PORT COUNT [--log] [--ahead N]`: serves so many connections at a port of this machine, one after the other. It
+/// writes a line for each to the stream of errors if that is a terminal, or if a log is wanted.
 pub(crate) fn serve<W: Write, E: Write>(
     rt: &HostRuntime,
     store: &str,

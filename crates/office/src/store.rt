@@ -1,16 +1,10 @@
-use office_commands::{NO_STORE, make_store as make_over, open_store as open_over};
-use office_desk::Desk;
+use office_commands::{NO_STORE, make_store as make_over};
 use office_setup::{MOST_PARTNERS, Setup};
 use office_tables::TableFault;
 use sqlite::{File, FileStore, Unknown};
 
 /// A store in a file of the operating system.
 pub(crate) type Store = FileStore<File>;
-
-/// The desk of a store that is there, whatever its file holds.
-pub(crate) fn open_store(rt: &HostRuntime, path: &str) -> Result<Desk<Store>, TableFault> {
-    open_over(rt, path, Unknown)
-}
 
 /// Makes the tables of a store with the rows of a set-up, wholly or not at all. A file that isn't there is made.
 pub(crate) fn make_store(rt: &HostRuntime, path: &str, setup: &Setup) -> Result<(), TableFault> {

@@ -16,6 +16,10 @@ word_if_any id = record (new_rule id) { action = Some Set }
 abbrev pub flag : Text → Rule
 flag name = record (new_rule name) { long = Some name; action = Some SetTrue }
 
+-- an option with a value, as --ahead N, which may be left out
+abbrev pub valued : Text → Rule
+valued name = record (new_rule name) { long = Some name; action = Some Set }
+
 -- init DB PARTNERS BLOCKS
 unfoldable pub init_app : App
 init_app = with_rule (with_rule (with_rule (new_app (codes "init")) (word (codes "DB"))) (word (codes "PARTNERS")))
@@ -25,11 +29,11 @@ init_app = with_rule (with_rule (with_rule (new_app (codes "init")) (word (codes
 unfoldable pub deliver_app : App
 deliver_app = with_rule (with_rule (new_app (codes "deliver")) (word (codes "DB"))) (word (codes "FILE"))
 
--- serve DB PORT COUNT [--log]
+-- serve DB PORT COUNT [--log] [--ahead N]
 unfoldable pub serve_app : App
 serve_app =
-    with_rule (with_rule (with_rule (with_rule (new_app (codes "serve")) (word (codes "DB"))) (word (codes "PORT")))
-    (word (codes "COUNT"))) (flag (codes "log"))
+    with_rule (with_rule (with_rule (with_rule (with_rule (new_app (codes "serve")) (word (codes "DB")))
+    (word (codes "PORT"))) (word (codes "COUNT"))) (flag (codes "log"))) (valued (codes "ahead"))
 
 -- report DB KIND [KEY]
 unfoldable pub report_app : App

@@ -10,7 +10,7 @@ use Rattle.office_command_line.specs.Commands.{office_app}
 use Rattle.office_command_line.specs.declared.command_fault.CommandFault.{CommandFault}
 use Rattle.office_command_line.specs.declared.command_fault.CommandFault.TheVariants.{Words, Values, Memory}
 use Rattle.office_queries.specs.declared.report_kind.ReportKind.{ReportKind}
-use Rattle.office_queries.specs.declared.report_kind.ReportKind.TheVariants.{Yard, YardTable, Visits, List as VesselList, Ticket, Reply, Container, Work, Partners, Blocks, Contrl, Picture}
+use Rattle.office_queries.specs.declared.report_kind.ReportKind.TheVariants.{Yard, YardTable, Visits, List as VesselList, Ticket, Reply, Container, Work, Partners, Partner, Blocks, Contrl, Picture, Health, Metrics}
 use Rattle.office_command_line.specs.declared.request.Request.{Request}
 use Rattle.office_command_line.specs.declared.request.Request.TheVariants as request
 
@@ -18,7 +18,7 @@ use Rattle.office_command_line.specs.declared.request.Request.TheVariants as req
 pub data Asked : Type 0 where
   init : Text → Text → Text → Asked
   deliver : Text → Text → Asked
-  serve : Text → ℕ → ℕ → Bool → Asked
+  serve : Text → ℕ → ℕ → Bool → (ahead : Option ℕ) → Asked
   report : Text → ReportKind → Option Text → Asked
   account : Text → Text → Text → Asked
   migrate : Text → Text → Asked
@@ -27,7 +27,7 @@ pub data Asked : Type 0 where
 abbrev pub request_asked : Request → Asked
 request_asked (request.Init store partners blocks) = init store.now partners.now blocks.now
 request_asked (request.Deliver store file) = deliver store.now file.now
-request_asked (request.Serve store port count log) = serve store.now port count log
+request_asked (request.Serve store port count log ahead) = serve store.now port count log ahead
 request_asked (request.Report store kind key) = report store.now kind (option_map (λ text. text.now) key)
 request_asked (request.Account store code kind) = account store.now code.now kind.now
 request_asked (request.Migrate old new) = migrate old.now new.now
@@ -39,6 +39,11 @@ request_asked request.Demo = demo
 abbrev pub number_upto : ℕ → List ℕ → Option ℕ
 number_upto greatest text =
     option_and_then (λ (n : ℕ). if nat_le 1 n && nat_le n greatest then Some n else None) (number_of 9 text)
+
+-- the number of an option that may be left out, if it is given: from 1 to the greatest
+abbrev pub number_if_any : ℕ → Option Text → Option (Option ℕ)
+number_if_any greatest None = Some None
+number_if_any greatest (Some text) = option_map (λ (n : ℕ). Some n) (number_upto greatest text)
 
 -- ---- reports
 
@@ -56,10 +61,13 @@ kind_said word =
     else if bytes_eq word (codes "blocks") then Some Blocks
     else if bytes_eq word (codes "contrl") then Some Contrl
     else if bytes_eq word (codes "picture") then Some Picture
+    else if bytes_eq word (codes "partner") then Some Partner
+    else if bytes_eq word (codes "health") then Some Health
+    else if bytes_eq word (codes "metrics") then Some Metrics
     else None
 
--- a report on the whole yard or on all partners has no key; each other one has the container, list or interchange
--- that it is about
+-- a report on the whole yard, on all partners or on the office has no key; each other one has the container, list,
+-- interchange or partner that it is about
 abbrev pub wants_key : ReportKind → Bool
 wants_key Yard = false
 wants_key YardTable = false
@@ -73,6 +81,9 @@ wants_key Blocks = false
 wants_key Contrl = true
 wants_key Picture = false
 wants_key Reply = true
+wants_key Partner = true
+wants_key Health = false
+wants_key Metrics = false
 
 -- ---- what the words of a subcommand ask for
 
@@ -93,12 +104,15 @@ deliver_asked rows = option_and_then
 abbrev pub is_set : Text → List Row → Bool
 is_set name rows = option_map_or (λ (text : Text). bytes_eq text (codes "true")) (first_of name rows) false
 
--- a port from 1 to 65535, from 1 to 1,000,000 connections, and whether a log is wanted
+-- a port from 1 to 65535, from 1 to 1,000,000 connections, whether a log is wanted, and how far above its next number a
+-- partner's may be
 abbrev pub serve_asked : List Row → Option Asked
 serve_asked rows =
     option_and_then (λ (store : Text).
     option_and_then (λ (port : ℕ).
-    option_map (λ (count : ℕ). serve store port count (is_set (codes "log") rows))
+    option_and_then (λ (count : ℕ).
+    option_map (λ (ahead : Option ℕ). serve store port count (is_set (codes "log") rows) ahead)
+    (number_if_any 999999999 (first_of (codes "ahead") rows)))
     (option_and_then (number_upto 1000000) (first_of (codes "COUNT") rows)))
     (option_and_then (number_upto 65535) (first_of (codes "PORT") rows)))
     (first_of (codes "DB") rows)
@@ -148,7 +162,7 @@ met_asks met = option_and_then (λ (m : Text × List Row). asked_by m.0 m.1) met
 -- how a subcommand is called
 abbrev pub usage_line : Text → Text
 usage_line name =
-    if bytes_eq name (codes "serve") then codes "usage: office serve DB PORT COUNT\n"
+    if bytes_eq name (codes "serve") then codes "usage: office serve DB PORT COUNT [--log] [--ahead N]\n"
     else if bytes_eq name (codes "report") then codes "usage: office report DB KIND [KEY]\n"
     else codes "usage: office COMMAND\n"
 
@@ -190,3 +204,9 @@ abbrev pub is_asked : CommandFault → Bool
 is_asked (Words error) = is_result (kind_of error)
 is_asked (Values line) = false
 is_asked Memory = false
+
+-- what is told of it: the usage line, or that memory was refused; of words in which `clap` finds a fault, what `clap` says
+abbrev pub fault_text : CommandFault → Option (List ℕ)
+fault_text (Words error) = None
+fault_text (Values line) = Some line.now
+fault_text Memory = Some (codes "store: Memory\n")

@@ -1,17 +1,21 @@
 ghost use Rattle.std.specs.Prelude.{◌≡◌, IfOk, true, false};
 ghost use Rattle.clap.specs.Words.{app_of, rule_of};
 ghost use Rattle.clap.specs.declared.builder.command.Command.TheViews.{out-Command};
-ghost use Rattle.office_command_line.specs.Commands.{word, word_if_any, flag, init_app, deliver_app, serve_app, report_app, account_app, migrate_app, demo_app};
+ghost use Rattle.office_command_line.specs.Commands.{word, word_if_any, flag, valued, init_app, deliver_app, serve_app, report_app, account_app, migrate_app, demo_app};
 
 use clap::{Arg, ArgAction, Command};
 use std::alloc::{AllocError, Global};
+
+/// The kinds of reports. Those from `container` on want a key.
+pub const REPORT_KINDS: &str =
+    "yard, yardcsv, picture, blocks, partners, health, metrics, container, visits, list, work, ticket, reply, contrl or partner";
 
 /// `init DB PARTNERS BLOCKS`
 pub(crate) fn init_command<'a>(alloc: Global) -> Result<Command<'a>, AllocError>
     ensures app { IfOk result (λ command. app_of command ≡ init_app) }
     ensures local { IfOk result (λ command. (out-Command command).has_globals ≡ false) }
 {
-    let store = word(alloc, "DB", "The store to make");
+    let store = word(alloc, "DB", "The store to create");
     let partners = word(
         alloc,
         "PARTNERS",
@@ -19,7 +23,7 @@ pub(crate) fn init_command<'a>(alloc: Global) -> Result<Command<'a>, AllocError>
     );
     let blocks = word(alloc, "BLOCKS", "The file of the yard's blocks");
     let init = Command::new(alloc, "init")
-        .about("Makes the tables of a store by a set-up")
+        .about("Create a store from set-up files")
         .after_help("Example: office init office.db partners.csv blocks.csv")
         .arg(store)?
         .arg(partners)?
@@ -33,35 +37,50 @@ pub(crate) fn deliver_command<'a>(alloc: Global) -> Result<Command<'a>, AllocErr
     ensures local { IfOk result (λ command. (out-Command command).has_globals ≡ false) }
 {
     let store = word(alloc, "DB", "The store");
-    let file = word(alloc, "FILE", "The file of interchanges");
+    let file = word(
+        alloc,
+        "FILE",
+        "The file of interchanges, - for standard input",
+    );
     let deliver = Command::new(alloc, "deliver")
-        .about("Delivers the interchanges of a file, and prints an answer a line")
+        .about("Deliver the interchanges of a file, and print an answer a line")
         .after_help("Example: office deliver office.db gate-in.edi")
         .arg(store)?
         .arg(file)?;
     Ok(deliver)
 }
 
-/// `serve DB PORT COUNT [--log]`
+/// `serve DB PORT COUNT [--log] [--ahead N]`
 pub(crate) fn serve_command<'a>(alloc: Global) -> Result<Command<'a>, AllocError>
     ensures app { IfOk result (λ command. app_of command ≡ serve_app) }
     ensures local { IfOk result (λ command. (out-Command command).has_globals ≡ false) }
 {
     let store = word(alloc, "DB", "The store");
     let port = word(alloc, "PORT", "A port of this machine, from 1 to 65535");
-    let count = word(alloc, "COUNT", "How many connections, from 1 to 1000000");
+    let count = word(
+        alloc,
+        "COUNT",
+        "How many connections to serve, from 1 to 1000000",
+    );
     let log = flag(
         alloc,
         "log",
-        "Write a line for each request to the stream of errors, also if it is no terminal",
+        "Write a line for each request to standard error, even if that is no terminal",
+    );
+    let ahead = valued(
+        alloc,
+        "ahead",
+        "N",
+        "Refuse a partner's number above its next one and N, by the path of that partner",
     );
     let serve = Command::new(alloc, "serve")
-        .about("Serves connections by HTTP, one after the other")
+        .about("Serve connections over HTTP, one after the other")
         .after_help("Example: office serve office.db 8080 1000")
         .arg(store)?
         .arg(port)?
         .arg(count)?
-        .arg(log)?;
+        .arg(log)?
+        .arg(ahead)?;
     Ok(serve)
 }
 
@@ -71,14 +90,14 @@ pub(crate) fn report_command<'a>(alloc: Global) -> Result<Command<'a>, AllocErro
     ensures local { IfOk result (λ command. (out-Command command).has_globals ≡ false) }
 {
     let store = word(alloc, "DB", "The store");
-    let kind = word(
+    let kind = word(alloc, "KIND", REPORT_KINDS);
+    let key = word_if_any(
         alloc,
-        "KIND",
-        "yard, yardcsv, picture, blocks, partners, container, visits, list, work, ticket, reply or contrl",
+        "KEY",
+        "BOX, VESSEL/VOYAGE/SIDE, PARTNER/NUMBER or PARTNER",
     );
-    let key = word_if_any(alloc, "KEY", "BOX, VESSEL/VOYAGE/SIDE or PARTNER/NUMBER");
     let report = Command::new(alloc, "report")
-        .about("Prints a report; those from container on want a KEY")
+        .about("Print a report; KEY is required from `container` on")
         .after_help("Example: office report office.db visits ABCU0000017")
         .arg(store)?
         .arg(kind)?
@@ -99,7 +118,7 @@ pub(crate) fn account_command<'a>(alloc: Global) -> Result<Command<'a>, AllocErr
     );
     let kind = word(alloc, "KIND", "gate, line, quay or yard");
     let account = Command::new(alloc, "account")
-        .about("Adds an account, and prints the answer")
+        .about("Add an account for a partner, and print the answer")
         .after_help("Example: office account office.db HAULC gate")
         .arg(store)?
         .arg(code)?
@@ -115,11 +134,11 @@ pub(crate) fn migrate_command<'a>(alloc: Global) -> Result<Command<'a>, AllocErr
     let old = word(
         alloc,
         "OLD",
-        "A store of an older version, which stays as it is",
+        "The store of an older version, which stays as it is",
     );
-    let new = word(alloc, "NEW", "The store to make");
+    let new = word(alloc, "NEW", "The store to create");
     let migrate = Command::new(alloc, "migrate")
-        .about("Makes a store of this version with what an older one keeps")
+        .about("Copy an older store into a new one")
         .after_help("Example: office migrate office.db new.db")
         .arg(old)?
         .arg(new)?;
@@ -132,7 +151,7 @@ pub(crate) fn demo_command<'a>(alloc: Global) -> Command<'a>
     ensures local { (out-Command result).has_globals ≡ false }
 {
     Command::new(alloc, "demo")
-        .about("Delivers the interchanges of the standard input over tables in memory")
+        .about("Deliver the interchanges of standard input to a terminal in memory")
         .after_help("Example: office demo < gate-in.edi")
 }
 
@@ -153,6 +172,18 @@ fn word_if_any<'a>(alloc: Global, id: &'a str, help: &'a str) -> Arg<'a>
     ensures local { result.global ≡ false }
 {
     Arg::new(alloc, id).action(ArgAction::Set).help(help)
+}
+
+/// An option with a value, which may be left out.
+fn valued<'a>(alloc: Global, name: &'a str, value: &'a str, help: &'a str) -> Arg<'a>
+    ensures rule { rule_of result ≡ valued name.entry.now }
+    ensures local { result.global ≡ false }
+{
+    Arg::new(alloc, name)
+        .long(name)
+        .action(ArgAction::Set)
+        .value_name(value)
+        .help(help)
 }
 
 /// An option without a value.

@@ -4,7 +4,7 @@ ghost use Rattle.clap.specs.Words.{found_of, rows_of, subcommand_rows_of, first_
 ghost use Rattle.office_command_line.specs.Requests.{request_asked, init_asked, account_asked, migrate_asked, deliver_asked, serve_asked, report_asked, report_with, asked_by, met_asks, is_set, kind_said, usage_line, wants_key, RefusesWords, RefusesMet, WordsAsk};
 
 use crate::command_fault::CommandFault;
-use crate::numbers::number_upto;
+use crate::numbers::{number_if_any, number_upto};
 use crate::office::office_command;
 use crate::request::Request;
 use clap::ArgMatches;
@@ -48,7 +48,7 @@ fn usage_of(name: &str) -> &'static str
     ensures { result.now ≡ usage_line name.now }
 {
     match name {
-        "serve" => "usage: office serve DB PORT COUNT\n",
+        "serve" => "usage: office serve DB PORT COUNT [--log] [--ahead N]\n",
         "report" => "usage: office report DB KIND [KEY]\n",
         _ => "usage: office COMMAND\n",
     }
@@ -96,11 +96,13 @@ fn serve_in<'a>(matches: &ArgMatches<'a>) -> Option<Request<'a>>
     let store = text_of(matches, "DB")?;
     let port = number_upto(65535, text_of(matches, "PORT")?)?;
     let count = number_upto(1_000_000, text_of(matches, "COUNT")?)?;
+    let ahead = number_if_any(999_999_999, text_of(matches, "ahead"))?;
     Some(Request::Serve {
         store,
         port: port as u16,
         count,
         log: is_set(matches, "log"),
+        ahead,
     })
 }
 
@@ -149,14 +151,17 @@ fn wants_key(kind: ReportKind) -> bool
         | ReportKind::YardTable
         | ReportKind::Partners
         | ReportKind::Blocks
-        | ReportKind::Picture => false,
+        | ReportKind::Picture
+        | ReportKind::Health
+        | ReportKind::Metrics => false,
         ReportKind::Visits
         | ReportKind::List
         | ReportKind::Ticket
         | ReportKind::Reply
         | ReportKind::Container
         | ReportKind::Work
-        | ReportKind::Contrl => true,
+        | ReportKind::Contrl
+        | ReportKind::Partner => true,
     }
 }
 
@@ -176,6 +181,9 @@ fn kind_of(word: &str) -> Option<ReportKind>
         "blocks" => Some(ReportKind::Blocks),
         "contrl" => Some(ReportKind::Contrl),
         "picture" => Some(ReportKind::Picture),
+        "partner" => Some(ReportKind::Partner),
+        "health" => Some(ReportKind::Health),
+        "metrics" => Some(ReportKind::Metrics),
         _ => None,
     }
 }

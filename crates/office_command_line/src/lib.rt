@@ -8,6 +8,7 @@ mod numbers;
 mod office;
 mod request;
 
+pub use builders::REPORT_KINDS;
 pub use command_fault::CommandFault;
 pub use command_reading::read_command;
 pub use request::Request;

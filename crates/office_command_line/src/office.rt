@@ -7,6 +7,7 @@ use crate::builders::{
     serve_command,
 };
 use clap::Command;
+use office_queries::program_version;
 use std::alloc::{AllocError, Global};
 
 /// The program's command line.
@@ -22,7 +23,7 @@ pub(crate) fn office_command<'a>(alloc: Global) -> Result<Command<'a>, AllocErro
     let demo = demo_command(alloc);
     let office = Command::new(alloc, "office")
         .about("The office system of a container terminal")
-        .version("1.0.0")
+        .version(program_version())
         .subcommand_required(true)
         .subcommand(init)?
         .subcommand(deliver)?

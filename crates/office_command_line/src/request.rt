@@ -29,6 +29,8 @@ pub enum Request<'a> {
         count: u32,
         /// Whether a line is written for each request, also if nobody looks on.
         log: bool,
+        /// How far above its next number a partner's may be, from 1 to 999,999,999; none for no bound.
+        ahead: Option<u32>,
     },
     /// To report on the store.
     Report {
@@ -36,7 +38,8 @@ pub enum Request<'a> {
         store: &'a str,
         /// What the report is about.
         kind: ReportKind,
-        /// Which container, list or interchange it is about; none for a report on the whole yard or on all partners.
+        /// Which container, list, interchange or partner it is about; none for a report on the whole yard, on all partners
+        /// or on the office.
         key: Option<&'a str>,
     },
     /// To add an account to a store.

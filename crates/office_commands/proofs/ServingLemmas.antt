@@ -1,5 +1,5 @@
 -- Requests that are served over a store in files.
-use Rattle.std.proofs.Common.{◌≡◌, ◌⊎◌, ◌≤◌, inl, inr, ℕ, List, [], ◌∷◌, ◌++◌, length, Option, Some, Result, Ok, Err, refl, sym, ap, subst, ◌∙◌}
+use Rattle.std.proofs.Common.{◌≡◌, ◌⊎◌, ◌≤◌, inl, inr, ℕ, Bool, List, [], ◌∷◌, ◌++◌, length, Option, Some, Result, Ok, Err, refl, sym, ap, subst, ◌∙◌}
 use Rattle.std.proofs.KnownBytes.{Appends-nil, Appends-trans}
 use Rattle.std.specs.Io.KnownBytes.{Appends}
 use Rattle.sqlite_disk.specs.declared.Disk.{Ghosts}
@@ -22,6 +22,7 @@ use Rattle.office_setup.specs.Setups.{SetupContent}
 use Rattle.office_history.specs.After.{SaysSame}
 use Rattle.office_stream.specs.Fronts.{AppendsFront}
 use Rattle.office_stream.specs.declared.port.Port.{Port}
+use Rattle.office_http.specs.Served.{calls_of}
 use Rattle.office_http.specs.Steps.{Step, delivery, account, report, with_step, events_after, StepLeads, StepsLead}
 use Rattle.office_desk.specs.Answers.{AnswersNext}
 use Rattle.office_desk.specs.Accounts.{AnswersAccount}
@@ -32,22 +33,39 @@ use Rattle.office_desk.specs.Reports.{DeskTells, TellsAfter}
 use Rattle.office_desk.specs.declared.desk.Desk.{Desk}
 use Rattle.office_commands.specs.Delivering.{BeginsAt, OpensOn, StandsAlike}
 use Rattle.office_commands.specs.Ending.{Prints, Tells as TellsText}
-use Rattle.office_commands.specs.Serving.{EndsServing, listening_line, served_line, IsServed, AreServed, put_off, HasNoEvent, MayBeThere, HoldsServed, LeadsNamed, EnrolsNamed, AreServedBy, IsServedOver}
+use Rattle.office_commands.specs.Serving.{EndsServing, listening_line, served_line, IsServed, AreServed, put_off, HasNoEvent, MayBeThere, HoldsServed, LeadsNamed, EnrolsNamed, LeadsWhile, EnrolsWhile, AreServedBy, IsServedOver}
 use Rattle.office_commands.proofs.AccountLemmas.{account_alike}
 use Rattle.office_commands.proofs.ReportLemmas.{after_alike}
 use Rattle.office_commands.proofs.StreamLemmas.{answer_alike, stand_alike}
 
 -- ---- what stands around a desk
 
--- steps of what a desk stands in are steps of the desk
-pub inner_steps : {W D : Type 0} (inner : W → D) (leads : D → List ℕ → Response → D → Type 0) (enrols : D → List ℕ → List ℕ → AccountAnswer → D → Type 0)
+-- steps of what a desk stands in are steps of the desk, if each one is
+pub inner_steps : {W D : Type 0} (inner : W → D) (outer_leads : W → List ℕ → Response → W → Type 0) (outer_enrols : W → List ℕ → List ℕ → AccountAnswer → W → Type 0)
+    (leads : D → List ℕ → Response → D → Type 0) (enrols : D → List ℕ → List ℕ → AccountAnswer → D → Type 0)
     (looks : D → Query → Result (Option (List ℕ)) NotNow → D → Type 0) (old : W) (steps : List Step) (new : W)
-    → StepsLead (λ o text given n. leads (inner o) text given (inner n)) (λ o code kind given n. enrols (inner o) code kind given (inner n)) (λ o query found n. looks (inner o) query found (inner n)) old steps new
+    → StepsLead outer_leads outer_enrols (λ o query found n. looks (inner o) query found (inner n)) old steps new
+    → ((o : W) (text : List ℕ) (given : Response) (n : W) → outer_leads o text given n → leads (inner o) text given (inner n))
+    → ((o : W) (code kind : List ℕ) (given : AccountAnswer) (n : W) → outer_enrols o code kind given n → enrols (inner o) code kind given (inner n))
     → StepsLead leads enrols looks (inner old) steps (inner new)
-inner_steps inner leads enrols looks old [] new same = ap inner same
-inner_steps inner leads enrols looks old (delivery text given ∷ steps) new (next, led, rest) = (inner next, led, inner_steps inner leads enrols looks next steps new rest)
-inner_steps inner leads enrols looks old (account code kind given ∷ steps) new (next, led, rest) = (inner next, led, inner_steps inner leads enrols looks next steps new rest)
-inner_steps inner leads enrols looks old (report query found ∷ steps) new (next, led, rest) = (inner next, led, inner_steps inner leads enrols looks next steps new rest)
+inner_steps inner outer_leads outer_enrols leads enrols looks old [] new same by by' = ap inner same
+inner_steps inner outer_leads outer_enrols leads enrols looks old (delivery text given ∷ steps) new (next, led, rest) by by' =
+    (inner next, by old text given next led, inner_steps inner outer_leads outer_enrols leads enrols looks next steps new rest by by')
+inner_steps inner outer_leads outer_enrols leads enrols looks old (account code kind given ∷ steps) new (next, led, rest) by by' =
+    (inner next, by' old code kind given next led, inner_steps inner outer_leads outer_enrols leads enrols looks next steps new rest by by')
+inner_steps inner outer_leads outer_enrols leads enrols looks old (report query found ∷ steps) new (next, led, rest) by by' =
+    (inner next, led, inner_steps inner outer_leads outer_enrols leads enrols looks next steps new rest by by')
+
+-- what goes by the name of a file is done, or `not now`
+pub named_leads : {D : Type 0} (leads : D → List ℕ → Response → D → Type 0) (says : Bool → Type 0) (nameless : Bool) (old : D) (text : List ℕ) (given : Response) (new : D)
+    → LeadsWhile leads says nameless old text given new → LeadsNamed leads old text given new
+named_leads leads says nameless old text given new (inl (said, noted, led)) = inl led
+named_leads leads says nameless old text given new (inr (said, noted, off, same)) = inr (off, same)
+
+pub named_enrols : {D : Type 0} (enrols : D → List ℕ → List ℕ → AccountAnswer → D → Type 0) (says : Bool → Type 0) (nameless : Bool) (old : D) (code kind : List ℕ) (given : AccountAnswer) (new : D)
+    → EnrolsWhile enrols says nameless old code kind given new → EnrolsNamed enrols old code kind given new
+named_enrols enrols says nameless old code kind given new (inl (said, noted, led)) = inl led
+named_enrols enrols says nameless old code kind given new (inr (said, noted, off, same)) = inr (off, same)
 
 -- from what a desk was to what it is, by whatever stood around it
 pub served_by : {D : Type 0} (leads : D → List ℕ → Response → D → Type 0) (enrols : D → List ℕ → List ℕ → AccountAnswer → D → Type 0)
@@ -236,7 +254,7 @@ tells_none {W} contents old new same fine = subst (λ (port : Port W). Appends (
 
 -- it listened and served, and printed the second line, or a front of it
 pub ends_by : {W : Type 0} (port count : ℕ) (old mid new : Port W) (a b c : Option (List ℕ)) (tells : List ℕ → Type 0) (Served : ℕ → Type 0) (text : List ℕ) (status : ℕ) → text ≡ served_line count
-    → Appends a b (listening_line port) → mid.failed ≡ old.failed → tells [] → Served count → Prints mid.failed new.failed new.flushed b c text 0 status → EndsServing port count old new a c tells Served status
+    → Appends a b (listening_line port) → mid.failed ≡ old.failed → tells [] → Served (calls_of count) → Prints mid.failed new.failed new.flushed b c text 0 status → EndsServing port count old new a c tells Served status
 ends_by port count old mid new a b c tells Served text status is one well told served (inl (zero, more, same, flushed)) =
     inl (zero, Appends-trans a b c (listening_line port) (served_line count) one (subst (Appends b c) is more), flushed, same ∙ well, told, served)
 ends_by port count old mid new a b c tells Served text status is one well told served (inr (three, more, fails)) =
@@ -245,6 +263,6 @@ ends_by port count old mid new a b c tells Served text status is one well told s
 -- what was served of a desk, as what was served of what that is in
 pub ends_as : {W : Type 0} (port count : ℕ) (old new : Port W) (a b : Option (List ℕ)) (tells : List ℕ → Type 0) (Served Served' : ℕ → Type 0) (status : ℕ) → ((n : ℕ) → Served n → Served' n)
     → EndsServing port count old new a b tells Served status → EndsServing port count old new a b tells Served' status
-ends_as port count old new a b tells Served Served' status on (inl (zero, writes, flushed, well, told, served)) = inl (zero, writes, flushed, well, told, on count served)
-ends_as port count old new a b tells Served Served' status on (inr (inl (three, fails, first, told, served))) = inr (inl (three, fails, first, told, on count served))
+ends_as port count old new a b tells Served Served' status on (inl (zero, writes, flushed, well, told, served)) = inl (zero, writes, flushed, well, told, on (calls_of count) served)
+ends_as port count old new a b tells Served Served' status on (inr (inl (three, fails, first, told, served))) = inr (inl (three, fails, first, told, on (calls_of count) served))
 ends_as port count old new a b tells Served Served' status on (inr (inr (three, none, served))) = inr (inr (three, none, on 0 served))

@@ -1,11 +1,11 @@
 -- What is said of a stream by how it came out, and of one to a desk whose set-up only says the same.
-use Rattle.std.proofs.Common.{◌≡◌, ◌≢◌, ◌≤◌, ◌<◌, inl, inr, ℕ, ◌+◌, ◌-◌, ◌^◌, ◌++◌, min, List, [], ◌∷◌, Option, true, false, Result, Ok, Err, IfOk, IfErr, OnOk, arith, sym, subst, ◌∙◌}
+use Rattle.std.proofs.Common.{◌≡◌, ◌≢◌, ◌≤◌, ◌<◌, inl, inr, ℕ, ◌+◌, ◌-◌, ◌^◌, ◌++◌, min, List, [], ◌∷◌, Option, true, false, Result, Ok, Err, IfOk, IfErr, OnOk, arith, sym, ap, subst, ◌∙◌}
 use Rattle.sqlite_disk.specs.declared.Disk.{Ghosts}
 use Rattle.sqlite.specs.Files.{over_files}
 use Rattle.sqlite.specs.Recovery.{Image}
 use Rattle.sqlite.specs.declared.FileStore.{FileStore}
 use Rattle.edi_segments.specs.Interchange.{interchange_of}
-use Rattle.office_replies.specs.Delivering.{AnswersEach, with_answered, events_behind}
+use Rattle.office_replies.specs.Delivering.{AnswersEach, LeadsOn, with_answered, events_behind}
 use Rattle.office_replies.specs.Events.{Event}
 use Rattle.office_replies.specs.declared.response.Response.{Response}
 use Rattle.office_replies.specs.declared.response.Response.TheVariants.{Taken, Repeat, Waiting, Clash, Refused, RefusedWithContrl, NotNow}
@@ -95,3 +95,28 @@ delivered_over image opened desk opens texts responses done = record {
       let at = opens.events (sound_before over_files opened desk texts responses done.led sound) content es begins in
       record { opening = at.opening; says = at.opening_says; holds = leaves_all over_files opened desk texts responses done.led sound at.opening es at.stands at.leaves };
 }
+
+-- ---- what stands around a desk
+
+-- deliveries to what a desk stands in are deliveries to the desk
+inner_leads : {W D : Type 0} (inner : W → D) (leads : D → List ℕ → Response → D → Type 0) (old : W) (texts : List (List ℕ)) (responses : List Response) (new : W)
+    → LeadsOn (λ o text given n. leads (inner o) text given (inner n)) old texts responses new → LeadsOn leads (inner old) texts responses (inner new)
+inner_leads inner leads old [] [] new same = ap inner same
+inner_leads inner leads old [] (given ∷ responses) new none = absurd none
+inner_leads inner leads old (text ∷ texts) [] new none = absurd none
+inner_leads inner leads old (text ∷ texts) (given ∷ responses) new (next, led, rest) = (inner next, led, inner_leads inner leads next texts responses new rest)
+
+-- from what a desk was to what it is, by whatever stood around it
+pub delivered_by : {W D Opening : Type 0} (inner : W → D) (is_sound : D → Type 0) (stands : Opening → List Event → D → Type 0) (answers : Opening → List Event → List ℕ → Response → Type 0)
+    (leads : D → List ℕ → Response → D → Type 0) (first last : W) (opened end : D) → inner first ≡ opened → end ≡ inner last → (texts : List (List ℕ)) (responses : List Response)
+    → AreDelivered (λ n. is_sound (inner n)) (λ opening es n. stands opening es (inner n)) answers (λ o text given n. leads (inner o) text given (inner n)) first last texts responses
+    → AreDelivered is_sound stands answers leads opened end texts responses
+delivered_by {W} {D} {Opening} inner is_sound stands answers leads first last opened end begins ends texts responses done =
+    let here : AreDelivered is_sound stands answers leads (inner first) (inner last) texts responses = record {
+      led = inner_leads inner leads first texts responses last done.led;
+      answered = λ sound opening es at.
+          let answered = done.answered sound opening es at in
+          record { each = answered.each; stands_now = answered.stands_now };
+    } in
+    subst (λ (at : D). AreDelivered is_sound stands answers leads opened at texts responses) (sym ends)
+    (subst (λ (at : D). AreDelivered is_sound stands answers leads at (inner last) texts responses) begins here)

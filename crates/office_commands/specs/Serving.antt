@@ -1,5 +1,5 @@
 -- What requests that are served leave of an office whose files held the rows after some events.
-use Rattle.std.specs.Prelude.{◌≡◌, ◌⊎◌, ◌≤◌, ℕ, true, List, [], ◌∷◌, ◌++◌, length, Option, None, Some, Result, codes, decimal}
+use Rattle.std.specs.Prelude.{◌≡◌, ◌⊎◌, ◌≤◌, ℕ, Bool, true, false, List, [], ◌∷◌, ◌++◌, length, Option, None, Some, Result, codes, decimal}
 use Rattle.std.specs.Io.KnownBytes.{Appends}
 use Rattle.sqlite_disk.specs.declared.Disk.{Ghosts}
 use Rattle.sqlite.specs.Files.{over_files}
@@ -19,6 +19,7 @@ use Rattle.office_queries.specs.declared.query.Query.{Query}
 use Rattle.office_setup.specs.Setups.{SetupContent}
 use Rattle.office_stream.specs.Fronts.{AppendsFront}
 use Rattle.office_stream.specs.declared.port.Port.{Port}
+use Rattle.office_http.specs.Served.{calls_of}
 use Rattle.office_http.specs.Steps.{Step, delivery, account, report, with_step, events_after, StepsLead}
 use Rattle.office_desk.specs.Accounts.{AnswersAccount}
 use Rattle.office_desk.specs.Answers.{AnswersNext}
@@ -82,7 +83,21 @@ abbrev pub EnrolsNamed : {D : Type 0} → (D → List ℕ → List ℕ → Accou
     D → List ℕ → List ℕ → AccountAnswer → D → Type 0
 EnrolsNamed enrols old code kind given new = enrols old code kind given new ⊎ ((given ≡ account_answer.NotNow) × (new ≡ old))
 
--- At most so many requests were served, and each did to the desk what the desk says of a call, or nothing and was answered
+-- So it goes by what the store's file says of its name, each time that it is asked: with one the desk is asked, and
+-- without one it is not. What it said is noted.
+abbrev pub LeadsWhile : {D : Type 0} → (D → List ℕ → Response → D → Type 0) → (says : Bool → Type 0) → (nameless : Bool) →
+    D → List ℕ → Response → D → Type 0
+LeadsWhile leads says nameless old text given new =
+    (says true × (nameless ≡ false) × leads old text given new)
+    ⊎ (says false × (nameless ≡ true) × (given ≡ response.NotNow) × (new ≡ old))
+
+abbrev pub EnrolsWhile : {D : Type 0} → (D → List ℕ → List ℕ → AccountAnswer → D → Type 0) → (says : Bool → Type 0) →
+    (nameless : Bool) → D → List ℕ → List ℕ → AccountAnswer → D → Type 0
+EnrolsWhile enrols says nameless old code kind given new =
+    (says true × (nameless ≡ false) × enrols old code kind given new)
+    ⊎ (says false × (nameless ≡ true) × (given ≡ account_answer.NotNow) × (new ≡ old))
+
+-- At most so many calls were made, and each did to the desk what the desk says of a call, or nothing and was answered
 -- `not now`.
 pub record AreServedBy {D : Type 0} (leads : D → List ℕ → Response → D → Type 0)
     (enrols : D → List ℕ → List ℕ → AccountAnswer → D → Type 0)
@@ -92,7 +107,7 @@ pub record AreServedBy {D : Type 0} (leads : D → List ℕ → Response → D �
   pub led : StepsLead (LeadsNamed leads) (EnrolsNamed enrols) looks old steps new
 
 module _ {D : Type 0} {g : Ghosts D} where
-  -- So many requests at most were served from a desk that was opened on those files. If it is sound in the end, then from
+  -- So many calls at most were made of a desk that was opened on those files. If it is sound in the end, then from
   -- whatever events the files held the rows, each was answered at its place, and what was answered outlasts a crash.
   pub record IsServedOver (image : Image) (count : ℕ) (desk : Desk (FileStore D g) over_files) : Type 0 where
     pub opened : Desk (FileStore D g) over_files
@@ -130,12 +145,12 @@ PrintsFirst port count written written' =
     (first : Option (List ℕ)) × Appends written first (listening_line port)
     × AppendsFront first written' (served_line count)
 
--- Both lines were printed and flushed, with 0, and at most so many requests served. Or as many, with 3, since the writer
+-- Both lines were printed and flushed, with 0, and at most the calls of so many requests made. Or as many, with 3, since the writer
 -- failed at the second line. Or none, with 3.
 abbrev pub EndsServing : {W : Type 0} → (port count : ℕ) (old new : Port W) (written written' : Option (List ℕ))
     (tells : List ℕ → Type 0) (Served : ℕ → Type 0) (status : ℕ) → Type 0
 EndsServing port count old new written written' tells Served status =
     ((status ≡ 0) × Appends written written' (listening_line port ++ served_line count) × (new.flushed ≡ true)
-    × (new.failed ≡ old.failed) × tells [] × Served count)
-    ⊎ (((status ≡ 3) × (new.failed ≡ true) × PrintsFirst port count written written' × tells [] × Served count)
+    × (new.failed ≡ old.failed) × tells [] × Served (calls_of count))
+    ⊎ (((status ≡ 3) × (new.failed ≡ true) × PrintsFirst port count written written' × tells [] × Served (calls_of count))
     ⊎ ((status ≡ 3) × ServesNone port old new written written' tells × Served 0))

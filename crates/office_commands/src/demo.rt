@@ -42,7 +42,8 @@ pub fn run_demo<R: Read, W: Write>(
         Ok(desk) => desk,
         Err(fault) => return Err(DemoFault::Store(fault)),
     };
-    match run_stream(alloc, reader, writer, &mut desk, TURNS) {
+    let mut cut = None;
+    match run_stream(alloc, reader, writer, &mut desk, TURNS, &mut cut) {
         Ok(worst) => Ok(worst),
         Err(fault) => Err(DemoFault::Stream(fault)),
     }

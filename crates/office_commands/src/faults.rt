@@ -1,5 +1,6 @@
 use office_desk::Desk;
 use office_tables::TableFault;
+use office_taking::Tally;
 use sqlite::Alter;
 
 /// What tells why it last answered `not now`.
@@ -18,5 +19,17 @@ impl<S: Alter> Faults for Desk<S> {
 
     fn is_nameless(&self) -> bool {
         false
+    }
+}
+
+/// What tells what became of the interchanges that it took last.
+pub trait Tallied {
+    /// What became of the one that was delivered, and of those that had waited for it.
+    fn last_taken(&self) -> Tally;
+}
+
+impl<S: Alter> Tallied for Desk<S> {
+    fn last_taken(&self) -> Tally {
+        Desk::last_taken(self)
     }
 }

@@ -5,13 +5,14 @@ ghost use Rattle.office_http.specs.Served.{AtMost};
 ghost use Rattle.office_commands.specs.Ending.{Tells};
 ghost use Rattle.office_commands.specs.Serving.{AreServedBy, EndsServing, IsServedOver, ServesNone, listening_line, served_line};
 
-use crate::faults::Faults;
+use crate::faults::{Faults, Tallied};
 use crate::named::Named;
 use crate::noted::Noted;
 use crate::notes::Notes;
 use crate::opening::open_store;
 use crate::service::Service;
 use crate::status::{DONE, FAILED};
+use crate::store_file::StoreFile;
 use crate::telling::{print, tell};
 use crate::watching::Watching;
 use office_desk::Desk;
@@ -37,8 +38,8 @@ pub fn serve_over<S: Start, N: Notes, W: Write, E: Write>(
     notes: &N,
     writer: &mut Port<W>,
     errors: &mut Port<E>,
-) -> Result<(u8, Named<Desk<FileStore<FileFrom<S>>>>), TableFault>
-    // What was printed and told, and how many requests at most were served. From whatever events the files held the
+) -> Result<(u8, Named<Desk<FileStore<FileFrom<S>>>, StoreFile>), TableFault>
+    // What was printed and told, and how many calls at most were made for requests. From whatever events the files held the
     // rows, each is answered by that office at its place, or `not now`, and what was answered outlasts a crash. And what
     // each did to the desk, whatever the files held.
     ensures ok { IfOk result (λ ended. EndsServing service.port service.count writer.old writer.new
@@ -52,7 +53,7 @@ pub fn serve_over<S: Start, N: Notes, W: Write, E: Write>(
 }
 
 /// Serves what a desk over the store at a path answers, whatever desk it is, and gives it back as it was left.
-fn serve_named<D: Report + AddAccount + Faults, N: Notes, W: Write, E: Write>(
+fn serve_named<D: Report + AddAccount + Faults + Tallied, N: Notes, W: Write, E: Write>(
     rt: &HostRuntime,
     path: &str,
     desk: D,
@@ -60,13 +61,13 @@ fn serve_named<D: Report + AddAccount + Faults, N: Notes, W: Write, E: Write>(
     notes: &N,
     writer: &mut Port<W>,
     errors: &mut Port<E>,
-) -> (u8, Named<D>)
+) -> (u8, Named<D, StoreFile>)
     ensures { EndsServing service.port service.count writer.old writer.new
         (W.contents writer.old.inner) (W.contents writer.new.inner)
         (Tells errors.new.failed (E.contents errors.old.inner) (E.contents errors.new.inner))
         (λ most. AreServedBy D.leads D.enrols D.looks most desk result.1.desk) result.0 }
 {
-    let named = Named::new(desk, rt, path);
+    let named = Named::new(desk, StoreFile::open(rt, path));
     let mut noted = Noted::new(named, notes);
     let status = serve_at(rt, &mut noted, service, notes, writer, errors);
     (status, noted.into_desk())
@@ -94,6 +95,7 @@ fn serve_at<D: Report + AddAccount, N: Notes, W: Write, E: Write>(
                 rt,
                 &listener,
                 service.count,
+                service.ahead,
                 desk,
                 &mut watching,
             );
@@ -119,7 +121,11 @@ fn listen<W: Write, E: Write>(
         (Tells errors.new.failed (E.contents errors.old.inner) (E.contents errors.new.inner)) }
 {
     let alloc = rt.alloc();
-    let Service { port, count } = service;
+    let Service {
+        port,
+        count,
+        ahead: _,
+    } = service;
     let (Ok(address), Ok(listening), Ok(served)) = (
         format!(in alloc; "127.0.0.1:{port}"),
         format!(in alloc; "listening 127.0.0.1:{port}\n"),

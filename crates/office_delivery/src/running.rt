@@ -19,13 +19,14 @@ use crate::taking::{take_admitted, take_text};
 use office_admission::Admitted;
 use office_setup::Setup;
 use office_tables::{Kept, TableFault, kept};
+use office_taking::Tally;
 use partner_core::LAST_NUMBER;
 use sqlite::{Alter, Connection};
 use std::alloc::{AllocError, Global};
 use terminal_core::Terminal;
 
-/// Takes a partner's next interchange, and then each text that becomes next by it, as far as the tables keep one.
-/// It writes nothing. If it fails, the terminal may hold part of the run, and is to be given up.
+/// Takes a partner's next interchange, and then each text that becomes next by it, as far as the tables keep one, and counts
+/// what became of them. It writes nothing. If it fails, terminal and tally may hold part of the run, and are to be given up.
 ///
 /// Damaged if a number behind has a reply that is no text; Store and Memory say nothing of the rows.
 pub fn take_run<S: Alter>(
@@ -35,6 +36,7 @@ pub fn take_run<S: Alter>(
     terminal: &mut Terminal,
     admitted: &Admitted<'_>,
     number: u32,
+    tally: &mut Tally,
 ) -> Result<Vec<Taken>, TableFault>
     requires few { length setup.now.partners.items ≤ most_partners }
     requires number { number ≤ LAST_NUMBER }
@@ -52,12 +54,12 @@ pub fn take_run<S: Alter>(
 {
     let mut taken = Vec::new(alloc);
     let partner = admitted.partner;
-    let first = take_admitted(alloc, setup, terminal, admitted, number)?;
+    let first = take_admitted(alloc, setup, terminal, admitted, number, tally)?;
     append(&mut taken, first)?;
     let mut last = number;
     while let Some(text) = text_behind(conn, partner, last)? {
         last += 1;
-        let next = take_text(alloc, setup, terminal, partner, last, &text)?;
+        let next = take_text(alloc, setup, terminal, partner, last, &text, tally)?;
         append(&mut taken, next)?;
     }
     Ok(taken)

@@ -1,15 +1,16 @@
 -- Why a call fails over the rows of an office.
-use Rattle.std.proofs.Common.{◌≡◌, ℕ, ◌+◌, ◌-◌, ◌<◌, ◌≤◌, List, [], ◌∷◌, length, inl, inr, None, Some, get_or, refl, sym, ap, subst, ◌∙◌, arith}
+use Rattle.std.proofs.Common.{◌≡◌, ℕ, ◌+◌, ◌-◌, ◌<◌, ◌≤◌, ◌&&◌, List, [], ◌∷◌, length, inl, inr, Option, None, Some, option_map, get_or, string_bytes, refl, sym, ap, ap₂, subst, ◌∙◌, arith}
 use Rattle.std.specs.Prelude.{◌==◌, Contains, IsUtf8, codes, map}
 use Rattle.std.proofs.lemmas.List.Sorted.{Contains-permutation, IsPermutation-sym}
-use Rattle.std.proofs.lemmas.Bool.{and_parts, eqb-true}
+use Rattle.std.proofs.lemmas.Bool.{and_parts, eq-eqb, eqb-true}
+use Rattle.std.proofs.lemmas.List.{length-map}
 use Rattle.std.proofs.lemmas.List.FromFn.{length-map-range_with_len}
 use Rattle.std.proofs.lemmas.Option.{slice_get-get_or}
 use Rattle.partner_core.specs.Numbered.{with_number}
 use Rattle.partner_core.proofs.Numbered.{with_number-below}
 use Rattle.sqlite.specs.Effect.{Database}
 use Rattle.sqlite_rules.specs.Lists.{Has}
-use Rattle.sqlite_rules.proofs.ListLemmas.{contains_had, has_contained, has_filtered}
+use Rattle.sqlite_rules.proofs.ListLemmas.{contains_had, has_contained, has_filtered, has_kept}
 use Rattle.edi_messages.specs.declared.partner_kind.PartnerKind.{PartnerKind}
 use Rattle.terminal_core.specs.State.{TerminalState}
 use Rattle.office_rows.specs.Rows.{Partner, Interchange, Rows}
@@ -20,20 +21,29 @@ use Rattle.office_rows.specs.Shown.{AreNexts, columns_at}
 use Rattle.office_rows.specs.Stored.{columns_of}
 use Rattle.office_rows.specs.Tables as table
 use Rattle.office_rows.specs.Values.{setting_values}
-use Rattle.office_setup.specs.Setups.{SetupContent}
+use Rattle.office_admission.proofs.Growing.{found_low}
+use Rattle.office_setup.specs.Setups.{SetupContent, parties_in}
 use Rattle.office_history.specs.After.{reply_if_any}
 use Rattle.office_history.specs.Cascade.{text_in}
+use Rattle.office_selecting.specs.Waiting.{is_waiting, waiting_in}
+use Rattle.office_tables.specs.Answers.{LacksNext}
 use Rattle.office_tables.specs.Faults.{IsOfStore}
 use Rattle.office_tables.specs.declared.table_fault.TableFault.{TableFault}
 use Rattle.office_tables.specs.declared.table_fault.TableFault.TheVariants.{Store, Damaged, Version, Memory}
 use Rattle.office_loading.specs.Tables.{FailsToLoad, HasHighNext, HasVersion, Loads}
+use Rattle.office_loading.specs.Waiting.{HasHighWaiting}
 use Rattle.office_loading.proofs.TableLemmas.{has_mapped}
 use Rattle.office_loading.proofs.VersionLemmas.{full}
 use Rattle.office_delivery.specs.Reading.{HasUnfitBehind}
+use Rattle.office_delivery.proofs.ReadLemmas.{one_kept}
+use Rattle.office_queries.specs.declared.query.Query.{Query}
+use Rattle.office_queries.specs.declared.query.Query.TheVariants as query
+use Rattle.office_desk.specs.Causes.{AsksUnfitReply, AsksUnreadable, HasUnfitReplyOf, LacksReply, LacksSome}
+use Rattle.office_desk.specs.Reports.{partner_called}
 use Rattle.office_desk.specs.Offices.{FailsToOpen}
 use Rattle.office_desk.proofs.KeptNumbers.{own_reply}
 use Rattle.office_desk.proofs.NumberLemmas.{nexts_are}
-use Rattle.office_desk.proofs.OfficeAccounts.{KeepsAccounts}
+use Rattle.office_desk.proofs.OfficeAccounts.{KeepsAccounts, next_follows, next_there}
 
 -- ---- the next numbers
 
@@ -102,3 +112,48 @@ behind_fits content rows its p k high unfit =
     let beyond : its.runs i.partner < i.number = subst (λ q. its.runs q < i.number) (sym its_own) (omega (arith, number, high, unfit.1)) in
     unfit.2.2 (waits_as_text i.reply
     (sym (own_reply (length content.partners) its.runs rows its.keeps i (contains_had rows.interchanges i own.0)) ∙ its.keeps.waits i.partner i.number beyond))
+
+-- ---- what a report reads
+
+-- each account of an office has a next number of 32 bits
+next_fits : (content : SetupContent) (rows : Rows) → (its : KeepsAccounts content rows) → (p : ℕ) → 1 ≤ p → p ≤ length content.partners → ¬ (LacksNext p rows)
+next_fits content rows its p one most (inl none) =
+    let there = next_there content rows its p one most in
+    absurd (subst (λ l. Has l there.0) none (has_contained _ there.0 there.1))
+next_fits content rows its p one most (inr lacks) =
+    let follows = next_follows content rows its p lacks.0.next (lacks.0, lacks.1, refl) in
+    lacks.2 (omega (arith, follows, its.high p))
+
+-- what waits for a number has one of 32 bits
+waiting_fits : (content : SetupContent) (rows : Rows) → (its : KeepsAccounts content rows) → (p next : ℕ) → ¬ (HasHighWaiting p next rows)
+waiting_fits content rows its p next high =
+    let r = has_mapped (λ (i : Interchange). i.number) (waiting_in p next rows) high.0 (has_contained _ high.0 high.1) in
+    let i : Interchange = r.0 in
+    let own = has_filtered (is_waiting p next) rows.interchanges i r.1 in
+    let there = has_kept (is_pair i.partner i.number) rows.interchanges i own.0 (ap₂ (λ a b. a && b) (eq-eqb i.partner i.partner refl) (eq-eqb i.number i.number refl)) in
+    let kept : text_in rows i.partner i.number ≡ Some i.body = ap (option_map (λ (j : Interchange). j.body)) (one_kept i.partner i.number rows i its.keeps.once (contains_had _ i there)) in
+    let within = its.keeps.within i.partner i.number i.body kept in
+    high.2 (omega (arith, r.2, within.3))
+
+numbers_fit : (content : SetupContent) (rows : Rows) → (its : KeepsAccounts content rows) → ¬ (LacksSome rows (length content.partners))
+numbers_fit content rows its (id, one, most, inl lacks) = next_fits content rows its id one most lacks
+numbers_fit content rows its (id, one, most, inr high) = waiting_fits content rows its id high.0 high.1
+
+reply_unfit : (content : SetupContent) (rows : Rows) → (its : KeepsAccounts content rows) → (number : ℕ) (found : Option ℕ) → ((p : ℕ) → found ≡ Some p → (1 ≤ p) × (p ≤ length content.partners)) → LacksReply rows number found → HasUnfitReplyOf rows number found
+reply_unfit content rows its number None within lacks = lacks
+reply_unfit content rows its number (Some p) within (inl unfit) = unfit
+reply_unfit content rows its number (Some p) within (inr lacks) = let known = within p refl in absurd (next_fits content rows its p known.0 known.1 lacks)
+
+-- of an office's rows all is read but a reply that is no text
+pub asked_unfit : (content : SetupContent) (rows : Rows) → (its : KeepsAccounts content rows) → (asked : Query) → AsksUnreadable content rows asked → AsksUnfitReply content rows asked
+asked_unfit content rows its (query.Ticket partner number) lacks = lacks
+asked_unfit content rows its (query.Contrl partner number) lacks = lacks
+asked_unfit content rows its (query.Reply partner number) lacks =
+    reply_unfit content rows its number (partner_called content (string_bytes partner))
+    (λ p is. let low = found_low 1 (string_bytes partner) (parties_in content).partners p is in (low.0, omega (arith, low.1, length-map content.partners (λ (account : List ℕ × PartnerKind). account.0)))) lacks
+asked_unfit content rows its query.Partners lacks = absurd (numbers_fit content rows its lacks)
+asked_unfit content rows its (query.Partner code) lacks = absurd (numbers_fit content rows its lacks)
+asked_unfit content rows its (query.Next code) lacks = absurd (numbers_fit content rows its lacks)
+asked_unfit content rows its query.Health lacks = absurd (numbers_fit content rows its lacks)
+asked_unfit content rows its query.Metrics lacks = absurd (numbers_fit content rows its lacks)
+asked_unfit content rows its others lacks = absurd lacks

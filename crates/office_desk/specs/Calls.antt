@@ -1,6 +1,6 @@
 -- What one call does to a desk: all that is said of it, in one piece, so that whoever knows a desk by its traits alone can
 -- hand it on.
-use Rattle.std.specs.Prelude.{◌≡◌, ℕ, List, Option, Result}
+use Rattle.std.specs.Prelude.{◌≡◌, ℕ, List, Ok, Option, Result, OnOk}
 use Rattle.sqlite.specs.Held.{state}
 use Rattle.sqlite.specs.State.{HasCleanDisk}
 use Rattle.sqlite_trees.specs.declared.store.Store.{Ghosts}
@@ -17,22 +17,24 @@ use Rattle.office_queries.specs.declared.query.Query.{Query}
 use Rattle.office_setup.specs.Parties.{parties_of}
 use Rattle.office_setup.specs.Setups.{SetupContent, setup_content}
 use Rattle.office_admission.specs.Accounts.{account_answer}
+use Rattle.office_admission.specs.Admission.{admission}
 use Rattle.office_admission.specs.Refusals.{RefusedSurely}
 use Rattle.office_rows.specs.Rows.{Rows}
 use Rattle.office_rows.specs.Tables.{office_schema}
 use Rattle.office_desk.specs.Accounts.{AddsOver, AnswersAccount, LeavesAdded, Says}
 use Rattle.office_desk.specs.Answers.{AnswersNext}
+use Rattle.office_desk.specs.Causes.{AsksUnfitReply}
 use Rattle.office_desk.specs.Crashes.{Leaves, LeavesAll, LeavesBehind, LeavesNoMore}
 use Rattle.office_desk.specs.Desks.{IsSound, StandsFor, Refuses}
 use Rattle.office_desk.specs.Kept.{AnswersOver, Office}
-use Rattle.office_desk.specs.Noting.{NotesFault, NotesLook, NotesStore}
+use Rattle.office_desk.specs.Noting.{IsNow, NotesCause, NotesFault, NotesLook, NotesStore}
 use Rattle.office_desk.specs.Offices.{DeskHolds}
-use Rattle.office_desk.specs.Reports.{DeskTells}
+use Rattle.office_desk.specs.Reports.{DeskTells, IsOpenFor}
 use Rattle.office_desk.specs.declared.desk.Desk.{Desk}
 
 -- A text was delivered, with that response. From whatever events it is answered at its place; over any office's rows by
--- what is kept; what a crash leaves; the set-up stays; what is refused is refused so, and touches nothing; and why it is
--- NotNow.
+-- what is kept; what a crash leaves; the set-up stays; what is refused is refused so, and touches nothing; why it is
+-- NotNow; and what is admitted and answered otherwise is so over an open connection.
 pub record Leads {S : Type 0} (g : Ghosts S) (old : Desk S g) (sent : List ℕ) (response : Response) (new : Desk S g)
     : Type 0 where
   pub delivers : IsSound g new → (content : SetupContent) (es : List Event) → StandsFor g content es old →
@@ -46,6 +48,8 @@ pub record Leads {S : Type 0} (g : Ghosts S) (old : Desk S g) (sent : List ℕ) 
   pub refused : Refuses g sent old response new
   pub sure : RefusedSurely (parties_of old.setup) (interchange_of sent) response
   pub noted : NotesFault response old.last_fault new.last_fault
+  pub answered : HasCleanDisk (state g new.conn) → (place : ℕ × ℕ) →
+      admission (parties_of old.setup) (interchange_of sent) ≡ Ok place → IsNow response → IsSound g new
 
 -- An account was asked for under a code, of a kind, with that answer. From whatever events it is answered at its place;
 -- by the desk's own set-up, whatever rows it has; what a crash leaves; and why it is NotNow.
@@ -71,12 +75,17 @@ pub record OnlyLooks {S : Type 0} (g : Ghosts S) (old new : Desk S g) : Type 0 w
       LeavesNoMore (state g old.conn) (state g new.conn)
   pub stays : IsSound g new → IsSound g old
 
--- A report was asked for. What was found is what the rows tell; the desk only looked; and why it can't be told now.
+-- A report was asked for. What was found is what the rows tell; the desk only looked; why it can't be told now: over an
+-- office's rows by the store or the memory alone, or by what is asked for; and where it's told that the office can be asked,
+-- the store is open.
 pub record Looks {S : Type 0} (g : Ghosts S) (old : Desk S g) (query : Query) (found : Result (Option (List ℕ)) NotNow)
     (new : Desk S g) : Type 0 where
   pub told : IsSound g new → Tells (DeskTells g old query) found
   pub looks : OnlyLooks g old new
   pub noted : NotesLook found old.last_fault new.last_fault
+  pub cause : IsSound g new → (rows : Rows) (terminal : TerminalState) → DeskHolds g old rows terminal →
+      NotesCause (AsksUnfitReply (setup_content old.setup) rows query) found new.last_fault
+  pub is_open : HasCleanDisk (state g new.conn) → OnOk found (IsOpenFor query (state g new.conn))
 
 -- ---- what follows of deliveries, one behind the other
 

@@ -12,3 +12,4 @@ pub mod Noting
 pub mod Alike
 pub mod Accounts
 pub mod Calls
+pub mod Causes

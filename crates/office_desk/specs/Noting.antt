@@ -5,9 +5,16 @@ use Rattle.office_replies.specs.declared.account_answer.AccountAnswer.TheVariant
 use Rattle.office_replies.specs.declared.response.Response.{Response}
 use Rattle.office_replies.specs.declared.response.Response.TheVariants as response
 use Rattle.office_queries.specs.declared.not_now.NotNow.{NotNow as Unreported}
-use Rattle.office_tables.specs.Faults.{IsOfStore}
+use Rattle.office_tables.specs.Faults.{IsOfStore, IsOfStoreOr}
 use Rattle.office_tables.specs.declared.table_fault.TableFault.{TableFault}
 use Rattle.office_tables.specs.declared.table_fault.TableFault.TheVariants.{Memory}
+
+-- what a call answered is handed on; or the fault that it met is kept, and who asked is told that it isn't now
+abbrev pub Notes : {T : Type 0} → (met : Result T TableFault) → (old : Option TableFault) → Result T Unreported →
+    (new : Option TableFault) → Type 0
+Notes (Ok told) old (Ok given) new = (given ≡ told) × (new ≡ old)
+Notes (Err fault) old (Err refusal) new = new ≡ Some fault
+Notes met old given new = ⊥
 
 -- there is one
 abbrev pub HasFault : Option TableFault → Type 0
@@ -32,6 +39,11 @@ NotesStore given old new = new ≡ old
 abbrev pub NotesLook : Result (Option (List ℕ)) Unreported → (old new : Option TableFault) → Type 0
 NotesLook (Ok found) old new = new ≡ old
 NotesLook (Err refusal) old new = HasFault new
+
+-- and that fault is one of the store, or of memory, or this damage
+abbrev pub NotesCause : (damage : Type 0) → Result (Option (List ℕ)) Unreported → (new : Option TableFault) → Type 0
+NotesCause damage (Ok found) new = Unit {0}
+NotesCause damage (Err refusal) new = (fault : TableFault) × (new ≡ Some fault) × IsOfStoreOr damage fault
 
 -- the response isn't NotNow
 abbrev pub IsNow : Response → Type 0

@@ -1,15 +1,17 @@
 -- A desk over the rows of an office, whether or not events led to them.
-use Rattle.std.specs.Prelude.{◌≡◌, ◌⊎◌, Option, Some}
+use Rattle.std.specs.Prelude.{◌≡◌, ◌⊎◌, Err, Option, Some}
 use Rattle.sqlite.specs.Effect.{Database}
-use Rattle.sqlite.specs.Held.{state}
-use Rattle.sqlite.specs.State.{State, IsUnchanged}
+use Rattle.sqlite.specs.Held.{Held, state}
+use Rattle.sqlite.specs.State.{State, HasCleanDisk, IsUnchanged}
 use Rattle.sqlite_trees.specs.declared.store.Store.{Ghosts}
 use Rattle.terminal_core.specs.State.{TerminalState}
 use Rattle.office_rows.specs.Rows.{Rows}
 use Rattle.office_rows.specs.Stored.{HasRows}
+use Rattle.office_rows.specs.Tables.{office_schema}
 use Rattle.office_setup.specs.Setups.{SetupContent, setup_content}
 use Rattle.office_loading.specs.Tables.{FailsToLoad, Loads}
 use Rattle.office_tables.specs.Faults.{IsOfStore}
+use Rattle.office_tables.specs.Reading.{Reads}
 use Rattle.office_tables.specs.declared.table_fault.TableFault.{TableFault}
 use Rattle.office_desk.specs.Beside.{IsOrNone}
 use Rattle.office_desk.specs.declared.beside.Beside.{Beside}
@@ -43,3 +45,10 @@ abbrev pub FailsToOpen : Database → TableFault → Type 0
 FailsToOpen db fault =
     FailsToLoad db fault
     ⊎ ((content : SetupContent) × (terminal : TerminalState) × Loads db content terminal × IsOfStore fault)
+
+-- no desk is opened: the connection was only read until it was given up, as it was last; and the fault is the one that
+-- the tables deserve
+pub record RefusesToOpen {S : Type 0} (g : Ghosts S) (found : State) (fault : TableFault) : Type 0 where
+  pub last : Held S
+  pub reads : Reads {T = Unit {0}} found (state g last) (Err fault)
+  pub deserved : HasCleanDisk (state g last) → found.now.schema ≡ office_schema → FailsToOpen found.now fault

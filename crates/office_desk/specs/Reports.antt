@@ -1,7 +1,8 @@
 -- What the desk tells: the reports of the rows that it holds.
-use Rattle.std.specs.Prelude.{◌≡◌, ℕ, ◌+◌, List, [], ◌∷◌, Option, None, Some, codes, option_and_then, string_bytes}
+use Rattle.std.specs.Prelude.{◌≡◌, ℕ, ◌+◌, ◌-◌, List, [], ◌∷◌, Option, None, Some, IsTrue, codes, decimal, option_and_then, slice_get, string_bytes}
 use Rattle.std.specs.List.Sorted.{IsPermutation}
 use Rattle.sqlite.specs.Held.{state}
+use Rattle.sqlite.specs.State.{State}
 use Rattle.sqlite_trees.specs.declared.store.Store.{Ghosts}
 use Rattle.edi_messages.specs.declared.partner_kind.PartnerKind.{PartnerKind}
 use Rattle.edi_messages.specs.Owned.{call_content}
@@ -9,6 +10,7 @@ use Rattle.terminal_core.specs.Rows.{VisitContent}
 use Rattle.terminal_core.specs.State.{TerminalState}
 use Rattle.office_replies.specs.Events.{Event}
 use Rattle.office_replies.specs.Bodies.{answer_text, waiting_text}
+use Rattle.office_rows.specs.Opening.{tables_version}
 use Rattle.office_rows.specs.Rows.{Rows}
 use Rattle.office_setup.specs.Parties.{partner_from}
 use Rattle.office_setup.specs.Setups.{SetupContent, setup_content}
@@ -16,12 +18,14 @@ use Rattle.office_tables.specs.Answers.{IsNextOf}
 use Rattle.office_selecting.specs.Waiting.{waiting_numbers}
 use Rattle.office_history.specs.After.{AreAfter, content_after, machine_after, parties_in, reply_in}
 use Rattle.office_history.specs.Cascade.{text_in}
+use Rattle.office_queries.specs.Program.{program_version}
 use Rattle.office_queries.specs.declared.query.Query.{Query}
 use Rattle.office_queries.specs.declared.query.Query.TheVariants as query
 use Rattle.office_lookups.specs.Blocks.{IsBlocksReport}
 use Rattle.office_lookups.specs.Containers.{container_report}
 use Rattle.office_lookups.specs.Contrls.{contrl_in}
-use Rattle.office_lookups.specs.Partners.{PartnerContent, partners_text}
+use Rattle.office_lookups.specs.Metrics.{metrics_text, ready_text}
+use Rattle.office_lookups.specs.Partners.{PartnerContent, partner_line, partners_text}
 use Rattle.office_lookups.specs.Work.{IsWorkReport}
 use Rattle.office_picture.specs.Picture.{IsPicture}
 use Rattle.office_reports.specs.Export.{IsYardExport}
@@ -96,6 +100,26 @@ abbrev pub TellsPartners : Rows → List (List ℕ × PartnerKind) → (found : 
 TellsPartners rows accounts found =
     (partners : List PartnerContent) × AreLookedUp rows 1 accounts partners × (found ≡ Some (partners_text partners))
 
+-- the text tells of the account under that id, as the report on all partners does; of none there is nothing to tell
+abbrev pub TellsPartner : Rows → List (List ℕ × PartnerKind) → Option ℕ → (found : Option (List ℕ)) → Type 0
+TellsPartner rows accounts None found = found ≡ None
+TellsPartner rows accounts (Some id) found =
+    (account : List ℕ × PartnerKind) × (slice_get accounts (id - 1) ≡ Some account)
+    × ((partner : PartnerContent) × IsLookedUp rows id account partner × (found ≡ Some (partner_line partner)))
+
+-- the number that the next interchange of the partner with that id has, in digits
+abbrev pub TellsNext : Rows → Option ℕ → (found : Option (List ℕ)) → Type 0
+TellsNext rows None found = found ≡ None
+TellsNext rows (Some id) found = (next : ℕ) × IsNextOf id rows next × (found ≡ Some (decimal next))
+
+-- ---- metrics
+
+-- they count the accounts, and what waits of each
+abbrev pub TellsMetrics : SetupContent → TerminalState → Rows → (found : Option (List ℕ)) → Type 0
+TellsMetrics content state rows found =
+    (partners : List PartnerContent) × AreLookedUp rows 1 content.partners partners
+    × (found ≡ Some (metrics_text program_version tables_version state content.visit_limit partners))
+
 -- ---- all reports
 
 -- the text, if there is one, is what the rows tell at the query, which are those of that set-up and of that terminal
@@ -116,6 +140,16 @@ TellsOf content state rows query.Partners found = TellsPartners rows content.par
 TellsOf content state rows query.Blocks found = (text : List ℕ) × (found ≡ Some text) × IsBlocksReport state text
 TellsOf content state rows (query.Contrl partner number) found =
     found ≡ contrl_told rows number (partner_called content (string_bytes partner))
+TellsOf content state rows (query.Partner code) found =
+    TellsPartner rows content.partners (partner_called content (string_bytes code)) found
+TellsOf content state rows (query.Next code) found = TellsNext rows (partner_called content (string_bytes code)) found
+TellsOf content state rows query.Health found = found ≡ Some ready_text
+TellsOf content state rows query.Metrics found = TellsMetrics content state rows found
+
+-- the office can be asked only if its store is open
+abbrev pub IsOpenFor : Query → State → Type 0
+IsOpenFor query.Health s = IsTrue s.is_open
+IsOpenFor other s = Unit {0}
 
 -- what the rows after those events tell
 pub record TellsAfter (content : SetupContent) (es : List Event) (query : Query)

@@ -1,4 +1,4 @@
-ghost use Rattle.std.specs.Prelude.{◌≡◌, List, None, Some, false, IfOk, option_map};
+ghost use Rattle.std.specs.Prelude.{◌≡◌, List, None, Some, false, IfErr, IfOk, option_map, OnOk};
 ghost use Rattle.office_replies.specs.Events.{Event};
 ghost use Rattle.office_setup.specs.Given.{IsGiven};
 ghost use Rattle.office_setup.specs.Setups.{SetupContent, setup_content};
@@ -8,7 +8,7 @@ use crate::adding::add_new;
 use crate::beside::Beside;
 use crate::delivery::Delivery;
 use crate::judging::{asked, judge_account};
-use crate::noting::note_memory;
+use crate::noting::{note_memory, noted};
 use crate::reloading::{beside_of, load_beside};
 use crate::taking::take_in;
 use crate::telling::tell;
@@ -18,6 +18,7 @@ use office_queries::{NotNow, Query, Report};
 use office_replies::{AccountAnswer, AccountFault, AddAccount, Deliver, Response, account_known};
 use office_setup::Setup;
 use office_tables::TableFault;
+use office_taking::Tally;
 use sqlite::{Alter, Connection};
 use std::alloc::Global;
 
@@ -31,6 +32,8 @@ pub struct Desk<S: Alter> {
     beside: Option<Beside>,
     // Why it last answered NotNow.
     last_fault: Option<TableFault>,
+    // What became of the interchanges that it took last.
+    last_taken: Tally,
     ghost idle: { conn.in_transaction ≡ false },
     ghost given: { IsGiven (setup_content setup) },
 }
@@ -44,12 +47,14 @@ impl<S: Alter> Desk<S> {
         ensures setup { result.setup ≡ setup }
         ensures beside { result.beside ≡ Some beside }
         ensures no_fault { result.last_fault ≡ None }
+        ensures nothing_taken { result.last_taken ≡ Tally.NOTHING }
     {
         Desk {
             conn,
             setup,
             beside: Some(beside),
             last_fault: None,
+            last_taken: Tally::NOTHING,
         }
     }
 
@@ -58,6 +63,14 @@ impl<S: Alter> Desk<S> {
         ensures { option_map (λ fault. fault.now) result ≡ self.now.last_fault }
     {
         self.last_fault.as_ref()
+    }
+
+    /// What became of the interchanges that it took last: of the one that was delivered, and of those that had waited for
+    /// it. Nothing, if it has taken none.
+    pub fn last_taken(&self) -> Tally
+        ensures { result ≡ self.now.last_taken }
+    {
+        self.last_taken
     }
 
     /// The connection to its tables.
@@ -69,6 +82,7 @@ impl<S: Alter> Desk<S> {
             setup: _,
             beside: _,
             last_fault: _,
+            last_taken: _,
         } = self;
         conn
     }
@@ -84,14 +98,19 @@ impl<S: Alter + Drop> Desk<S> {
     ghost use Rattle.office_rows.specs.Stored.{HasRows};
     ghost use Rattle.office_rows.specs.Tables.{office_schema};
     ghost use Rattle.office_history.specs.After.{AreAfter};
+    ghost use Rattle.office_tables.specs.Faults.{IsOfStoreOr};
+    ghost use Rattle.terminal_core.specs.State.{TerminalState};
     ghost use Rattle.office_desk.specs.Calls.{Enrols, Leads, Looks, OnlyLooks};
+    ghost use Rattle.office_desk.specs.Causes.{AsksUnfitReply};
     ghost use Rattle.office_desk.specs.Desks.{IsSound, OpensAt};
-    ghost use Rattle.office_desk.specs.Offices.{OpensOffice};
-    ghost use Rattle.office_desk.specs.Reports.{DeskTells};
+    ghost use Rattle.office_desk.specs.Offices.{DeskHolds, OpensOffice, RefusesToOpen};
+    ghost use Rattle.office_desk.specs.Reports.{DeskTells, IsOpenFor};
 
     /// The desk of a store that holds an office: its set-up, its terminal and its partners' numbers are those that the
-    /// tables hold. If it is refused, the connection is given up: `load_beside`, which it calls, says why, and that nothing is
-    /// written.
+    /// tables hold. If it is refused, nothing is written, and the connection is given up.
+    ///
+    /// Version if no setting names this version; Damaged if the rows are those of no office; Store and Memory say
+    /// nothing of the rows.
     pub fn open(alloc: Global, conn: Connection<S>) -> Result<Desk<S>, TableFault>
         requires idle { conn.in_transaction ≡ false }
         ensures opens { IfOk result
@@ -102,6 +121,7 @@ impl<S: Alter + Drop> Desk<S> {
             (λ desk. IsSound S.Store desk → (state S.Store conn).committed.schema ≡ office_schema →
             OpensOffice S.Store (state S.Store conn) desk) }
         ensures stays { IfOk result (λ desk. IsSound S.Store desk → HasCleanDisk (state S.Store conn)) }
+        ensures refused { IfErr result (RefusesToOpen S.Store (state S.Store conn)) }
     {
         let mut conn = conn;
         let is_idle = conn.is_autocommit();
@@ -114,7 +134,12 @@ impl<S: Alter + Drop> Desk<S> {
     pub fn told(&mut self, alloc: Global, query: &Query) -> Result<Option<String>, TableFault>
         ensures told { IsSound S.Store self.new →
             IfOk result (λ found. DeskTells S.Store self.old query.now (option_map string_bytes found)) }
+        ensures fault { IsSound S.Store self.new → IfErr result (λ fault. (rows : Rows) (terminal : TerminalState) →
+            DeskHolds S.Store self.old rows terminal →
+            IsOfStoreOr (AsksUnfitReply (setup_content self.old.setup) rows query.now) fault) }
         ensures looks { OnlyLooks S.Store self.old self.new }
+        ensures is_open { HasCleanDisk (state S.Store self.new.conn) →
+            OnOk result (IsOpenFor query.now (state S.Store self.new.conn)) }
         ensures last_fault { self.new.last_fault ≡ self.old.last_fault }
     {
         let is_idle = self.conn.is_autocommit();
@@ -130,13 +155,8 @@ impl<S: Alter + Drop> Desk<S> {
         ensures looks { Looks S.Store self.old query.now
             (result_map_both (option_map string_bytes) (λ refusal. refusal) result) self.new }
     {
-        match self.told(alloc, query) {
-            Ok(found) => Ok(found),
-            Err(fault) => {
-                self.last_fault = Some(fault);
-                Err(NotNow)
-            }
-        }
+        let told = self.told(alloc, query);
+        noted(&mut self.last_fault, told)
     }
 
     /// Delivers a text, and answers it. A refusal without a CONTRL takes no memory and no store, so it is never answered NotNow.
@@ -163,13 +183,17 @@ impl<S: Alter + Drop> Desk<S> {
             number,
             text,
         };
-        let taken = take_in(alloc, &mut self.conn, setup, &mut self.beside, &delivery);
-        match taken {
+        let taken = take_in(
+            alloc,
+            &mut self.conn,
+            setup,
+            &mut self.beside,
+            &delivery,
+            &mut self.last_taken,
+        );
+        match noted(&mut self.last_fault, taken) {
             Ok(response) => response,
-            Err(fault) => {
-                self.last_fault = Some(fault);
-                Response::NotNow
-            }
+            Err(NotNow) => Response::NotNow,
         }
     }
 
@@ -201,12 +225,9 @@ impl<S: Alter + Drop> Desk<S> {
                     code,
                     kind,
                 );
-                match added {
+                match noted(&mut self.last_fault, added) {
                     Ok(body) => AccountAnswer::Added { id, body },
-                    Err(fault) => {
-                        self.last_fault = Some(fault);
-                        AccountAnswer::NotNow
-                    }
+                    Err(NotNow) => AccountAnswer::NotNow,
                 }
             }
         }

@@ -15,6 +15,7 @@ mod next;
 mod noting;
 mod partners;
 mod reloading;
+mod supervision;
 mod taking;
 mod telling;
 

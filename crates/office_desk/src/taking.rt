@@ -1,5 +1,6 @@
-ghost use Rattle.std.specs.Prelude.{◌≡◌, None, Some, false, IfOk};
+ghost use Rattle.std.specs.Prelude.{◌≡◌, None, Some, false, IfOk, IsTrue, OnOk};
 ghost use Rattle.sqlite.specs.Held.{state};
+ghost use Rattle.sqlite.specs.State.{HasCleanDisk};
 ghost use Rattle.partner_core.specs.Numbered.{with_number};
 ghost use Rattle.office_setup.specs.Given.{IsGiven};
 ghost use Rattle.office_setup.specs.Setups.{setup_content};
@@ -17,22 +18,26 @@ use crate::next::take_next;
 use office_replies::Response;
 use office_setup::Setup;
 use office_tables::TableFault;
+use office_taking::Tally;
 use sqlite::{Alter, Connection};
 use std::alloc::Global;
 
-/// Answers a partner's text by what is kept, and keeps and takes it if it is new.
+/// Answers a partner's text by what is kept, and keeps and takes it if it is new. If it is taken, `last_taken` tells what
+/// became of it and of those that had waited for it.
 pub(crate) fn take_in<S: Alter>(
     alloc: Global,
     conn: &mut Connection<S>,
     setup: &Setup,
     beside: &mut Option<Beside>,
     delivery: &Delivery<'_>,
+    last_taken: &mut Tally,
 ) -> Result<Response, TableFault>
     requires idle { (state S.Store conn.old).in_transaction ≡ false }
     requires given { IsGiven (setup_content setup.now) }
     requires delivered { IsDelivered setup.now delivery.now }
     ensures ends { EndsIdle (state S.Store conn.old) (state S.Store conn.new) }
     ensures now { IfOk result IsNow }
+    ensures is_open { HasCleanDisk (state S.Store conn.new) → OnOk result (IsTrue (state S.Store conn.new).is_open) }
     ensures takes { TakesDelivery (setup_content setup.now) (delivery_of delivery.now) delivery.now.code.now
         (state S.Store conn.old) beside.old result (state S.Store conn.new) beside.new }
 {
@@ -45,7 +50,9 @@ pub(crate) fn take_in<S: Alter>(
             *beside = Some(there);
             Ok(answer_used(alloc, kept, next, delivery)?)
         }
-        None => take_new(alloc, conn, setup, beside, there, next, delivery),
+        None => take_new(
+            alloc, conn, setup, beside, there, next, delivery, last_taken,
+        ),
     }
 }
 
@@ -59,6 +66,7 @@ fn take_new<S: Alter>(
     there: Beside,
     next: u32,
     delivery: &Delivery<'_>,
+    last_taken: &mut Tally,
 ) -> Result<Response, TableFault>
     requires idle { (state S.Store conn.old).in_transaction ≡ false }
     requires given { IsGiven (setup_content setup.now) }
@@ -67,6 +75,7 @@ fn take_new<S: Alter>(
     requires out { beside.old ≡ None }
     ensures ends { EndsIdle (state S.Store conn.old) (state S.Store conn.new) }
     ensures now { IfOk result IsNow }
+    ensures is_open { HasCleanDisk (state S.Store conn.new) → OnOk result (IsTrue (state S.Store conn.new).is_open) }
     ensures takes { IsNew (delivery_of delivery.now) (state S.Store conn.old) →
         TakesDelivery (setup_content setup.now) (delivery_of delivery.now) delivery.now.code.now
         (state S.Store conn.old) (Some there) result (state S.Store conn.new) beside.new }
@@ -78,7 +87,7 @@ fn take_new<S: Alter>(
         *beside = Some(there);
         return take_early(alloc, conn, next, delivery);
     }
-    let (answer, now) = take_next(alloc, conn, setup, there, delivery)?;
+    let (answer, now) = take_next(alloc, conn, setup, there, delivery, last_taken)?;
     *beside = Some(now);
     Ok(answer)
 }

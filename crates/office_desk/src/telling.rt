@@ -1,4 +1,4 @@
-ghost use Rattle.std.specs.Prelude.{◌≡◌, ◌≤◌, IfOk, is_some, length, string_bytes, option_map};
+ghost use Rattle.std.specs.Prelude.{◌≡◌, ◌≤◌, ◌⊎◌, IfErr, IfOk, is_some, length, string_bytes, option_map, OnOk};
 ghost use Rattle.sqlite.specs.Held.{state};
 ghost use Rattle.sqlite.specs.State.{HasCleanDisk};
 ghost use Rattle.office_rows.specs.Rows.{Rows};
@@ -7,14 +7,18 @@ ghost use Rattle.office_setup.specs.Limits.{most_partners};
 ghost use Rattle.office_setup.specs.Setups.{setup_content};
 ghost use Rattle.office_history.specs.After.{AreKeptOnce, reply_in};
 ghost use Rattle.office_history.specs.Cascade.{text_in};
+ghost use Rattle.office_tables.specs.Answers.{HasUnfitReply, LacksNext};
+ghost use Rattle.office_tables.specs.Faults.{IsOfStoreOr};
 ghost use Rattle.office_tables.specs.Reading.{Reads};
 ghost use Rattle.office_delivery.specs.Reading.{OnlyReads};
 ghost use Rattle.std.specs.Option.{option_and_then};
 ghost use Rattle.office_lookups.specs.Contrls.{contrl_in};
 ghost use Rattle.office_picture.specs.Picture.{IsPicture};
-ghost use Rattle.office_desk.specs.Reports.{TellsOf, TellsReply, reply_text, ticket_told};
+ghost use Rattle.office_desk.specs.Causes.{AsksUnreadable};
+ghost use Rattle.office_desk.specs.Reports.{TellsOf, TellsReply, reply_text, ticket_told, IsOpenFor};
 
-use crate::partners::tell_partners;
+use crate::partners::{tell_next, tell_partner, tell_partners};
+use crate::supervision::{tell_health, tell_metrics};
 use office_lookups::{blocks_report, container_report, contrl_in, work_report};
 use office_picture::picture;
 use office_queries::Query;
@@ -36,15 +40,21 @@ pub(crate) fn tell<S: Alter>(
     query: &Query,
 ) -> Result<Option<String>, TableFault>
     requires few { length setup.now.partners.items ≤ most_partners }
+    requires some { 1 ≤ length setup.now.partners.items }
     ensures told { HasCleanDisk (state S.Store conn.new) → IfOk result (λ found. (rows : Rows) →
         HasRows rows (state S.Store conn.old).now → AreKeptOnce rows.interchanges →
         TellsOf (setup_content setup.now) terminal.now rows query.now (option_map string_bytes found)) }
+    ensures fault { HasCleanDisk (state S.Store conn.new) → IfErr result (λ fault. (rows : Rows) →
+        HasRows rows (state S.Store conn.old).now → IsOfStoreOr (AsksUnreadable (setup_content setup.now) rows query.now) fault) }
     ensures reads { OnlyReads (state S.Store conn.old) (state S.Store conn.new) result }
+    ensures is_open { HasCleanDisk (state S.Store conn.new) → OnOk result (IsOpenFor query.now (state S.Store conn.new)) }
 {
     match query {
         Query::Yard => Ok(Some(yard_report(alloc, terminal)?)),
         Query::YardTable => Ok(Some(yard_csv(alloc, terminal)?)),
         Query::Partners => Ok(Some(tell_partners(alloc, conn, setup.partners.as_slice())?)),
+        Query::Partner(code) => tell_partner(alloc, conn, setup, code),
+        Query::Next(code) => tell_next(alloc, conn, setup, code),
         Query::Blocks => Ok(Some(blocks_report(alloc, terminal)?)),
         Query::Picture => Ok(Some(tell_picture(alloc, setup, terminal)?)),
         Query::Visits(container) => Ok(visit_report(alloc, setup, terminal, *container)?),
@@ -63,6 +73,8 @@ pub(crate) fn tell<S: Alter>(
             Some(id) => tell_contrl(alloc, conn, id, *number),
             None => Ok(None),
         },
+        Query::Health => tell_health(alloc, conn),
+        Query::Metrics => tell_metrics(alloc, conn, setup, terminal),
     }
 }
 
@@ -85,6 +97,8 @@ fn tell_contrl<S: Alter>(
     ensures told { HasCleanDisk (state S.Store conn.new) → IfOk result (λ found. (rows : Rows) →
         HasRows rows (state S.Store conn.old).now → AreKeptOnce rows.interchanges →
         option_map string_bytes found ≡ option_and_then contrl_in (reply_in rows partner number)) }
+    ensures fault { HasCleanDisk (state S.Store conn.new) → IfErr result (λ fault. (rows : Rows) →
+        HasRows rows (state S.Store conn.old).now → IsOfStoreOr (HasUnfitReply partner number rows) fault) }
     ensures reads { Reads (state S.Store conn.old) (state S.Store conn.new) result }
 {
     match reply_of(kept(conn, partner, number)?) {
@@ -115,6 +129,8 @@ fn tell_ticket<S: Alter>(
         HasRows rows (state S.Store conn.old).now → AreKeptOnce rows.interchanges →
         option_map string_bytes found
         ≡ ticket_told terminal.now.visits code.now partner number (reply_in rows partner number)) }
+    ensures fault { HasCleanDisk (state S.Store conn.new) → IfErr result (λ fault. (rows : Rows) →
+        HasRows rows (state S.Store conn.old).now → IsOfStoreOr (HasUnfitReply partner number rows) fault) }
     ensures reads { Reads (state S.Store conn.old) (state S.Store conn.new) result }
 {
     if was_taken(kept(conn, partner, number)?) {
@@ -145,6 +161,8 @@ fn tell_reply<S: Alter>(
         HasRows rows (state S.Store conn.old).now → AreKeptOnce rows.interchanges →
         TellsReply rows code.now partner number (text_in rows partner number) (reply_in rows partner number)
         (option_map string_bytes found)) }
+    ensures fault { HasCleanDisk (state S.Store conn.new) → IfErr result (λ fault. (rows : Rows) →
+        HasRows rows (state S.Store conn.old).now → IsOfStoreOr (HasUnfitReply partner number rows ⊎ LacksNext partner rows) fault) }
     ensures reads { Reads (state S.Store conn.old) (state S.Store conn.new) result }
 {
     match kept(conn, partner, number)? {

@@ -1,16 +1,20 @@
 -- A stream asks for one thing.
+use Rattle.edi_segments.specs.Interchange.{interchange_of}
 use Rattle.std.proofs.Common.{◌≡◌, ◌≢◌, ℕ, List, take, Option, None, Some, Result, Ok, Err, inl, inr, refl, sym, subst, ◌∙◌, arith}
 use Rattle.httparse.specs.Grammar.{RequestHead}
 use Rattle.httparse.proofs.GrammarLemmas.{request_unique}
 use Rattle.office_queries.specs.Keys.{Asked}
 use Rattle.office_queries.specs.declared.report_kind.ReportKind.{ReportKind}
-use Rattle.office_http.specs.Requests.{IsDelivery, IsAccount, IsReport, Gets, Names, Posts, PostsAccount, AsksAt, AsksWith, IsSameRequest, HeadsAreOne, RequestsAreOne}
+use Rattle.office_http.specs.Requests.{IsDelivery, IsOwnDelivery, IsAccount, IsReport, Gets, Names, Posts, PostsFrom, PostsOwn, PostsBy, PostsAccount, AsksAt, AsksWith, IsSameRequest, HeadsAreOne, RequestsAreOne}
+use Rattle.office_http.specs.Senders.{sender_at}
 use Rattle.office_http.specs.declared.endpoint.Endpoint.{Endpoint}
 use Rattle.office_http.specs.declared.endpoint.Endpoint.TheVariants as endpoint
 use Rattle.office_http.specs.declared.refusal.Refusal.{Refusal}
 use Rattle.office_http.specs.declared.refusal.Refusal.TheVariants.{NotNow}
 use Rattle.office_http.specs.declared.request.Request.{Request}
-use Rattle.office_http.specs.declared.request.Request.TheVariants.{Delivery, Account, Report, Refused}
+use Rattle.office_http.specs.declared.request.Request.TheVariants.{Delivery, OwnDelivery, Account, Report, Refused}
+use Rattle.office_http.specs.declared.senders.Sender.{Sender}
+use Rattle.office_http.specs.declared.senders.Sender.TheVariants.{Nobody, Own, Another}
 
 pub heads_are_one : HeadsAreOne
 heads_are_one stream head head' rest rest' one other = request_unique stream head head' rest rest' one.reads other.reads
@@ -21,28 +25,46 @@ same_refusal refusal request request' is is' =
 
 same_delivery : (text : List ℕ) (request request' : Request) → IsDelivery text request → IsDelivery text request' → IsSameRequest request request'
 same_delivery text (Delivery body) (Delivery other) is is' = is ∙ sym is'
+same_delivery text (Delivery body) (OwnDelivery own) is is' = absurd is'
 same_delivery text (Delivery body) (Account key) is is' = absurd is'
 same_delivery text (Delivery body) (Report kind query) is is' = absurd is'
 same_delivery text (Delivery body) (Refused refusal) is is' = absurd is'
+same_delivery text (OwnDelivery own) request' is is' = absurd is
 same_delivery text (Account key) request' is is' = absurd is
 same_delivery text (Report kind query) request' is is' = absurd is
 same_delivery text (Refused refusal) request' is is' = absurd is
+
+same_own : (code : List ℕ) (number : ℕ) (text : List ℕ) (request request' : Request) → IsOwnDelivery code number text request → IsOwnDelivery code number text request' →
+    IsSameRequest request request'
+same_own code number text (OwnDelivery own) (OwnDelivery other) is is' = (is.0 ∙ sym is'.0, is.1 ∙ sym is'.1, is.2 ∙ sym is'.2)
+same_own code number text (OwnDelivery own) (Delivery body) is is' = absurd is'
+same_own code number text (OwnDelivery own) (Account key) is is' = absurd is'
+same_own code number text (OwnDelivery own) (Report kind query) is is' = absurd is'
+same_own code number text (OwnDelivery own) (Refused refusal) is is' = absurd is'
+same_own code number text (Delivery body) request' is is' = absurd is
+same_own code number text (Account key) request' is is' = absurd is
+same_own code number text (Report kind query) request' is is' = absurd is
+same_own code number text (Refused refusal) request' is is' = absurd is
 
 same_account : (account : List ℕ × List ℕ) (request request' : Request) → IsAccount account request → IsAccount account request' →
     IsSameRequest request request'
 same_account account (Account key) (Account other) is is' = is ∙ sym is'
 same_account account (Account key) (Delivery body) is is' = absurd is'
+same_account account (Account key) (OwnDelivery own) is is' = absurd is'
 same_account account (Account key) (Report kind query) is is' = absurd is'
 same_account account (Account key) (Refused refusal) is is' = absurd is'
 same_account account (Delivery body) request' is is' = absurd is
+same_account account (OwnDelivery own) request' is is' = absurd is
 same_account account (Report kind query) request' is is' = absurd is
 same_account account (Refused refusal) request' is is' = absurd is
 
 same_report : (kind : ReportKind) (what : Asked) (request request' : Request) → IsReport kind what request → IsReport kind what request' →
     IsSameRequest request request'
 same_report kind what (Delivery body) request' is is' = absurd is
+same_report kind what (OwnDelivery own) request' is is' = absurd is
 same_report kind what (Account key) request' is is' = absurd is
 same_report kind what (Report of query) (Delivery body) is is' = absurd is'
+same_report kind what (Report of query) (OwnDelivery own) is is' = absurd is'
 same_report kind what (Report of query) (Account key) is is' = absurd is'
 same_report kind what (Report of query) (Report of' query') is is' = (is.0 ∙ sym is'.0, is.1 ∙ sym is'.1)
 same_report kind what (Report of query) (Refused refusal) is is' = absurd is'
@@ -61,6 +83,26 @@ same_post (Ok size) rest request request' (inl short) (inr whole) = let less = s
 same_post (Ok size) rest request request' (inr whole) (inl short) = let less = short.0 in let more = whole.0 in absurd (omega arith)
 same_post (Ok size) rest request request' (inr whole) (inr whole') = same_delivery (take size rest) request request' whole.1 whole'.1
 
+same_from : (sender : Sender) (code text : List ℕ) (request request' : Request) → PostsFrom sender code text request → PostsFrom sender code text request' →
+    IsSameRequest request request'
+same_from Nobody code text request request' is is' = same_delivery text request request' is is'
+same_from (Own number) code text request request' is is' = same_own code number text request request' is is'
+same_from Another code text request request' is is' = same_refusal _ request request' is is'
+
+same_post_own : (code : List ℕ) (said : Result ℕ Refusal) (rest : List ℕ) (request request' : Request) → PostsOwn code said rest request →
+    PostsOwn code said rest request' → IsSameRequest request request'
+same_post_own code (Err refusal) rest request request' is is' = same_refusal refusal request request' is is'
+same_post_own code (Ok size) rest request request' (inl short) (inl short') = same_refusal _ request request' short.1 short'.1
+same_post_own code (Ok size) rest request request' (inl short) (inr whole) = let less = short.0 in let more = whole.0 in absurd (omega arith)
+same_post_own code (Ok size) rest request request' (inr whole) (inl short) = let less = short.0 in let more = whole.0 in absurd (omega arith)
+same_post_own code (Ok size) rest request request' (inr whole) (inr whole') =
+    same_from (sender_at code (interchange_of (take size rest))) code (take size rest) request request' whole.1 whole'.1
+
+same_post_by : (named : Option (List ℕ)) (said : Result ℕ Refusal) (rest : List ℕ) (request request' : Request) → PostsBy named said rest request →
+    PostsBy named said rest request' → IsSameRequest request request'
+same_post_by None said rest request request' is is' = same_refusal _ request request' is is'
+same_post_by (Some code) said rest request request' is is' = same_post_own code said rest request request' is is'
+
 same_named : (named : Option (List ℕ × List ℕ)) (request request' : Request) → Names named request → Names named request' → IsSameRequest request request'
 same_named None request request' is is' = same_refusal _ request request' is is'
 same_named (Some account) request request' is is' = same_account account request request' is is'
@@ -77,6 +119,7 @@ same_at : (to : Result Endpoint Refusal) (head : RequestHead) (rest : List ℕ) 
     AsksAt to head rest request' → IsSameRequest request request'
 same_at (Err refusal) head rest request request' is is' = same_refusal refusal request request' is is'
 same_at (Ok endpoint.Interchanges) head rest request request' is is' = same_post _ rest request request' is is'
+same_at (Ok endpoint.PartnerInterchanges) head rest request request' is is' = same_post_by _ _ rest request request' is is'
 same_at (Ok endpoint.Accounts) head rest request request' is is' = same_account_post _ rest _ request request' is is'
 same_at (Ok (endpoint.Report kind)) head rest request request' is is' = same_get kind _ request request' is is'
 

@@ -19,6 +19,7 @@ body_size (Ok size) = size
 abbrev pub wanted_at : Result Endpoint Refusal → RequestHead → ℕ
 wanted_at (Err refusal) head = 0
 wanted_at (Ok endpoint.Interchanges) head = body_size (body_length (map name_and_value head.fields))
+wanted_at (Ok endpoint.PartnerInterchanges) head = body_size (body_length (map name_and_value head.fields))
 wanted_at (Ok endpoint.Accounts) head = body_size (body_length (map name_and_value head.fields))
 wanted_at (Ok (endpoint.Report kind)) head = 0
 

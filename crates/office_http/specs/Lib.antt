@@ -3,7 +3,10 @@ pub mod Heads
 pub mod Responses
 pub mod Routes
 pub mod Fields
+pub mod Senders
 pub mod Requests
+pub mod Doors
 pub mod Steps
 pub mod Served
 pub mod Deciding
+pub mod OwnPaths

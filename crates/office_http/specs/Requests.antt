@@ -3,39 +3,47 @@ use Rattle.std.specs.Prelude.{◌≡◌, ◌≢◌, ℕ, ◌<◌, ◌≤◌, ◌
 use Rattle.std.specs.Option.{option_and_then}
 use Rattle.httparse.specs.Grammar.{RequestHead}
 use Rattle.httparse.specs.Spans.{name_and_value}
-use Rattle.office_queries.specs.AccountKeys.{account_in, account_named}
-use Rattle.office_queries.specs.Keys.{Asked, query_asked, query_of}
+use Rattle.edi_segments.specs.Interchange.{interchange_of}
+use Rattle.office_queries.specs.AccountKeys.{account_in, account_named, sender_in}
+use Rattle.office_queries.specs.Keys.{Asked, next_number, query_asked, query_of}
 use Rattle.office_queries.specs.declared.report_kind.ReportKind.{ReportKind}
 use Rattle.office_http.specs.Heads.{IsHead, HasNoHead}
-use Rattle.office_http.specs.Routes.{endpoint_of, path_of, key_in, account_key_in}
+use Rattle.office_http.specs.Routes.{endpoint_of, path_of, key_in, partner_key_in}
+use Rattle.office_http.specs.Senders.{sender_at}
 use Rattle.office_http.specs.Fields.{body_length}
 use Rattle.office_http.specs.declared.endpoint.Endpoint.{Endpoint}
 use Rattle.office_http.specs.declared.endpoint.Endpoint.TheVariants as endpoint
 use Rattle.office_http.specs.declared.refusal.Refusal.{Refusal}
-use Rattle.office_http.specs.declared.refusal.Refusal.TheVariants.{BadRequest, NotFound, NotNow}
+use Rattle.office_http.specs.declared.refusal.Refusal.TheVariants.{BadRequest, NotFound, OtherSender, NotNow}
 use Rattle.office_http.specs.declared.request.Request.{Request}
-use Rattle.office_http.specs.declared.request.Request.TheVariants.{Delivery, Account, Report, Refused}
+use Rattle.office_http.specs.declared.senders.Sender.{Sender}
+use Rattle.office_http.specs.declared.senders.Sender.TheVariants.{Nobody, Own, Another}
+use Rattle.office_http.specs.declared.request.Request.TheVariants.{Delivery, OwnDelivery, Account, Report, Refused}
+
+-- ---- what a request is
 
 -- it asks that the text is delivered
 abbrev pub IsDelivery : List ℕ → Request → Type 0
 IsDelivery text (Delivery body) = body.items ≡ text
-IsDelivery text (Account key) = ⊥
-IsDelivery text (Report kind query) = ⊥
-IsDelivery text (Refused refusal) = ⊥
+IsDelivery text other = ⊥
+
+-- it asks that the text is delivered, by the partner of that code and under that number
+abbrev pub IsOwnDelivery : (code : List ℕ) → (number : ℕ) → (text : List ℕ) → Request → Type 0
+IsOwnDelivery code number text (OwnDelivery own) =
+    (query_asked own.next ≡ next_number code) × (own.number ≡ number) × (own.text.items ≡ text)
+IsOwnDelivery code number text other = ⊥
 
 -- it asks that the account of that code and kind is added
 abbrev pub IsAccount : List ℕ × List ℕ → Request → Type 0
-IsAccount account (Delivery body) = ⊥
 IsAccount account (Account key) = account_named key ≡ account
-IsAccount account (Report kind query) = ⊥
-IsAccount account (Refused refusal) = ⊥
+IsAccount account other = ⊥
 
 -- it asks for that report
 abbrev pub IsReport : ReportKind → Asked → Request → Type 0
-IsReport kind what (Delivery body) = ⊥
-IsReport kind what (Account key) = ⊥
 IsReport kind what (Report of query) = (of ≡ kind) × (query_asked query ≡ what)
-IsReport kind what (Refused refusal) = ⊥
+IsReport kind what other = ⊥
+
+-- ---- what is asked for at an endpoint
 
 -- a report whose key asks for something, or nothing is found
 abbrev pub Gets : ReportKind → Option Asked → Request → Type 0
@@ -48,6 +56,25 @@ Posts (Err refusal) rest request = request ≡ Refused refusal
 Posts (Ok size) rest request =
     ((length rest < size) × (request ≡ Refused BadRequest))
     ⊎ ((size ≤ length rest) × IsDelivery (take size rest) request)
+
+-- By whom the head of a text names as its sender, at the path of the partner of a code: this one, or another. A head that
+-- can't be read names nobody, and its text is delivered, so that it is refused for its own fault.
+abbrev pub PostsFrom : Sender → (code : List ℕ) → List ℕ → Request → Type 0
+PostsFrom Nobody code text request = IsDelivery text request
+PostsFrom (Own number) code text request = IsOwnDelivery code number text request
+PostsFrom Another code text request = request ≡ Refused OtherSender
+
+-- the same of as many bytes as are said, or there are fewer
+abbrev pub PostsOwn : (code : List ℕ) → Result ℕ Refusal → List ℕ → Request → Type 0
+PostsOwn code (Err refusal) rest request = request ≡ Refused refusal
+PostsOwn code (Ok size) rest request =
+    ((length rest < size) × (request ≡ Refused BadRequest))
+    ⊎ ((size ≤ length rest) × PostsFrom (sender_at code (interchange_of (take size rest))) code (take size rest) request)
+
+-- by the partner that a key names, or nothing is found
+abbrev pub PostsBy : Option (List ℕ) → Result ℕ Refusal → List ℕ → Request → Type 0
+PostsBy None said rest request = request ≡ Refused NotFound
+PostsBy (Some code) said rest request = PostsOwn code said rest request
 
 -- the account that a key names, or nothing is found
 abbrev pub Names : Option (List ℕ × List ℕ) → Request → Type 0
@@ -64,9 +91,12 @@ PostsAccount (Ok size) rest account request =
 abbrev pub AsksAt : Result Endpoint Refusal → RequestHead → List ℕ → Request → Type 0
 AsksAt (Err refusal) head rest request = request ≡ Refused refusal
 AsksAt (Ok endpoint.Interchanges) head rest request = Posts (body_length (map name_and_value head.fields)) rest request
+AsksAt (Ok endpoint.PartnerInterchanges) head rest request =
+    PostsBy (option_and_then sender_in (partner_key_in (path_of head.target)))
+    (body_length (map name_and_value head.fields)) rest request
 AsksAt (Ok endpoint.Accounts) head rest request =
     PostsAccount (body_length (map name_and_value head.fields)) rest
-    (option_and_then account_in (account_key_in (path_of head.target))) request
+    (option_and_then account_in (partner_key_in (path_of head.target))) request
 AsksAt (Ok (endpoint.Report kind)) head rest request =
     Gets kind (option_and_then (query_of kind) (key_in kind (path_of head.target))) request
 
@@ -86,21 +116,12 @@ Asks stream request =
 -- the same is asked for
 abbrev pub IsSameRequest : Request → Request → Type 0
 IsSameRequest (Delivery body) (Delivery other) = body.items ≡ other.items
-IsSameRequest (Delivery body) (Account key) = ⊥
-IsSameRequest (Delivery body) (Report kind query) = ⊥
-IsSameRequest (Delivery body) (Refused refusal) = ⊥
-IsSameRequest (Account key) (Delivery body) = ⊥
+IsSameRequest (OwnDelivery own) (OwnDelivery other) =
+    (query_asked own.next ≡ query_asked other.next) × (own.number ≡ other.number) × (own.text.items ≡ other.text.items)
 IsSameRequest (Account key) (Account other) = account_named key ≡ account_named other
-IsSameRequest (Account key) (Report kind query) = ⊥
-IsSameRequest (Account key) (Refused refusal) = ⊥
-IsSameRequest (Report kind query) (Delivery body) = ⊥
-IsSameRequest (Report kind query) (Account key) = ⊥
 IsSameRequest (Report kind query) (Report of other) = (kind ≡ of) × (query_asked query ≡ query_asked other)
-IsSameRequest (Report kind query) (Refused refusal) = ⊥
-IsSameRequest (Refused refusal) (Delivery body) = ⊥
-IsSameRequest (Refused refusal) (Account key) = ⊥
-IsSameRequest (Refused refusal) (Report kind query) = ⊥
 IsSameRequest (Refused refusal) (Refused other) = refusal ≡ other
+IsSameRequest one other = ⊥
 
 -- A stream has one head, if any, and one rest behind it.
 abbrev pub HeadsAreOne : Type 0

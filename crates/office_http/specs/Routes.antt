@@ -28,7 +28,11 @@ with_route text to rows = place_route (parse_route text) to rows
 
 unfoldable pub endpoints : RowsOf (RouteOf Endpoint)
 endpoints =
-    with_route (codes "/partners") (endpoint.Report kind.Partners)
+    with_route (codes "/metrics") (endpoint.Report kind.Metrics)
+    (with_route (codes "/health") (endpoint.Report kind.Health)
+    (with_route (codes "/partners/{code}") (endpoint.Report kind.Partner)
+    (with_route (codes "/partners/{code}/interchanges") endpoint.PartnerInterchanges
+    (with_route (codes "/partners") (endpoint.Report kind.Partners)
     (with_route (codes "/picture") (endpoint.Report kind.Picture)
     (with_route (codes "/contrls/{partner}/{number}") (endpoint.Report kind.Contrl)
     (with_route (codes "/blocks") (endpoint.Report kind.Blocks)
@@ -41,7 +45,7 @@ endpoints =
     (with_route (codes "/yard") (endpoint.Report kind.Yard)
     (with_route (codes "/tickets/{partner}/{number}") (endpoint.Report kind.Ticket)
     (with_route (codes "/replies/{partner}/{number}") (endpoint.Report kind.Reply)
-    (with_route (codes "/interchanges") endpoint.Interchanges [])))))))))))))
+    (with_route (codes "/interchanges") endpoint.Interchanges [])))))))))))))))))
 
 -- the target up to `?` (63)
 abbrev pub path_of : List ℕ → List ℕ
@@ -55,12 +59,14 @@ endpoint_at path = option_map (λ r. r.value) (first endpoints path)
 
 abbrev pub method_of : Endpoint → List ℕ
 method_of endpoint.Interchanges = codes "POST"
+method_of endpoint.PartnerInterchanges = codes "POST"
 method_of endpoint.Accounts = codes "POST"
 method_of (endpoint.Report kind) = codes "GET"
 
 -- the refusal of another method
 abbrev pub other_method : Endpoint → Refusal
 other_method endpoint.Interchanges = OnlyPost
+other_method endpoint.PartnerInterchanges = OnlyPost
 other_method endpoint.Accounts = OnlyPost
 other_method (endpoint.Report kind) = OnlyGet
 
@@ -92,11 +98,14 @@ front_of kind.Partners = codes "/partners"
 front_of kind.Blocks = codes "/blocks"
 front_of kind.Contrl = codes "/contrls/"
 front_of kind.Picture = codes "/picture"
+front_of kind.Partner = codes "/partners/"
+front_of kind.Health = codes "/health"
+front_of kind.Metrics = codes "/metrics"
 
 -- the key of a report in its path: what stands behind that
 abbrev pub key_in : ReportKind → List ℕ → Option (List ℕ)
 key_in kind path = behind (front_of kind) path
 
--- the key of an account in its path
-abbrev pub account_key_in : List ℕ → Option (List ℕ)
-account_key_in path = behind (codes "/partners/") path
+-- the key in the path of an account, or of a partner's interchanges
+abbrev pub partner_key_in : List ℕ → Option (List ℕ)
+partner_key_in path = behind (codes "/partners/") path

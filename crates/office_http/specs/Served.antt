@@ -1,5 +1,5 @@
 -- The answer to a request, and what is done with the office.
-use Rattle.std.specs.Prelude.{◌≡◌, ℕ, ◌≤◌, List, length, Option, None, Some, Result, Ok, Err}
+use Rattle.std.specs.Prelude.{◌≡◌, ℕ, ◌*◌, ◌≤◌, List, length, Option, None, Some, Result, Ok, Err}
 use Rattle.office_replies.specs.declared.account_answer.AccountAnswer.{AccountAnswer}
 use Rattle.office_replies.specs.declared.response.Response.{Response}
 use Rattle.office_replies.specs.AccountAnswers.{account_body, account_status}
@@ -11,18 +11,22 @@ use Rattle.office_queries.specs.declared.not_now.NotNow.{NotNow as Unreported}
 use Rattle.office_queries.specs.declared.query.Query.{Query}
 use Rattle.office_queries.specs.declared.report_kind.ReportKind.{ReportKind}
 use Rattle.office_queries.specs.declared.report_kind.ReportKind.TheVariants as kind
+use Rattle.office_http.specs.Doors.{door_of}
 use Rattle.office_http.specs.Requests.{Asks}
-use Rattle.office_http.specs.Responses.{response_bytes, refusal_bytes}
+use Rattle.office_http.specs.Responses.{response_bytes, refusal_bytes, early_bytes}
 use Rattle.office_http.specs.Steps.{Step, events_after, AreAnswered, StepsLead}
 use Rattle.office_http.specs.declared.content_type.ContentType.{ContentType}
-use Rattle.office_http.specs.declared.content_type.ContentType.TheVariants.{Json, Text, Table, Page, Interchange}
+use Rattle.office_http.specs.declared.content_type.ContentType.TheVariants.{Json, Text, Table, Page, Interchange, Metrics}
+use Rattle.office_http.specs.declared.door.Door.{Door}
+use Rattle.office_http.specs.declared.door.Door.TheVariants as door
 use Rattle.office_http.specs.declared.refusal.Refusal.TheVariants.{NotFound, NotNow}
+use Rattle.office_http.specs.declared.own_text.OwnText.{OwnText}
 use Rattle.office_http.specs.declared.request.Request.{Request}
-use Rattle.office_http.specs.declared.request.Request.TheVariants.{Delivery, Account, Report, Refused}
+use Rattle.office_http.specs.declared.request.Request.TheVariants.{Delivery, OwnDelivery, Account, Report, Refused}
 use Rattle.office_http.specs.declared.serve_fault.ServeFault.{ServeFault}
 use Rattle.office_http.specs.declared.serve_fault.ServeFault.TheVariants as fault
 
--- what a report is: a reply is JSON, a CONTRL an interchange, the picture a page
+-- what a report is: a reply is JSON and so is health, a CONTRL an interchange, the picture a page
 abbrev pub content_of : ReportKind → ContentType
 content_of kind.Yard = Text
 content_of kind.YardTable = Table
@@ -36,6 +40,9 @@ content_of kind.Partners = Text
 content_of kind.Blocks = Text
 content_of kind.Contrl = Interchange
 content_of kind.Picture = Page
+content_of kind.Partner = Text
+content_of kind.Health = Json
+content_of kind.Metrics = Metrics
 
 -- the response with a report, if there is something to tell
 abbrev pub report_bytes : ReportKind → Option (List ℕ) → List ℕ
@@ -63,24 +70,47 @@ module _ {D Opening : Type 0} (is_sound : D → Type 0) (stands : Opening → Li
     (tells : D → Query → Option (List ℕ) → Type 0) (leads : D → List ℕ → Response → D → Type 0)
     (enrols : D → List ℕ → List ℕ → AccountAnswer → D → Type 0)
     (looks : D → Query → Result (Option (List ℕ)) Unreported → D → Type 0) where
-  -- The one call that is made of the desk, and the bytes that answer it. A refusal doesn't touch the desk.
-  abbrev pub Does : Request → D → D → (IsWritten : List ℕ → Type 0) → Type 0
-  Does (Delivery body) old new IsWritten =
-      (response : Response) × IsDelivered is_sound stands answers leads old body.items response new
+  -- a text is delivered, and these bytes answer it
+  abbrev pub DoesDelivery : List ℕ → D → D → (IsWritten : List ℕ → Type 0) → Type 0
+  DoesDelivery text old new IsWritten =
+      (response : Response) × IsDelivered is_sound stands answers leads old text response new
       × IsWritten (answer_bytes response)
-  Does (Account key) old new IsWritten =
+
+  -- so it is where the door is open; where it isn't, the desk isn't touched
+  abbrev pub DoesAt : Door → List ℕ → D → D → (IsWritten : List ℕ → Type 0) → Type 0
+  DoesAt door.Open text old new IsWritten = DoesDelivery text old new IsWritten
+  DoesAt (door.TooEarly next) text old new IsWritten = (new ≡ old) × IsWritten (early_bytes next)
+  DoesAt door.NotNow text old new IsWritten = (new ≡ old) × IsWritten (refusal_bytes NotNow)
+
+  -- without a bound a text is delivered; with one the desk is looked at first, for the number that is next
+  abbrev pub DoesOwn : (ahead : Option ℕ) → OwnText → D → D → (IsWritten : List ℕ → Type 0) → Type 0
+  DoesOwn None own old new IsWritten = DoesDelivery own.text.items old new IsWritten
+  DoesOwn (Some ahead) own old new IsWritten =
+      (found : Result (Option (List ℕ)) Unreported) × (looked : D)
+      × IsLookedAt is_sound stands tells looks old own.next found looked
+      × DoesAt (door_of ahead own.number found) own.text.items looked new IsWritten
+
+  -- The calls that are made of the desk, and the bytes that answer them. A refusal doesn't touch the desk.
+  abbrev pub Does : (ahead : Option ℕ) → Request → D → D → (IsWritten : List ℕ → Type 0) → Type 0
+  Does ahead (Delivery body) old new IsWritten = DoesDelivery body.items old new IsWritten
+  Does ahead (OwnDelivery own) old new IsWritten = DoesOwn ahead own old new IsWritten
+  Does ahead (Account key) old new IsWritten =
       (answer : AccountAnswer) × IsAsked is_sound stands added enrols old key.code.items key.kind.items answer new
       × IsWritten (account_bytes answer)
-  Does (Report kind query) old new IsWritten =
+  Does ahead (Report kind query) old new IsWritten =
       (found : Result (Option (List ℕ)) Unreported) × IsLookedAt is_sound stands tells looks old query found new
       × IsWritten (found_bytes kind found)
-  Does (Refused refusal) old new IsWritten = (new ≡ old) × IsWritten (refusal_bytes refusal)
+  Does ahead (Refused refusal) old new IsWritten = (new ≡ old) × IsWritten (refusal_bytes refusal)
 
   -- what a stream asks for was done, and these bytes are its answer
-  pub record Serves (stream : List ℕ) (old new : D) (IsWritten : List ℕ → Type 0) : Type 0 where
+  pub record Serves (ahead : Option ℕ) (stream : List ℕ) (old new : D) (IsWritten : List ℕ → Type 0) : Type 0 where
     pub request : Request
     pub asks : Asks stream request
-    pub does : Does request old new IsWritten
+    pub does : Does ahead request old new IsWritten
+
+-- the most calls that so many requests make: a look at the number that is next, and what is asked for
+abbrev pub calls_of : ℕ → ℕ
+calls_of requests = requests * 2
 
 -- ---- what was done with a desk
 

@@ -14,6 +14,8 @@ pub(crate) enum ContentType {
     Page,
     /// An interchange of UN/EDIFACT.
     Interchange,
+    /// The text format that Prometheus reads, version 0.0.4.
+    Metrics,
 }
 
 impl ContentType {
@@ -27,6 +29,7 @@ impl ContentType {
             ContentType::Table => "text/csv",
             ContentType::Page => "text/html; charset=utf-8",
             ContentType::Interchange => "application/EDIFACT",
+            ContentType::Metrics => "text/plain; version=0.0.4",
         }
     }
 }

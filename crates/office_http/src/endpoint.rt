@@ -9,6 +9,8 @@ use office_queries::ReportKind;
 pub(crate) enum Endpoint {
     /// Where interchanges are delivered.
     Interchanges,
+    /// Where the interchanges of one partner are delivered.
+    PartnerInterchanges,
     /// Where accounts are added.
     Accounts,
     /// A report.
@@ -21,7 +23,9 @@ impl Endpoint {
         ensures { result ≡ method_of self }
     {
         match self {
-            Endpoint::Interchanges | Endpoint::Accounts => Method::POST,
+            Endpoint::Interchanges | Endpoint::PartnerInterchanges | Endpoint::Accounts => {
+                Method::POST
+            }
             Endpoint::Report(_) => Method::GET,
         }
     }

@@ -18,6 +18,8 @@ pub(crate) enum Refusal {
     NoLength,
     /// Its body is too long.
     TooLong,
+    /// Its text names another sender than its path.
+    OtherSender,
     /// There was no memory, or the store failed: it may come again.
     NotNow,
 }
@@ -33,6 +35,7 @@ impl Refusal {
             Refusal::OnlyGet | Refusal::OnlyPost => StatusCode::METHOD_NOT_ALLOWED,
             Refusal::NoLength => StatusCode::LENGTH_REQUIRED,
             Refusal::TooLong => StatusCode::PAYLOAD_TOO_LARGE,
+            Refusal::OtherSender => StatusCode::FORBIDDEN,
             Refusal::NotNow => StatusCode::SERVICE_UNAVAILABLE,
         }
     }
@@ -47,6 +50,7 @@ impl Refusal {
             Refusal::OnlyGet | Refusal::OnlyPost => "{\"answer\":\"method\"}",
             Refusal::NoLength => "{\"answer\":\"length\"}",
             Refusal::TooLong => "{\"answer\":\"too long\"}",
+            Refusal::OtherSender => "{\"answer\":\"refused\",\"fault\":\"OtherSender\"}",
             Refusal::NotNow => "{\"answer\":\"not now\"}",
         }
     }

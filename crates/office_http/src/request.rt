@@ -1,3 +1,4 @@
+use crate::own_text::OwnText;
 use crate::refusal::Refusal;
 use office_queries::{AccountKey, Query, ReportKind};
 
@@ -6,6 +7,8 @@ use office_queries::{AccountKey, Query, ReportKind};
 pub(crate) enum Request {
     /// That this text is delivered.
     Delivery(Vec<u8>),
+    /// That this text of a partner's is delivered, unless it comes too early.
+    OwnDelivery(OwnText),
     /// That this account is added.
     Account(AccountKey),
     /// A report.

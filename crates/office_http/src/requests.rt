@@ -3,14 +3,14 @@ ghost use Rattle.edi_segments.specs.Interchange.{most_bytes};
 ghost use Rattle.std.specs.Option.{option_and_then};
 ghost use Rattle.httparse.specs.Grammar.{RequestHead};
 ghost use Rattle.httparse.specs.Spans.{header_bytes, IsRequestAt, IsRequestWithin, IsSectionWithin};
-ghost use Rattle.office_queries.specs.AccountKeys.{account_in};
+ghost use Rattle.office_queries.specs.AccountKeys.{account_in, sender_in};
 ghost use Rattle.office_queries.specs.Keys.{query_of};
 ghost use Rattle.office_http.specs.Deciding.{body_size, EndsWhenDecided, wanted_behind};
 ghost use Rattle.office_http.specs.Fields.{body_length};
 ghost use Rattle.office_http.specs.Heads.{most_request_reads};
 ghost use Rattle.office_http.specs.Ports.{ReadsUpTo};
-ghost use Rattle.office_http.specs.Requests.{Asks, AsksWith, Gets, Names, Posts, PostsAccount};
-ghost use Rattle.office_http.specs.Routes.{account_key_in, key_in};
+ghost use Rattle.office_http.specs.Requests.{Asks, AsksWith, Gets, Names, Posts, PostsAccount, PostsBy};
+ghost use Rattle.office_http.specs.Routes.{key_in, partner_key_in};
 ghost use Rattle.office_http.specs.declared.request.Request.TheVariants.{Refused};
 ghost use Rattle.office_http.specs.declared.refusal.Refusal.TheVariants.{NotNow};
 
@@ -21,9 +21,10 @@ use crate::found_head::FoundHead;
 use crate::head::{MOST_FIELDS, MOST_HEAD_BYTES, read_head};
 use crate::refusal::Refusal;
 use crate::request::Request;
-use crate::routes::{account_key_in, direct, key_in, path_of};
+use crate::routes::{direct, key_in, partner_key_in, path_of};
+use crate::senders::posted_as;
 use httparse::spans::{EMPTY_HEADER_SPAN, HeaderSpan};
-use office_queries::{ReportKind, read_account_key, read_query};
+use office_queries::{ReportKind, read_account_key, read_query, read_sender_key};
 use office_stream::Port;
 use std::alloc::Global;
 use std::io::{Read, Result};
@@ -69,6 +70,9 @@ fn read_asked<R: Read>(
     let path = path_of(target);
     match direct(alloc, found.spans.method.of(read), path) {
         Ok(Endpoint::Interchanges) => read_post(alloc, reader, read, headers, found),
+        Ok(Endpoint::PartnerInterchanges) => {
+            read_own_post(alloc, reader, read, headers, found, path)
+        }
         Ok(Endpoint::Accounts) => read_account(alloc, reader, read, headers, found, path),
         Ok(Endpoint::Report(kind)) => Ok(read_report(alloc, kind, path)),
         Err(refusal) => Ok(Request::Refused(refusal)),
@@ -98,6 +102,38 @@ fn read_post<R: Read>(
     }
 }
 
+/// Reads the body that the fields of a head tell of, for the partner that a path names.
+fn read_own_post<R: Read>(
+    alloc: Global,
+    reader: &mut Port<R>,
+    read: &[u8],
+    headers: &[HeaderSpan],
+    found: FoundHead,
+    path: &str,
+) -> Result<Request>
+    requires { IsSectionWithin read.now headers.now found.spans.len found.spans.headers }
+    ensures posts { IfOk result (λ request. IfSome (R.remaining reader.old.inner) (λ left. (request ≡ Refused NotNow)
+        ⊎ PostsBy (option_and_then sender_in (partner_key_in path.now))
+        (body_length (map (header_bytes read.now) (take found.spans.headers headers.now)))
+        (drop found.spans.len read.now ++ left) request)) }
+    ensures reads { ReadsUpTo most_bytes reader.old reader.new result }
+    ensures decided { reader.new.reads ≤ reader.old.reads
+        + (body_size (body_length (map (header_bytes read.now) (take found.spans.headers headers.now)))
+        - length (drop found.spans.len read.now)) }
+{
+    let Some(key) = partner_key_in(path) else {
+        return Ok(Request::Refused(Refusal::NotFound));
+    };
+    match read_sender_key(alloc, key) {
+        Ok(Some(code)) => {
+            let posted = read_post(alloc, reader, read, headers, found)?;
+            Ok(posted_as(code, posted))
+        }
+        Ok(None) => Ok(Request::Refused(Refusal::NotFound)),
+        Err(_) => Ok(Request::Refused(Refusal::NotNow)),
+    }
+}
+
 /// Reads past the body that the fields of a head tell of, and names the account of a path.
 fn read_account<R: Read>(
     alloc: Global,
@@ -110,7 +146,7 @@ fn read_account<R: Read>(
     requires { IsSectionWithin read.now headers.now found.spans.len found.spans.headers }
     ensures posts { IfOk result (λ request. IfSome (R.remaining reader.old.inner) (λ left. (request ≡ Refused NotNow)
         ⊎ PostsAccount (body_length (map (header_bytes read.now) (take found.spans.headers headers.now)))
-        (drop found.spans.len read.now ++ left) (option_and_then account_in (account_key_in path.now)) request)) }
+        (drop found.spans.len read.now ++ left) (option_and_then account_in (partner_key_in path.now)) request)) }
     ensures reads { ReadsUpTo most_bytes reader.old reader.new result }
     ensures decided { reader.new.reads ≤ reader.old.reads
         + (body_size (body_length (map (header_bytes read.now) (take found.spans.headers headers.now)))
@@ -129,9 +165,9 @@ fn read_account<R: Read>(
 
 /// The account that a path names.
 fn named_account(alloc: Global, path: &str) -> Request
-    ensures { (result ≡ Refused NotNow) ⊎ Names (option_and_then account_in (account_key_in path.now)) result }
+    ensures { (result ≡ Refused NotNow) ⊎ Names (option_and_then account_in (partner_key_in path.now)) result }
 {
-    let Some(key) = account_key_in(path) else {
+    let Some(key) = partner_key_in(path) else {
         return Request::Refused(Refusal::NotFound);
     };
     match read_account_key(alloc, key) {

@@ -1,5 +1,5 @@
 ghost use Rattle.std.specs.Prelude.{◌≡◌, ◌⊎◌, IfOk, option_map, Err};
-ghost use Rattle.office_http.specs.Routes.{account_key_in, endpoint_of, endpoint_at, endpoints, front_of, key_in, other_method, path_of};
+ghost use Rattle.office_http.specs.Routes.{endpoint_of, endpoint_at, endpoints, front_of, key_in, other_method, partner_key_in, path_of};
 ghost use Rattle.office_http.specs.declared.refusal.Refusal.TheVariants.{NotNow};
 
 use crate::endpoint::Endpoint;
@@ -59,6 +59,13 @@ fn router(alloc: Global) -> Result<Router<Endpoint>, InsertError>
     )?;
     router.insert("/picture", Endpoint::Report(ReportKind::Picture))?;
     router.insert("/partners", Endpoint::Report(ReportKind::Partners))?;
+    router.insert(
+        "/partners/{code}/interchanges",
+        Endpoint::PartnerInterchanges,
+    )?;
+    router.insert("/partners/{code}", Endpoint::Report(ReportKind::Partner))?;
+    router.insert("/health", Endpoint::Report(ReportKind::Health))?;
+    router.insert("/metrics", Endpoint::Report(ReportKind::Metrics))?;
     Ok(router)
 }
 
@@ -76,7 +83,9 @@ fn other_method(endpoint: Endpoint) -> Refusal
     ensures { result ≡ other_method endpoint }
 {
     match endpoint {
-        Endpoint::Interchanges | Endpoint::Accounts => Refusal::OnlyPost,
+        Endpoint::Interchanges | Endpoint::PartnerInterchanges | Endpoint::Accounts => {
+            Refusal::OnlyPost
+        }
         Endpoint::Report(_) => Refusal::OnlyGet,
     }
 }
@@ -98,9 +107,9 @@ pub(crate) fn key_in(kind: ReportKind, path: &str) -> Option<&str>
     path.strip_prefix(front_of(kind))
 }
 
-/// The key of an account in its path.
-pub(crate) fn account_key_in(path: &str) -> Option<&str>
-    ensures { option_map (λ key. key.now) result ≡ account_key_in path.now }
+/// The key in the path of an account, or of a partner's interchanges.
+pub(crate) fn partner_key_in(path: &str) -> Option<&str>
+    ensures { option_map (λ key. key.now) result ≡ partner_key_in path.now }
 {
     path.strip_prefix("/partners/")
 }
@@ -121,5 +130,8 @@ fn front_of(kind: ReportKind) -> &'static str
         ReportKind::Blocks => "/blocks",
         ReportKind::Contrl => "/contrls/",
         ReportKind::Picture => "/picture",
+        ReportKind::Partner => "/partners/",
+        ReportKind::Health => "/health",
+        ReportKind::Metrics => "/metrics",
     }
 }

@@ -4,13 +4,15 @@ ghost use Rattle.office_queries.specs.Looking.{IsLookedAt};
 ghost use Rattle.office_queries.specs.declared.not_now.NotNow.{NotNow};
 ghost use Rattle.office_http.specs.Deciding.{EndsWhenDecided};
 ghost use Rattle.office_http.specs.Heads.{most_request_reads};
-ghost use Rattle.office_http.specs.Served.{AtMost, content_of, Does, found_bytes, MatchFault, Serves};
+ghost use Rattle.office_http.specs.Served.{AtMost, calls_of, content_of, Does, DoesDelivery, DoesOwn, found_bytes, MatchFault, Serves};
 
 use crate::content_type::ContentType;
+use crate::door::{Door, door_of};
+use crate::own_text::OwnText;
 use crate::refusal::Refusal;
 use crate::request::Request;
 use crate::requests::read_request;
-use crate::response::{write_account_answer, write_answer, write_refusal, write_text};
+use crate::response::{write_account_answer, write_answer, write_early, write_refusal, write_text};
 use crate::serve_fault::ServeFault;
 use http::StatusCode;
 use office_queries::{NotNow, Query, Report, ReportKind};
@@ -19,17 +21,18 @@ use office_stream::Port;
 use std::alloc::Global;
 use std::io::{self, Read, Write};
 
-/// Reads one request, does what it asks for, and writes its response. What a reader gives behind a request has no
-/// effect.
+/// Reads one request, does what it asks for, and writes its response. By the path of a partner a number may be above its
+/// next one by `ahead`; by any, if there is no bound. What a reader gives behind a request has no effect.
 pub fn serve_one<R: Read, W: Write, D: Report + AddAccount>(
     alloc: Global,
     reader: &mut Port<R>,
     writer: &mut Port<W>,
     desk: &mut D,
+    ahead: Option<u32>,
 ) -> Result<(), ServeFault>
     // Unless a read failed, what was asked for is done, whatever desk it is, and at Ok exactly its answer is written.
     ensures serves { IfSome (R.remaining reader.old.inner) (λ stream. (result ≡ Err ServeFault.Read)
-        ⊎ Serves D.is_sound D.stands D.answers D.added D.tells D.leads D.enrols D.looks stream desk.old desk.new
+        ⊎ Serves D.is_sound D.stands D.answers D.added D.tells D.leads D.enrols D.looks ahead stream desk.old desk.new
         (λ bytes. OnOk result (Appends (W.contents writer.old.inner) (W.contents writer.new.inner) bytes))) }
 
     // After a failed read nothing was delivered, and nothing written.
@@ -37,8 +40,8 @@ pub fn serve_one<R: Read, W: Write, D: Report + AddAccount>(
         ((reader.new.failed ≡ true) × (desk.new ≡ desk.old) × (writer.new ≡ writer.old))
         ((writer.new.failed ≡ true) × (reader.new.failed ≡ reader.old.failed))) }
 
-    // Whatever the reader gives, one call is made of the desk at most.
-    ensures steps { AtMost D.is_sound D.stands D.answers D.added D.leads D.enrols D.looks 1 desk.old desk.new }
+    // Whatever the reader gives, one thing is asked of the desk at most, behind a look at the number that is next.
+    ensures steps { AtMost D.is_sound D.stands D.answers D.added D.leads D.enrols D.looks (calls_of 1) desk.old desk.new }
 
     // Nothing is said of the answers of a desk whose records have not told the truth.
     ensures stays { D.is_sound desk.new → D.is_sound desk.old }
@@ -63,7 +66,7 @@ pub fn serve_one<R: Read, W: Write, D: Report + AddAccount>(
         Ok(request) => request,
         Err(_) => return Err(ServeFault::Read),
     };
-    match send_answer(alloc, writer, desk, request) {
+    match send_answer(alloc, writer, desk, ahead, request) {
         Ok(()) => Ok(()),
         Err(_) => Err(ServeFault::Write),
     }
@@ -74,16 +77,17 @@ fn send_answer<W: Write, D: Report + AddAccount>(
     alloc: Global,
     writer: &mut Port<W>,
     desk: &mut D,
+    ahead: Option<u32>,
     request: Request,
 ) -> io::Result<()>
-    ensures does { Does D.is_sound D.stands D.answers D.added D.tells D.leads D.enrols D.looks request desk.old desk.new
+    ensures does { Does D.is_sound D.stands D.answers D.added D.tells D.leads D.enrols D.looks ahead request desk.old desk.new
         (λ bytes. OnOk result (Appends (W.contents writer.old.inner) (W.contents writer.new.inner) bytes)) }
     ensures kept { OnOk result (writer.new.failed ≡ writer.old.failed) }
     ensures fails { OnErr result (writer.new.failed ≡ true) }
     ensures flushed { OnOk result (writer.new.flushed ≡ true) }
     ensures stays { D.is_sound desk.new → D.is_sound desk.old }
 {
-    answer(alloc, writer, desk, request)?;
+    answer(alloc, writer, desk, ahead, request)?;
     writer.flush()
 }
 
@@ -92,25 +96,65 @@ fn answer<W: Write, D: Report + AddAccount>(
     alloc: Global,
     writer: &mut Port<W>,
     desk: &mut D,
+    ahead: Option<u32>,
     request: Request,
 ) -> io::Result<()>
-    ensures does { Does D.is_sound D.stands D.answers D.added D.tells D.leads D.enrols D.looks request desk.old desk.new
+    ensures does { Does D.is_sound D.stands D.answers D.added D.tells D.leads D.enrols D.looks ahead request desk.old desk.new
         (λ bytes. OnOk result (Appends (W.contents writer.old.inner) (W.contents writer.new.inner) bytes)) }
     ensures kept { OnOk result (writer.new.failed ≡ writer.old.failed) }
     ensures fails { OnErr result (writer.new.failed ≡ true) }
     ensures stays { D.is_sound desk.new → D.is_sound desk.old }
 {
     match request {
-        Request::Delivery(body) => {
-            let response = desk.deliver(alloc, body.as_slice());
-            write_answer(writer, &response)
-        }
+        Request::Delivery(body) => answer_delivery(alloc, writer, desk, body.as_slice()),
+        Request::OwnDelivery(own) => answer_own(alloc, writer, desk, ahead, &own),
         Request::Account(key) => {
             let answer = desk.add_account(alloc, key.code.as_slice(), key.kind.as_slice());
             write_account_answer(writer, &answer)
         }
         Request::Report(kind, query) => answer_report(alloc, writer, desk, kind, &query),
         Request::Refused(refusal) => write_refusal(writer, refusal),
+    }
+}
+
+/// Delivers a text, and writes its answer.
+fn answer_delivery<W: Write, D: Report + AddAccount>(
+    alloc: Global,
+    writer: &mut Port<W>,
+    desk: &mut D,
+    text: &[u8],
+) -> io::Result<()>
+    ensures does { DoesDelivery D.is_sound D.stands D.answers D.added D.tells D.leads D.enrols D.looks text.now desk.old desk.new
+        (λ bytes. OnOk result (Appends (W.contents writer.old.inner) (W.contents writer.new.inner) bytes)) }
+    ensures kept { OnOk result (writer.new.failed ≡ writer.old.failed) }
+    ensures fails { OnErr result (writer.new.failed ≡ true) }
+    ensures stays { D.is_sound desk.new → D.is_sound desk.old }
+{
+    let response = desk.deliver(alloc, text);
+    write_answer(writer, &response)
+}
+
+/// Delivers the text of a partner, unless its number is too far above the next one, and writes its answer.
+fn answer_own<W: Write, D: Report + AddAccount>(
+    alloc: Global,
+    writer: &mut Port<W>,
+    desk: &mut D,
+    ahead: Option<u32>,
+    own: &OwnText,
+) -> io::Result<()>
+    ensures does { DoesOwn D.is_sound D.stands D.answers D.added D.tells D.leads D.enrols D.looks ahead own.now desk.old desk.new
+        (λ bytes. OnOk result (Appends (W.contents writer.old.inner) (W.contents writer.new.inner) bytes)) }
+    ensures kept { OnOk result (writer.new.failed ≡ writer.old.failed) }
+    ensures fails { OnErr result (writer.new.failed ≡ true) }
+    ensures stays { D.is_sound desk.new → D.is_sound desk.old }
+{
+    let Some(ahead) = ahead else {
+        return answer_delivery(alloc, writer, desk, own.text.as_slice());
+    };
+    match door_of(alloc, desk, ahead, own) {
+        Door::Open => answer_delivery(alloc, writer, desk, own.text.as_slice()),
+        Door::TooEarly(next) => write_early(writer, next),
+        Door::NotNow => write_refusal(writer, Refusal::NotNow),
     }
 }
 
@@ -139,10 +183,11 @@ fn content_of(kind: ReportKind) -> ContentType
     ensures { result ≡ content_of kind }
 {
     match kind {
-        ReportKind::Reply => ContentType::Json,
+        ReportKind::Reply | ReportKind::Health => ContentType::Json,
         ReportKind::YardTable => ContentType::Table,
         ReportKind::Picture => ContentType::Page,
         ReportKind::Contrl => ContentType::Interchange,
+        ReportKind::Metrics => ContentType::Metrics,
         ReportKind::Yard
         | ReportKind::Visits
         | ReportKind::List
@@ -150,6 +195,7 @@ fn content_of(kind: ReportKind) -> ContentType
         | ReportKind::Container
         | ReportKind::Work
         | ReportKind::Partners
+        | ReportKind::Partner
         | ReportKind::Blocks => ContentType::Text,
     }
 }

@@ -9,6 +9,8 @@ use Rattle.terminal_core.specs.Changes.{TerminalRows, standing_of}
 use Rattle.terminal_core.specs.Forms.{IsFormedVisit}
 use Rattle.terminal_core.specs.Rows.{VisitContent}
 use Rattle.terminal_core.specs.State.{TerminalState}
+use Rattle.terminal_core.specs.declared.restore_fault.RestoreFault.{RestoreFault}
+use Rattle.terminal_core.specs.declared.restore_fault.RestoreFault.TheVariants as restoring
 use Rattle.office_setup.specs.Setups.{SetupContent}
 use Rattle.office_rows.specs.Tables as table
 use Rattle.office_rows.specs.Rows.{Interchange}
@@ -16,10 +18,12 @@ use Rattle.office_rows.specs.Values.{partner_values, visit_values, place_values,
 use Rattle.office_rows.specs.ByKey.{standing_by, lines_by}
 use Rattle.office_rows.specs.Opened.{numbered, reply_values, OpenedRows, Shows}
 use Rattle.office_rows.specs.Office.{IsOffice}
+use Rattle.office_checks.specs.Refusals.{RefusesTables}
 use Rattle.office_loading.specs.Fits.{FitsPartner, FitsVisit, FitsPlace, FitsLine, FitsSetting, FitsBlock}
 use Rattle.office_tables.specs.declared.table_fault.TableFault.{TableFault}
 use Rattle.office_tables.specs.declared.table_fault.TableFault.TheVariants.{Store, Damaged, Version, Memory}
-use Rattle.office_loading.specs.Tables.{FitsRows, FailsTables, FailsToLoad, ShowsNoOffice}
+use Rattle.office_tables.specs.Faults.{IsOfStoreOr}
+use Rattle.office_loading.specs.Tables.{FitsRows, FailsTables, FailsToLoad, ShowsNoOffice, HasVersion, fault_of_restoring}
 use Rattle.office_loading.proofs.OrderLemmas.{all_in}
 use Rattle.office_loading.proofs.KeyLemmas.{number_tied, text_tied, one_showing, one_reading}
 use Rattle.office_loading.proofs.FitLemmas.{partners_fit, numbers_fit, blocks_fit, visits_fit}
@@ -153,3 +157,13 @@ tables_fail db (Store error) h = h
 
 pub none_shown : (db : Database) (other : OpenedRows) → Shows db other → FitsRows other → ((content : SetupContent) (state : TerminalState) → ¬ IsOffice other content state) → ShowsNoOffice db
 none_shown db other that fits none rows content state shown = λ office. none content state (subst (λ r. IsOffice r content state) (office_one rows content state office db shown other that fits) office)
+
+-- what can't be restored isn't loaded
+pub restoring_fails : (db : Database) (read : OpenedRows) → HasVersion db → Shows db read → FitsRows read → (fault : RestoreFault) → RefusesTables read fault → FailsToLoad db (fault_of_restoring fault)
+restoring_fails db read version that fits restoring.Unsound refuses = (version, none_shown db read that fits refuses)
+restoring_fails db read version that fits restoring.Memory refuses = tt
+
+-- it is damage, or memory was refused
+pub restoring_tells : (fault : RestoreFault) → IsOfStoreOr (Unit {0}) (fault_of_restoring fault)
+restoring_tells restoring.Unsound = tt
+restoring_tells restoring.Memory = tt

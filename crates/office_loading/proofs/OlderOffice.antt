@@ -13,6 +13,8 @@ use Rattle.sqlite.specs.Tree.{Trees}
 use Rattle.sqlite.specs.Effect.{Database}
 use Rattle.sqlite_trees.proofs.ListLemmas.{map-map}
 use Rattle.terminal_core.specs.State.{TerminalState}
+use Rattle.terminal_core.specs.declared.restore_fault.RestoreFault.{RestoreFault}
+use Rattle.terminal_core.specs.declared.restore_fault.RestoreFault.TheVariants as restoring
 use Rattle.terminal_core.specs.declared.version.Version.TheVariants.{First, Second, Third}
 use Rattle.office_setup.specs.Setups.{SetupContent}
 use Rattle.office_rows.specs.Tables.{setting}
@@ -25,11 +27,12 @@ use Rattle.office_rows.specs.Opened.{OpenedRows, Shows}
 use Rattle.office_rows.specs.Bare.{with_weights}
 use Rattle.office_rows.specs.Migrated.{migrated_settings, migrated_opened}
 use Rattle.office_rows.specs.Office.{IsOffice}
+use Rattle.office_checks.specs.Refusals.{RefusesTables}
 use Rattle.office_tables.specs.declared.table_fault.TableFault.{TableFault}
 use Rattle.office_tables.specs.declared.table_fault.TableFault.TheVariants.{Store, Damaged, Version, Memory}
 use Rattle.office_loading.specs.Fits.{FitsSetting}
-use Rattle.office_loading.specs.Tables.{FitsRows}
-use Rattle.office_loading.specs.Older.{FailsOlderTables, FailsToLoadOlder, ShowsNoOlder}
+use Rattle.office_loading.specs.Tables.{FitsRows, fault_of_restoring}
+use Rattle.office_loading.specs.Older.{FailsOlderTables, FailsToLoadOlder, HasOlder, ShowsNoOlder}
 use Rattle.office_loading.proofs.ShownLemmas.{keys_cmp}
 use Rattle.office_loading.proofs.SettingLemmas.{version_utf8}
 use Rattle.office_loading.proofs.OfficeLemmas.{office_fits, office_one}
@@ -148,3 +151,8 @@ older_one db rows content state office shown read that fits =
 
 pub none_older : (db : Database) (other : OpenedRows) → Shows (with_weights db) other → FitsRows other → ((content : SetupContent) (state : TerminalState) → ¬ IsOffice (migrated_opened other) content state) → ShowsNoOlder db
 none_older db other that fits none rows content state shown = λ office. none content state (older_one db rows content state office shown other that fits)
+
+-- what can't be restored isn't loaded
+pub older_restoring_fails : (db : Database) (other : OpenedRows) → HasOlder db → Shows (with_weights db) other → FitsRows other → (fault : RestoreFault) → RefusesTables (migrated_opened other) fault → FailsToLoadOlder db (fault_of_restoring fault)
+older_restoring_fails db other older that fits restoring.Unsound refuses = (older, none_older db other that fits refuses)
+older_restoring_fails db other older that fits restoring.Memory refuses = tt

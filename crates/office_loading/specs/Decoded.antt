@@ -3,6 +3,9 @@ use Rattle.std.specs.Prelude.{ℕ, List, [], Contains, Result, Ok, Err, Vec}
 use Rattle.std.specs.List.{AllZip}
 use Rattle.sqlite.specs.Order.{Row}
 use Rattle.sqlite.specs.State.{State, IsUnchanged, Begins, Shown}
+use Rattle.sqlite.specs.declared.error.Error.{Error}
+use Rattle.sqlite.specs.declared.error.Error.TheVariants.{SqliteFailure}
+use Rattle.sqlite.specs.declared.error.ErrorCode.TheVariants.{OutOfMemory}
 use Rattle.office_tables.specs.declared.table_fault.TableFault.{TableFault}
 use Rattle.office_tables.specs.declared.table_fault.TableFault.TheVariants.{Store, Damaged, Version, Memory}
 use Rattle.office_tables.specs.Faults.{IsOfStoreOr}
@@ -10,6 +13,11 @@ use Rattle.office_tables.specs.Faults.{IsOfStoreOr}
 -- something says what is given
 abbrev pub Said : {A C : Type 0} → (A → C → Type 0) → A → Type 0
 Said {A} {C} Says given = (c : C) × Says given c
+
+-- a column that can't be read is that of no office, unless memory was refused
+abbrev pub fault_of_column : Error → TableFault
+fault_of_column (SqliteFailure OutOfMemory) = Memory
+fault_of_column error = Damaged
 
 -- nothing says what is given, or memory was refused
 abbrev pub Fails : {A : Type 0} → (A → Type 0) → A → TableFault → Type 0

@@ -5,6 +5,8 @@ use Rattle.sqlite.specs.Order.{Row}
 use Rattle.sqlite.specs.Effect.{Database}
 use Rattle.terminal_core.specs.Rows.{VisitContent}
 use Rattle.terminal_core.specs.State.{TerminalState}
+use Rattle.terminal_core.specs.declared.restore_fault.RestoreFault.{RestoreFault}
+use Rattle.terminal_core.specs.declared.restore_fault.RestoreFault.TheVariants as restoring
 use Rattle.yard_core.specs.declared.block.Block.{Block}
 use Rattle.office_setup.specs.Setups.{SetupContent}
 use Rattle.office_rows.specs.Tables as table
@@ -124,6 +126,11 @@ FailsToLoad db Version = ¬ HasVersion db
 FailsToLoad db Damaged = HasVersion db × ShowsNoOffice db
 FailsToLoad db Memory = Unit {0}
 FailsToLoad db (Store error) = Unit {0}
+
+-- rows that were read and are those of no office are damaged
+abbrev pub fault_of_restoring : RestoreFault → TableFault
+fault_of_restoring restoring.Unsound = Damaged
+fault_of_restoring restoring.Memory = Memory
 
 -- ---- the next numbers
 

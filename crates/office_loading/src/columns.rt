@@ -1,6 +1,6 @@
-ghost use Rattle.std.specs.Prelude.{ℕ, ◌^◌, string_bytes};
+ghost use Rattle.std.specs.Prelude.{◌≡◌, ℕ, ◌^◌, string_bytes};
 ghost use Rattle.sqlite.specs.Order.{column};
-ghost use Rattle.office_loading.specs.Decoded.{ReadsAs, itself};
+ghost use Rattle.office_loading.specs.Decoded.{ReadsAs, fault_of_column, itself};
 ghost use Rattle.office_loading.specs.Columns.{SaysNumber, SaysBytes, SaysText};
 
 use office_tables::TableFault;
@@ -58,7 +58,16 @@ pub(crate) fn text_at(row: &Row, at: usize) -> Result<String, TableFault>
 {
     match row.get(at) {
         Ok(text) => Ok(text),
-        Err(Error::SqliteFailure(ErrorCode::OutOfMemory)) => Err(TableFault::Memory),
-        Err(_) => Err(TableFault::Damaged),
+        Err(error) => Err(fault_of_column(error)),
+    }
+}
+
+/// What a column that can't be read is to a caller of the tables.
+fn fault_of_column(error: Error) -> TableFault
+    ensures { result ≡ fault_of_column error }
+{
+    match error {
+        Error::SqliteFailure(ErrorCode::OutOfMemory) => TableFault::Memory,
+        _ => TableFault::Damaged,
     }
 }

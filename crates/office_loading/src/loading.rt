@@ -7,7 +7,7 @@ ghost use Rattle.office_rows.specs.Tables.{office_schema};
 ghost use Rattle.office_tables.specs.Faults.{IsOfStore};
 ghost use Rattle.office_tables.specs.Reading.{Reads};
 ghost use Rattle.office_selecting.specs.Settings.{HasNoSettings, HasSettings};
-ghost use Rattle.office_loading.specs.Tables.{Loads, FailsToLoad, TellsVersion};
+ghost use Rattle.office_loading.specs.Tables.{Loads, FailsToLoad, TellsVersion, fault_of_restoring};
 
 use crate::opening::read_tables;
 use office_checks::restore;
@@ -40,7 +40,16 @@ pub fn load<S: Alter>(
     let tables = read_tables(alloc, conn)?;
     match restore(alloc, tables) {
         Ok(office) => Ok(office),
-        Err(RestoreFault::Unsound) => Err(TableFault::Damaged),
-        Err(RestoreFault::Memory) => Err(TableFault::Memory),
+        Err(fault) => Err(fault_of_restoring(fault)),
+    }
+}
+
+/// What a fault of restoring the rows that were read is to a caller of the tables.
+pub(crate) fn fault_of_restoring(fault: RestoreFault) -> TableFault
+    ensures { result ≡ fault_of_restoring fault }
+{
+    match fault {
+        RestoreFault::Unsound => TableFault::Damaged,
+        RestoreFault::Memory => TableFault::Memory,
     }
 }

@@ -8,6 +8,7 @@ ghost use Rattle.office_tables.specs.Reading.{Reads};
 ghost use Rattle.office_selecting.specs.Settings.{HasNoSettings, HasSettings};
 ghost use Rattle.office_loading.specs.Older.{ReadsOlderTables, LoadsOlder, FailsToLoadOlder, TellsOlder};
 
+use crate::loading::fault_of_restoring;
 use crate::older_settings::read_older_settings;
 use crate::table_reading::{
     read_bare_visits, read_blocks, read_lines, read_numbers, read_partners, read_places,
@@ -17,7 +18,7 @@ use office_setup::Setup;
 use office_tables::TableFault;
 use sqlite::{Alter, Connection};
 use std::alloc::Global;
-use terminal_core::{RestoreFault, Terminal};
+use terminal_core::Terminal;
 
 /// The rows of the seven tables of a store of version 1 or 2, as the newest version has them: each visit with a
 /// weight of 0, and the newest version among the settings. It changes nothing.
@@ -78,7 +79,6 @@ pub fn load_old<S: Alter>(
     let tables = read_older_tables(alloc, conn)?;
     match restore(alloc, tables) {
         Ok(office) => Ok(office),
-        Err(RestoreFault::Unsound) => Err(TableFault::Damaged),
-        Err(RestoreFault::Memory) => Err(TableFault::Memory),
+        Err(fault) => Err(fault_of_restoring(fault)),
     }
 }

@@ -23,6 +23,15 @@ pub fn partners_report(alloc: Global, partners: &[Partner]) -> Result<String, Al
     Ok(text)
 }
 
+/// What is expected of one partner: its line of that report.
+pub fn partner_report(alloc: Global, partner: &Partner) -> Result<String, AllocError>
+    ensures { IfOk result (λ text. string_bytes text ≡ partner_line (partner_content partner.now)) }
+{
+    let mut text = String::new(alloc);
+    push_partner(alloc, &mut text, partner)?;
+    Ok(text)
+}
+
 fn push_partners(alloc: Global, text: &mut String, partners: &[Partner]) -> Result<(), AllocError>
     ensures { OnOk result (string_bytes text.new
         ≡ string_bytes text.old ++ flat_map partner_line (map partner_content partners.now)) }
@@ -112,7 +121,7 @@ fn push_counts(alloc: Global, text: &mut String, partners: &[Partner]) -> Result
 }
 
 /// How many interchanges wait, of all partners.
-fn waiting_count(partners: &[Partner]) -> u128
+pub(crate) fn waiting_count(partners: &[Partner]) -> u128
     ensures { result ≡ sum_by waiting_count (map partner_content partners.now) }
 {
     let mut count = 0;

@@ -1,8 +1,13 @@
--- Texts of counted parts.
+-- Texts that grow by parts.
 use Rattle.std.proofs.Common.{◌≡◌, ℕ, zero, suc, ◌+◌, List, ◌++◌, flat_map, sym, ap, ◌∙◌, append_assoc, arith}
 use Rattle.std.specs.List.{range_with_len}
 use Rattle.std.proofs.lemmas.List.{append-nil}
 
+-- one part more
+pub onto : (front before part text now : List ℕ) → text ≡ front ++ before → now ≡ text ++ part → now ≡ front ++ (before ++ part)
+onto front before part text now e is = is ∙ ap (λ t. t ++ part) e ∙ append_assoc front before part
+
+-- counted parts
 module _ (f : ℕ → List ℕ) where
   -- one part more
   from : (a n m : ℕ) → a + n ≡ m → flat_map f (range_with_len a (suc n)) ≡ flat_map f (range_with_len a n) ++ f m

@@ -1,5 +1,5 @@
 -- Pages with other fields have the same tags.
-use Rattle.std.proofs.Common.{◌≡◌, ℕ, ◌+◌, ◌*◌, ◌%◌, ◌==◌, Bool, true, false, ◌&&◌, not, List, [], ◌∷◌, ◌++◌, codes, length, filter, take, drop, refl, sym, ap, ◌∙◌, inl, inr, flat_map, if◌then◌else◌}
+use Rattle.std.proofs.Common.{◌≡◌, ℕ, ◌+◌, ◌*◌, ◌%◌, ◌==◌, nat_lt, Bool, true, false, ◌&&◌, not, List, [], ◌∷◌, ◌++◌, codes, length, filter, take, drop, refl, sym, ap, ◌∙◌, inl, inr, flat_map, if◌then◌else◌}
 use Rattle.std.specs.Prelude.{decimal}
 use Rattle.std.specs.List.{list_all, range_with_len}
 use Rattle.std.proofs.lemmas.Bool.{cases_Bool, true≢false, false≢true}
@@ -13,7 +13,7 @@ use Rattle.office_picture.specs.Fixed.{head, shapes, legend}
 use Rattle.office_picture.specs.Laws.{drawn}
 use Rattle.office_picture.specs.Markup.{Place, Between, Tag, SingleQuoted, DoubleQuoted, behind, behind_all, tags}
 use Rattle.office_picture.specs.Picture.{page_head, page_text}
-use Rattle.office_picture.specs.Views.{is_forty, shape_name, title_text, container_view, is_in_row, view_in_row, row_head, row_view, bay_label, bay_labels, tier_label, tier_labels, cells_view, labels, grid, used_cells, block_head, block_view}
+use Rattle.office_picture.specs.Views.{is_forty, shape_name, title_text, shape_view, lettering, container_view, is_in_row, view_in_row, row_head, row_view, bay_label, bay_labels, tier_label, tier_labels, cells_view, labels, grid, used_cells, block_head, block_view, block_link, index}
 use Rattle.office_picture.proofs.Markup.{is_quiet, quiet_stays, quiet_has_none, decimal_is_quiet, both_quiet, field_is_quiet}
 
 -- ---- texts with the same tags
@@ -118,22 +118,32 @@ shape_alike one other slot load =
     quiet SingleQuoted (shape_name one) (shape_name other) (four one.is_laden (is_forty one))
     (λ i. if load i then if (slot i).bay % 2 == 0 then codes "full40" else codes "full20" else if (slot i).bay % 2 == 0 then codes "empty40" else codes "empty20")
 
-container_alike : (one other : Standing) → one.slot ≡ other.slot → one.is_laden ≡ other.is_laden → Alike Between Between (container_view one) (container_view other)
-unfolding container_view joined
-container_alike one other slot load =
+view_alike : (one other : Standing) → one.slot ≡ other.slot → one.is_laden ≡ other.is_laden → Alike Between Between (shape_view one) (shape_view other)
+unfolding shape_view joined
+view_alike one other slot load =
     next (fixed Between SingleQuoted (codes "<g transform='translate(") refl)
     (next (number SingleQuoted (32 * one.slot.bay) (32 * other.slot.bay) (λ i. 32 * (slot i).bay))
     (next (fixed SingleQuoted SingleQuoted (codes " -") refl)
-    (next (number SingleQuoted (30 * one.slot.tier) (30 * other.slot.tier) (λ i. 30 * (slot i).tier))
+    (next (number SingleQuoted (40 * one.slot.tier) (40 * other.slot.tier) (λ i. 40 * (slot i).tier))
     (next (fixed SingleQuoted Between (codes ")'><title>") refl)
     (next (quiets (title_text one) (title_text other) (title_quiet one).all (title_quiet other).all)
     (next (fixed Between SingleQuoted (codes "</title><use href='#") refl)
     (next (shape_alike one other slot load)
-    (next (fixed SingleQuoted Between (codes "'/><text y='14'>") refl)
+    (next (fixed SingleQuoted Between (codes "'/>") refl) end))))))))
+
+lettering_alike : (one other : Standing) → Alike Between Between (lettering one) (lettering other)
+unfolding lettering joined
+lettering_alike one other =
+    next (fixed Between Between (codes "<text y='13'>") refl)
     (next (fields (take 4 one.container) (take 4 other.container))
-    (next (fixed Between Between (codes "</text><text y='25'>") refl)
+    (next (fixed Between Between (codes "</text><text y='24'>") refl)
     (next (fields (drop 4 one.container) (drop 4 other.container))
-    (next (fixed Between Between (codes "</text></g>\n") refl) end))))))))))))
+    (next (fixed Between Between (codes "</text><text y='36'>") refl)
+    (next (fields (slot_text one.slot) (slot_text other.slot))
+    (next (fixed Between Between (codes "</text></g>\n") refl) end))))))
+
+container_alike : (one other : Standing) → one.slot ≡ other.slot → one.is_laden ≡ other.is_laden → Alike Between Between (container_view one) (container_view other)
+container_alike one other slot load = next (view_alike one other slot load) (lettering_alike one other)
 
 if_alike : (a b : Bool) (x y : List ℕ) → a ≡ b → Alike Between Between x y → Alike Between Between (if a then x else []) (if b then y else [])
 if_alike true true x y e h = h
@@ -164,11 +174,11 @@ row_head_alike block row =
     next (fixed Between Between (codes "<figure><figcaption>Row ") refl)
     (next (numbers row row)
     (next (fixed Between SingleQuoted (codes "</figcaption><svg viewBox='-22 -") refl)
-    (next (number SingleQuoted (30 * block.tiers) (30 * block.tiers) refl)
+    (next (number SingleQuoted (40 * block.tiers) (40 * block.tiers) refl)
     (next (fixed SingleQuoted SingleQuoted (codes " ") refl)
     (next (number SingleQuoted (64 * block.bays + 28) (64 * block.bays + 28) refl)
     (next (fixed SingleQuoted SingleQuoted (codes " ") refl)
-    (next (number SingleQuoted (30 * block.tiers + 20) (30 * block.tiers + 20) refl)
+    (next (number SingleQuoted (40 * block.tiers + 20) (40 * block.tiers + 20) refl)
     (next (fixed SingleQuoted SingleQuoted (codes "' width='") refl)
     (next (number SingleQuoted (64 * block.bays + 28) (64 * block.bays + 28) refl)
     (next (fixed SingleQuoted SingleQuoted (codes "'><use href='#") refl)
@@ -194,8 +204,8 @@ tier_alike : (tier : ℕ) → Alike Between Between (tier_label tier) (tier_labe
 unfolding tier_label joined
 tier_alike tier =
     next (fixed Between SingleQuoted (codes "<text x='-11' y='-") refl)
-    (next (number SingleQuoted (30 * tier) (30 * tier) refl)
-    (next (fixed SingleQuoted Between (codes "' dy='18'>") refl)
+    (next (number SingleQuoted (40 * tier) (40 * tier) refl)
+    (next (fixed SingleQuoted Between (codes "' dy='25'>") refl)
     (next (numbers tier tier)
     (next (fixed Between Between (codes "</text>") refl) end))))
 
@@ -213,7 +223,7 @@ cells_alike block =
     (next (fixed SingleQuoted SingleQuoted (codes "'><path d='M0 0H") refl)
     (next (number SingleQuoted (64 * block.bays) (64 * block.bays) refl)
     (next (fixed SingleQuoted SingleQuoted (codes "V-") refl)
-    (next (number SingleQuoted (30 * block.tiers) (30 * block.tiers) refl)
+    (next (number SingleQuoted (40 * block.tiers) (40 * block.tiers) refl)
     (next (fixed SingleQuoted SingleQuoted (codes "H0Z' fill='url(#free)'/><path d='M-3 0H") refl)
     (next (number SingleQuoted (64 * block.bays) (64 * block.bays) refl)
     (next (fixed SingleQuoted Between (codes "h3' stroke='#16263a'/>") refl) end))))))))
@@ -224,19 +234,38 @@ grid_alike block = next (next (cells_alike block) (labels_alike block)) (fixed B
 block_head_alike : (ones others : List Standing) (block : Block) → Alike Between Between (block_head ones block) (block_head others block)
 unfolding block_head joined
 block_head_alike ones others block =
-    next (fixed Between Between (codes "<section><h2>Block ") refl)
+    next (fixed Between SingleQuoted (codes "<section id='block-") refl)
+    (next (field SingleQuoted (block.letter ∷ []))
+    (next (fixed SingleQuoted Between (codes "'><h2>Block ") refl)
     (next (field Between (block.letter ∷ []))
     (next (fixed Between Between (codes "<small>") refl)
     (next (numbers (used_cells block ones) (used_cells block others))
     (next (fixed Between Between (codes " of ") refl)
     (next (numbers (block.bays * block.rows * block.tiers) (block.bays * block.rows * block.tiers))
-    (next (fixed Between Between (codes " cells used</small></h2>\n") refl) end))))))
+    (next (fixed Between Between (codes " cells used</small></h2>\n") refl) end))))))))
 
 block_alike : (ones others : List Standing) → drawn ones ≡ drawn others → (block : Block) → Alike Between Between (block_view ones block) (block_view others block)
 block_alike ones others e block =
     next (next (next (next (block_head_alike ones others block) (grid_alike block)) (fixed Between Between (codes "<div>\n") refl))
     (each (λ n. row_view block ones (n + 1)) (λ n. row_view block others (n + 1)) (λ n. row_alike block ones others (n + 1) e) (range_with_len 0 block.rows)))
     (fixed Between Between (codes "</div></section>\n") refl)
+
+-- ---- the index
+
+link_alike : (block : Block) → Alike Between Between (block_link block) (block_link block)
+unfolding block_link joined
+link_alike block =
+    next (fixed Between SingleQuoted (codes "<a href='#block-") refl)
+    (next (field SingleQuoted (block.letter ∷ []))
+    (next (fixed SingleQuoted Between (codes "'>Block ") refl)
+    (next (field Between (block.letter ∷ []))
+    (next (fixed Between Between (codes "</a>\n") refl) end))))
+
+index_alike : (blocks : List Block) → Alike Between Between (index blocks) (index blocks)
+index_alike blocks =
+    if_alike (nat_lt 1 (length blocks)) (nat_lt 1 (length blocks))
+    (codes "<nav>\n" ++ flat_map block_link blocks ++ codes "</nav>\n") (codes "<nav>\n" ++ flat_map block_link blocks ++ codes "</nav>\n") refl
+    (next (next (fixed Between Between (codes "<nav>\n") refl) (each block_link block_link link_alike blocks)) (fixed Between Between (codes "</nav>\n") refl))
 
 -- ---- the page
 
@@ -268,10 +297,10 @@ page_head_alike name other ones others =
     (next (numbers (length (filter (λ standing. standing.is_laden) ones)) (length (filter (λ standing. standing.is_laden) others)))
     (next (fixed Between Between (codes "</b> full, <b>") refl)
     (next (numbers (length (filter (λ standing. not standing.is_laden) ones)) (length (filter (λ standing. not standing.is_laden) others)))
-    (next (fixed Between Between (codes "</b> empty</p>\n") refl)
-    (next (fixed Between Between legend legend_ends) end))))))))))))))
+    (next (fixed Between Between (codes "</b> empty</p>\n") refl) end)))))))))))))
 
 pub page_alike : (name other : List ℕ) (blocks : List Block) (ones others : List Standing) → drawn ones ≡ drawn others → Alike Between Between (page_text name blocks ones) (page_text other blocks others)
 page_alike name other blocks ones others e =
-    next (next (page_head_alike name other ones others) (each (block_view ones) (block_view others) (block_alike ones others e) blocks))
+    next (next (next (next (page_head_alike name other ones others) (index_alike blocks)) (fixed Between Between legend legend_ends))
+    (each (block_view ones) (block_view others) (block_alike ones others e) blocks))
     (fixed Between Between (codes "</main>\n</body>\n</html>\n") refl)

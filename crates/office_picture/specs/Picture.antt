@@ -9,20 +9,21 @@ use Rattle.office_reports.specs.Listed.{AreListed}
 use Rattle.office_reports.specs.Yard.{StandsAt}
 use Rattle.office_picture.specs.Fields.{field_text, joined}
 use Rattle.office_picture.specs.Fixed.{head, shapes, legend}
-use Rattle.office_picture.specs.Views.{block_view}
+use Rattle.office_picture.specs.Views.{block_view, index}
 
--- the terminal's name, how many containers there are, full and empty, and the legend
+-- the terminal's name, and how many containers there are, full and empty
 unfoldable pub page_head : List ℕ → List Standing → List ℕ
 page_head name standings = joined
     (head ∷ codes "<title>Yard of " ∷ field_text name ∷ codes "</title>\n" ∷ shapes ∷ codes "<h1>Yard of "
     ∷ field_text name ∷ codes "</h1>\n<p><b>" ∷ decimal (length standings) ∷ codes "</b> containers: <b>"
     ∷ decimal (length (filter (λ standing. standing.is_laden) standings)) ∷ codes "</b> full, <b>"
-    ∷ decimal (length (filter (λ standing. not standing.is_laden) standings)) ∷ codes "</b> empty</p>\n" ∷ legend ∷ [])
+    ∷ decimal (length (filter (λ standing. not standing.is_laden) standings)) ∷ codes "</b> empty</p>\n" ∷ [])
 
--- the page of a terminal's name, its blocks, and the containers in them
+-- the page of a terminal's name, its blocks, and the containers in them: an index, the legend, and the blocks
 abbrev pub page_text : List ℕ → List Block → List Standing → List ℕ
 page_text name blocks standings =
-    page_head name standings ++ flat_map (block_view standings) blocks ++ codes "</main>\n</body>\n</html>\n"
+    page_head name standings ++ index blocks ++ legend ++ flat_map (block_view standings) blocks
+    ++ codes "</main>\n</body>\n</html>\n"
 
 -- the page shows the containers in the yard, by the texts of their slots
 pub record IsPicture (state : TerminalState) (name : List ℕ) (blocks : List Block) (page : List ℕ) : Type 0 where

@@ -1,6 +1,6 @@
--- The views of a yard: its blocks, their rows, and the containers in them. A cell is 64 wide and 30 high. A bay has its
--- middle at 32 times its number, so that a forty in an even bay lies over the two odd bays beside it.
-use Rattle.std.specs.Prelude.{ℕ, Bool, List, [], ◌∷◌, ◌+◌, ◌*◌, ◌%◌, ◌++◌, ◌==◌, ◌&&◌, length, filter, take, drop, if◌then◌else◌, codes, decimal}
+-- The views of a yard: an index of its blocks, the blocks, their rows, and the containers in them. A cell is 64 wide and 40
+-- high. A bay has its middle at 32 times its number, so that a forty in an even bay lies over the two odd bays beside it.
+use Rattle.std.specs.Prelude.{ℕ, Bool, List, [], ◌∷◌, ◌+◌, ◌*◌, ◌%◌, ◌++◌, ◌==◌, ◌&&◌, nat_lt, length, filter, take, drop, if◌then◌else◌, codes, decimal}
 use Rattle.std.specs.List.{flat_map, range_with_len}
 use Rattle.box6346.specs.SlotName.{slot_text}
 use Rattle.yard_core.specs.declared.block.Block.{Block}
@@ -26,13 +26,22 @@ title_text standing =
     field_text standing.container ++ codes " " ++ field_text standing.size_type ++ codes " "
     ++ load_name standing.is_laden ++ codes " " ++ field_text (slot_text standing.slot)
 
--- its shape, with the middle of its bay along and the top of its tier up, and on it its number in two lines
-unfoldable pub container_view : Standing → List ℕ
-container_view standing = joined
+-- its shape, with the middle of its bay along and the top of its tier up
+unfoldable pub shape_view : Standing → List ℕ
+shape_view standing = joined
     (codes "<g transform='translate(" ∷ decimal (32 * standing.slot.bay) ∷ codes " -"
-    ∷ decimal (30 * standing.slot.tier) ∷ codes ")'><title>" ∷ title_text standing ∷ codes "</title><use href='#"
-    ∷ shape_name standing ∷ codes "'/><text y='14'>" ∷ field_text (take 4 standing.container)
-    ∷ codes "</text><text y='25'>" ∷ field_text (drop 4 standing.container) ∷ codes "</text></g>\n" ∷ [])
+    ∷ decimal (40 * standing.slot.tier) ∷ codes ")'><title>" ∷ title_text standing ∷ codes "</title><use href='#"
+    ∷ shape_name standing ∷ codes "'/>" ∷ [])
+
+-- what is read on it: its number in two lines, and its slot
+unfoldable pub lettering : Standing → List ℕ
+lettering standing = joined
+    (codes "<text y='13'>" ∷ field_text (take 4 standing.container) ∷ codes "</text><text y='24'>"
+    ∷ field_text (drop 4 standing.container) ∷ codes "</text><text y='36'>" ∷ field_text (slot_text standing.slot)
+    ∷ codes "</text></g>\n" ∷ [])
+
+abbrev pub container_view : Standing → List ℕ
+container_view standing = shape_view standing ++ lettering standing
 
 -- ---- a row
 
@@ -50,8 +59,8 @@ view_in_row block row standing = if is_in_row block row standing then container_
 unfoldable pub row_head : Block → ℕ → List ℕ
 row_head block row = joined
     (codes "<figure><figcaption>Row " ∷ decimal row ∷ codes "</figcaption><svg viewBox='-22 -"
-    ∷ decimal (30 * block.tiers) ∷ codes " " ∷ decimal (64 * block.bays + 28) ∷ codes " "
-    ∷ decimal (30 * block.tiers + 20) ∷ codes "' width='" ∷ decimal (64 * block.bays + 28) ∷ codes "'><use href='#"
+    ∷ decimal (40 * block.tiers) ∷ codes " " ∷ decimal (64 * block.bays + 28) ∷ codes " "
+    ∷ decimal (40 * block.tiers + 20) ∷ codes "' width='" ∷ decimal (64 * block.bays + 28) ∷ codes "'><use href='#"
     ∷ field_text (block.letter ∷ []) ∷ codes "'/>\n" ∷ [])
 
 -- the free cells, and the containers over them
@@ -73,7 +82,7 @@ bay_labels bays = flat_map (λ n. bay_label (2 * n + 1)) (range_with_len 0 bays)
 -- the number of a tier, at its left
 unfoldable pub tier_label : ℕ → List ℕ
 tier_label tier = joined
-    (codes "<text x='-11' y='-" ∷ decimal (30 * tier) ∷ codes "' dy='18'>" ∷ decimal tier ∷ codes "</text>" ∷ [])
+    (codes "<text x='-11' y='-" ∷ decimal (40 * tier) ∷ codes "' dy='25'>" ∷ decimal tier ∷ codes "</text>" ∷ [])
 
 -- those of its tiers 1, 2, ..
 unfoldable pub tier_labels : ℕ → List ℕ
@@ -83,7 +92,7 @@ tier_labels tiers = flat_map (λ n. tier_label (n + 1)) (range_with_len 0 tiers)
 unfoldable pub cells_view : Block → List ℕ
 cells_view block = joined
     (codes "<svg class='parts'><g id='" ∷ field_text (block.letter ∷ []) ∷ codes "'><path d='M0 0H"
-    ∷ decimal (64 * block.bays) ∷ codes "V-" ∷ decimal (30 * block.tiers)
+    ∷ decimal (64 * block.bays) ∷ codes "V-" ∷ decimal (40 * block.tiers)
     ∷ codes "H0Z' fill='url(#free)'/><path d='M-3 0H" ∷ decimal (64 * block.bays) ∷ codes "h3' stroke='#16263a'/>" ∷ [])
 
 -- the numbers of its bays and tiers
@@ -103,11 +112,22 @@ used_cells block standings =
 -- its letter, and how many of its cells are used
 unfoldable pub block_head : List Standing → Block → List ℕ
 block_head standings block = joined
-    (codes "<section><h2>Block " ∷ field_text (block.letter ∷ []) ∷ codes "<small>"
-    ∷ decimal (used_cells block standings) ∷ codes " of " ∷ decimal (block.bays * block.rows * block.tiers)
-    ∷ codes " cells used</small></h2>\n" ∷ [])
+    (codes "<section id='block-" ∷ field_text (block.letter ∷ []) ∷ codes "'><h2>Block "
+    ∷ field_text (block.letter ∷ []) ∷ codes "<small>" ∷ decimal (used_cells block standings) ∷ codes " of "
+    ∷ decimal (block.bays * block.rows * block.tiers) ∷ codes " cells used</small></h2>\n" ∷ [])
 
 abbrev pub block_view : List Standing → Block → List ℕ
 block_view standings block =
     block_head standings block ++ grid block ++ codes "<div>\n"
     ++ flat_map (λ n. row_view block standings (n + 1)) (range_with_len 0 block.rows) ++ codes "</div></section>\n"
+
+-- ---- the index
+
+unfoldable pub block_link : Block → List ℕ
+block_link block = joined
+    (codes "<a href='#block-" ∷ field_text (block.letter ∷ []) ∷ codes "'>Block " ∷ field_text (block.letter ∷ [])
+    ∷ codes "</a>\n" ∷ [])
+
+-- a link to each block, where there is more than one
+abbrev pub index : List Block → List ℕ
+index blocks = if nat_lt 1 (length blocks) then codes "<nav>\n" ++ flat_map block_link blocks ++ codes "</nav>\n" else []

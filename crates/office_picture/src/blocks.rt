@@ -1,6 +1,6 @@
 ghost use Rattle.std.specs.Prelude.{◌≡◌, ◌++◌, OnOk, string_bytes};
 ghost use Rattle.std.specs.List.{flat_map};
-ghost use Rattle.office_picture.specs.Views.{block_head, block_view};
+ghost use Rattle.office_picture.specs.Views.{block_head, block_link, block_view, index};
 
 use crate::counts::{cells_of, used_cells};
 use crate::grids::push_grid;
@@ -9,6 +9,47 @@ use crate::texts::{field_text, push_all};
 use office_reports::Standing;
 use std::alloc::{AllocError, Global};
 use yard_core::Block;
+
+/// Appends a link to each block, if there is more than one.
+pub(crate) fn push_index(
+    alloc: Global,
+    text: &mut String,
+    blocks: &[Block],
+) -> Result<(), AllocError>
+    ensures { OnOk result (string_bytes text.new ≡ string_bytes text.old ++ index blocks.now) }
+{
+    if 1 < blocks.len() {
+        text.push_str("<nav>\n")?;
+        push_links(alloc, text, blocks)?;
+        text.push_str("</nav>\n")?;
+    }
+    Ok(())
+}
+
+fn push_links(alloc: Global, text: &mut String, blocks: &[Block]) -> Result<(), AllocError>
+    ensures { OnOk result (string_bytes text.new ≡ string_bytes text.old ++ flat_map block_link blocks.now) }
+{
+    for block in blocks {
+        push_link(alloc, text, block)?;
+    }
+    Ok(())
+}
+
+fn push_link(alloc: Global, text: &mut String, block: &Block) -> Result<(), AllocError>
+    ensures { OnOk result (string_bytes text.new ≡ string_bytes text.old ++ block_link block.now) }
+{
+    let letter = field_text(alloc, &[block.letter])?;
+    push_all(
+        text,
+        &[
+            "<a href='#block-",
+            letter.as_str(),
+            "'>Block ",
+            letter.as_str(),
+            "</a>\n",
+        ],
+    )
+}
 
 /// Appends the blocks, each with its rows.
 pub(crate) fn push_blocks(
@@ -55,7 +96,9 @@ fn push_block_head(
     push_all(
         text,
         &[
-            "<section><h2>Block ",
+            "<section id='block-",
+            letter.as_str(),
+            "'><h2>Block ",
             letter.as_str(),
             "<small>",
             used.as_str(),

@@ -1,6 +1,6 @@
 ghost use Rattle.std.specs.Prelude.{◌≡◌, ◌++◌, ◌==◌, ◌&&◌, OnOk, string_bytes};
 ghost use Rattle.std.specs.List.{flat_map};
-ghost use Rattle.office_picture.specs.Views.{container_view, is_in_row, shape_name, view_in_row};
+ghost use Rattle.office_picture.specs.Views.{container_view, is_in_row, lettering, shape_name, shape_view, view_in_row};
 
 use crate::counts::{is_forty, is_in_block};
 use crate::places::{middle_of, top_of};
@@ -49,17 +49,20 @@ fn is_in_row(block: &Block, row: u8, standing: &Standing) -> bool
     is_in_block(block, standing) && standing.slot.row == row
 }
 
-/// Appends a container: its shape over its bays, and its number on it.
 fn push_container(alloc: Global, text: &mut String, standing: &Standing) -> Result<(), AllocError>
     ensures { OnOk result (string_bytes text.new ≡ string_bytes text.old ++ container_view standing.now) }
+{
+    push_shape(alloc, text, standing)?;
+    push_lettering(alloc, text, standing)
+}
+
+/// Appends a container's shape, over its bays.
+fn push_shape(alloc: Global, text: &mut String, standing: &Standing) -> Result<(), AllocError>
+    ensures { OnOk result (string_bytes text.new ≡ string_bytes text.old ++ shape_view standing.now) }
 {
     let middle = middle_of(standing.slot.bay).to_string(alloc)?;
     let top = top_of(standing.slot.tier).to_string(alloc)?;
     let title = Title(standing).to_string(alloc)?;
-    let number = standing.container.text();
-    let (owner, serial) = number.split_at(4);
-    let owner = field_text(alloc, owner)?;
-    let serial = field_text(alloc, serial)?;
     push_all(
         text,
         &[
@@ -71,10 +74,29 @@ fn push_container(alloc: Global, text: &mut String, standing: &Standing) -> Resu
             title.as_str(),
             "</title><use href='#",
             shape_name(standing),
-            "'/><text y='14'>",
+            "'/>",
+        ],
+    )
+}
+
+/// Appends what is read on a container: its number in two lines, and its slot.
+fn push_lettering(alloc: Global, text: &mut String, standing: &Standing) -> Result<(), AllocError>
+    ensures { OnOk result (string_bytes text.new ≡ string_bytes text.old ++ lettering standing.now) }
+{
+    let number = standing.container.text();
+    let (owner, serial) = number.split_at(4);
+    let owner = field_text(alloc, owner)?;
+    let serial = field_text(alloc, serial)?;
+    let slot = field_text(alloc, &standing.slot.text())?;
+    push_all(
+        text,
+        &[
+            "<text y='13'>",
             owner.as_str(),
-            "</text><text y='25'>",
+            "</text><text y='24'>",
             serial.as_str(),
+            "</text><text y='36'>",
+            slot.as_str(),
             "</text></g>\n",
         ],
     )

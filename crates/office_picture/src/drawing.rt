@@ -2,7 +2,7 @@ ghost use Rattle.std.specs.Prelude.{◌≡◌, ◌++◌, IfOk, OnOk, string_byte
 ghost use Rattle.std.specs.Map.{values_of};
 ghost use Rattle.office_picture.specs.Picture.{IsPicture, page_head, page_text};
 
-use crate::blocks::push_blocks;
+use crate::blocks::{push_blocks, push_index};
 use crate::counts::{empty_count, full_count};
 use crate::fixed::{head, legend, shapes};
 use crate::texts::{field_text, push_all};
@@ -13,8 +13,9 @@ use terminal_core::Terminal;
 use yard_core::Block;
 
 /// The picture of the yard as one page of HTML, which needs nothing from elsewhere and no script: the terminal's name,
-/// how many containers there are, and for each row of each block a side view, bays along and tiers up. Each container's
-/// title is its number, size-type, load and slot.
+/// how many containers there are, links to its blocks if there are several, and for each row of each block a side view,
+/// bays along and tiers up. On each container stand its number and its slot; its title is number, size-type, load and
+/// slot.
 pub fn picture(
     alloc: Global,
     name: &str,
@@ -55,8 +56,11 @@ fn push_page(
         (string_bytes text.new ≡ string_bytes text.old ++ page_text name.now blocks.now standings.now) }
 {
     push_page_head(alloc, text, name, standings)?;
+    push_index(alloc, text, blocks)?;
+    text.push_str(legend())?;
     push_blocks(alloc, text, blocks, standings)?;
-    text.push_str("</main>\n</body>\n</html>\n")
+    text.push_str("</main>\n</body>\n</html>\n")?;
+    Ok(())
 }
 
 fn push_page_head(
@@ -88,7 +92,6 @@ fn push_page_head(
             "</b> full, <b>",
             empty.as_str(),
             "</b> empty</p>\n",
-            legend(),
         ],
     )
 }

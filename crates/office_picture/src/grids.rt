@@ -95,7 +95,7 @@ fn push_tier_label(alloc: Global, text: &mut String, tier: u8) -> Result<(), All
         &[
             "<text x='-11' y='-",
             top.as_str(),
-            "' dy='18'>",
+            "' dy='25'>",
             tier.as_str(),
             "</text>",
         ],

@@ -1,4 +1,4 @@
-//! Where the parts of a view stand.
+//! Where the parts of a view stand: a cell is 64 wide and 40 high.
 
 ghost use Rattle.std.specs.Prelude.{◌≡◌, ◌+◌, ◌*◌};
 
@@ -11,9 +11,9 @@ pub(crate) fn middle_of(bay: u16) -> u32
 
 /// How high a tier has its top.
 pub(crate) fn top_of(tier: u8) -> u32
-    ensures { result ≡ 30 * tier }
+    ensures { result ≡ 40 * tier }
 {
-    30 * u32::from(tier)
+    40 * u32::from(tier)
 }
 
 /// How long as many odd bays are.
@@ -32,9 +32,9 @@ pub(crate) fn width_of(bays: u8) -> u32
 
 /// How high the view of as many tiers is.
 pub(crate) fn height_of(tiers: u8) -> u32
-    ensures { result ≡ 30 * tiers + 20 }
+    ensures { result ≡ 40 * tiers + 20 }
 {
-    30 * u32::from(tiers) + 20
+    40 * u32::from(tiers) + 20
 }
 
 /// An odd bay, counted from 0.

@@ -1,7 +1,8 @@
--- The keys under which accounts are added.
+-- The keys under which accounts are added, and interchanges of one partner delivered.
 use Rattle.std.specs.Prelude.{ℕ, List, Option, option_map, unwrap_or}
+use Rattle.std.specs.Option.{option_and_then}
 use Rattle.office_queries.specs.Escapes.{decoded_part}
-use Rattle.office_queries.specs.Keys.{parts, two}
+use Rattle.office_queries.specs.Keys.{name_in, parts, two}
 use Rattle.office_queries.specs.declared.account_key.AccountKey.{AccountKey}
 
 -- The bytes that a part stands for. One that can't be decoded stands for itself: its `%` is in no code and in no kind.
@@ -15,3 +16,7 @@ account_in key = option_map (λ p. (named_by p.0, named_by p.1)) (two (parts key
 -- what a key names, as bytes
 abbrev pub account_named : AccountKey → List ℕ × List ℕ
 account_named key = (key.code.items, key.kind.items)
+
+-- CODE/interchanges: the partner whose interchanges are delivered
+abbrev pub sender_in : List ℕ → Option (List ℕ)
+sender_in key = option_and_then (λ p. name_in p.0) (two (parts key))

@@ -19,10 +19,11 @@ use Rattle.office_queries.specs.declared.report_kind.ReportKind.TheVariants as k
 
 -- what is asked for, with its texts as bytes
 pub data Asked : Type 0 where
-  yard yard_table partners blocks picture : Asked
+  yard yard_table partners blocks picture health metrics : Asked
   visits container : BoxNumber → Asked
   list work : List ℕ → List ℕ → Side → Asked
   ticket reply contrl : List ℕ → ℕ → Asked
+  one_partner next_number : List ℕ → Asked
 
 abbrev pub query_asked : Query → Asked
 query_asked query.Yard = yard
@@ -37,6 +38,10 @@ query_asked query.Partners = partners
 query_asked query.Blocks = blocks
 query_asked (query.Contrl partner number) = contrl (string_bytes partner) number
 query_asked query.Picture = picture
+query_asked (query.Partner code) = one_partner (string_bytes code)
+query_asked (query.Next code) = next_number (string_bytes code)
+query_asked query.Health = health
+query_asked query.Metrics = metrics
 
 -- the list that a call and a side name
 abbrev pub list_named : Call × Side → List ℕ × List ℕ × Side
@@ -118,6 +123,10 @@ list_in p =
 abbrev pub list_of : List ℕ → Option (List ℕ × List ℕ × Side)
 list_of key = option_and_then list_in (three (parts key))
 
+-- PARTNER
+abbrev pub partner_of : List ℕ → Option (List ℕ)
+partner_of key = option_and_then name_in (one (parts key))
+
 -- PARTNER/NUMBER
 abbrev pub interchange_in : List ℕ × List ℕ → Option (List ℕ × ℕ)
 interchange_in p = option_and_then (λ partner. option_map (λ number. (partner, number)) (number_in p.1)) (name_in p.0)
@@ -139,3 +148,6 @@ query_of kind.Partners key = if_empty key partners
 query_of kind.Blocks key = if_empty key blocks
 query_of kind.Contrl key = option_map (λ of. contrl of.0 of.1) (interchange_of key)
 query_of kind.Picture key = if_empty key picture
+query_of kind.Partner key = option_map one_partner (partner_of key)
+query_of kind.Health key = if_empty key health
+query_of kind.Metrics key = if_empty key metrics

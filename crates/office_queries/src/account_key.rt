@@ -1,8 +1,9 @@
-ghost use Rattle.std.specs.Prelude.{◌≡◌, IfOk, option_map};
-ghost use Rattle.office_queries.specs.AccountKeys.{account_in, account_named, named_by};
+ghost use Rattle.std.specs.Prelude.{◌≡◌, IfOk, option_map, string_bytes};
+ghost use Rattle.office_queries.specs.AccountKeys.{account_in, account_named, named_by, sender_in};
 
 use crate::escapes::decode;
 use crate::parts::two_parts;
+use crate::values::read_name;
 use std::alloc::{AllocError, Global};
 
 /// The account that is to be added, by the bytes of its code and of its kind.
@@ -25,6 +26,17 @@ pub fn read_account_key(alloc: Global, key: &str) -> Result<Option<AccountKey>, 
     let code = read_bytes(alloc, code)?;
     let kind = read_bytes(alloc, kind)?;
     Ok(Some(AccountKey { code, kind }))
+}
+
+/// Reads the key under which the interchanges of one partner are delivered, CODE/interchanges: the code, where `%` and
+/// two hexadecimal digits stand for a byte. None: it has more parts or fewer, or the first names no partner.
+pub fn read_sender_key(alloc: Global, key: &str) -> Result<Option<String>, AllocError>
+    ensures { IfOk result (λ code. option_map string_bytes code ≡ sender_in key.now) }
+{
+    match two_parts(key) {
+        Some((code, _)) => read_name(alloc, code),
+        None => Ok(None),
+    }
 }
 
 /// The bytes that a part stands for.

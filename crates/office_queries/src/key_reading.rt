@@ -1,5 +1,5 @@
 ghost use Rattle.std.specs.Prelude.{◌≡◌, IfOk, option_map, string_bytes};
-ghost use Rattle.office_queries.specs.Keys.{query_asked, container_of, if_empty, interchange_of, list_named, list_of, query_of};
+ghost use Rattle.office_queries.specs.Keys.{query_asked, container_of, if_empty, interchange_of, list_named, list_of, partner_of, query_of};
 
 use crate::parts::{one_part, three_parts, two_parts};
 use crate::query::Query;
@@ -10,10 +10,10 @@ use edi_messages::Call;
 use std::alloc::{AllocError, Global};
 use terminal_core::Side;
 
-/// What a key asks for: the empty key for the yard, its table, its picture, its blocks and the partners, `BOX` for a
-/// container and for its visits, `VESSEL/VOYAGE/SIDE` for a list and for what is left of it, and `PARTNER/NUMBER` for a ticket, for a reply
-/// and for a CONTRL. In each part `%` and two hexadecimal digits stand for a byte. None: the key can't be read, or
-/// nothing can be found under it.
+/// What a key asks for: the empty key for the yard, its table, its picture, its blocks, the partners, health and
+/// metrics, `BOX` for a container and for its visits, `VESSEL/VOYAGE/SIDE` for a list and for what is left of it,
+/// `PARTNER/NUMBER` for a ticket, for a reply and for a CONTRL, and `PARTNER` for a partner. In each part `%` and two
+/// hexadecimal digits stand for a byte. None: the key can't be read, or nothing can be found under it.
 pub fn read_query(alloc: Global, kind: ReportKind, key: &str) -> Result<Option<Query>, AllocError>
     ensures { IfOk result (λ query. option_map query_asked query ≡ query_of kind key.now) }
 {
@@ -23,6 +23,8 @@ pub fn read_query(alloc: Global, kind: ReportKind, key: &str) -> Result<Option<Q
         ReportKind::Partners => Ok(if_empty(key, Query::Partners)),
         ReportKind::Blocks => Ok(if_empty(key, Query::Blocks)),
         ReportKind::Picture => Ok(if_empty(key, Query::Picture)),
+        ReportKind::Health => Ok(if_empty(key, Query::Health)),
+        ReportKind::Metrics => Ok(if_empty(key, Query::Metrics)),
         ReportKind::Visits => Ok(read_container(alloc, key)?.map(|number| Query::Visits(number))),
         ReportKind::Container => {
             Ok(read_container(alloc, key)?.map(|number| Query::Container(number)))
@@ -43,6 +45,10 @@ pub fn read_query(alloc: Global, kind: ReportKind, key: &str) -> Result<Option<Q
         },
         ReportKind::Contrl => match read_interchange(alloc, key)? {
             Some((partner, number)) => Ok(Some(Query::Contrl { partner, number })),
+            None => Ok(None),
+        },
+        ReportKind::Partner => match read_partner(alloc, key)? {
+            Some(partner) => Ok(Some(Query::Partner(partner))),
             None => Ok(None),
         },
     }
@@ -79,6 +85,16 @@ fn read_list(alloc: Global, key: &str) -> Result<Option<(Call, Side)>, AllocErro
     };
     match read_side(alloc, side)? {
         Some(side) => Ok(Some((Call { vessel, voyage }, side))),
+        None => Ok(None),
+    }
+}
+
+/// The partner that a key names.
+fn read_partner(alloc: Global, key: &str) -> Result<Option<String>, AllocError>
+    ensures { IfOk result (λ partner. option_map string_bytes partner ≡ partner_of key.now) }
+{
+    match one_part(key) {
+        Some(part) => read_name(alloc, part),
         None => Ok(None),
     }
 }

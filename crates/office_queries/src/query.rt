@@ -54,4 +54,12 @@ pub enum Query {
     },
     /// The yard as a page.
     Picture,
+    /// The partner of that code: which number is expected, and what waits for it.
+    Partner(String),
+    /// The number that the next interchange of the partner of that code has, in digits.
+    Next(String),
+    /// Whether the store can be read.
+    Health,
+    /// How much there is of what, as gauges.
+    Metrics,
 }

@@ -25,4 +25,10 @@ pub enum ReportKind {
     Contrl,
     /// The yard as a page.
     Picture,
+    /// A partner: which number is expected, and what waits for it.
+    Partner,
+    /// Whether the office can be asked.
+    Health,
+    /// How much there is of what, as gauges.
+    Metrics,
 }

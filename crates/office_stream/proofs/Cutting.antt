@@ -26,7 +26,7 @@ stripped_twice (x ∷ xs) b = elim (cases_Bool (is_break x)) [
 ]
 
 -- behind a byte that is none of them all bytes stay
-stripped_some : (a b : List ℕ) → (without_breaks a ≡ [] → ⊥) → without_breaks (a ++ b) ≡ without_breaks a ++ b
+pub stripped_some : (a b : List ℕ) → (without_breaks a ≡ [] → ⊥) → without_breaks (a ++ b) ≡ without_breaks a ++ b
 stripped_some [] b some = absurd (some refl)
 stripped_some (x ∷ xs) b some = elim (cases_Bool (is_break x)) [
   | inl e ↦ break_front x (xs ++ b) e ∙ stripped_some xs b (λ none. some (break_front x xs e ∙ none)) ∙ ap (λ y. y ++ b) (sym (break_front x xs e))

@@ -4,3 +4,6 @@ pub mod Cutting
 pub mod PieceLemmas
 pub mod StreamLemmas
 pub mod OneCut
+pub mod PlaceLemmas
+pub mod WriteLemmas
+pub mod PartLemmas

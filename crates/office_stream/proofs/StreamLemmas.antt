@@ -40,7 +40,7 @@ pub record AtEnd {D : Type 0} (Call : D → List ℕ → Response → D → Type
   pub ended : ReadsTo end left'
   pub piece : PieceAnswered Call old (EndsAs end) bytes new Fine worst written written'
 
-same_bytes : (a b c : Option (List ℕ)) (bytes : List ℕ) → Consumes a b bytes → Consumes b c [] → Consumes a c bytes
+pub same_bytes : (a b c : Option (List ℕ)) (bytes : List ℕ) → Consumes a b bytes → Consumes b c [] → Consumes a c bytes
 same_bytes a b c bytes reads more = subst (Consumes a c) (append-nil bytes) (Consumes-trans a b c bytes [] reads more)
 
 lines_both : (responses others : List Response) (part : List ℕ) → response_lines responses ++ (response_lines others ++ part) ≡ response_lines (responses ++ others) ++ part

@@ -1,4 +1,4 @@
-ghost use Rattle.std.specs.Prelude.{◌≡◌, ◌++◌, None, true, IfOk, IfErr, OnOk, OnErr};
+ghost use Rattle.std.specs.Prelude.{◌≡◌, ◌++◌, ℕ, List, None, true, IfOk, IfErr, OnOk, OnErr};
 ghost use Rattle.std.specs.Io.KnownBytes.{Appends};
 ghost use Rattle.edi_cutter.specs.Cuts.{pending};
 ghost use Rattle.office_replies.specs.Calls.{IsDelivered};
@@ -7,9 +7,11 @@ ghost use Rattle.office_replies.specs.Responses.{body_of};
 ghost use Rattle.office_stream.specs.Fronts.{AppendsFront};
 ghost use Rattle.office_stream.specs.Lines.{line};
 ghost use Rattle.office_stream.specs.Pieces.{AnsweredOne, DeliveredOne, EndsPiece, PieceAnswered};
+ghost use Rattle.office_stream.specs.Places.{Follows, PassesPiece};
 ghost use Rattle.office_stream.specs.Streams.{LineCutShort};
 
 use crate::line::write_response;
+use crate::place::Place;
 use crate::port::Port;
 use crate::stream_fault::StreamFault;
 use edi_cutter::{CutFault, Cutter};
@@ -60,7 +62,7 @@ fn answer_one<W: Write, D: Deliver>(
 }
 
 /// Answers each interchange that a piece completes. Answers the worst of all answers so far, and the fault by which the
-/// stream can't be cut further, if there is one.
+/// stream can't be cut further, if there is one. `place` follows the stream.
 pub(crate) fn answer_piece<W: Write, D: Deliver>(
     alloc: Global,
     cutter: &mut Cutter,
@@ -68,12 +70,15 @@ pub(crate) fn answer_piece<W: Write, D: Deliver>(
     writer: &mut Port<W>,
     desk: &mut D,
     before: Worst,
+    place: &mut Place,
 ) -> Result<(Worst, Option<CutFault>), StreamFault>
     requires { cutter.old.fault ≡ None }
     ensures ok { IfOk result
         (λ done. PieceAnswered (IsDelivered D.is_sound D.stands D.answers D.leads) desk.old
         (EndsPiece done.1 (pending cutter.new)) (pending cutter.old ++ piece.now) desk.new before done.0
         (W.contents writer.old.inner) (W.contents writer.new.inner)) }
+    ensures placed { IfOk result (λ done. (bytes : List ℕ) → Follows place.old bytes (pending cutter.old) →
+        PassesPiece done.1 place.new (bytes ++ piece.now) (pending cutter.new)) }
     ensures running { IfOk result (λ done. done.1 ≡ None → cutter.new.fault ≡ None) }
     ensures kept { OnOk result (writer.new.failed ≡ writer.old.failed) }
     ensures flushed { OnOk result (writer.old.flushed ≡ true → writer.new.flushed ≡ true) }
@@ -88,12 +93,17 @@ pub(crate) fn answer_piece<W: Write, D: Deliver>(
     let mut worst = before;
     let mut rest = piece;
     'pieces: loop {
+        place.meet(rest, cutter.at_rest());
         match cutter.feed(rest) {
             Ok(Some(used)) => {
+                place.complete(used);
                 worst = worst.or(answer_one(alloc, cutter.interchange(), writer, desk)?);
                 rest = &rest[used..];
             }
-            Ok(None) => return Ok((worst, None)),
+            Ok(None) => {
+                place.pass(rest.len());
+                return Ok((worst, None));
+            }
             Err(fault) => return Ok((worst, Some(fault))),
         }
     }

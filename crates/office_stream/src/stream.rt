@@ -6,9 +6,11 @@ ghost use Rattle.office_stream.specs.Fronts.{AppendsFront};
 ghost use Rattle.office_stream.specs.Lines.{end_text, end_worst};
 ghost use Rattle.office_stream.specs.Streams.{AreDelivered, Streams, port_bytes};
 ghost use Rattle.office_stream.specs.Faults.{MatchFault};
+ghost use Rattle.office_stream.specs.Places.{CutsAt, cut_by};
 
 use crate::answer::answer_piece;
 use crate::line::{end_worst, write_end};
+use crate::place::{Cut, Place};
 use crate::port::Port;
 use crate::stream_end::StreamEnd;
 use crate::stream_fault::StreamFault;
@@ -19,14 +21,15 @@ use std::io::{self, Read, Write};
 
 /// Delivers each interchange of what a reader gives, in order, and writes the body of its answer and LF, and flushes
 /// them, as soon as it is answered. If the stream ends within an interchange, or can't be cut further, a last line
-/// says so. Answers the worst of the answers: a cut counts as a refusal, and a cut for want of memory as NotNow. After
-/// so many reads without the end it answers Turns.
+/// says so, and `cut` where that is. Answers the worst of the answers: a cut counts as a refusal, and a cut for want of
+/// memory as NotNow. After so many reads without the end it answers Turns.
 pub fn run_stream<R: Read, W: Write, D: Deliver>(
     alloc: Global,
     reader: &mut Port<R>,
     writer: &mut Port<W>,
     desk: &mut D,
     turns: u64,
+    cut: &mut Option<Cut>,
 ) -> Result<Worst, StreamFault>
     // What was read is cut into interchanges, each was delivered and is answered by its line, in order. After a failed
     // read, or too many reads, all interchanges of what was read are answered by their lines. After a failed write the
@@ -34,6 +37,9 @@ pub fn run_stream<R: Read, W: Write, D: Deliver>(
     ensures streams { Streams (AreDelivered D.is_sound D.stands D.answers D.leads desk.old desk.new)
         (port_bytes (R.remaining reader.old.inner) (R.remaining reader.new.inner)
         (W.contents writer.old.inner) (W.contents writer.new.inner)) result }
+
+    // Where it is cut, if it is.
+    ensures cut { OnOk result (CutsAt (R.remaining reader.old.inner) (R.remaining reader.new.inner) cut.new) }
 
     // Nothing is said of the answers of a desk whose records have not told the truth.
     ensures stays { D.is_sound desk.new → D.is_sound desk.old }
@@ -63,6 +69,7 @@ pub fn run_stream<R: Read, W: Write, D: Deliver>(
     let mut cutter = Cutter::new(alloc);
     let mut buffer = [0; 4096];
     let mut worst = Worst::Fine;
+    let mut place = Place::START;
     'reads: for _ in 0..turns {
         let count = match reader.read(&mut buffer) {
             Ok(count) => count,
@@ -74,24 +81,35 @@ pub fn run_stream<R: Read, W: Write, D: Deliver>(
             } else {
                 StreamEnd::Open
             };
-            return finish(writer, end, worst);
+            return finish(writer, end, place, worst, cut);
         }
         let piece = &buffer[..count];
-        let (worst_now, cut) = answer_piece(alloc, &mut cutter, piece, writer, desk, worst)?;
+        let (worst_now, fault) = answer_piece(
+            alloc,
+            &mut cutter,
+            piece,
+            writer,
+            desk,
+            worst,
+            &mut place,
+        )?;
         worst = worst_now;
-        if let Some(fault) = cut {
-            return finish(writer, StreamEnd::Cut(fault), worst);
+        if let Some(fault) = fault {
+            return finish(writer, StreamEnd::Cut(fault), place, worst, cut);
         }
     }
     Err(StreamFault::Turns)
 }
 
-/// Sends what stands behind the last answer.
+/// Sends what stands behind the last answer, and tells where the stream is cut, if it is.
 fn finish<W: Write>(
     writer: &mut Port<W>,
     end: StreamEnd,
+    place: Place,
     worst: Worst,
+    cut: &mut Option<Cut>,
 ) -> Result<Worst, StreamFault>
+    ensures cut { cut.new ≡ cut_by place end }
     ensures ok { IfOk result (λ all. all ≡ worse_of worst (end_worst end)) }
     ensures writes { OnOk result
         (Appends (W.contents writer.old.inner) (W.contents writer.new.inner) (end_text end)) }
@@ -101,6 +119,7 @@ fn finish<W: Write>(
         (λ fault. (fault ≡ StreamFault.Write) × (writer.new.failed ≡ true)
         × AppendsFront (W.contents writer.old.inner) (W.contents writer.new.inner) (end_text end)) }
 {
+    *cut = place.cut_by(end);
     match send_end(writer, end) {
         Ok(()) => Ok(worst.or(end_worst(end))),
         Err(_) => Err(StreamFault::Write),

@@ -30,6 +30,7 @@ use Rattle.office_admission.specs.declared.admitted.Admitted.{Admitted}
 use Rattle.edi_syntax.specs.Envelopes.{envelope_segments}
 use Rattle.terminal_core.specs.Rows.{ChangeContent}
 use Rattle.terminal_core.specs.Versions.{newest}
+use Rattle.office_taking.specs.Tallies.{interchange_reports, reports_at, reports_of}
 use Rattle.office_taking.specs.Taking.{MachineState, machine_of, rejected_by, verdict_on, messages_taken, verdict_changes, messages_changes, verdicts_of, with_messages, nothing_taken, reply_to, codes_for, source_in, taken_at, taken_of, changes_at_by, changes_of_by, interchange_taken, interchange_changes}
 
 -- ---- a machine and its set-up
@@ -122,6 +123,21 @@ changes_are setup terminal text admitted codes opened is same_kind same_table pr
     ∙ ap (λ (others : List Content). changes_at_by newest machine partner admitted.kind others (preparation (header_of others))) (sym is.segments)
     ∙ ap (changes_at_by newest machine partner admitted.kind segments) prepared
     ∙ ap (λ others. messages_changes terminal others (source_in partner (header_of segments)) opened (messages_of segments)) same_codes
+
+pub reports_are : (setup : Setup) (terminal : TerminalState) (text : List ℕ) (admitted : Admitted) (codes : Codes) (opened : CivilMoment) → IsAdmitted setup text admitted →
+    codes.kind ≡ admitted.kind → codes.table ≡ setup.codes → preparation (header_of (envelope_segments admitted.envelope)) ≡ Some opened →
+    interchange_reports (machine_of setup terminal) admitted.partner text
+    ≡ (messages_taken terminal codes (source_in admitted.partner (header_of (envelope_segments admitted.envelope))) opened (messages_of (envelope_segments admitted.envelope))).1
+reports_are setup terminal text admitted codes opened is same_kind same_table prepared =
+    let machine = machine_of setup terminal in
+    let partner = admitted.partner in
+    let segments = envelope_segments admitted.envelope in
+    let same_codes : codes_for machine admitted.kind ≡ codes = sym (ap (λ k. record { kind = k; table = codes.table }) same_kind ∙ ap (λ t. record { kind = admitted.kind; table = t }) same_table) in
+    ap (λ b. cond b (reports_of machine partner (segments_in text) (with_number machine.kinds partner)) []) (for_itself setup text admitted is)
+    ∙ ap (reports_of machine partner (segments_in text)) is.kind
+    ∙ ap (λ (others : List Content). reports_at machine partner admitted.kind others (preparation (header_of others))) (sym is.segments)
+    ∙ ap (reports_at machine partner admitted.kind segments) prepared
+    ∙ ap (λ others. (messages_taken terminal others (source_in partner (header_of segments)) opened (messages_of segments)).1) same_codes
 
 -- The machine as it is left, and the reply.
 pub left_by : (setup : Setup) (old new : TerminalState) (segments : List Content) (taken : TerminalState × List ReportContent) (reply : List ℕ) →

@@ -1,5 +1,5 @@
 //! What taking an interchange does: its messages are read, their orders are carried out at the terminal, each change of
-//! the terminal's rows is told, and a reply says what became of each line.
+//! the terminal's rows is told, a reply says what became of each line, and a tally counts it.
 #![tactic(auto)]
 
 pub mod laws;
@@ -8,6 +8,8 @@ mod machine;
 mod message;
 mod replacing;
 mod taking;
+mod tally;
 
 pub use machine::TerminalMachine;
 pub use taking::take;
+pub use tally::{RefusedLines, RejectedMessages, Tally};

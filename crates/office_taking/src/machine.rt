@@ -3,6 +3,7 @@ ghost use Rattle.office_setup.specs.Limits.{most_partners};
 ghost use Rattle.office_taking.specs.Taking.{machine_of};
 
 use crate::taking::take;
+use crate::tally::Tally;
 use office_admission::admit_for;
 use office_replies::reply;
 use office_setup::Setup;
@@ -58,7 +59,15 @@ impl Machine for TerminalMachine {
         };
         let mut terminal = self.terminal.copy(alloc)?;
         let mut changes = Vec::new(alloc);
-        let reply = take(alloc, &self.setup, &mut terminal, &admitted, &mut changes)?;
+        let mut tally = Tally::NOTHING;
+        let reply = take(
+            alloc,
+            &self.setup,
+            &mut terminal,
+            &admitted,
+            &mut changes,
+            &mut tally,
+        )?;
         self.terminal = terminal;
         Ok(reply)
     }

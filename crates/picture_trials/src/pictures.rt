@@ -82,11 +82,15 @@ fn containers_are_drawn_over_their_bays(rt: HostRuntime) -> Result<(), Fail> {
     );
     assert!(&rt; has(page, "<h2>Block A<small>3 of 24 cells used</small></h2>"));
     let twenty =
-        "<g transform='translate(32 -30)'><title>ABCU0000017 22G1 FULL A001011</title><use href='#full20'/>";
+        "<g transform='translate(32 -40)'><title>ABCU0000017 22G1 FULL A001011</title><use href='#full20'/>";
     let forty =
-        "<g transform='translate(128 -30)'><title>ABCU0000022 42G1 EMPTY A004021</title><use href='#empty40'/>";
+        "<g transform='translate(128 -40)'><title>ABCU0000022 42G1 EMPTY A004021</title><use href='#empty40'/>";
+    let lettering =
+        "<text y='13'>ABCU</text><text y='24'>0000022</text><text y='36'>A004021</text></g>";
     assert!(&rt; has(page, twenty));
     assert!(&rt; has(page, forty));
+    assert!(&rt; has(page, lettering));
+    assert!(&rt; !has(page, "<nav>"));
     Ok(())
 }
 
@@ -103,7 +107,10 @@ fn no_field_brings_markup(rt: HostRuntime) -> Result<(), Fail> {
             "<h1>Yard of &lt;script&gt;&quot;&amp;&apos;&#195;&#169;</h1>"
         )
     );
-    assert!(&rt; has(page, "<h2>Block &lt;<small>"));
+    let index =
+        "<nav>\n<a href='#block-A'>Block A</a>\n<a href='#block-&lt;'>Block &lt;</a>\n</nav>\n";
+    assert!(&rt; has(page, index));
+    assert!(&rt; has(page, "<section id='block-&lt;'><h2>Block &lt;<small>"));
     assert!(&rt; !has(page, "<script"));
     Ok(())
 }

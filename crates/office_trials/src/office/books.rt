@@ -24,7 +24,15 @@ fn assert_worst(
     };
     let mut desk = Logbook::new(Port::new(book));
     let mut output = Port::new(Vec::new(alloc));
-    let worst = run_stream(alloc, &mut Port::new(STREAM), &mut output, &mut desk, 10);
+    let mut cut = None;
+    let worst = run_stream(
+        alloc,
+        &mut Port::new(STREAM),
+        &mut output,
+        &mut desk,
+        10,
+        &mut cut,
+    );
     assert!(rt; worst == Ok(expected));
     Ok(())
 }

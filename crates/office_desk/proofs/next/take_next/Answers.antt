@@ -133,3 +133,7 @@ overflow_add-index g c =
     let is_last : last ≡ slice_index_or items (many - 1) last = c.index-2.ensures ∙ ap (λ k. slice_index_or items (k - 1) last) (c.len.ensures ∙ sym c.deref.ensures.len ∙ ap length c.deref.ensures.value) in
     let below : (slice_index_or items (many - 1) last).number < 1000000000 = c.in_ok-taken.ensures.numbers (many - 1) last (omega (arith, c.in_ok-taken.ensures.first)) in
     omega (arith, ap (λ (t : Taken). t.number) is_last, below)
+
+-- what was written is committed over an open connection
+pub returns-clause-is_open : goal.returns-clause-is_open
+returns-clause-is_open g c clean = (c.in_ok-write_run.ensures.writes.ok clean).is_open

@@ -192,3 +192,8 @@ returns-in_err-answer_used-in-Some-clause-takes g c =
           (office_with content office.rows office.terminal old.committed mid.committed a.beside.now (Some found.there) same.committed
           ((c.in_ok-kept.ensures.found clean).beside.office content office.rows office.terminal held) holds);
     }
+
+-- ---- over an open connection
+
+pub returns-in_ok-answer_used-in-Some-clause-is_open : goal.returns-in_ok-answer_used-in-Some-clause-is_open
+returns-in_ok-answer_used-in-Some-clause-is_open g c clean = (c.in_ok-kept.ensures.reads.unchanged clean).0.is_open

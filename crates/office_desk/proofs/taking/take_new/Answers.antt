@@ -4,7 +4,8 @@ use Rattle.sqlite.specs.Held.{state}
 use Rattle.partner_core.specs.Answers.{Waiting}
 use Rattle.office_replies.specs.Events.{delivered}
 use Rattle.office_rows.specs.Stored.{HasRows}
-use Rattle.office_rows.proofs.StepLemmas.{if_ok}
+use Rattle.office_delivery.specs.Writing.{Commits}
+use Rattle.office_rows.proofs.StepLemmas.{if_ok, on_ok}
 use Rattle.office_setup.specs.Setups.{setup_content}
 use Rattle.office_tables.specs.Faults.{IsOfStore}
 use Rattle.office_tables.proofs.FaultLemmas.{of_store_alone, of_store_or}
@@ -144,3 +145,9 @@ returns-in_err-answer-clause-takes g c new =
           (λ fault is. of_store_or _ fault (subst IsOfStore (sym is) stored))
           (office_with content old.rows old.terminal was.committed end.committed (Some a.there) a.beside.now ((runs clean).err is_open) (subst (IsOrNone old.rows old.terminal) (sym c.requires.out) tt) holds);
     }
+
+-- ---- over an open connection
+
+pub returns-then-next-delivery-clause-is_open : goal.returns-then-next-delivery-clause-is_open
+returns-then-next-delivery-clause-is_open g c clean =
+    on_ok c.take_early.result (λ (done : Commits _ (state g.S.Store c.args.conn.now) (state g.S.Store c.take_early.new.conn)). done.is_open) (c.take_early.ensures.writes.ok clean)

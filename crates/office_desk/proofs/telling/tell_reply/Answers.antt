@@ -1,7 +1,9 @@
-use Rattle.std.proofs.Common.{◌≡◌, None, Some, sym, subst}
+use Rattle.std.proofs.Common.{◌≡◌, inl, inr, None, Some, sym, subst}
+use Rattle.std.proofs.lemmas.Result.{err_from_is_err_and}
 use Rattle.sqlite.specs.Held.{state}
 use Rattle.office_rows.specs.Stored.{HasRows}
 use Rattle.office_tables.specs.Answers.{IsKept}
+use Rattle.office_tables.proofs.FaultLemmas.{of_store_weaker}
 use Rattle.office_tables.proofs.ReadingLemmas.{clean_first, reads_on, reads_stopped, ◌then◌}
 use Rattle.office_desk.proofs.ReportLemmas.{told_kept, told_nothing}
 use Rattle.office_desk.proofs.telling.tell_reply.Goals as goal
@@ -31,3 +33,18 @@ returns-in_err-tell_kept-in-Some-clause-reads g c = reads_on _ (c.in_ok-kept.ens
 
 pub returns-in_err-next-in-Some-clause-reads : goal.returns-in_err-next-in-Some-clause-reads
 returns-in_err-next-in-Some-clause-reads g c = c.in_ok-kept.ensures.reads then reads_stopped _ c.from_residual-in_err-next-in-Some.ensures.0 c.next_of.ensures.reads
+
+-- ---- why it can't be told
+
+pub returns-in_err-kept-clause-fault : goal.returns-in_err-kept-clause-fault
+returns-in_err-kept-clause-fault g c clean =
+    let p = err_from_is_err_and c.from_residual.result c.from_residual.ensures.1 in
+    rw (p.1, p.2) (λ rows has. of_store_weaker _ _ inl _ (c.in_err-kept.ensures.fault clean rows has))
+
+pub returns-in_err-next-in-Some-clause-fault : goal.returns-in_err-next-in-Some-clause-fault
+returns-in_err-next-in-Some-clause-fault g c clean =
+    let p = err_from_is_err_and c.from_residual-in_err-next-in-Some.result c.from_residual-in_err-next-in-Some.ensures.1 in
+    let before = clean_first c.next_of.ensures.reads clean in
+    rw (p.1, p.2) (λ rows has.
+        of_store_weaker _ _ inr _
+        (c.in_err-next-in-Some.ensures.fault clean rows (subst (HasRows rows) (sym (c.in_ok-kept.ensures.reads.unchanged before).0.now_is) has)))

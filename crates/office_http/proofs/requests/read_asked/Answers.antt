@@ -5,7 +5,7 @@ use Rattle.office_http.specs.Deciding.{body_size, wanted_at, wanted_behind}
 use Rattle.office_http.specs.Fields.{body_length}
 use Rattle.office_http.specs.Routes.{endpoint_of, path_of}
 use Rattle.office_http.specs.declared.endpoint.Endpoint.{Endpoint}
-use Rattle.office_http.specs.declared.endpoint.Endpoint.TheVariants.{Interchanges, Accounts}
+use Rattle.office_http.specs.declared.endpoint.Endpoint.TheVariants.{Interchanges, PartnerInterchanges, Accounts}
 use Rattle.office_http.specs.declared.refusal.Refusal.{Refusal}
 use Rattle.office_http.proofs.Asking.{ok_not_err, all_of_some, report_asked}
 use Rattle.office_http.proofs.requests.read_asked.Goals as goal
@@ -17,6 +17,16 @@ account_wanted : (head : RequestHead) (method path : List ℕ) (fields : List (L
 unfolding wanted_behind
 account_wanted head method path fields to posts leads same_method same_path same_fields =
     let there : endpoint_of head.method (path_of head.target) ≡ Ok Accounts =
+    ap (λ (p : List ℕ). endpoint_of head.method p) (sym same_path) ∙ ap (λ (m : List ℕ). endpoint_of m path) (sym same_method) ∙ sym leads ∙ posts in
+    ap (λ (at : Result Endpoint Refusal). wanted_at at head) there ∙ ap (λ (fs : List (List ℕ × List ℕ)). body_size (body_length fs)) (sym same_fields)
+
+-- behind the head of a partner's delivery its body is wanted
+own_wanted : (head : RequestHead) (method path : List ℕ) (fields : List (List ℕ × List ℕ)) (to : Result Endpoint Refusal) → to ≡ Ok PartnerInterchanges →
+    to ≡ endpoint_of method path → method ≡ head.method → path ≡ path_of head.target → fields ≡ map name_and_value head.fields →
+    wanted_behind head ≡ body_size (body_length fields)
+unfolding wanted_behind
+own_wanted head method path fields to posts leads same_method same_path same_fields =
+    let there : endpoint_of head.method (path_of head.target) ≡ Ok PartnerInterchanges =
     ap (λ (p : List ℕ). endpoint_of head.method p) (sym same_path) ∙ ap (λ (m : List ℕ). endpoint_of m path) (sym same_method) ∙ sym leads ∙ posts in
     ap (λ (at : Result Endpoint Refusal). wanted_at at head) there ∙ ap (λ (fs : List (List ℕ × List ℕ)). body_size (body_length fs)) (sym same_fields)
 
@@ -40,6 +50,18 @@ returns-in-Ok-Interchanges-clause-decided g c = λ head at.
           let to = c.in-Ok-Interchanges.is ∙ ap Ok c.in-Ok-Interchanges.field-0-is in
           let wanted = body_wanted head _ _ _ c.direct.result to leads method path at.fields in
           omega (arith, wanted, c.read_post.ensures.decided)
+    ]
+
+pub returns-in-Ok-PartnerInterchanges-clause-decided : goal.returns-in-Ok-PartnerInterchanges-clause-decided
+returns-in-Ok-PartnerInterchanges-clause-decided g c = λ head at.
+    let method = c.of-2.ensures ∙ at.method in
+    let path = c.path_of-path.ensures ∙ ap path_of (c.in-Ok.ensures.cases.0 ∙ c.of.ensures ∙ at.path) in
+    elim c.direct.ensures [
+      | inl not_now ↦ absurd (ok_not_err _ _ (sym c.in-Ok-PartnerInterchanges.is ∙ not_now))
+      | inr leads ↦
+          let to = c.in-Ok-PartnerInterchanges.is ∙ ap Ok c.in-Ok-PartnerInterchanges.field-0-is in
+          let wanted = own_wanted head _ _ _ c.direct.result to leads method path at.fields in
+          omega (arith, wanted, c.read_own_post.ensures.decided)
     ]
 
 pub returns-in-Ok-Accounts-clause-decided : goal.returns-in-Ok-Accounts-clause-decided

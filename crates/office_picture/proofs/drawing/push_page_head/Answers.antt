@@ -13,5 +13,5 @@ returns c =
     let full = c.as_str-4.ensures.value ∙ c.in_ok-full.ensures.ok ∙ ap decimal c.full_count.ensures in
     let empty = c.as_str-5.ensures.value ∙ c.in_ok-empty.ensures.ok ∙ ap decimal c.empty_count.ensures in
     on_ok_weaker c.push_all.result
-    (λ e. e ∙ (λ i. string_bytes c.args.text.now ++ joined (c.head.ensures i ∷ codes "<title>Yard of " ∷ title i ∷ codes "</title>\n" ∷ c.shapes.ensures i ∷ codes "<h1>Yard of " ∷ heading i ∷ codes "</h1>\n<p><b>" ∷ all i ∷ codes "</b> containers: <b>" ∷ full i ∷ codes "</b> full, <b>" ∷ empty i ∷ codes "</b> empty</p>\n" ∷ c.legend.ensures i ∷ [])))
+    (λ e. e ∙ (λ i. string_bytes c.args.text.now ++ joined (c.head.ensures i ∷ codes "<title>Yard of " ∷ title i ∷ codes "</title>\n" ∷ c.shapes.ensures i ∷ codes "<h1>Yard of " ∷ heading i ∷ codes "</h1>\n<p><b>" ∷ all i ∷ codes "</b> containers: <b>" ∷ full i ∷ codes "</b> full, <b>" ∷ empty i ∷ codes "</b> empty</p>\n" ∷ [])))
     c.push_all.ensures

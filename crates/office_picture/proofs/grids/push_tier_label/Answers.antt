@@ -10,5 +10,5 @@ returns c =
     let top = c.as_str.ensures.value ∙ c.in_ok-top.ensures.ok ∙ ap decimal c.top_of.ensures in
     let tier = c.as_str-2.ensures.value ∙ c.in_ok-tier.ensures.ok in
     on_ok_weaker c.push_all.result
-    (λ e. e ∙ (λ i. string_bytes c.args.text.now ++ joined (codes "<text x='-11' y='-" ∷ top i ∷ codes "' dy='18'>" ∷ tier i ∷ codes "</text>" ∷ [])))
+    (λ e. e ∙ (λ i. string_bytes c.args.text.now ++ joined (codes "<text x='-11' y='-" ∷ top i ∷ codes "' dy='25'>" ∷ tier i ∷ codes "</text>" ∷ [])))
     c.push_all.ensures

@@ -1,8 +1,9 @@
-use Rattle.std.proofs.Common.{None, Some, refl, sym, subst, ◌∙◌}
-use Rattle.std.proofs.lemmas.List.{take_rest}
+use Rattle.std.proofs.Common.{None, Some, length, refl, sym, subst, ◌∙◌}
+use Rattle.std.proofs.lemmas.List.{take_rest, take-append-drop}
 use Rattle.edi_cutter.specs.Cuts.{Answers, pending}
 use Rattle.office_replies.specs.Calls.{IsDelivered}
 use Rattle.office_stream.proofs.PieceLemmas.{Used, nothing_done, piece_more, piece_cut_short, piece_ends, used_some, ends_used_up, ends_cut}
+use Rattle.office_stream.proofs.PlaceLemmas.{not_yet, followed_more, followed_whole, followed_cut}
 use Rattle.office_stream.proofs.Writing.{on_err}
 use Rattle.office_stream.proofs.answer.answer_piece.Goals as goal
 
@@ -13,6 +14,7 @@ pieces-init g c = record {
   flushed = λ all. all;
   stays = λ clean. clean;
   done = nothing_done (IsDelivered g.D.Deliver.is_sound g.D.Deliver.stands g.D.Deliver.answers g.D.Deliver.leads) c.args.desk.now (pending c.args.cutter.now) c.args.piece.now _ _;
+  placed = λ bytes follows. not_yet c.args.place.now bytes c.args.piece.now (pending c.args.cutter.now) follows;
 }
 
 pub pieces-preserved : goal.pieces-preserved
@@ -33,6 +35,9 @@ pieces-preserved g c =
       done = rw c.or-worst.ensures
           (piece_more call c.args.desk.now _ q rest c.interchange.result.now _ _ n c.pieces.desk c.answer_one.new.desk _ c.pieces.worst _ _ _ _
           c.pieces.invariant.done used one.ok (sym some.1) (sym (take_rest rest n)));
+      placed = λ bytes follows.
+          followed_more c.pieces.place c.meet.new.self c.complete.new.self bytes c.args.piece.now q rest c.interchange.result.now _ _ c.at_rest.result n
+          (c.pieces.invariant.placed bytes follows) used answer.1 (sym some.1) c.meet.ensures c.complete.ensures (sym (take_rest rest n)) (take-append-drop n rest);
     }
 
 pub returns-in_err-answer_one-in-Ok-Some-clause-cut_short : goal.returns-in_err-answer_one-in-Ok-Some-clause-cut_short
@@ -56,6 +61,22 @@ returns-in-Ok-None-clause-ok g c =
     let answer : Answers q rest c.feed.new.self None = rw c.in-Ok-None.field-0-is at (c.in-Ok-None.ensures.ok c.pieces.invariant.running) in
     piece_ends call c.args.desk.now _ _ _ c.pieces.desk _ c.pieces.worst _ _
     (ends_used_up q rest c.feed.new.self answer) c.pieces.invariant.done
+
+pub returns-in-Ok-None-clause-placed : goal.returns-in-Ok-None-clause-placed
+returns-in-Ok-None-clause-placed g c bytes follows =
+    let q = pending c.pieces.cutter in
+    let rest = c.pieces.rest.now in
+    let answer : Answers q rest c.feed.new.self None = rw c.in-Ok-None.field-0-is at (c.in-Ok-None.ensures.ok c.pieces.invariant.running) in
+    followed_whole c.pieces.place c.meet.new.self c.pass.new.self bytes c.args.piece.now q rest (pending c.feed.new.self) c.at_rest.result (length rest)
+    (c.pieces.invariant.placed bytes follows) c.at_rest.ensures refl c.meet.ensures c.pass.ensures (ends_used_up q rest c.feed.new.self answer _ refl)
+
+pub returns-in-Err-clause-placed : goal.returns-in-Err-clause-placed
+returns-in-Err-clause-placed g c bytes follows =
+    let q = pending c.pieces.cutter in
+    let rest = c.pieces.rest.now in
+    followed_cut c.pieces.place c.meet.new.self bytes c.args.piece.now q rest c.at_rest.result c.in-Err.fault
+    (c.pieces.invariant.placed bytes follows) c.at_rest.ensures c.meet.ensures
+    (ends_cut q rest c.pieces.cutter c.feed.new.self c.in-Err.fault (c.in-Err.ensures.err c.pieces.invariant.running) (pending c.feed.new.self) _ refl)
 
 pub returns-in-Err-clause-ok : goal.returns-in-Err-clause-ok
 returns-in-Err-clause-ok g c =

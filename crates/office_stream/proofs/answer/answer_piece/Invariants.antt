@@ -1,8 +1,10 @@
-use Rattle.std.proofs.Common.{◌≡◌, ◌++◌, None, length, true}
+use Rattle.std.proofs.Common.{◌≡◌, ◌++◌, ℕ, List, None, length, true}
 use Rattle.edi_cutter.specs.Cuts.{pending}
 use Rattle.office_replies.specs.Calls.{IsDelivered}
 use Rattle.office_stream.specs.Pieces.{PieceAnswered}
+use Rattle.office_stream.specs.Places.{Follows}
 use Rattle.office_stream.proofs.PieceLemmas.{IsLeft}
+use Rattle.office_stream.proofs.PlaceLemmas.{Followed}
 use Rattle.office_stream.proofs.answer.answer_piece.Given as goal
 
 abbrev pub invariant-pieces : goal.invariant-pieces
@@ -13,6 +15,7 @@ invariant-pieces g l = record {
   stays : g.D.Deliver.is_sound l.desk → g.D.Deliver.is_sound l.fn.desk;
   done : PieceAnswered (IsDelivered g.D.Deliver.is_sound g.D.Deliver.stands g.D.Deliver.answers g.D.Deliver.leads) l.fn.desk (IsLeft (pending l.cutter) l.rest)
       (pending l.fn.cutter ++ l.piece) l.desk l.fn.before l.worst (g.W.Write.contents l.fn.writer.inner) (g.W.Write.contents l.writer.inner);
+  placed : (bytes : List ℕ) → Follows l.fn.place bytes (pending l.fn.cutter) → Followed l.place bytes l.piece l.rest (pending l.cutter);
 }
 
 abbrev pub decreases-pieces : goal.decreases-pieces

@@ -1,11 +1,14 @@
-use Rattle.std.proofs.Common.{◌≡◌, ◌≢◌, ◌⊎◌, [], None, Some, Err, inl, inr, refl, sym, ◌∙◌, arith, take}
+use Rattle.std.proofs.Common.{◌≡◌, ◌≢◌, ◌⊎◌, ◌++◌, [], None, Some, Err, inl, inr, refl, sym, ◌∙◌, arith, take}
+use Rattle.std.proofs.KnownBytes.{Consumes-trans}
 use Rattle.std.proofs.lemmas.Bool.{ne_eqb}
 use Rattle.edi_cutter.specs.Cuts.{pending}
 use Rattle.office_stream.specs.declared.stream_end.StreamEnd.TheVariants.{Whole, Open, Cut}
 use Rattle.office_stream.specs.declared.stream_fault.StreamFault.TheVariants.{Read, Turns}
 use Rattle.office_replies.specs.Calls.{IsDelivered}
 use Rattle.office_stream.proofs.Answering.{are_delivered}
-use Rattle.office_stream.proofs.StreamLemmas.{nothing_read, sofar_more, began, began_now, cut_short, piece_at, input_ends, stream_cut, finished, passed_on, streams_as, nil_is, nil_is_not, err_weaker, is_err_and, starts_running, starts_empty, nothing_taken}
+use Rattle.office_stream.proofs.PlaceLemmas.{read_nothing, read_more, stopped, cut_at_end, cut_at_fault}
+use Rattle.office_stream.proofs.Writing.{on_ok}
+use Rattle.office_stream.proofs.StreamLemmas.{same_bytes, nothing_read, sofar_more, began, began_now, cut_short, piece_at, input_ends, stream_cut, finished, passed_on, streams_as, nil_is, nil_is_not, err_weaker, is_err_and, starts_running, starts_empty, nothing_taken}
 use Rattle.office_stream.proofs.stream.run_stream.Goals as goal
 use Rattle.office_stream.proofs.stream.run_stream.Goals.{then-at_rest, else-at_rest}
 
@@ -22,6 +25,7 @@ reads-init g c = record {
   least = omega arith;
   stays = λ clean. clean;
   sofar = nothing_read (IsDelivered g.D.Deliver.is_sound g.D.Deliver.stands g.D.Deliver.answers g.D.Deliver.leads) c.args.desk.now _ (pending c.new-cutter.result) _ (starts_empty c.new-cutter.result c.new-cutter.ensures);
+  placed = read_nothing (g.R.Read.remaining c.args.reader.now.inner) _ (pending c.new-cutter.result) refl (starts_empty c.new-cutter.result c.new-cutter.ensures);
 }
 
 pub reads-preserved : goal.reads-preserved
@@ -30,7 +34,7 @@ reads-preserved g c =
     let piece = take c.in-Ok.count c.read.new.buf in
     let q = pending c.reads.cutter in
     let q' = pending c.answer_piece.new.cutter in
-    let done = piece_at call c.reads.desk c.in_ok-worst_now.cut None q' _ c.answer_piece.new.desk c.reads.worst c.in_ok-worst_now.worst_now _ _ c.in_default.is c.in_ok-worst_now.ensures.ok in
+    let done = piece_at call c.reads.desk c.in_ok-worst_now.fault None q' _ c.answer_piece.new.desk c.reads.worst c.in_ok-worst_now.worst_now _ _ c.in_default.is c.in_ok-worst_now.ensures.ok in
     record {
       running = c.in_ok-worst_now.ensures.running c.in_default.is;
       reader = c.in-Ok.ensures.succeeds ∙ c.reads.invariant.reader;
@@ -44,6 +48,8 @@ reads-preserved g c =
       stays = λ clean. c.reads.invariant.stays (c.in_ok-worst_now.ensures.stays clean);
       sofar = sofar_more call c.args.desk.now _ _ _ q q' piece c.reads.desk c.answer_piece.new.desk c.reads.worst c.in_ok-worst_now.worst_now _ _ _
           c.reads.invariant.sofar c.in-Ok.ensures.bytes.0 done;
+      placed = read_more _ _ _ c.reads.place c.answer_piece.new.place q q' piece c.in_ok-worst_now.fault c.reads.invariant.placed c.in-Ok.ensures.bytes.0 c.in_default.is
+          (λ bytes. c.in_ok-worst_now.ensures.placed bytes);
     }
 
 -- ---- what was done
@@ -83,7 +89,7 @@ returns-in-Some-clause-streams g c =
     let piece = take c.in-Ok.count c.read.new.buf in
     let q = pending c.reads.cutter in
     let q' = pending c.answer_piece.new.cutter in
-    let done = piece_at call c.reads.desk c.in_ok-worst_now.cut (Some c.in-Some.fault) q' _ c.answer_piece.new.desk c.reads.worst c.in_ok-worst_now.worst_now _ _ c.in-Some.is c.in_ok-worst_now.ensures.ok in
+    let done = piece_at call c.reads.desk c.in_ok-worst_now.fault (Some c.in-Some.fault) q' _ c.answer_piece.new.desk c.reads.worst c.in_ok-worst_now.worst_now _ _ c.in-Some.is c.in_ok-worst_now.ensures.ok in
     streams_as _ _ (are_delivered g.D.Deliver.is_sound g.D.Deliver.stands g.D.Deliver.answers g.D.Deliver.leads c.args.desk.now c.answer_piece.new.desk) _ c.finish-in-Some.result
     (finished call c.args.desk.now _ _ (Cut c.in-Some.fault) c.answer_piece.new.desk c.in_ok-worst_now.worst_now _ _ _ c.finish-in-Some.result _
     (stream_cut call c.args.desk.now _ _ _ q q' piece c.in-Some.fault c.reads.desk c.answer_piece.new.desk c.reads.worst c.in_ok-worst_now.worst_now _ _ _
@@ -94,6 +100,31 @@ pub returns-clause-streams : goal.returns-clause-streams
 returns-clause-streams g c =
     streams_as _ _ (are_delivered g.D.Deliver.is_sound g.D.Deliver.stands g.D.Deliver.answers g.D.Deliver.leads c.args.desk.now c.reads.desk) _ (Err Turns)
     (began_now (IsDelivered g.D.Deliver.is_sound g.D.Deliver.stands g.D.Deliver.answers g.D.Deliver.leads) c.args.desk.now _ _ (pending c.reads.cutter) c.reads.desk c.reads.worst _ _ c.reads.invariant.sofar)
+
+-- ---- where it is cut
+
+pub returns-then-count-eq0-clause-cut : goal.returns-then-count-eq0-clause-cut
+returns-then-count-eq0-clause-cut g c =
+    let reads = c.in-Ok.ensures.bytes in
+    let none = c.if-count-eq0.true in
+    let sofar = c.reads.invariant.placed in
+    let how : ((c.if-at_rest.end ≡ Whole) × (pending c.reads.cutter ≡ [])) ⊎ ((c.if-at_rest.end ≡ Open) × (pending c.reads.cutter ≢ [])) = elim c.if-at_rest.branch [
+      | then-at_rest w ↦ inl (w.end-is, nil_is (pending c.reads.cutter) (sym c.at_rest.ensures ∙ w.if-at_rest.true))
+      | else-at_rest w ↦ inr (w.end-is, nil_is_not (pending c.reads.cutter) (sym c.at_rest.ensures ∙ w.if-at_rest.false))
+    ] in
+    on_ok c.finish.result _
+    (cut_at_end _ _ c.reads.place sofar.bytes (pending c.reads.cutter) c.if-at_rest.end c.finish.new.cut
+    (same_bytes _ _ _ sofar.bytes sofar.reads (nothing_taken _ _ c.in-Ok.count c.read.new.buf none reads.0)) sofar.follows how c.finish.ensures.cut)
+
+pub returns-in-Some-clause-cut : goal.returns-in-Some-clause-cut
+returns-in-Some-clause-cut g c =
+    let sofar = c.reads.invariant.placed in
+    let piece = take c.in-Ok.count c.read.new.buf in
+    on_ok c.finish-in-Some.result _
+    (cut_at_fault _ _ c.answer_piece.new.place (sofar.bytes ++ piece) c.in-Some.fault c.finish-in-Some.new.cut
+    (Consumes-trans _ _ _ sofar.bytes piece sofar.reads c.in-Ok.ensures.bytes.0)
+    (stopped c.in_ok-worst_now.fault c.in-Some.fault c.answer_piece.new.place (sofar.bytes ++ piece) _ c.in-Some.is (c.in_ok-worst_now.ensures.placed sofar.bytes sofar.follows))
+    c.finish-in-Some.ensures.cut)
 
 -- ---- what was flushed
 

@@ -3,8 +3,9 @@ use Rattle.edi_syntax.specs.Envelope.{header_of, messages_of}
 use Rattle.edi_syntax.specs.Envelopes.{envelope_segments}
 use Rattle.edi_syntax.specs.Header.{preparation}
 use Rattle.terminal_core.specs.Rows.{change_content}
+use Rattle.office_taking.specs.Tallies.{with_interchange}
 use Rattle.office_taking.specs.Taking.{messages_taken, source_in}
-use Rattle.office_taking.proofs.Takings.{taken_is, changes_are, left_by, ok_both, ok_weaker}
+use Rattle.office_taking.proofs.Takings.{taken_is, changes_are, reports_are, left_by, ok_both, ok_weaker}
 use Rattle.office_taking.proofs.taking.take.Goals as goal
 
 pub returns-clause-taken : goal.returns-clause-taken
@@ -30,3 +31,14 @@ returns-clause-changes c =
     changes ∙ ap (λ more. map change_content c.args.changes.now.items ++ more)
     (sym (changes_are setup c.args.terminal.now text admitted c.for_kind-codes.result c.moment-opened.result is c.for_kind-codes.ensures.kind c.for_kind-codes.ensures.table prepared)))
     c.take_interchange.ensures.changes
+
+pub returns-clause-tally : goal.returns-clause-tally
+returns-clause-tally c =
+    let setup = c.args.setup.now in
+    let admitted = c.args.admitted.now in
+    let prepared = ap (λ others. preparation (header_of others)) (sym c.head.ensures) ∙ c.moment-opened.ensures in
+    ok_weaker c.take_interchange.result _ _
+    (λ reply counted. λ text is.
+    counted ∙ ap (with_interchange c.args.tally.now)
+    (sym (reports_are setup c.args.terminal.now text admitted c.for_kind-codes.result c.moment-opened.result is c.for_kind-codes.ensures.kind c.for_kind-codes.ensures.table prepared)))
+    c.take_interchange.ensures.tally

@@ -19,6 +19,7 @@ use Rattle.office_desk.specs.Desks.{StandsFor}
 use Rattle.office_desk.specs.Telling.{Holds}
 use Rattle.office_desk.proofs.AccountLemmas.{account_after, account_held, asked_is, given_with, not_added, says_now, says_of}
 use Rattle.office_desk.proofs.CrashLemmas.{committed_leaves, either_of, held_leaves}
+use Rattle.office_desk.proofs.LookLemmas.{noted_fault, noted_told}
 use Rattle.office_desk.proofs.desk.Desk.answer_account.Goals as goal
 
 -- ---- no code or no kind
@@ -115,25 +116,28 @@ returns-in-Err g c =
 
 -- ---- added
 
-pub returns-in-Ok-added : goal.returns-in-Ok-added
-returns-in-Ok-added g c =
+pub returns-in-Ok-noted : goal.returns-in-Ok-noted
+returns-in-Ok-noted g c =
     let desk = c.args.self.now in
     let code = c.args.code.now in
     let kind = c.args.kind.now in
     let accounts = (setup_content desk.setup).partners in
     let after = c.add_new-added.new in
+    let met = noted_told c.add_new-added.result _ c.in-Ok-noted.body _ c.in-Ok-noted.ensures in
+    let made = c.add_new-added.ensures in
+    let long = rw met.0 at made.beside in
     let old = state g.S.Store desk.conn in
     let new = state g.S.Store after.conn in
     let p = rw c.in-Some.is at c.asked.ensures in
     let id = c.in-New.id in
     let own = c.in-Some.kind in
-    let given = Added id c.in-Ok-added.body in
-    let body : string_bytes c.in-Ok-added.body ≡ account_added_text id code = subst (λ text. string_bytes c.in-Ok-added.body ≡ account_added_text id text) p.0 c.in-Ok-added.ensures.body in
+    let given = Added id c.in-Ok-noted.body in
+    let body : string_bytes c.in-Ok-noted.body ≡ account_added_text id code = subst (λ text. string_bytes c.in-Ok-noted.body ≡ account_added_text id text) p.0 (rw met.0 at made.body) in
     let stood = ap standing_content (sym c.in-New.is) ∙ c.judge_account.ensures in
     let says = says_of accounts code kind (added_as id) given (asked_is accounts c.in-Some.code.now code kind own (added_as id) p.0 p.1 p.2 stood) (refl, body) in
     let grown : setup_content after.setup ≡ setup_with_account (setup_content desk.setup) code own =
-    subst (λ text. setup_content after.setup ≡ setup_with_account (setup_content desk.setup) text own) p.0 c.in-Ok-added.ensures.setup in
-    let writes = rw c.in-Ok-added.is at c.add_new-added.ensures.writes in
+    subst (λ text. setup_content after.setup ≡ setup_with_account (setup_content desk.setup) text own) p.0 (rw met.0 at made.setup) in
+    let writes = rw met.0 at made.writes in
     let is_now : (content : SetupContent) (es : List Event) → StandsFor g.S.Store content es desk → account_answer (content_after content es).partners code kind ≡ added_as id = λ content es stands.
     asked_is (content_after content es).partners c.in-Some.code.now code kind own (added_as id) p.0 p.1 p.2
     (stood ∙ ap (λ (k : SetupContent). by_number k.partners own (partner_from 1 c.in-Some.code.now (map (λ (account : AccountPair). account.0) k.partners))) (sym stands.now_is)) in
@@ -144,27 +148,31 @@ returns-in-Ok-added g c =
         adds = λ sound content es stands. (
           says_now g.S.Store content es code kind desk given stands says,
           subst (λ k. Holds content (es ++ added code kind ∷ []) k new.committed after.beside) (sym grown)
-              (account_held content es code kind own id p.2 (is_now content es stands) (setup_content desk.setup) old.committed new.committed desk.beside after.beside stands (has sound.0 stands.rows stands.has) c.in-Ok-added.ensures.beside),
+              (account_held content es code kind own id p.2 (is_now content es stands) (setup_content desk.setup) old.committed new.committed desk.beside after.beside stands (has sound.0 stands.rows stands.has) long),
         );
         stays = λ sound. (writes.ends.clean sound.0, writes.ends.was_open sound.0 sound.1);
         says = says;
-        over = λ sound. (own, p.2, grown, has sound.0, c.in-Ok-added.ensures.beside);
+        over = λ sound. (own, p.2, grown, has sound.0, long);
         crash = λ sound clean content es stands.
             committed_leaves content (es ++ added code kind ∷ []) new (with_partner id code own stands.rows) (writes.ok clean).alone (has clean stands.rows stands.has)
             (account_adds_row content es stands.rows code kind own id stands.after p.2 (is_now content es stands)).rows_are;
-        noted = refl;
+        noted = met.1;
       };
     }
 
 -- ---- an addition that failed
 
-pub returns-in-Err-added : goal.returns-in-Err-added
-returns-in-Err-added g c =
+pub returns-in-Err-noted : goal.returns-in-Err-noted
+returns-in-Err-noted g c =
     let desk = c.args.self.now in
     let code = c.args.code.now in
     let kind = c.args.kind.now in
     let accounts = (setup_content desk.setup).partners in
     let after = c.add_new-added.new in
+    let met = noted_fault c.add_new-added.result _ _ _ c.in-Err-noted.ensures in
+    let made = c.add_new-added.ensures in
+    let same = rw met.1 at made.same in
+    let less = rw met.1 at made.less in
     let old = state g.S.Store desk.conn in
     let new = state g.S.Store after.conn in
     let p = rw c.in-Some.is at c.asked.ensures in
@@ -172,17 +180,17 @@ returns-in-Err-added g c =
     let own = c.in-Some.kind in
     let stood = ap standing_content (sym c.in-New.is) ∙ c.judge_account.ensures in
     let says = says_of accounts code kind (added_as id) NotNow (asked_is accounts c.in-Some.code.now code kind own (added_as id) p.0 p.1 p.2 stood) tt in
-    let writes = rw c.in-Err-added.is at c.add_new-added.ensures.writes in
+    let writes = rw met.1 at made.writes in
     record {
       enrols = record {
         adds = λ sound content es stands. (
           says_now g.S.Store content es code kind desk NotNow stands says,
           not_added content es (setup_content desk.setup) (setup_content after.setup) old.committed new.committed desk.beside after.beside stands
-              (ap setup_content c.in-Err-added.ensures.same) (writes.err sound.0 sound.1) c.in-Err-added.ensures.less,
+              (ap setup_content same) (writes.err sound.0 sound.1) less,
         );
         stays = λ sound. (writes.ends.clean sound.0, writes.ends.was_open sound.0 sound.1);
         says = says;
-        over = λ sound. (c.in-Err-added.ensures.same, writes.err sound.0 sound.1, c.in-Err-added.ensures.less);
+        over = λ sound. (same, writes.err sound.0 sound.1, less);
         crash = λ sound clean content es stands db left.
             let is : account_answer (content_after content es).partners code kind ≡ added_as id =
             asked_is (content_after content es).partners c.in-Some.code.now code kind own (added_as id) p.0 p.1 p.2
@@ -191,21 +199,22 @@ returns-in-Err-added g c =
             either_of (λ was. before db was)
             (λ whole. account_after content es code kind own id p.2 is stands.rows db stands.after (subst (λ text. StoresRows (with_partner id text own stands.rows) db) p.0 (whole stands.rows stands.has)))
             (writes.crash.crash clean db left);
-        noted = (c.in-Err-added.fault, refl, writes.fault);
+        noted = (met.0, met.2, writes.fault);
       };
     }
 
 -- ---- the set-up with the account is one that can be given
 
-pub invariant_of-self-in-Ok-added : goal.invariant_of-self-in-Ok-added
-invariant_of-self-in-Ok-added g c =
+pub invariant_of-self-in-Ok-noted : goal.invariant_of-self-in-Ok-noted
+invariant_of-self-in-Ok-noted g c =
     let p = rw c.in-Some.is at c.asked.ensures in
     let id = c.in-New.id in
     let own = c.in-Some.kind in
     let desk = c.args.self.now in
+    let met = noted_told c.add_new-added.result _ c.in-Ok-noted.body _ c.in-Ok-noted.ensures in
     let said = asked_is (setup_content desk.setup).partners c.in-Some.code.now c.args.code.now c.args.kind.now own (added_as id) p.0 p.1 p.2 (ap standing_content (sym c.in-New.is) ∙ c.judge_account.ensures) in
     record {
       idle = search rules;
-      given = subst IsGiven (sym (subst (λ text. setup_content c.add_new-added.new.setup ≡ setup_with_account (setup_content desk.setup) text own) p.0 c.in-Ok-added.ensures.setup))
+      given = subst IsGiven (sym (subst (λ text. setup_content c.add_new-added.new.setup ≡ setup_with_account (setup_content desk.setup) text own) p.0 (rw met.0 at c.add_new-added.ensures.setup)))
           (given_with (setup_content desk.setup) c.args.code.now c.args.kind.now id own desk.given p.2 said);
     }

@@ -1,4 +1,4 @@
-use Rattle.std.proofs.Common.{◌≡◌, Ok, Err, Some, ◌-◌, get_or, string_bytes, arith, refl, sym, subst, ◌∙◌}
+use Rattle.std.proofs.Common.{◌≡◌, Ok, Err, Some, ◌-◌, get_or, string_bytes, arith, refl, sym, ap, subst, ◌∙◌}
 use Rattle.std.proofs.lemmas.Option.{slice_get-get_or}
 use Rattle.edi_segments.specs.Interchange.{interchange_of}
 use Rattle.edi_syntax.specs.Envelope.{header_of}
@@ -8,12 +8,14 @@ use Rattle.office_replies.specs.declared.response.Response.TheVariants.{NotNow}
 use Rattle.office_admission.specs.Refusals.{RefusedSurely}
 use Rattle.office_setup.specs.Parties.{parties_of}
 use Rattle.office_setup.specs.Setups.{setup_content}
-use Rattle.office_desk.proofs.Admitted.{code_at, admitted_surely, never_refused, numbered, refused_so}
+use Rattle.office_desk.proofs.Admitted.{code_at, admitted_surely, never_refused, numbered, refused_for, refused_so}
 use Rattle.office_desk.proofs.DeliverLemmas.{refusal_delivered, refusal_leaves, refusal_over, comes_for, answers_over, not_now_surely, notes_memory, notes_none, taken_in, not_taken}
 use Rattle.office_desk.proofs.CrashLemmas.{answered_behind, held_leaves}
 use Rattle.office_admission.specs.Admission.{admission}
 use Rattle.office_desk.specs.Crashes.{Leaves}
 use Rattle.office_desk.specs.Kept.{NotedFor}
+use Rattle.office_desk.specs.Noting.{IsNow, NotesFault}
+use Rattle.office_desk.proofs.LookLemmas.{noted_fault, noted_told}
 use Rattle.sqlite.specs.Held.{state}
 use Rattle.office_desk.proofs.desk.Desk.answer_text.Goals as goal
 
@@ -46,17 +48,18 @@ returns-in-Err g c =
         refused = λ fault e. (refl, refl, refl, refused_so desk.setup sent text c.in-Err.refusal fault given exact refused e answer);
         sure = subst (λ other. RefusedSurely (parties_of desk.setup) other given) exact sure;
         noted = notes_memory given desk.last_fault _ c.note_memory.ensures;
+        answered = λ clean place e now. let never = sym e ∙ ap (admission (parties_of desk.setup)) (sym exact) ∙ refused_for desk.setup text c.in-Err.refusal refused in absurd cc;
       };
     }
 
 -- ---- one that is admitted, and was taken in
 
-pub returns-in-Ok-taken : goal.returns-in-Ok-taken
-returns-in-Ok-taken g c =
+pub returns-in-Ok-noted : goal.returns-in-Ok-noted
+returns-in-Ok-noted g c =
     let desk = c.args.self.now in
     let text = c.interchange_text-text.result.now in
     let sent = c.args.delivered.now in
-    let given = c.in-Ok-taken.response in
+    let given = c.in-Ok-noted.response in
     let exact = c.interchange_text-text.ensures.exact in
     let admitted = c.in-Ok.admitted in
     let partner = admitted.partner in
@@ -68,7 +71,9 @@ returns-in-Ok-taken g c =
     let named : c.as_str-code.result.now ≡ string_bytes account.code = rw c.as_slice-accounts.ensures at c.as_str-code.ensures.value in
     let code = named ∙ sym (code_at accounts partner account is.from_one found) in
     let place = numbered (parties_of desk.setup) text (head_segments c.head.result) partner number (c.head.ensures ∙ is.segments) c.number-number.ensures.number is.admits in
-    let taken : c.take_in-taken.result ≡ Ok given = let e = c.in-Ok-taken.is in cc in
+    let handed = noted_told c.take_in-taken.result _ given _ c.in-Ok-noted.ensures in
+    let taken : c.take_in-taken.result ≡ Ok given = handed.0 in
+    let now : IsNow given = rw taken at c.take_in-taken.ensures.now in
     let takes = rw taken at c.take_in-taken.ensures.takes in
     let ends = c.take_in-taken.ensures.ends in
     let after = c.take_in-taken.new in
@@ -87,14 +92,15 @@ returns-in-Ok-taken g c =
             (takes.crash clean sound.1 content es sent stands leaves (comes_for g.S.Store content es sent text desk partner number exact stands place));
         refused = λ fault e. absurd (never_refused (parties_of desk.setup) sent text _ fault exact is.admits e);
         sure = admitted_surely (parties_of desk.setup) sent text _ given exact is.admits;
-        noted = notes_none given desk.last_fault c.in-Ok-taken.ensures.now;
+        noted = subst (NotesFault given desk.last_fault) (sym handed.1) (notes_none given desk.last_fault now);
+        answered = λ clean other e is_now. (clean, (rw taken at c.take_in-taken.ensures.is_open) clean);
       };
     }
 
 -- ---- one that is admitted, and could not be taken in now
 
-pub returns-in-Err-taken : goal.returns-in-Err-taken
-returns-in-Err-taken g c =
+pub returns-in-Err-noted : goal.returns-in-Err-noted
+returns-in-Err-noted g c =
     let desk = c.args.self.now in
     let text = c.interchange_text-text.result.now in
     let sent = c.args.delivered.now in
@@ -104,7 +110,8 @@ returns-in-Err-taken g c =
     let is = c.in-Ok.ensures.ok in
     let P = parties_of desk.setup in
     let place = numbered P text (head_segments c.head.result) partner number (c.head.ensures ∙ is.segments) c.number-number.ensures.number is.admits in
-    let taken : c.take_in-taken.result ≡ Err c.in-Err-taken.fault = let e = c.in-Err-taken.is in cc in
+    let met = noted_fault c.take_in-taken.result _ _ _ c.in-Err-noted.ensures in
+    let taken : c.take_in-taken.result ≡ Err met.0 = met.1 in
     let takes = rw taken at c.take_in-taken.ensures.takes in
     let ends = c.take_in-taken.ensures.ends in
     let after = c.take_in-taken.new in
@@ -116,7 +123,7 @@ returns-in-Err-taken g c =
             let there = subst (λ other. admission P other ≡ Ok (partner, number)) exact place in
             let by = takes.office sound.0 sound.1 old holds in (
               not_now_surely P (interchange_of sent) surely,
-              subst (λ place. NotedFor place old.rows (Some c.in-Err-taken.fault)) (sym there) (c.in-Err-taken.fault, refl, by.0),
+              subst (λ place. NotedFor place old.rows c.noted.new.last_fault) (sym there) (met.0, met.2, by.0),
               by.1,
             );
         setup = refl;
@@ -127,6 +134,7 @@ returns-in-Err-taken g c =
             takes.crash clean sound.1 content es sent stands leaves (comes_for g.S.Store content es sent text desk partner number exact stands place);
         refused = λ fault e. absurd (never_refused P sent text _ fault exact is.admits e);
         sure = surely;
-        noted = (c.in-Err-taken.fault, refl);
+        noted = (met.0, met.2);
+        answered = λ clean other e is_now. absurd is_now;
       };
     }

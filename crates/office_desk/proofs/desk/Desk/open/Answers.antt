@@ -1,4 +1,5 @@
 use Rattle.std.proofs.Common.{◌≡◌, None, Some, not, refl, sym, ap, subst, ◌∙◌, IsTrue}
+use Rattle.std.proofs.lemmas.Result.{err_from_is_err_and}
 use Rattle.sqlite.specs.Held.{state}
 use Rattle.sqlite.specs.State.{HasCleanDisk, IsUnchanged}
 use Rattle.office_rows.specs.Stored.{HasRows}
@@ -8,7 +9,7 @@ use Rattle.office_setup.specs.Setups.{SetupContent, setup_content}
 use Rattle.office_history.specs.After.{SaysSame, content_after}
 use Rattle.office_history.proofs.Alike.{reopens}
 use Rattle.office_loading.specs.Tables.{Loads}
-use Rattle.office_tables.proofs.ReadingLemmas.{clean_first}
+use Rattle.office_tables.proofs.ReadingLemmas.{clean_first, reads_stopped}
 use Rattle.office_desk.specs.Beside.{IsBeside, IsOrNone}
 use Rattle.office_desk.specs.Telling.{Holds}
 use Rattle.office_desk.proofs.AlikeLemmas.{codes_after}
@@ -80,4 +81,15 @@ returns g c = record {
         unchanged = still;
       };
   stays = λ sound. clean_first c.load_beside.ensures.reads (subst (λ k. HasCleanDisk (state g.S.Store k)) c.new.ensures.conn sound.0);
+  refused = tt;
 }
+
+-- It was refused as its tables were, and the connection was given up behind them.
+pub returns-in_err-setup-clause-refused : goal.returns-in_err-setup-clause-refused
+returns-in_err-setup-clause-refused g c =
+    let p = err_from_is_err_and c.from_residual.result c.from_residual.ensures.1 in
+    rw (p.1, p.2) (record {
+      last = c.load_beside.new.conn;
+      reads = reads_stopped _ refl c.load_beside.ensures.reads;
+      deserved = c.in_err-setup.ensures.refused;
+    })

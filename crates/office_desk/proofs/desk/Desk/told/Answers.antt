@@ -1,7 +1,11 @@
 use Rattle.std.proofs.Common.{◌≡◌, Some, not, option_map, string_bytes, sym, ap, subst, ◌∙◌}
 use Rattle.sqlite.specs.Held.{state}
 use Rattle.sqlite.specs.State.{HasCleanDisk}
+use Rattle.std.proofs.lemmas.Result.{IfErr-weaker, err_from_is_err_and}
 use Rattle.office_rows.specs.Stored.{HasRows}
+use Rattle.office_tables.proofs.FaultLemmas.{of_store_or, of_store_weaker}
+use Rattle.office_desk.proofs.Faults.{asked_unfit}
+use Rattle.office_desk.proofs.OfficeAccounts.{keeps_accounts}
 use Rattle.office_rows.proofs.StepLemmas.{if_ok}
 use Rattle.office_history.specs.After.{machine_after}
 use Rattle.office_setup.specs.Setups.{setup_content}
@@ -94,3 +98,32 @@ returns-in_err-there-clause-looks g c =
       crash = λ sound clean schema db left. leaves_less old mid clean reads.reads.survives db left;
       stays = λ sound. (was_clean reads sound.0, was_open reads sound.0 sound.1);
     }
+
+-- ---- why it can't be told
+
+pub returns-clause-fault : goal.returns-clause-fault
+returns-clause-fault g c = λ sound.
+    let content = setup_content c.args.self.now.setup in
+    let asked = c.args.query.now in
+    let old = state g.S.Store c.args.self.now.conn in
+    let mid = state g.S.Store c.beside_of.new.conn in
+    let reads = c.tell-found.ensures.reads in
+    let clean : HasCleanDisk mid = was_clean reads sound.0 in
+    let settled : old.now ≡ old.committed = c.is_autocommit-is_idle.ensures.settled (c.is_autocommit-is_idle.ensures.value ∙ ap not c.args.self.now.idle) (was_open c.beside_of.ensures.reads clean (was_open reads sound.0 sound.1)) in
+    let same : IsSame old mid = c.in_ok-there.ensures.reads.same clean in
+    IfErr-weaker c.tell-found.result _ _ (λ fault why rows kept holds.
+        let now : HoldsOffice content rows kept old.now c.args.self.now.beside = office_with content rows kept old.committed old.now c.args.self.now.beside c.args.self.now.beside settled holds.beside holds in
+        let its = (keeps_accounts content rows kept old.now now.has now.loads).0 in
+        of_store_weaker _ _ (asked_unfit content rows its asked) fault (why rows (subst (HasRows rows) (sym same.now) now.has)))
+    (c.tell-found.ensures.fault sound.0)
+
+pub returns-in_err-there-clause-fault : goal.returns-in_err-there-clause-fault
+returns-in_err-there-clause-fault g c = λ sound.
+    let content = setup_content c.args.self.now.setup in
+    let old = state g.S.Store c.args.self.now.conn in
+    let reads = c.beside_of.ensures.reads in
+    let p = err_from_is_err_and c.from_residual.result c.from_residual.ensures.1 in
+    let settled : old.now ≡ old.committed = c.is_autocommit-is_idle.ensures.settled (c.is_autocommit-is_idle.ensures.value ∙ ap not c.args.self.now.idle) (was_open reads sound.0 sound.1) in
+    rw (p.1, p.2) (λ rows kept holds.
+        let now : HoldsOffice content rows kept old.now c.take.result = office_with content rows kept old.committed old.now c.args.self.now.beside c.take.result settled (subst (IsOrNone rows kept) (sym c.take.ensures.value) holds.beside) holds in
+        of_store_or _ _ (c.in_err-there.ensures.fault sound.0 content rows kept now))
