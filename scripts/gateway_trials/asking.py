@@ -23,7 +23,7 @@ def parted(response):
 
 
 def head_of(method, path, *fields):
-    """The head of a request, behind which nothing more comes on its connection."""
+    """The head of a request, after which nothing more comes on its connection."""
     return '\r\n'.join(['%s %s HTTP/1.1' % (method, path), 'Host: ' + HOST, *fields, 'Connection: close', '', ''])
 
 

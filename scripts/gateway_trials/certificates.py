@@ -68,7 +68,7 @@ def revoked(clients, judge):
 
 
 def over(clients, judge):
-    """Nobody is believed once the list of revoked ones is over its date, and all are again behind a new one."""
+    """Nobody is believed once the list of revoked ones is over its date, and all are again with a new one."""
     ours, installed = clients.installed.authority, clients.installed
     words = ['openssl', 'ca', '-gencrl', '-crlsec', str(OVER), '-config', os.path.join(ours.folder, 'openssl.cnf'),
              '-out', os.path.join(ours.folder, 'revoked.pem')]
@@ -78,7 +78,7 @@ def over(clients, judge):
     judge.same('a list over its date', CERTIFICATE, clients.get('HAULA', '/replies/1'))
     ours.run('renew')
     installed.reload()
-    judge.same('a new list', judge.told('reply', 'HAULA/1'), clients.get('HAULA', '/replies/1'))
+    judge.same('a new list', judge.report('reply', 'HAULA/1'), clients.get('HAULA', '/replies/1'))
     judge.same('who is revoked is still', CERTIFICATE, clients.get('GONE', '/replies/1'))
 
 

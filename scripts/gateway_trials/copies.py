@@ -24,7 +24,7 @@ class Copying:
         os.mkdir(self.into)
 
     def run(self, name, *words, **given):
-        """A script: what it prints, what it tells of faults, and its status."""
+        """A script: what it prints, what it reports of faults, and its status."""
         given = {**os.environ, 'OFFICE': self.installed.office.program, **given}
         done = subprocess.run(
             [script(name), *words], env=given, stdin=subprocess.DEVNULL, capture_output=True, encoding='utf-8', check=False)
@@ -91,8 +91,8 @@ def copied(checks, copying, senders, model):
     middle, counts, began = copying.installed.file('middle'), [], time.monotonic()
     for place in range(COPIES):
         name = 'copy %d' % place
-        folder, told, status = copying.copy(KEEP='all')
-        checks.expect(name, ('', 0), (told, status))
+        folder, fault, status = copying.copy(KEEP='all')
+        checks.expect(name, ('', 0), (fault, status))
         checks.expect(name + ': the office goes on', False, state_of(copying.installed.office.process) == 'T')
         if status:
             continue
@@ -157,8 +157,8 @@ def put_back(checks, installed, senders, folder):
 def drilled(checks, copying):
     """The drill restores the newest copy; and fails where there is none that is new, or it is damaged."""
     port = str(free_port())
-    printed, told, status = copying.run('office-drill', copying.into, port)
-    checks.expect('the drill: ' + told, (0, True), (status, printed.startswith('restored ' + copying.into)))
+    printed, fault, status = copying.run('office-drill', copying.into, port)
+    checks.expect('the drill: ' + fault, (0, True), (status, printed.startswith('restored ' + copying.into)))
     checks.expect('the drill leaves nothing', [], [name for name in copying.names() if name.startswith('drill')])
     newest = os.path.join(copying.into, [name for name in copying.names() if name.endswith('Z')][-1])
     checks.expect('an old copy', 1, copying.run('office-drill', copying.into, port, MOST_AGE='-1')[2])

@@ -24,8 +24,8 @@ class Supervised:
         """Its status, and whether it had the office started again."""
         process = self.installed.office.process
         given = dict(
-            os.environ, QUEUE=self.installed.file('queue.sock'), STORE=self.installed.folder, WAIT='1', RESTART='touch ' + self.file,
-            **given)
+            os.environ, QUEUE=self.installed.file('queue.sock'), STORE=self.installed.folder, WAIT='1',
+            RESTART='touch ' + self.file, **given)
         done = subprocess.run(
             [script('office-health'), str(process.pid if process else 0)], env=given, stdin=subprocess.DEVNULL, capture_output=True,
             encoding='utf-8', check=False)
@@ -36,7 +36,7 @@ class Supervised:
 
 
 def failed_sync(checks, clients, health):
-    """Behind a sync that failed each look is answered 503 `not now`, and each delivery; started again, all is as before, and
+    """After a sync that failed each look is answered 503 `not now`, and each delivery; started again, all is as before, and
     the delivery whose sync failed is in effect or not at all."""
     office, text = clients.installed.office, gate_in(2)
     words = ['strace', '-qq', '-f', '-p', str(office.process.pid), '-o', '/dev/null', '-e', 'trace=fsync,fdatasync',
@@ -77,13 +77,13 @@ def hangs(checks, clients, health):
 
 
 def away(checks, clients, health):
-    """An office that is away is its supervisor's; little room is told, and nothing more."""
+    """An office that is away is its supervisor's; of little room it only says so."""
     office = clients.installed.office
     office.stop()
     checks.expect('an office that is away', (1, False), health.asked(PATIENCE='2')[:2])
     office.start()
-    status, was, told = health.asked(ROOM='999999999')
-    checks.expect('little room', (0, False, True), (status, was, ' MB are left for the store' in told))
+    status, was, said = health.asked(ROOM='999999999')
+    checks.expect('little room', (0, False, True), (status, was, ' MB are left for the store' in said))
 
 
 def try_all(checks, program):

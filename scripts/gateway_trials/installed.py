@@ -61,7 +61,7 @@ def until(what, is_so):
 
 
 class Network:
-    """A network of its own, with loopback alone, for root; else that of the machine. `front` goes before a command in it."""
+    """A network of its own, with loopback only, for root; else that of the machine. `front` goes before a command in it."""
 
     def __init__(self):
         self.front, self.holder = [], None
@@ -88,7 +88,7 @@ class Authority:
         self.run('init', terminal, HOST)
 
     def tried(self, *words):
-        """What the script prints, what it tells of faults, and its status."""
+        """What the script prints, what it reports of faults, and its status."""
         given = dict(os.environ, AUTHORITY=self.folder)
         done = subprocess.run(
             [script('office-authority'), *words], env=given, stdin=subprocess.DEVNULL, capture_output=True, encoding='utf-8',
@@ -97,9 +97,9 @@ class Authority:
 
     def run(self, *words):
         """The same where it has to succeed."""
-        printed, told, status = self.tried(*words)
+        printed, fault, status = self.tried(*words)
         if status:
-            raise OSError('office-authority %s: %s' % (' '.join(words), told))
+            raise OSError('office-authority %s: %s' % (' '.join(words), fault))
         return printed
 
     def files(self, name):
@@ -184,7 +184,7 @@ class Installed:
         shutil.rmtree(self.folder)
 
     def start_queue(self):
-        """HAProxy, with the socket that systemd opens: its group alone may open it."""
+        """HAProxy, with the socket that systemd opens: only its group may open it."""
         path = self.file('queue.sock')
         self.socket = socket.socket(socket.AF_UNIX)
         self.socket.bind(path)
@@ -206,7 +206,8 @@ class Installed:
         os.makedirs(self.file('snippets'))
         put('nginx/office.conf', self.file('office.conf'), [
             ('/var/log/office-gateway/', self.file('logs/')), ('/run/office-queue.sock', self.file('queue.sock')),
-            ('listen 443 ssl', 'listen 127.0.0.1:%d ssl' % self.port), ('listen 8443 ssl', 'listen 127.0.0.1:%d ssl' % self.people)])
+            ('listen 443 ssl', 'listen 127.0.0.1:%d ssl' % self.port),
+            ('listen 8443 ssl', 'listen 127.0.0.1:%d ssl' % self.people)])
         put('nginx/office-shared.conf', self.file('snippets/office-shared.conf'), [
             ('/etc/office-authority/', self.file('authority/')), ('/var/log/office-gateway/', self.file('logs/'))])
         text = NGINX % (GROUP, *[self.folder] * 8)

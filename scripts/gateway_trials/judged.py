@@ -7,7 +7,7 @@ import tempfile
 
 from model.http import STATUSES
 from model.office import Office, json_text
-from model.reports import report
+from model.reports import report as report_of
 from model.rows import rows_in, rows_of
 
 OTHER_SENDER = 403, '{"answer":"refused","fault":"OtherSender"}'
@@ -43,18 +43,18 @@ class Judge:
         """The same for an account that may be added."""
         return 200, json_text(self.office.add_account(code, kind))
 
-    def told(self, kind, key=''):
+    def report(self, kind, key=''):
         """Status and text of a report."""
-        text = report(self.office, kind, key)
+        text = report_of(self.office, kind, key)
         return NONE if text is None else (200, bare(text))
 
     def standing(self, code):
         """A partner's line of the partners' report."""
-        lines = report(self.office, 'partners').splitlines()
+        lines = report_of(self.office, 'partners').splitlines()
         return 200, next(line for line in lines if line.startswith(code + ' '))
 
     def same(self, name, wanted, came):
-        """An answer is as wanted, and the rows behind it are those of the model."""
+        """An answer is as wanted, and the rows after it are those of the model."""
         self.checks.expect(name, wanted, (came.status, bare(came.body)))
         self.rows(name)
 

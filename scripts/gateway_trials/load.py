@@ -62,9 +62,10 @@ class Senders:
     def measured(self, checks, name, seconds):
         """What it took."""
         waits = sorted(self.waits)
-        told = ', '.join('%d times %d %s' % (count, *seen) for seen, count in sorted(self.seen.items()))
+        answers = ', '.join('%d times %d %s' % (count, *seen) for seen, count in sorted(self.seen.items()))
+        median, most, longest = (1000 * waits[place] for place in (len(waits) // 2, int(0.99 * len(waits)), -1))
         checks.measured.append('%s: %d requests in %.1f s, median %.0f ms, 99%% %.0f ms, longest %.0f ms: %s' % (
-            name, len(waits), seconds, 1000 * waits[len(waits) // 2], 1000 * waits[int(0.99 * len(waits))], 1000 * waits[-1], told))
+            name, len(waits), seconds, median, most, longest, answers))
 
 
 def word_of(body):
@@ -124,16 +125,18 @@ def prepared(installed):
 
 
 def away(checks, program):
-    """While the office is away a client waits, and is then told that nobody answers; what it sends again is taken."""
+    """While the office is away a client waits, and then gets that nobody answers; what it sends again is taken."""
     with Installed(program, SETUP) as installed:
         clients, code = prepared(installed), PARTNERS[0]
         installed.office.stop()
-        for name, ask in (('delivery', lambda: clients.post(code, text_of(code, 1))), ('question', lambda: clients.get(code, '/replies/1'))):
+        for name, ask in (
+                ('delivery', lambda: clients.post(code, text_of(code, 1))),
+                ('question', lambda: clients.get(code, '/replies/1'))):
             began = time.monotonic()
             came = ask()
             checks.expect('away: a ' + name, (503, '{"answer":"no answer"}'), came[:2])
             checks.expect('away: when to try again', True, 'retry-after: 5' in came.head.lower())
-            checks.within('away: a %s is told so' % name, AWAY, time.monotonic() - began)
+            checks.within('away: a %s is answered so' % name, AWAY, time.monotonic() - began)
         installed.office.start()
         checks.expect('back: the same again', 'taken', word_of(clients.post(code, text_of(code, 1)).body))
 

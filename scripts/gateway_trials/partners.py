@@ -47,9 +47,12 @@ def own(clients, judge):
         ('other bytes under its number', 'HAULA', gate_in(1, serial=9)), ('early', 'HAULA', gate_in(3)),
         ('early, the same again', 'HAULA', gate_in(3)), ('what was missing', 'HAULA', gate_in(2)),
         ('another recipient', 'HAULB', gate_in(1, 'HAULB', 11).replace('TERM1', 'TERM2')),
-        ('a qualifier', 'HAULB', gate_in(1, 'HAULB:ZZ', 12)), ('line breaks before it', 'HAULB', '\r\n\n' + gate_in(2, 'HAULB', 13)),
-        ('UNA', 'HAULB', UNA + gate_in(3, 'HAULB', 14)), ('UNA that swaps separators', 'HAULB', swapped(gate_in(4, 'HAULB', 15))),
-        ('a release in its code', 'HAULB', gate_in(5, '?HAULB', 16)), ('a space before it', 'HAULB', ' ' + gate_in(6, 'HAULB', 17)),
+        ('a qualifier', 'HAULB', gate_in(1, 'HAULB:ZZ', 12)),
+        ('line breaks before it', 'HAULB', '\r\n\n' + gate_in(2, 'HAULB', 13)),
+        ('UNA', 'HAULB', UNA + gate_in(3, 'HAULB', 14)),
+        ('UNA that swaps separators', 'HAULB', swapped(gate_in(4, 'HAULB', 15))),
+        ('a release in its code', 'HAULB', gate_in(5, '?HAULB', 16)),
+        ('a space before it', 'HAULB', ' ' + gate_in(6, 'HAULB', 17)),
         ('a byte order mark before it', 'HAULB', '\xef\xbb\xbf' + gate_in(6, 'HAULB', 17)),
         ('a NUL before it', 'HAULB', '\0' + gate_in(6, 'HAULB', 17)), ('nothing', 'HAULB', ''),
         ('a foreign interchange after its own', 'HAULB', gate_in(6, 'HAULB', 17) + gate_in(4)),
@@ -98,14 +101,14 @@ def paths(clients, judge):
     """A partner reads its own answers, and can name no other's."""
     for number in ('1', '3', '77'):
         for kind, what in (('reply', 'replies'), ('contrl', 'contrls'), ('ticket', 'tickets')):
-            wanted = judge.told(kind, 'HAULA/' + number)
+            wanted = judge.report(kind, 'HAULA/' + number)
             judge.same('GET /%s/%s' % (what, number), wanted, clients.get('HAULA', '/%s/%s' % (what, number)))
     others = [
-        '/replies/HAULA/1', '/replies/%48AULA/1', '/replies/1%2f..%2fHAULA%2f1', '/replies/../HAULA/1', '/replies/1/../../yard',
-        '//replies/1', '/replies/1?x=1', '/replies/1/', '/replies/x', '/replies/', '/replies/' + 15 * '1',
-        '/yard', '/yard.csv', '/partners', '/partners/HAULA', '/containers/ABCU0000017', '/visits/ABCU0000017', '/picture', '/blocks',
-        '/lists/9123456/V12/load', '/work/9123456/V12/load', '/health', '/metrics', '/standing/HAULA', '/standing?x', '/interchanges/',
-        '/./standing', '/.', '/']
+        '/replies/HAULA/1', '/replies/%48AULA/1', '/replies/1%2f..%2fHAULA%2f1', '/replies/../HAULA/1',
+        '/replies/1/../../yard', '//replies/1', '/replies/1?x=1', '/replies/1/', '/replies/x', '/replies/',
+        '/replies/' + 15 * '1', '/yard', '/yard.csv', '/partners', '/partners/HAULA', '/containers/ABCU0000017',
+        '/visits/ABCU0000017', '/picture', '/blocks', '/lists/9123456/V12/load', '/work/9123456/V12/load', '/health',
+        '/metrics', '/standing/HAULA', '/standing?x', '/interchanges/', '/./standing', '/.', '/']
     for path in others:
         judge.same('GET %s' % path[:40], NONE, clients.get('HAULB', path))
     for path in ('/partners/EVIL/gate', '/partners/HAULA/interchanges', '/interchanges/../partners/EVIL/gate',
@@ -174,14 +177,15 @@ def by_curl(clients, judge):
             file.write(text)
         return [*more, '--data-binary', '@' + path]
 
-    for name, more in (('', []), (', in pieces', ['-H', 'Transfer-Encoding: chunked']), (', Expect', ['-H', 'Expect: 100-continue'])):
+    for name, more in (
+            ('', []), (', in pieces', ['-H', 'Transfer-Encoding: chunked']), (', Expect', ['-H', 'Expect: 100-continue'])):
         text = gate_in(next(number), 'HAULB', 50 + len(name))
         came = clients.curl('HAULB', '/interchanges', *words(text, *more))
         if came.status == 100:
             came = parted(came.body)
         judge.same('curl' + name, judge.delivered(text), came)
     judge.same('curl, foreign', OTHER_SENDER, clients.curl('HAULB', '/interchanges', *words(gate_in(9, 'HAULA', 60))))
-    judge.same('curl, its reply', judge.told('reply', 'HAULB/7'), clients.curl('HAULB', '/replies/7'))
+    judge.same('curl, its reply', judge.report('reply', 'HAULB/7'), clients.curl('HAULB', '/replies/7'))
     judge.same('curl, a path with dots', NONE, clients.curl('HAULB', '/replies/../yard'))
 
 
@@ -204,7 +208,8 @@ def slow(clients, judge):
             except OSError as fault:
                 came.append(repr(fault).encode())
 
-    threads = [threading.Thread(target=trickle, args=[gate_in(10, 'HAULB', 70) + ' ' * 1000, 0.1], daemon=True) for _client in range(SLOW)]
+    body = gate_in(10, 'HAULB', 70) + 1000 * ' '
+    threads = [threading.Thread(target=trickle, args=[body, 0.1], daemon=True) for _client in range(SLOW)]
     for thread in threads:
         thread.start()
     longest = 0
@@ -227,9 +232,10 @@ def refusals(clients, judge):
     with open(clients.installed.file('logs/refused.jsonl'), encoding='latin-1') as file:
         lines = [json.loads(line) for line in file]
     judge.checks.expect('each line has a status', {400, 403, 409}, {line['status'] for line in lines})
-    for status, by, text in ((403, 'HAULB', gate_in(4, 'HAULA', 20)), (409, 'HAULA', gate_in(1, serial=9)),
-                             (400, 'HAULB', '\0' + gate_in(6, 'HAULB', 17)), (400, 'HAULB', '\xef\xbb\xbf' + gate_in(6, 'HAULB', 17)),
-                             (403, 'HAULB', padded(gate_in(4, 'HAULA', 20), LONGEST_TEXT))):
+    for status, by, text in (
+            (403, 'HAULB', gate_in(4, 'HAULA', 20)), (409, 'HAULA', gate_in(1, serial=9)),
+            (400, 'HAULB', '\0' + gate_in(6, 'HAULB', 17)), (400, 'HAULB', '\xef\xbb\xbf' + gate_in(6, 'HAULB', 17)),
+            (403, 'HAULB', padded(gate_in(4, 'HAULA', 20), LONGEST_TEXT))):
         found = [line for line in lines if (line['status'], line['by'], line['text']) == (status, by, text)]
         judge.checks.expect('written down once: %d of %s, %r' % (status, by, text[:20]), 1, len(found))
 

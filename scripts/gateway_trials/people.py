@@ -1,4 +1,5 @@
 """Each role and each path at the port of the terminal's own people, and the way in past the gateway."""
+import errno
 import os
 import socket
 import subprocess
@@ -39,7 +40,7 @@ def reports(clients, judge):
         judge.same('a delivery', judge.delivered(text), clients.post(code, text))
     for path, kind, key, allowed in REPORTS:
         for role in ROLES:
-            wanted = judge.told(kind, key) if role in allowed else ROLE
+            wanted = judge.report(kind, key) if role in allowed else ROLE
             judge.same('%s: GET %s' % (role, path), wanted, clients.get(role, path, port))
     for role in ROLES:
         wanted = judge.standing('HAULA') if role == 'edi' else ROLE
@@ -59,7 +60,7 @@ def nobodys(clients, judge):
 
 
 def accounts(clients, judge):
-    """The EDI desk alone adds accounts."""
+    """Only the EDI desk adds accounts."""
     port = clients.installed.people
     request = head_of('POST', '/partners/HAULC/gate', 'Content-Length: 0')
     for role in ('gate', 'planner', 'quay'):
@@ -76,13 +77,14 @@ def accounts(clients, judge):
 
 
 def ways_in(clients, judge):
-    """Past the gateway: the port is not there for other programs, and the socket is for its group alone."""
+    """Past the gateway: the port is not there for other programs, and only its group may open the socket."""
     installed = clients.installed
     if not installed.network.front:
         print('gateway: the ways in past it were not tried, which takes root')
         return
     with socket.socket() as client:
-        judge.checks.expect("the office's port, from outside its network", False, not client.connect_ex(('127.0.0.1', installed.office.port)))
+        outside = client.connect_ex(('127.0.0.1', installed.office.port))
+    judge.checks.expect("the office's port, from outside its network", errno.ECONNREFUSED, outside)
     for user, group, wanted in (('nobody', 'nogroup', 7), (GROUP, GROUP, 0)):
         words = ['setpriv', '--reuid', user, '--regid', group, '--clear-groups', 'curl', '-s', '-m', '60', '-o', os.devnull,
                  '--unix-socket', installed.file('queue.sock'), 'http://office/yard']

@@ -16,7 +16,7 @@ PAGE = os.path.join(EXAMPLES, '../../docs/OPERATIONS.md')
 
 
 def verified(checks, program, folder):
-    """Each unit, with what it starts where it lies here. A word is told of each line that systemd finds wrong."""
+    """Each unit, with what it starts where it lies here. systemd has no fault to find."""
     bins = os.path.join(EXAMPLES, 'bin')
     for name in UNITS:
         with open(os.path.join(EXAMPLES, 'systemd', name), encoding='utf-8') as file:
@@ -25,8 +25,8 @@ def verified(checks, program, folder):
         with open(os.path.join(folder, name), 'w', encoding='utf-8') as file:
             file.write(text)
     for name in UNITS:
-        done = subprocess.run(
-            ['systemd-analyze', 'verify', '--man=no', os.path.join(folder, name)], capture_output=True, encoding='utf-8', check=False)
+        words = ['systemd-analyze', 'verify', '--man=no', os.path.join(folder, name)]
+        done = subprocess.run(words, capture_output=True, encoding='utf-8', check=False)
         checks.expect('systemd-analyze verify ' + name, ('', 0), (done.stdout + done.stderr, done.returncode))
     for name in NETWORKED:
         with open(os.path.join(folder, name), encoding='utf-8') as file:
@@ -40,7 +40,8 @@ def enabled(checks):
     for name in UNITS:
         with open(os.path.join(EXAMPLES, 'systemd', name), encoding='utf-8') as file:
             if '\n[Install]\n' in file.read():
-                checks.expect('%s is enabled by the page' % name, True, bool(re.search(r'systemctl enable --now .*\b%s' % re.escape(name), page)))
+                found = re.search(r'systemctl enable --now .*\b%s' % re.escape(name), page)
+                checks.expect('%s is enabled by the page' % name, True, found is not None)
 
 
 def rotated(checks, installed):

@@ -23,7 +23,7 @@ mod watch;
 
 use command::run;
 use office_commands::{COMMAND_LINE, FAILED};
-use office_stream::{Gathered, Port};
+use office_stream::Port;
 use std::io::ErrorKind;
 use std::process::ExitCode;
 use std::{env, io};
@@ -46,7 +46,7 @@ fn run_words(rt: &HostRuntime) -> io::Result<u8> {
         words.push(word.as_str())?;
     }
     let mut input = Port::new(rt.stdin());
-    let mut output = Port::new(Gathered::new(rt.stdout()));
+    let mut output = Port::new(rt.stdout());
     let mut errors = Port::new(rt.stderr());
     Ok(run(rt, words.as_slice(), &mut input, &mut output, &mut errors))
 }

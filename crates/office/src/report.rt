@@ -15,7 +15,7 @@ pub(crate) fn report<W: Write, E: Write>(
     errors: &mut Port<E>,
 ) -> u8 {
     match report_over(rt, store, Unknown, kind, key.unwrap_or(""), writer) {
-        Ok((status, _desk)) => status,
-        Err(fault) => tell_store(rt, errors, store, &fault),
+        Ok((_desk, Ok(status))) => status,
+        Ok((_desk, Err(fault))) | Err(fault) => tell_store(rt, errors, store, &fault),
     }
 }

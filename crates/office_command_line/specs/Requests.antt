@@ -204,3 +204,9 @@ abbrev pub is_asked : CommandFault → Bool
 is_asked (Words error) = is_result (kind_of error)
 is_asked (Values line) = false
 is_asked Memory = false
+
+-- what is told of it: the usage line, or that memory was refused; of words in which `clap` finds a fault, what `clap` says
+abbrev pub fault_text : CommandFault → Option (List ℕ)
+fault_text (Words error) = None
+fault_text (Values line) = Some line.now
+fault_text Memory = Some (codes "store: Memory\n")

@@ -33,6 +33,10 @@ impl CommandFault {
 }
 
 impl fmt::Display for CommandFault {
+    ghost use Rattle.office_command_line.specs.Requests.{fault_text};
+
+    ghost output = { fault_text };
+
     fn fmt<W: fmt::Write>(&self, f: &mut fmt::Formatter<W>) -> fmt::Result {
         match self {
             CommandFault::Words(error) => error.fmt(f),

@@ -1,5 +1,5 @@
 -- Requests that are served over a store in files.
-use Rattle.std.proofs.Common.{◌≡◌, ◌⊎◌, ◌≤◌, inl, inr, ℕ, List, [], ◌∷◌, ◌++◌, length, Option, Some, Result, Ok, Err, refl, sym, ap, subst, ◌∙◌}
+use Rattle.std.proofs.Common.{◌≡◌, ◌⊎◌, ◌≤◌, inl, inr, ℕ, Bool, List, [], ◌∷◌, ◌++◌, length, Option, Some, Result, Ok, Err, refl, sym, ap, subst, ◌∙◌}
 use Rattle.std.proofs.KnownBytes.{Appends-nil, Appends-trans}
 use Rattle.std.specs.Io.KnownBytes.{Appends}
 use Rattle.sqlite_disk.specs.declared.Disk.{Ghosts}
@@ -33,22 +33,39 @@ use Rattle.office_desk.specs.Reports.{DeskTells, TellsAfter}
 use Rattle.office_desk.specs.declared.desk.Desk.{Desk}
 use Rattle.office_commands.specs.Delivering.{BeginsAt, OpensOn, StandsAlike}
 use Rattle.office_commands.specs.Ending.{Prints, Tells as TellsText}
-use Rattle.office_commands.specs.Serving.{EndsServing, listening_line, served_line, IsServed, AreServed, put_off, HasNoEvent, MayBeThere, HoldsServed, LeadsNamed, EnrolsNamed, AreServedBy, IsServedOver}
+use Rattle.office_commands.specs.Serving.{EndsServing, listening_line, served_line, IsServed, AreServed, put_off, HasNoEvent, MayBeThere, HoldsServed, LeadsNamed, EnrolsNamed, LeadsWhile, EnrolsWhile, AreServedBy, IsServedOver}
 use Rattle.office_commands.proofs.AccountLemmas.{account_alike}
 use Rattle.office_commands.proofs.ReportLemmas.{after_alike}
 use Rattle.office_commands.proofs.StreamLemmas.{answer_alike, stand_alike}
 
 -- ---- what stands around a desk
 
--- steps of what a desk stands in are steps of the desk
-pub inner_steps : {W D : Type 0} (inner : W → D) (leads : D → List ℕ → Response → D → Type 0) (enrols : D → List ℕ → List ℕ → AccountAnswer → D → Type 0)
+-- steps of what a desk stands in are steps of the desk, if each one is
+pub inner_steps : {W D : Type 0} (inner : W → D) (outer_leads : W → List ℕ → Response → W → Type 0) (outer_enrols : W → List ℕ → List ℕ → AccountAnswer → W → Type 0)
+    (leads : D → List ℕ → Response → D → Type 0) (enrols : D → List ℕ → List ℕ → AccountAnswer → D → Type 0)
     (looks : D → Query → Result (Option (List ℕ)) NotNow → D → Type 0) (old : W) (steps : List Step) (new : W)
-    → StepsLead (λ o text given n. leads (inner o) text given (inner n)) (λ o code kind given n. enrols (inner o) code kind given (inner n)) (λ o query found n. looks (inner o) query found (inner n)) old steps new
+    → StepsLead outer_leads outer_enrols (λ o query found n. looks (inner o) query found (inner n)) old steps new
+    → ((o : W) (text : List ℕ) (given : Response) (n : W) → outer_leads o text given n → leads (inner o) text given (inner n))
+    → ((o : W) (code kind : List ℕ) (given : AccountAnswer) (n : W) → outer_enrols o code kind given n → enrols (inner o) code kind given (inner n))
     → StepsLead leads enrols looks (inner old) steps (inner new)
-inner_steps inner leads enrols looks old [] new same = ap inner same
-inner_steps inner leads enrols looks old (delivery text given ∷ steps) new (next, led, rest) = (inner next, led, inner_steps inner leads enrols looks next steps new rest)
-inner_steps inner leads enrols looks old (account code kind given ∷ steps) new (next, led, rest) = (inner next, led, inner_steps inner leads enrols looks next steps new rest)
-inner_steps inner leads enrols looks old (report query found ∷ steps) new (next, led, rest) = (inner next, led, inner_steps inner leads enrols looks next steps new rest)
+inner_steps inner outer_leads outer_enrols leads enrols looks old [] new same by by' = ap inner same
+inner_steps inner outer_leads outer_enrols leads enrols looks old (delivery text given ∷ steps) new (next, led, rest) by by' =
+    (inner next, by old text given next led, inner_steps inner outer_leads outer_enrols leads enrols looks next steps new rest by by')
+inner_steps inner outer_leads outer_enrols leads enrols looks old (account code kind given ∷ steps) new (next, led, rest) by by' =
+    (inner next, by' old code kind given next led, inner_steps inner outer_leads outer_enrols leads enrols looks next steps new rest by by')
+inner_steps inner outer_leads outer_enrols leads enrols looks old (report query found ∷ steps) new (next, led, rest) by by' =
+    (inner next, led, inner_steps inner outer_leads outer_enrols leads enrols looks next steps new rest by by')
+
+-- what goes by the name of a file is done, or `not now`
+pub named_leads : {D : Type 0} (leads : D → List ℕ → Response → D → Type 0) (says : Bool → Type 0) (nameless : Bool) (old : D) (text : List ℕ) (given : Response) (new : D)
+    → LeadsWhile leads says nameless old text given new → LeadsNamed leads old text given new
+named_leads leads says nameless old text given new (inl (said, noted, led)) = inl led
+named_leads leads says nameless old text given new (inr (said, noted, off, same)) = inr (off, same)
+
+pub named_enrols : {D : Type 0} (enrols : D → List ℕ → List ℕ → AccountAnswer → D → Type 0) (says : Bool → Type 0) (nameless : Bool) (old : D) (code kind : List ℕ) (given : AccountAnswer) (new : D)
+    → EnrolsWhile enrols says nameless old code kind given new → EnrolsNamed enrols old code kind given new
+named_enrols enrols says nameless old code kind given new (inl (said, noted, led)) = inl led
+named_enrols enrols says nameless old code kind given new (inr (said, noted, off, same)) = inr (off, same)
 
 -- from what a desk was to what it is, by whatever stood around it
 pub served_by : {D : Type 0} (leads : D → List ℕ → Response → D → Type 0) (enrols : D → List ℕ → List ℕ → AccountAnswer → D → Type 0)

@@ -1,5 +1,5 @@
 -- What requests that are served leave of an office whose files held the rows after some events.
-use Rattle.std.specs.Prelude.{◌≡◌, ◌⊎◌, ◌≤◌, ℕ, true, List, [], ◌∷◌, ◌++◌, length, Option, None, Some, Result, codes, decimal}
+use Rattle.std.specs.Prelude.{◌≡◌, ◌⊎◌, ◌≤◌, ℕ, Bool, true, false, List, [], ◌∷◌, ◌++◌, length, Option, None, Some, Result, codes, decimal}
 use Rattle.std.specs.Io.KnownBytes.{Appends}
 use Rattle.sqlite_disk.specs.declared.Disk.{Ghosts}
 use Rattle.sqlite.specs.Files.{over_files}
@@ -82,6 +82,20 @@ LeadsNamed leads old text given new = leads old text given new ⊎ ((given ≡ r
 abbrev pub EnrolsNamed : {D : Type 0} → (D → List ℕ → List ℕ → AccountAnswer → D → Type 0) →
     D → List ℕ → List ℕ → AccountAnswer → D → Type 0
 EnrolsNamed enrols old code kind given new = enrols old code kind given new ⊎ ((given ≡ account_answer.NotNow) × (new ≡ old))
+
+-- So it goes by what the store's file says of its name, each time that it is asked: with one the desk is asked, and
+-- without one it is not. What it said is noted.
+abbrev pub LeadsWhile : {D : Type 0} → (D → List ℕ → Response → D → Type 0) → (says : Bool → Type 0) → (nameless : Bool) →
+    D → List ℕ → Response → D → Type 0
+LeadsWhile leads says nameless old text given new =
+    (says true × (nameless ≡ false) × leads old text given new)
+    ⊎ (says false × (nameless ≡ true) × (given ≡ response.NotNow) × (new ≡ old))
+
+abbrev pub EnrolsWhile : {D : Type 0} → (D → List ℕ → List ℕ → AccountAnswer → D → Type 0) → (says : Bool → Type 0) →
+    (nameless : Bool) → D → List ℕ → List ℕ → AccountAnswer → D → Type 0
+EnrolsWhile enrols says nameless old code kind given new =
+    (says true × (nameless ≡ false) × enrols old code kind given new)
+    ⊎ (says false × (nameless ≡ true) × (given ≡ account_answer.NotNow) × (new ≡ old))
 
 -- At most so many calls were made, and each did to the desk what the desk says of a call, or nothing and was answered
 -- `not now`.

@@ -20,6 +20,7 @@ mod report;
 mod service;
 mod serving;
 mod status;
+mod store_file;
 mod telling;
 mod watching;
 
@@ -36,4 +37,5 @@ pub use report::{report_on, report_over};
 pub use service::Service;
 pub use serving::serve_over;
 pub use status::{COMMAND_LINE, DONE, FAILED, REFUSED};
+pub use store_file::{Names, StoreFile};
 pub use telling::{print, tell, tell_fault, tell_outcome};

@@ -81,15 +81,24 @@ pub struct Sender {
 }
 
 impl Sender {
-    /// The sender of a text, if its head can be read.
-    pub(crate) fn of(alloc: Global, delivered: &[u8]) -> Option<Sender> {
+    ghost use Rattle.std.specs.Prelude.{IfOk, IfSome};
+    ghost use Rattle.edi_segments.specs.Interchange.{interchange_of, segments_in};
+    ghost use Rattle.edi_syntax.specs.Heads.{head_segments};
+    ghost use Rattle.office_commands.specs.Senders.{IsSender};
+
+    /// The sender of a text, if its head can be read. None also if memory is refused.
+    pub(crate) fn of(alloc: Global, delivered: &[u8]) -> Option<Sender>
+        ensures { IfSome result (IsSender (segments_in (interchange_of delivered.now))) }
+    {
         match Head::open(interchange_text(delivered)) {
             Ok(head) => Sender::in_head(alloc, &head).ok(),
             Err(_) => None,
         }
     }
 
-    fn in_head(alloc: Global, head: &Head<'_>) -> Result<Sender, AllocError> {
+    fn in_head(alloc: Global, head: &Head<'_>) -> Result<Sender, AllocError>
+        ensures { IfOk result (IsSender (head_segments head.now)) }
+    {
         let mut code = Vec::new(alloc);
         head.sender(1).value_into(&mut code)?;
         Ok(Sender {

@@ -19,9 +19,9 @@ use sqlite::{Alter, FileFrom, FileStore, Start};
 use std::alloc::{AllocError, Global};
 use std::io::Write;
 
-/// Prints the report that a key asks for, from the store in the file at a path, and answers the exit status and the desk
-/// as it was left: 0, 1 if there is nothing to tell, which prints `none`, and 3 if printing failed. A fault is that of
-/// the store, and then nothing was printed.
+/// Prints the report that a key asks for, from the store in the file at a path, and answers the desk as it was left and
+/// the exit status: 0, 1 if there is nothing to tell, which prints `none`, and 3 if printing failed; or the fault for which
+/// nothing was printed. A fault without a desk is that for which it did not open.
 pub fn report_over<S: Start, W: Write>(
     rt: &HostRuntime,
     path: &str,
@@ -29,17 +29,20 @@ pub fn report_over<S: Start, W: Write>(
     kind: ReportKind,
     key: &str,
     writer: &mut Port<W>,
-) -> Result<(u8, Desk<FileStore<FileFrom<S>>>), TableFault>
-    ensures ok { IfOk result (λ ended.
-        Reports (λ found. IsSound over_files ended.1 → TellsHeld (image_at S.Start) kind key.now found)
+) -> Result<(Desk<FileStore<FileFrom<S>>>, Result<u8, TableFault>), TableFault>
+    ensures ok { IfOk result (λ ended. IfOk ended.1 (λ status.
+        Reports (λ found. IsSound over_files ended.0 → TellsHeld (image_at S.Start) kind key.now found)
         (Prints writer.old.failed writer.new.failed writer.new.flushed
-        (W.contents writer.old.inner) (W.contents writer.new.inner)) ended.0) }
-    ensures looks { IfOk result (λ ended. LooksOver (image_at S.Start) ended.1) }
-    ensures err { OnErr result (writer.new ≡ writer.old) }
+        (W.contents writer.old.inner) (W.contents writer.new.inner)) status)) }
+
+    // It only looked, whether it told something or met a fault.
+    ensures looks { IfOk result (λ ended. LooksOver (image_at S.Start) ended.0) }
+    ensures err { IfOk result (λ ended. OnErr ended.1 (writer.new ≡ writer.old)) }
+    ensures refused { OnErr result (writer.new ≡ writer.old) }
 {
     let mut desk = open_store(rt, path, start)?;
-    let status = report_on(rt.alloc(), &mut desk, kind, key, writer)?;
-    Ok((status, desk))
+    let status = report_on(rt.alloc(), &mut desk, kind, key, writer);
+    Ok((desk, status))
 }
 
 /// Prints the report that a key asks for, from a desk, and answers the exit status, as `report_over` does. It only looks.

@@ -12,6 +12,7 @@ use crate::notes::Notes;
 use crate::opening::open_store;
 use crate::service::Service;
 use crate::status::{DONE, FAILED};
+use crate::store_file::StoreFile;
 use crate::telling::{print, tell};
 use crate::watching::Watching;
 use office_desk::Desk;
@@ -37,7 +38,7 @@ pub fn serve_over<S: Start, N: Notes, W: Write, E: Write>(
     notes: &N,
     writer: &mut Port<W>,
     errors: &mut Port<E>,
-) -> Result<(u8, Named<Desk<FileStore<FileFrom<S>>>>), TableFault>
+) -> Result<(u8, Named<Desk<FileStore<FileFrom<S>>>, StoreFile>), TableFault>
     // What was printed and told, and how many calls at most were made for requests. From whatever events the files held the
     // rows, each is answered by that office at its place, or `not now`, and what was answered outlasts a crash. And what
     // each did to the desk, whatever the files held.
@@ -60,13 +61,13 @@ fn serve_named<D: Report + AddAccount + Faults + Tallied, N: Notes, W: Write, E:
     notes: &N,
     writer: &mut Port<W>,
     errors: &mut Port<E>,
-) -> (u8, Named<D>)
+) -> (u8, Named<D, StoreFile>)
     ensures { EndsServing service.port service.count writer.old writer.new
         (W.contents writer.old.inner) (W.contents writer.new.inner)
         (Tells errors.new.failed (E.contents errors.old.inner) (E.contents errors.new.inner))
         (λ most. AreServedBy D.leads D.enrols D.looks most desk result.1.desk) result.0 }
 {
-    let named = Named::new(desk, rt, path);
+    let named = Named::new(desk, StoreFile::open(rt, path));
     let mut noted = Noted::new(named, notes);
     let status = serve_at(rt, &mut noted, service, notes, writer, errors);
     (status, noted.into_desk())

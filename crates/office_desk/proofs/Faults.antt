@@ -152,4 +152,8 @@ asked_unfit content rows its (query.Reply partner number) lacks =
     reply_unfit content rows its number (partner_called content (string_bytes partner))
     (λ p is. let low = found_low 1 (string_bytes partner) (parties_in content).partners p is in (low.0, omega (arith, low.1, length-map content.partners (λ (account : List ℕ × PartnerKind). account.0)))) lacks
 asked_unfit content rows its query.Partners lacks = absurd (numbers_fit content rows its lacks)
+asked_unfit content rows its (query.Partner code) lacks = absurd (numbers_fit content rows its lacks)
+asked_unfit content rows its (query.Next code) lacks = absurd (numbers_fit content rows its lacks)
+asked_unfit content rows its query.Health lacks = absurd (numbers_fit content rows its lacks)
+asked_unfit content rows its query.Metrics lacks = absurd (numbers_fit content rows its lacks)
 asked_unfit content rows its others lacks = absurd lacks

@@ -1,5 +1,5 @@
 -- Partners that are looked up one after the other.
-use Rattle.std.proofs.Common.{◌≡◌, ℕ, ◌+◌, ◌-◌, ◌<◌, List, [], ◌∷◌, ◌++◌, length, map, take, get_or, slice_get, Option, None, Some, option_map, string_bytes, refl, sym, ap, subst, ◌∙◌, arith}
+use Rattle.std.proofs.Common.{◌≡◌, ℕ, ◌+◌, ◌-◌, ◌<◌, ◌≤◌, List, [], ◌∷◌, ◌++◌, length, map, take, get_or, slice_get, Option, None, Some, option_map, string_bytes, refl, sym, ap, subst, ◌∙◌, arith}
 use Rattle.std.proofs.lemmas.Option.{slice_get-map, slice_get_read}
 use Rattle.std.proofs.lemmas.List.{take_more, map-append, length-map, length-take}
 use Rattle.edi_messages.specs.declared.partner_kind.PartnerKind.{PartnerKind}
@@ -9,6 +9,7 @@ use Rattle.office_setup.specs.Setups.{account_contents}
 use Rattle.office_setup.specs.declared.account.Account.{Account}
 use Rattle.office_lookups.specs.Partners.{PartnerContent, partner_content, partner_line}
 use Rattle.office_lookups.specs.declared.partner.Partner.{Partner}
+use Rattle.office_desk.specs.Causes.{LacksNumbers, LacksSome}
 use Rattle.office_desk.specs.Reports.{AreLookedUp, IsLookedUp, TellsPartner}
 use Rattle.office_desk.proofs.AccountLemmas.{found_by_code}
 
@@ -51,3 +52,7 @@ pub told_of_none : (rows : Rows) (accounts : List Account) (code : List ℕ) →
     → TellsPartner rows (account_contents accounts) (partner_from 1 code (map (λ (pair : List ℕ × PartnerKind). pair.0) (account_contents accounts))) None
 told_of_none rows accounts code found =
     subst (λ (o : Option ℕ). TellsPartner rows (account_contents accounts) o None) (sym (found_by_code accounts code None found)) refl
+
+-- an account whose numbers can't be read is one of them
+pub some_lacks : (rows : Rows) (accounts : List Account) (id : ℕ) → 1 ≤ id → id ≤ length accounts → LacksNumbers rows id → LacksSome rows (length (account_contents accounts))
+some_lacks rows accounts id one most lacks = let many = length-map accounts said in (id, one, omega (arith, most, many), lacks)

@@ -49,4 +49,8 @@ AsksUnreadable content rows (query.Reply partner number) =
 AsksUnreadable content rows (query.Contrl partner number) =
     HasUnfitReplyOf rows number (partner_called content (string_bytes partner))
 AsksUnreadable content rows query.Partners = LacksSome rows (length content.partners)
+AsksUnreadable content rows (query.Partner code) = LacksSome rows (length content.partners)
+AsksUnreadable content rows (query.Next code) = LacksSome rows (length content.partners)
+AsksUnreadable content rows query.Health = LacksSome rows (length content.partners)
+AsksUnreadable content rows query.Metrics = LacksSome rows (length content.partners)
 AsksUnreadable content rows others = ⊥

@@ -74,6 +74,9 @@ pub(crate) fn tell_partner<S: Alter>(
         HasRows rows (state S.Store conn.old).now →
         TellsPartner rows (setup_content setup.now).partners (partner_called (setup_content setup.now) code.now)
         (option_map string_bytes found)) }
+    ensures fault { HasCleanDisk (state S.Store conn.new) → IfErr result (λ fault. (rows : Rows) →
+        HasRows rows (state S.Store conn.old).now →
+        IsOfStoreOr (LacksSome rows (length (setup_content setup.now).partners)) fault) }
     ensures reads { OnlyReads (state S.Store conn.old) (state S.Store conn.new) result }
 {
     let accounts = setup.partners.as_slice();
@@ -98,6 +101,9 @@ pub(crate) fn tell_next<S: Alter>(
     ensures told { HasCleanDisk (state S.Store conn.new) → IfOk result (λ found. (rows : Rows) →
         HasRows rows (state S.Store conn.old).now →
         TellsNext rows (partner_called (setup_content setup.now) code.now) (option_map string_bytes found)) }
+    ensures fault { HasCleanDisk (state S.Store conn.new) → IfErr result (λ fault. (rows : Rows) →
+        HasRows rows (state S.Store conn.old).now →
+        IsOfStoreOr (LacksSome rows (length (setup_content setup.now).partners)) fault) }
     ensures reads { OnlyReads (state S.Store conn.old) (state S.Store conn.new) result }
 {
     match setup.partner_called(code) {

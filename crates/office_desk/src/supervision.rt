@@ -1,13 +1,16 @@
-ghost use Rattle.std.specs.Prelude.{◌≡◌, ◌≤◌, Some, IfOk, length, option_map, string_bytes};
+ghost use Rattle.std.specs.Prelude.{◌≡◌, ◌≤◌, Some, IfErr, IfOk, length, option_map, string_bytes};
 ghost use Rattle.sqlite.specs.Held.{state};
 ghost use Rattle.sqlite.specs.State.{HasCleanDisk};
 ghost use Rattle.office_rows.specs.Rows.{Rows};
 ghost use Rattle.office_rows.specs.Stored.{HasRows};
 ghost use Rattle.office_setup.specs.Limits.{most_partners};
 ghost use Rattle.office_setup.specs.Setups.{setup_content};
+ghost use Rattle.office_tables.specs.Answers.{LacksNext};
+ghost use Rattle.office_tables.specs.Faults.{IsOfStoreOr};
 ghost use Rattle.office_tables.specs.Reading.{Reads};
 ghost use Rattle.office_delivery.specs.Reading.{OnlyReads};
 ghost use Rattle.office_lookups.specs.Metrics.{ready_text};
+ghost use Rattle.office_desk.specs.Causes.{LacksSome};
 ghost use Rattle.office_desk.specs.Reports.{TellsMetrics};
 
 use crate::partners::look_all_up;
@@ -31,6 +34,8 @@ pub(crate) fn tell_health<S: Alter>(
     conn: &mut Connection<S>,
 ) -> Result<Option<String>, TableFault>
     ensures told { IfOk result (λ found. option_map string_bytes found ≡ Some ready_text) }
+    ensures fault { HasCleanDisk (state S.Store conn.new) → IfErr result (λ fault. (rows : Rows) →
+        HasRows rows (state S.Store conn.old).now → IsOfStoreOr (LacksNext 1 rows) fault) }
     ensures reads { Reads (state S.Store conn.old) (state S.Store conn.new) result }
 {
     next_of(conn, FIRST_PARTNER)?;
@@ -48,6 +53,9 @@ pub(crate) fn tell_metrics<S: Alter>(
     ensures told { HasCleanDisk (state S.Store conn.new) → IfOk result (λ found. (rows : Rows) →
         HasRows rows (state S.Store conn.old).now →
         TellsMetrics (setup_content setup.now) terminal.now rows (option_map string_bytes found)) }
+    ensures fault { HasCleanDisk (state S.Store conn.new) → IfErr result (λ fault. (rows : Rows) →
+        HasRows rows (state S.Store conn.old).now →
+        IsOfStoreOr (LacksSome rows (length (setup_content setup.now).partners)) fault) }
     ensures reads { OnlyReads (state S.Store conn.old) (state S.Store conn.new) result }
 {
     let versions = Versions {
@@ -55,11 +63,5 @@ pub(crate) fn tell_metrics<S: Alter>(
         store: STORE_VERSION,
     };
     let partners = look_all_up(alloc, conn, setup.partners.as_slice())?;
-    Ok(Some(metrics_report(
-        alloc,
-        versions,
-        terminal,
-        setup.visit_limit,
-        &partners,
-    )?))
+    Ok(Some(metrics_report(alloc, versions, terminal, setup.visit_limit, &partners)?))
 }

@@ -40,6 +40,7 @@ pub(crate) fn tell<S: Alter>(
     query: &Query,
 ) -> Result<Option<String>, TableFault>
     requires few { length setup.now.partners.items ≤ most_partners }
+    requires some { 1 ≤ length setup.now.partners.items }
     ensures told { HasCleanDisk (state S.Store conn.new) → IfOk result (λ found. (rows : Rows) →
         HasRows rows (state S.Store conn.old).now → AreKeptOnce rows.interchanges →
         TellsOf (setup_content setup.now) terminal.now rows query.now (option_map string_bytes found)) }

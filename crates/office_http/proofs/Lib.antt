@@ -6,6 +6,7 @@ pub mod Asking
 pub mod Keys
 pub mod Values
 pub mod OneRequest
-pub mod Senders
+pub mod SenderLemmas
+pub mod OwnPaths
 pub mod Serving
 pub mod Deciding

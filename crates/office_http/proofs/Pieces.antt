@@ -1,5 +1,5 @@
 -- What a few writes in a row append.
-use Rattle.std.proofs.Common.{◌≡◌, ℕ, List, ◌++◌, length, Option, refl, subst}
+use Rattle.std.proofs.Common.{◌≡◌, ℕ, List, [], ◌++◌, length, Option, refl, ap, subst, ◌∙◌, append-nil}
 use Rattle.std.specs.Io.KnownBytes.{Appends}
 use Rattle.std.proofs.KnownBytes.{Appends-trans}
 use Rattle.office_http.specs.Responses.{response_head, response_bytes}
@@ -40,3 +40,10 @@ unfolding response_bytes
 in_three a b c d e status size kind allowed x y z size_is head first second third =
     subst (λ (n : ℕ). Appends a e (response_head status kind allowed n ++ (x ++ (y ++ z)))) size_is
     (Appends-trans a b e (response_head status kind allowed size) (x ++ (y ++ z)) head (three_pieces b c d e x y z first second third))
+
+-- one whose head was gathered
+pub gathered : (status : ℕ) (kind : ContentType) (allowed : Option (List ℕ)) (head text body : List ℕ) →
+    head ≡ response_head status kind allowed (length body) → text ≡ body → head ++ (text ++ []) ≡ response_bytes status kind allowed body
+unfolding response_bytes
+gathered status kind allowed head text body head_is text_is =
+    ap (λ (l : List ℕ). head ++ l) (append-nil text ∙ text_is) ∙ ap (λ (l : List ℕ). l ++ body) head_is

@@ -9,3 +9,4 @@ pub mod Doors
 pub mod Steps
 pub mod Served
 pub mod Deciding
+pub mod OwnPaths

@@ -2,6 +2,7 @@
 //! caller's proof.
 
 ghost use Rattle.office_http.specs.Deciding.{FullRoomDecides, HeadsDecide};
+ghost use Rattle.office_http.specs.OwnPaths.{OwnPathsAreOwn};
 ghost use Rattle.office_http.specs.Requests.{HeadsAreOne, RequestsAreOne};
 
 /// A stream has one head, if any, and one rest behind it.
@@ -12,6 +13,11 @@ pub fn heads_are_one()
 /// But for want of memory, what a stream asks for depends on the stream alone, however it comes in pieces.
 pub fn requests_are_one()
     ensures { RequestsAreOne }
+{}
+
+/// What comes by the path of a partner never counts for another, whatever the text.
+pub fn own_paths_are_own()
+    ensures { OwnPathsAreOwn }
 {}
 
 /// A head decides, with the body that it wants: a refusal by its method, its path or its fields wants none, nor does a

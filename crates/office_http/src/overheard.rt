@@ -3,6 +3,7 @@ ghost use Rattle.std.specs.Io.{ReadsAtMost, WritesAtMost};
 ghost use Rattle.std.specs.Io.KnownBytes.{Keeps, ReadConsumes, WriteAppends};
 
 use arrayvec::ArrayVec;
+use office_stream::{Sink, Source};
 use std::io::{Read, Result, Write};
 
 /// A reader or a writer that keeps the front of what goes through it, and counts its bytes.
@@ -48,14 +49,15 @@ impl<T> Overheard<T> {
     }
 }
 
-impl<R: Read> Read for Overheard<R> {
+impl<R: Source> Read for Overheard<R> {
     ghost remaining = { λ overheard. R.remaining overheard.inner };
 
     fn read(&mut self, buf: &mut [u8]) -> Result<usize>
         ensures bound { ReadsAtMost result buf.new }
         ensures bytes { ReadConsumes (R.remaining self.old.inner) (R.remaining self.new.inner) result buf.new }
+        ensures led { R.gives self.old.inner buf.new result self.new.inner }
     {
-        match self.inner.read(buf) {
+        match self.inner.read_once(buf) {
             Ok(count) => {
                 self.note(&buf[..count]);
                 Ok(count)
@@ -65,14 +67,15 @@ impl<R: Read> Read for Overheard<R> {
     }
 }
 
-impl<W: Write> Write for Overheard<W> {
+impl<W: Sink> Write for Overheard<W> {
     ghost contents = { λ overheard. W.contents overheard.inner };
 
     fn write(&mut self, buf: &[u8]) -> Result<usize>
         ensures bound { WritesAtMost result buf.now }
         ensures bytes { WriteAppends (W.contents self.old.inner) (W.contents self.new.inner) result buf.now }
+        ensures led { W.takes self.old.inner buf.now result self.new.inner }
     {
-        match self.inner.write(buf) {
+        match self.inner.write_once(buf) {
             Ok(count) => {
                 self.note(&buf[..count]);
                 Ok(count)
@@ -83,7 +86,8 @@ impl<W: Write> Write for Overheard<W> {
 
     fn flush(&mut self) -> Result<()>
         ensures bytes { Keeps (W.contents self.old.inner) (W.contents self.new.inner) }
+        ensures led { W.flushes self.old.inner result self.new.inner }
     {
-        self.inner.flush()
+        self.inner.flush_once()
     }
 }

@@ -1,4 +1,4 @@
-ghost use Rattle.std.specs.Prelude.{◌≡◌, ◌++◌, unwrap_or, codes};
+ghost use Rattle.std.specs.Prelude.{◌≡◌, ◌++◌, ◌+◌, length, unwrap_or, codes, IfOk};
 ghost use Rattle.http.specs.StatusCode.{reason_phrase};
 ghost use Rattle.office_replies.specs.AccountAnswers.{account_body, account_status};
 ghost use Rattle.office_replies.specs.Responses.{body_of, status_of};
@@ -11,7 +11,7 @@ use crate::content_type::ContentType;
 use crate::refusal::Refusal;
 use http::{Method, StatusCode};
 use office_replies::{AccountAnswer, Response};
-use office_stream::Port;
+use office_stream::{Gathered, Port};
 use std::io::{Result, Write};
 
 /// Writes a response with that body.
@@ -24,8 +24,7 @@ pub(crate) fn write_text<W: Write>(
     ensures { Puts (response_bytes status kind None body.now)
         (W.contents port.old.inner) (W.contents port.new.inner) port.old port.new result }
 {
-    write_head(port, status, kind, None, body.len() as u128)?;
-    port.write_all(body.as_bytes())
+    write_response(port, status, kind, &None, body)
 }
 
 /// Writes the response of a refusal.
@@ -33,29 +32,97 @@ pub(crate) fn write_refusal<W: Write>(port: &mut Port<W>, refusal: Refusal) -> R
     ensures { Puts (refusal_bytes refusal)
         (W.contents port.old.inner) (W.contents port.new.inner) port.old port.new result }
 {
+    let allowed = refusal.allowed();
     let body = refusal.body();
-    write_head(
-        port,
-        refusal.status(),
-        ContentType::Json,
-        refusal.allowed(),
-        body.len() as u128,
-    )?;
+    write_response(port, refusal.status(), ContentType::Json, &allowed, body)
+}
+
+/// Writes a response whose head is gathered, so that with a small body it goes out in one write.
+fn write_response<W: Write>(
+    port: &mut Port<W>,
+    status: StatusCode,
+    kind: ContentType,
+    allowed: &Option<Method>,
+    body: &str,
+) -> Result<()>
+    ensures { Puts (response_bytes status kind allowed.now body.now)
+        (W.contents port.old.inner) (W.contents port.new.inner) port.old port.new result }
+{
+    match gathered_head(status, kind, allowed, body.len() as u128) {
+        Ok(head) => port.write_parts(&[head.as_slice(), body.as_bytes()]),
+        Err(_) => write_apart(port, status, kind, allowed, body),
+    }
+}
+
+/// The lines before a body of that size. An error is that they are longer than a `Gathered` holds, which none are.
+fn gathered_head(
+    status: StatusCode,
+    kind: ContentType,
+    allowed: &Option<Method>,
+    size: u128,
+) -> Result<Gathered>
+    ensures { IfOk result (λ head. head.held.items ≡ response_head status kind allowed.now size) }
+{
+    let mut head = Port::new(Gathered::new());
+    write_head(&mut head, status, kind, allowed, size)?;
+    Ok(head.into_inner())
+}
+
+/// Writes a response in as many writes as its head has parts, and one for its body.
+fn write_apart<W: Write>(
+    port: &mut Port<W>,
+    status: StatusCode,
+    kind: ContentType,
+    allowed: &Option<Method>,
+    body: &str,
+) -> Result<()>
+    ensures { Puts (response_bytes status kind allowed.now body.now)
+        (W.contents port.old.inner) (W.contents port.new.inner) port.old port.new result }
+{
+    write_head(port, status, kind, allowed, body.len() as u128)?;
     port.write_all(body.as_bytes())
 }
 
-/// Writes that a number is too far above the next one.
+/// Writes that a number is too far above the next one, in one write.
 pub(crate) fn write_early<W: Write>(port: &mut Port<W>, next: u64) -> Result<()>
     ensures { Puts (early_bytes next)
         (W.contents port.old.inner) (W.contents port.new.inner) port.old port.new result }
 {
     let mut digits = itoa::Buffer::new();
-    let front = early_front();
-    let next = digits.format(next);
+    let front = early_front().as_bytes();
+    let next = digits.format(next).as_bytes();
     let size = front.len() as u128 + next.len() as u128 + 1;
-    write_head(port, StatusCode::TOO_MANY_REQUESTS, ContentType::Json, None, size)?;
-    port.write_all(front.as_bytes())?;
-    port.write_all(next.as_bytes())?;
+    match gathered_head(
+        StatusCode::TOO_MANY_REQUESTS,
+        ContentType::Json,
+        &None,
+        size,
+    ) {
+        Ok(head) => port.write_parts(&[head.as_slice(), front, next, b"}".as_slice()]),
+        Err(_) => write_early_apart(port, front, next, size),
+    }
+}
+
+/// Writes the same in as many writes as its head has parts, and three for its body.
+fn write_early_apart<W: Write>(
+    port: &mut Port<W>,
+    front: &[u8],
+    next: &[u8],
+    size: u128,
+) -> Result<()>
+    requires { size ≡ length front.now + length next.now + 1 }
+    ensures { Puts (response_bytes 429 Json None (front.now ++ (next.now ++ codes "}")))
+        (W.contents port.old.inner) (W.contents port.new.inner) port.old port.new result }
+{
+    write_head(
+        port,
+        StatusCode::TOO_MANY_REQUESTS,
+        ContentType::Json,
+        &None,
+        size,
+    )?;
+    port.write_all(front)?;
+    port.write_all(next)?;
     port.write_all(b"}")
 }
 
@@ -110,10 +177,10 @@ fn write_head<W: Write>(
     port: &mut Port<W>,
     status: StatusCode,
     kind: ContentType,
-    allowed: Option<Method>,
+    allowed: &Option<Method>,
     size: u128,
 ) -> Result<()>
-    ensures { Puts (response_head status kind allowed size)
+    ensures { Puts (response_head status kind allowed.now size)
         (W.contents port.old.inner) (W.contents port.new.inner) port.old port.new result }
 {
     let mut digits = itoa::Buffer::new();
@@ -146,8 +213,8 @@ fn phrase(status: StatusCode) -> &'static str
     }
 }
 
-fn write_allowed<W: Write>(port: &mut Port<W>, allowed: Option<Method>) -> Result<()>
-    ensures { Puts (allow_line allowed)
+fn write_allowed<W: Write>(port: &mut Port<W>, allowed: &Option<Method>) -> Result<()>
+    ensures { Puts (allow_line allowed.now)
         (W.contents port.old.inner) (W.contents port.new.inner) port.old port.new result }
 {
     match allowed {

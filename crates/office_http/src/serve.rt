@@ -118,7 +118,7 @@ fn answer<W: Write, D: Report + AddAccount>(
 }
 
 /// Delivers a text, and writes its answer.
-fn answer_delivery<W: Write, D: Report>(
+fn answer_delivery<W: Write, D: Report + AddAccount>(
     alloc: Global,
     writer: &mut Port<W>,
     desk: &mut D,
@@ -135,7 +135,7 @@ fn answer_delivery<W: Write, D: Report>(
 }
 
 /// Delivers the text of a partner, unless its number is too far above the next one, and writes its answer.
-fn answer_own<W: Write, D: Report>(
+fn answer_own<W: Write, D: Report + AddAccount>(
     alloc: Global,
     writer: &mut Port<W>,
     desk: &mut D,

@@ -9,7 +9,7 @@ use crate::timed_writer::TimedWriter;
 use crate::watch::Watch;
 use office_queries::Report;
 use office_replies::AddAccount;
-use office_stream::{Gathered, Port};
+use office_stream::Port;
 use std::alloc::Global;
 use std::io::Read;
 use std::net::{Shutdown, TcpListener, TcpStream};
@@ -61,7 +61,7 @@ fn serve_stream<C: Clock, D: Report + AddAccount, H: Watch>(
     };
     let mut asked = Overheard::new(timed);
     let mut told = Overheard::new(TimedWriter::new(stream, clock));
-    let mut writer = Port::new(Gathered::new(&mut told));
+    let mut writer = Port::new(&mut told);
     let _ = serve_one(alloc, &mut Port::new(&mut asked), &mut writer, desk, ahead);
     let _ = stream.shutdown(Shutdown::Write);
     watch.served(&Seen::new(asked.front(), told.front(), told.count()));

@@ -1,5 +1,5 @@
 -- What a column of a text says.
-use Rattle.std.proofs.Common.{◌≡◌, ◌≢◌, ℕ, Bool, true, false, ◌&&◌, if◌then◌else◌, List, Ok, Err, Some, IsTrue, refl, sym, ap, subst, ◌∙◌}
+use Rattle.std.proofs.Common.{◌≡◌, ℕ, Bool, true, false, ◌&&◌, if◌then◌else◌, List, Ok, Err, Some, IsTrue, refl, sym, ap, subst, ◌∙◌}
 use Rattle.std.specs.Str.{bytes_eq}
 use Rattle.std.proofs.lemmas.Slice.Eq.{bytes_eq-Decides}
 use Rattle.box6346.specs.ContainerNumber.{number_of}
@@ -11,10 +11,7 @@ use Rattle.box6346.specs.declared.size_fault.SizeFault.{SizeFault}
 use Rattle.edi_moments.specs.Moments.{CivilMoment, moment_of, moment_digits}
 use Rattle.sqlite.specs.declared.types.Value.{Value}
 use Rattle.sqlite.specs.declared.types.Value.TheVariants.{Text}
-use Rattle.sqlite.specs.declared.error.Error.{Error}
-use Rattle.sqlite.specs.declared.error.Error.TheVariants.{SqliteFailure}
-use Rattle.sqlite.specs.declared.error.ErrorCode.TheVariants.{OutOfMemory}
-use Rattle.office_loading.specs.Decoded.{Fails, Said, fault_of_column}
+use Rattle.office_loading.specs.Decoded.{Said}
 use Rattle.office_loading.specs.Columns.{SaysContainer, SaysSize, SaysMoment}
 
 chosen : {E : Type 0} (f k : Bool) (text read : List ℕ) (e d : E) → Ok read ≡ (if f then (if k then Ok text else Err d) else Err e) → (read ≡ text) × IsTrue (f && k)
@@ -67,8 +64,3 @@ moment_refused value text digits moment said written parsed other (m, says) =
     let same : digits ≡ text = written ∙ ap moment_digits m_is ∙ sym is in
     let yes = (bytes_eq-Decides digits text).1 same in
     absurd cc
-
--- a column that can't be read says no text
-pub column_refused : {A : Type 0} (is_said : A → Type 0) (given : A) (error : Error) → (error ≢ SqliteFailure OutOfMemory → ¬ is_said given) → Fails is_said given (fault_of_column error)
-column_refused is_said given (SqliteFailure OutOfMemory) none = tt
-column_refused is_said given error none = none (λ same. absurd cc)

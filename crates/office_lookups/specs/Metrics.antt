@@ -45,9 +45,9 @@ gauges state visit_limit partners =
     ∷ gauge (codes "office_visits") (codes "Visits recorded, open and closed.") (length state.visits)
     ∷ gauge (codes "office_visits_limit") (codes "Visits that may be recorded.") visit_limit
     ∷ gauge (codes "office_interchanges_waiting") (codes "Interchanges that wait for a number that is missing.")
-      (sum_by waiting_count partners)
+    (sum_by waiting_count partners)
     ∷ gauge (codes "office_partners_waiting") (codes "Partners of whom an interchange waits.")
-      (count_by is_waited_for partners)
+    (count_by is_waited_for partners)
     ∷ []
 
 -- ---- how it is told

@@ -31,7 +31,7 @@ pub fn metrics_report(
     visit_limit: u32,
     partners: &[Partner],
 ) -> Result<String, AllocError>
-    ensures { IfOk result (λ text. string_bytes text ≡ metrics_text versions.program.now versions.store.now
+    ensures { IfOk result (λ text. string_bytes text ≡ metrics_text versions.entry.program.now versions.entry.store.now
         terminal.now visit_limit (map partner_content partners.now)) }
 {
     let visits = terminal.visits();
@@ -127,13 +127,9 @@ fn push_head(alloc: Global, text: &mut String, name: &str, help: &str) -> Result
 }
 
 /// The versions, as labels of a value that is always 1.
-fn push_versions(
-    alloc: Global,
-    text: &mut String,
-    versions: Versions<'_>,
-) -> Result<(), AllocError>
+fn push_versions(alloc: Global, text: &mut String, versions: Versions<'_>) -> Result<(), AllocError>
     ensures { OnOk result (string_bytes text.new
-        ≡ string_bytes text.old ++ versions_text versions.program.now versions.store.now) }
+        ≡ string_bytes text.old ++ versions_text versions.entry.program.now versions.entry.store.now) }
 {
     push_head(
         alloc,
@@ -141,9 +137,15 @@ fn push_versions(
         "office_info",
         "Versions of the program and of its store.",
     )?;
-    text.push_str("office_info{version=\"")?;
-    text.push_str(versions.program)?;
-    text.push_str("\",store_version=\"")?;
-    text.push_str(versions.store)?;
-    text.push_str("\"} 1\n")
+    push_text(text, "office_info{version=\"")?;
+    push_text(text, versions.program)?;
+    push_text(text, "\",store_version=\"")?;
+    push_text(text, versions.store)?;
+    push_text(text, "\"} 1\n")
+}
+
+fn push_text(text: &mut String, more: &str) -> Result<(), AllocError>
+    ensures { OnOk result (string_bytes text.new ≡ string_bytes text.old ++ more.now) }
+{
+    text.push_str(more)
 }

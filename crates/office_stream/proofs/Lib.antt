@@ -5,3 +5,5 @@ pub mod PieceLemmas
 pub mod StreamLemmas
 pub mod OneCut
 pub mod PlaceLemmas
+pub mod WriteLemmas
+pub mod PartLemmas

@@ -1,21 +1,12 @@
 -- What a failed write leaves of a text, and what a write behind others makes.
-use Rattle.std.proofs.Common.{◌≡◌, ℕ, List, [], ◌++◌, take, drop, Option, Result, Ok, Err, OnOk, OnErr, append_assoc, append-nil, sym, ap, subst, ◌∙◌}
-use Rattle.std.specs.Io.KnownBytes.{Appends, Keeps, WriteAppends, append_known}
-use Rattle.std.proofs.KnownBytes.{Appends-trans, Appends-kept, Keeps-trans, append_known-kept, append_known-passed}
+use Rattle.std.proofs.Common.{◌≡◌, ℕ, List, [], ◌++◌, take, drop, Option, Result, Ok, Err, OnOk, OnErr, append_assoc, append-nil, sym, ap, ◌∙◌}
+use Rattle.std.specs.Io.KnownBytes.{Appends, Keeps}
+use Rattle.std.proofs.KnownBytes.{Appends-trans, Appends-kept}
 use Rattle.std.proofs.lemmas.List.{take-append-drop}
 use Rattle.office_stream.specs.Fronts.{AppendsFront}
 
 pub in_two : (front rest : List ℕ) (n : ℕ) → front ++ rest ≡ (front ++ take n rest) ++ drop n rest
 in_two front rest n = ap (λ y. front ++ y) (sym (take-append-drop n rest)) ∙ sym (append_assoc front (take n rest) (drop n rest))
-
--- a front of a text is one of a longer text
-pub front_of_longer : (a b : Option (List ℕ)) (text more : List ℕ) → AppendsFront a b text → AppendsFront a b (text ++ more)
-front_of_longer a b text more (front, (behind, is), writes) = (front, (behind ++ more, ap (λ y. y ++ more) is ∙ append_assoc front behind more), writes)
-
--- a front of what stands behind a text that was written
-pub front_behind : (a b c : Option (List ℕ)) (text more : List ℕ) → Appends a b text → AppendsFront b c more → AppendsFront a c (text ++ more)
-front_behind a b c text more before (front, (behind, is), writes) =
-    (text ++ front, (behind, ap (λ y. text ++ y) is ∙ sym (append_assoc text front behind)), Appends-trans a b c text front before writes)
 
 -- a text that was written, and kept by a flush that failed
 pub front_kept : (a b c : Option (List ℕ)) (text : List ℕ) → Appends a b text → Keeps b c → AppendsFront a c text
@@ -32,10 +23,3 @@ on_err (Err e) P holds = holds
 pub on_err_weaker : {T E : Type 0} (r : Result T E) (P Q : Type 0) → (P → Q) → OnErr r P → OnErr r Q
 on_err_weaker (Ok value) P Q on holds = tt
 on_err_weaker (Err e) P Q on holds = on holds
-
--- a write past a buffer of which nothing is left
-pub written_past : {E : Type 0} (a b c : Option (List ℕ)) (held : List ℕ) (r : Result ℕ E) (text : List ℕ) → Keeps a (append_known b held) → held ≡ [] →
-    WriteAppends b c r text → WriteAppends a (append_known c held) r text
-written_past a b c held (Ok n) text keeps none writes =
-    subst (Appends a (append_known c held)) (append-nil (take n text)) (append_known-passed a b c held held (take n text) [] keeps none writes (sym (append-nil held)))
-written_past a b c held (Err e) text keeps none kept = Keeps-trans a (append_known b held) (append_known c held) keeps (append_known-kept b c held kept)

@@ -3,6 +3,6 @@ pub mod Lines
 pub mod Streams
 pub mod Pieces
 pub mod Faults
-pub mod Gathering
+pub mod Writes
 pub mod Accounts
 pub mod Places

@@ -19,8 +19,7 @@ pub(crate) fn write_line<W: Write>(writer: &mut Port<W>, text: &str) -> Result<(
     ensures kept { OnOk result (writer.new.failed ≡ writer.old.failed) }
     ensures err { OnErr result (writer.new.failed ≡ true) }
 {
-    writer.write_all(text.as_bytes())?;
-    writer.write_all(b"\n")
+    writer.write_parts(&[text.as_bytes(), b"\n"])
 }
 
 /// Writes the body of a response, and LF. After an error a front of them is written.

@@ -1,9 +1,14 @@
 ghost use Rattle.std.specs.Prelude.{◌≡◌, ℕ, ◌+◌, ◌-◌, ◌^◌, ◌≤◌, ◌==◌, min, length, take, true, false};
-ghost use Rattle.std.specs.Prelude.{IfOk, OnOk, OnErr};
+ghost use Rattle.std.specs.Prelude.{IfOk, OnOk, OnErr, IsTrue, ◌↔◌};
 ghost use Rattle.std.specs.Io.{ReadsAtMost, WritesAtMost};
 ghost use Rattle.std.specs.Io.KnownBytes.{ReadConsumes, WriteAppends, Keeps, Appends};
+ghost use Rattle.std.specs.IoError.{error_kind};
+ghost use Rattle.std.specs.declared.io.ErrorKind.TheVariants.{Interrupted};
+ghost use Rattle.office_stream.specs.Writes.{WritesOut};
 ghost use Rattle.office_stream.specs.Fronts.{AppendsFront};
 
+use crate::sink::Sink;
+use crate::source::Source;
 use std::io::{Error, ErrorKind, Read, Result, Write};
 
 /// A reader or a writer, whether a read or a write of it has failed, how many reads were made, whether the last of them
@@ -97,12 +102,13 @@ impl<T> Port<T> {
     }
 }
 
-impl<R: Read> Read for Port<R> {
+impl<R: Source> Read for Port<R> {
     ghost remaining = { λ port. R.remaining port.inner };
 
     fn read(&mut self, buf: &mut [u8]) -> Result<usize>
         ensures bound { ReadsAtMost result buf.new }
         ensures bytes { ReadConsumes (R.remaining self.old.inner) (R.remaining self.new.inner) result buf.new }
+        ensures led { R.gives self.old.inner buf.new result self.new.inner }
         ensures succeeds { OnOk result (self.new.failed ≡ self.old.failed) }
         ensures fails { OnErr result (self.new.failed ≡ true) }
         ensures counted { self.new.reads ≡ min (self.old.reads + 1) (2 ^ 64 - 1) }
@@ -114,7 +120,7 @@ impl<R: Read> Read for Port<R> {
         if self.ended {
             self.read_behind_end = true;
         }
-        match self.inner.read(buf) {
+        match self.inner.read_once(buf) {
             Ok(count) => {
                 self.ended = count == 0;
                 Ok(count)
@@ -127,19 +133,20 @@ impl<R: Read> Read for Port<R> {
     }
 }
 
-impl<W: Write> Write for Port<W> {
+impl<W: Sink> Write for Port<W> {
     ghost contents = { λ port. W.contents port.inner };
 
     fn write(&mut self, buf: &[u8]) -> Result<usize>
         ensures bound { WritesAtMost result buf.now }
         ensures bytes { WriteAppends (W.contents self.old.inner) (W.contents self.new.inner) result buf.now }
+        ensures led { W.takes self.old.inner buf.now result self.new.inner }
         ensures succeeds { OnOk result (self.new.failed ≡ self.old.failed) }
         ensures fails { OnErr result (self.new.failed ≡ true) }
         ensures uncounted { self.new.reads ≡ self.old.reads }
         ensures unflushed { self.new.flushed ≡ false }
     {
         self.flushed = false;
-        match self.inner.write(buf) {
+        match self.inner.write_once(buf) {
             Ok(count) => Ok(count),
             Err(error) => {
                 self.failed = true;
@@ -150,12 +157,13 @@ impl<W: Write> Write for Port<W> {
 
     fn flush(&mut self) -> Result<()>
         ensures bytes { Keeps (W.contents self.old.inner) (W.contents self.new.inner) }
+        ensures led { W.flushes self.old.inner result self.new.inner }
         ensures succeeds { OnOk result (self.new.failed ≡ self.old.failed) }
         ensures fails { OnErr result (self.new.failed ≡ true) }
         ensures uncounted { self.new.reads ≡ self.old.reads }
         ensures flushed { OnOk result (self.new.flushed ≡ true) }
     {
-        match self.inner.flush() {
+        match self.inner.flush_once() {
             Ok(()) => {
                 self.flushed = true;
                 Ok(())
@@ -172,6 +180,7 @@ impl<W: Write> Write for Port<W> {
             (Appends (W.contents self.old.inner) (W.contents self.new.inner) buf.now) }
         ensures front { OnErr result
             (AppendsFront (W.contents self.old.inner) (W.contents self.new.inner) buf.now) }
+        ensures writes { WritesOut W.takes self.old.inner buf.now result self.new.inner }
         ensures succeeds { OnOk result (self.new.failed ≡ self.old.failed) }
         ensures fails { OnErr result (self.new.failed ≡ true) }
         ensures uncounted { self.new.reads ≡ self.old.reads }
@@ -191,22 +200,29 @@ impl<W: Write> Write for Port<W> {
 
 /// Writes bytes in as many writes as it takes, and tells how many were written. A write that was interrupted is made
 /// again.
-pub(crate) fn write_whole<W: Write>(writer: &mut W, bytes: &[u8]) -> (usize, Result<()>)
+pub(crate) fn write_whole<W: Sink>(writer: &mut W, bytes: &[u8]) -> (usize, Result<()>)
     ensures bound { result.0 ≤ length bytes.now }
     ensures whole { OnOk result.1 (result.0 ≡ length bytes.now) }
     ensures bytes { Appends (W.contents writer.old) (W.contents writer.new) (take result.0 bytes.now) }
+    ensures writes { WritesOut W.takes writer.old bytes.now result.1 writer.new }
 {
     let mut written = 0;
-    'writes: for _ in 0..u64::MAX {
+    'writes: for _turn in 0..u64::MAX {
         if written == bytes.len() {
             return (written, Ok(()));
         }
-        match writer.write(&bytes[written..]) {
+        match writer.write_once(&bytes[written..]) {
             Ok(0) => return (written, Err(Error::from(ErrorKind::WriteZero))),
             Ok(count) => written += count,
-            Err(error) if error.kind() == ErrorKind::Interrupted => {}
+            Err(error) if is_interrupted(&error) => {}
             Err(error) => return (written, Err(error)),
         }
     }
     (written, Err(Error::from(ErrorKind::TimedOut)))
+}
+
+fn is_interrupted(error: &Error) -> bool
+    ensures { IsTrue result ↔ (error_kind error.now ≡ Interrupted) }
+{
+    error.kind() == ErrorKind::Interrupted
 }

@@ -3,5 +3,6 @@
 #![tactic(auto)]
 
 pub mod logbook;
+pub mod long_answers;
 #[cfg(test)]
 mod office;

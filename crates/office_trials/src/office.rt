@@ -4,6 +4,7 @@ mod accounts;
 mod books;
 pub(crate) mod failing_reader;
 pub(crate) mod failing_writer;
+pub(crate) mod faltering_reader;
 pub(crate) mod late_writer;
 mod machine;
 pub(crate) mod pieces;

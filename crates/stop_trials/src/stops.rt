@@ -2,6 +2,8 @@
 //! crash may leave of both then is opened again: it has the rows from before the request that was stopped, or those after
 //! it, and all requests, sent again from the first, lead to the same end.
 
+ghost use Rattle.std.specs.Prelude.{◌<◌};
+
 mod expected;
 mod files;
 mod office;
@@ -13,7 +15,7 @@ use crate::stops::expected::{Counts, NO_COUNTS, Trial, assert_both, count, trial
 use crate::stops::files::{
     Held, Left, NO_STOP, Stop, StoreFile, files_with, forms, left_of, stop_after,
 };
-use crate::stops::office::{Progress, made, reopened, send};
+use crate::stops::office::{Progress, made, open_again, send};
 use crate::stops::worked_rows::{ADDING, LOADING, WAITING, Worked};
 use std::alloc::Global;
 use std::process::Abort;
@@ -22,13 +24,8 @@ use std::test::Fail;
 /// More calls of a file than any office here makes.
 pub(crate) const MOST_CALLS: u64 = 1000;
 
-/// Each reading of a crash, with each file that stops under it.
-pub(crate) const CASES: [(bool, StoreFile); 4] = [
-    (false, StoreFile::Log),
-    (false, StoreFile::Database),
-    (true, StoreFile::Log),
-    (true, StoreFile::Database),
-];
+/// The two files of a store, of which one stops.
+pub(crate) const BOTH: [StoreFile; 2] = [StoreFile::Log, StoreFile::Database];
 
 /// What files hold, and the stage of the worked row of which they have the rows.
 #[derive(Drop)]
@@ -54,7 +51,7 @@ pub(crate) fn assert_end(
 ) -> Result<String, Fail> {
     let files = files_with(alloc, held, NO_STOP)?;
     let worked = trial.worked;
-    let opened = reopened(alloc, files, worked.requests).ok_or("an office")?;
+    let opened = open_again(alloc, files, worked.requests).ok_or("an office")?;
     assert!(rt; opened.answered == worked.requests.len());
     assert!(rt; opened.yard.as_deref() == Some(worked.yard));
     assert!(rt; opened.load_list.as_deref() == worked.load_list);
@@ -135,11 +132,11 @@ fn assert_each_stop(
     Err(Fail::from("it stops at each call"))
 }
 
-/// Stops either file of a new office at each call, under both readings of a crash.
-fn assert_row(rt: &impl Abort, alloc: Global, worked: Worked) -> Result<(), Fail> {
+/// Stops either file of a new office at each call.
+fn assert_row(rt: &impl Abort, alloc: Global, worked: Worked, mixes: bool) -> Result<(), Fail> {
     let trial = trial_of(alloc, worked)?;
     let mut counts = NO_COUNTS;
-    for (mixes, file) in CASES {
+    for file in BOTH {
         let held = made(rt, alloc, mixes)?;
         let start = Start { held, stage: 0 };
         let stops = Stops {
@@ -164,49 +161,60 @@ fn stage_of(rt: &impl Abort, alloc: Global, trial: &Trial, held: &Held) -> Resul
     Err(Fail::from("rows of no stage"))
 }
 
-/// How many calls lie between two second stops.
-const STEP: u64 = 23;
-
-/// Stops a file of an office that goes on from what a first stop has left, which came after so many calls.
-fn assert_second_stops(
+/// Stops an office, and then a file of the office that goes on from what the first stop has left: what the files read as, or
+/// what was synced. Whether the first was none. One before the desk has opened leaves the rows as they were, and is passed
+/// over.
+fn assert_again(
     rt: &impl Abort,
     alloc: Global,
     trial: &Trial,
-    held: Held,
-    second: (StoreFile, u64),
+    start: &Start,
+    stop: Stop,
+    second: Stops,
     counts: &mut Counts,
-) -> Result<(), Fail> {
-    let (file, calls) = second;
+) -> Result<bool, Fail> {
+    let Some((left, [before, after])) = left_after(alloc, trial, start, stop)? else {
+        return Ok(false);
+    };
+    if before == after {
+        return Ok(false);
+    }
+    let Left {
+        read,
+        synced,
+        is_whole,
+    } = left;
+    let held = if second.first % 2 == 0 { read } else { synced };
     let stage = stage_of(rt, alloc, trial, &held)?;
     let start = Start { held, stage };
-    let stops = Stops {
-        file,
-        first: calls % STEP,
-        step: STEP,
-    };
-    assert_each_stop(rt, alloc, trial, &start, stops, counts)
+    assert_each_stop(rt, alloc, trial, &start, second, counts)?;
+    Ok(is_whole)
 }
 
-/// Stops one file of a new office at each call, and then one a second time, as the program reads a crash.
+/// Stops one file of a new office at each call, as the program reads a crash, and then one a second time, so many calls apart.
 fn assert_twice(
     rt: &impl Abort,
     alloc: Global,
-    trial: &Trial,
+    worked: Worked,
     stopped: [StoreFile; 2],
-    counts: &mut Counts,
-) -> Result<(), Fail> {
-    let [first, second] = stopped;
+    step: u64,
+) -> Result<(), Fail>
+    requires { 0 < step }
+{
+    let trial = trial_of(alloc, worked)?;
+    let mut counts = NO_COUNTS;
+    let [first, file] = stopped;
     let held = made(rt, alloc, true)?;
     let start = Start { held, stage: 0 };
     for calls in 0..MOST_CALLS {
         let stop = stop_after(first, calls);
-        let Some((left, _)) = left_after(alloc, trial, &start, stop)? else {
-            continue;
+        let second = Stops {
+            file,
+            first: calls % step,
+            step,
         };
-        let is_whole = left.is_whole;
-        assert_second_stops(rt, alloc, trial, left.read, (second, calls), counts)?;
-        assert_second_stops(rt, alloc, trial, left.synced, (second, calls), counts)?;
-        if is_whole {
+        if assert_again(rt, alloc, &trial, &start, stop, second, &mut counts)? {
+            assert_both(rt, counts);
             return Ok(());
         }
     }
@@ -215,33 +223,36 @@ fn assert_twice(
 
 #[test]
 fn a_stop_leaves_what_waits_whole_or_not_at_all(rt: HostRuntime) -> Result<(), Fail> {
-    assert_row(&rt, rt.alloc(), WAITING)
+    assert_row(&rt, rt.alloc(), WAITING, false)?;
+    assert_row(&rt, rt.alloc(), WAITING, true)
 }
 
 #[test]
 fn a_stop_leaves_a_list_whole_or_not_at_all(rt: HostRuntime) -> Result<(), Fail> {
-    assert_row(&rt, rt.alloc(), LOADING)
+    assert_row(&rt, rt.alloc(), LOADING, false)
+}
+
+#[test]
+fn a_stop_leaves_a_list_whole_as_the_program_syncs(rt: HostRuntime) -> Result<(), Fail> {
+    assert_row(&rt, rt.alloc(), LOADING, true)
 }
 
 #[test]
 fn a_stop_leaves_an_account_whole_or_not_at_all(rt: HostRuntime) -> Result<(), Fail> {
-    assert_row(&rt, rt.alloc(), ADDING)
+    assert_row(&rt, rt.alloc(), ADDING, false)?;
+    assert_row(&rt, rt.alloc(), ADDING, true)
 }
 
-/// Which file stops first, and which then.
-const PAIRS: [[StoreFile; 2]; 3] = [
-    [StoreFile::Log, StoreFile::Log],
-    [StoreFile::Log, StoreFile::Database],
-    [StoreFile::Database, StoreFile::Log],
-];
+#[test]
+fn a_second_stop_of_the_log_leaves_it_whole_or_not_at_all(rt: HostRuntime) -> Result<(), Fail> {
+    let stopped = [StoreFile::Log, StoreFile::Log];
+    assert_twice(&rt, rt.alloc(), WAITING, stopped, 31)
+}
 
 #[test]
-fn a_second_stop_leaves_it_whole_or_not_at_all(rt: HostRuntime) -> Result<(), Fail> {
-    let trial = trial_of(rt.alloc(), WAITING)?;
-    let mut counts = NO_COUNTS;
-    for stopped in PAIRS {
-        assert_twice(&rt, rt.alloc(), &trial, stopped, &mut counts)?;
-    }
-    assert_both(&rt, counts);
-    Ok(())
+fn a_stop_of_both_files_leaves_it_whole_or_not_at_all(rt: HostRuntime) -> Result<(), Fail> {
+    let stopped = [StoreFile::Log, StoreFile::Database];
+    assert_twice(&rt, rt.alloc(), WAITING, stopped, 7)?;
+    let stopped = [StoreFile::Database, StoreFile::Log];
+    assert_twice(&rt, rt.alloc(), WAITING, stopped, 31)
 }

@@ -3,11 +3,13 @@
 
 use super::failing_reader::FailingReader;
 use super::failing_writer::FailingWriter;
+use super::faltering_reader::FalteringReader;
 use super::late_writer::LateWriter;
 use super::pieces::Pieces;
 use crate::logbook::Logbook;
+use crate::long_answers::LongAnswers;
 use office_replies::Worst;
-use office_stream::{Cut, Gathered, Port, StreamFault, run_stream};
+use office_stream::{Cut, Port, StreamFault, run_stream};
 use std::alloc::Global;
 use std::io::{Read, Write};
 use std::process::Abort;
@@ -24,6 +26,9 @@ const STARTS: [usize; 3] = [0, 12, 21];
 
 /// What was delivered of it.
 const TEXTS: &[u8] = b"AAA+1'UNZ'BBB'UNZ'CCC'UNZ'";
+
+/// How many bytes a long answer has.
+const MEGABYTE: usize = 1_048_576;
 
 /// The lines that answer it.
 const LINES: &[u8] =
@@ -126,42 +131,101 @@ fn a_failed_read_leaves_what_was_answered(rt: HostRuntime) -> Result<(), Fail> {
     Ok(())
 }
 
-/// A line is two writes: the body and LF. The interchange whose line was cut short was delivered.
+/// A read that failed is not made again, though the next one would give something.
+#[test]
+fn a_read_that_failed_is_not_made_again(rt: HostRuntime) -> Result<(), Fail> {
+    for fails_at in 0..STREAM.len() + 1 {
+        let pieces = Pieces {
+            text: STREAM,
+            next: 1,
+            size: 1,
+        };
+        let mut input = Port::new(FalteringReader {
+            pieces,
+            fails_at,
+            reads: 0,
+        });
+        let mut output = Port::new(Vec::new(rt.alloc()));
+        let answered = ended_within(fails_at).min(3);
+        let expected = (Err(StreamFault::Read), answered);
+        assert_streamed(&rt, rt.alloc(), &mut input, &mut output, 100, expected);
+        assert!(&rt; input.into_inner().reads == fails_at + 1);
+    }
+    Ok(())
+}
+
+/// A stream in thousands of pieces is read to its end.
+#[test]
+fn a_stream_in_thousands_of_pieces_is_read_to_its_end(rt: HostRuntime) -> Result<(), Fail> {
+    let mut text = Vec::new(rt.alloc());
+    for _ in 0..300 {
+        text.extend_from_slice(STREAM)?;
+    }
+    let pieces = Pieces {
+        text: text.as_slice(),
+        next: 1,
+        size: 1,
+    };
+    let mut input = Port::new(pieces);
+    let mut output = Port::new(Vec::new(rt.alloc()));
+    let mut desk = Logbook::new(Port::new(Vec::new(rt.alloc())));
+    let left = run_stream(rt.alloc(), &mut input, &mut output, &mut desk, 10_000);
+    assert!(&rt; left == Ok(Worst::Refused));
+    assert_eq!(rt; desk.into_pages().into_inner().len(), 300 * TEXTS.len());
+    assert_eq!(rt; output.into_inner().len(), 300 * LINES.len());
+    Ok(())
+}
+
+/// A line is one write, and is passed on before the next one. The interchange whose line failed was delivered.
 #[test]
 fn a_failed_write_leaves_what_was_delivered(rt: HostRuntime) -> Result<(), Fail> {
-    for writes in 0..6 {
+    for writes in 0..3 {
         let writer = FailingWriter {
             written: Vec::new(rt.alloc()),
             writes,
         };
         let mut input = Port::new(STREAM);
         let mut output = Port::new(writer);
-        let expected = (Err(StreamFault::Write), writes / 2 + 1);
+        let expected = (Err(StreamFault::Write), writes + 1);
         assert_streamed(&rt, rt.alloc(), &mut input, &mut output, 100, expected);
-        let written = output.into_inner().written;
-        assert!(&rt;
-            written.len()
-                == LINES.len() / 3 * (writes / 2) + LINES.len() / 3 * (writes % 2) - writes % 2
-        );
-        assert!(&rt; LINES.starts_with(written.as_slice()));
+        assert!(&rt; output.into_inner().written.as_slice() == lines(writes));
     }
     Ok(())
 }
 
-/// A line that is gathered is one write, and is passed on before the next one.
+/// Streams one interchange that is answered by a megabyte, and holds the result and what was written to those expected.
+fn assert_long<W: Write>(
+    rt: &impl Abort,
+    alloc: Global,
+    writer: &mut Port<W>,
+    expected: Result<Worst, StreamFault>,
+) {
+    let mut desk = LongAnswers { size: MEGABYTE };
+    let mut input = Port::new(b"AAA+1'UNZ'".as_slice());
+    let left = run_stream(alloc, &mut input, writer, &mut desk, 100);
+    assert!(rt; left == expected);
+}
+
 #[test]
-fn a_gathered_line_is_one_write(rt: HostRuntime) -> Result<(), Fail> {
-    for writes in 0..3 {
-        let mut writer = FailingWriter {
-            written: Vec::new(rt.alloc()),
-            writes,
-        };
-        let mut input = Port::new(STREAM);
-        let mut output = Port::new(Gathered::new(&mut writer));
-        let expected = (Err(StreamFault::Write), writes + 1);
-        assert_streamed(&rt, rt.alloc(), &mut input, &mut output, 100, expected);
-        assert!(&rt; writer.written.as_slice() == lines(writes));
-    }
+fn an_answer_of_a_megabyte_is_written_whole(rt: HostRuntime) -> Result<(), Fail> {
+    let mut output = Port::new(Vec::new(rt.alloc()));
+    assert_long(&rt, rt.alloc(), &mut output, Ok(Worst::Fine));
+    let written = output.into_inner();
+    assert_eq!(rt; written.len(), MEGABYTE + 1);
+    assert!(&rt; written.as_slice().ends_with(b"AAAA\n"));
+    Ok(())
+}
+
+/// A line that is longer than what goes out in one write is two: its text and LF.
+#[test]
+fn an_answer_of_a_megabyte_is_two_writes(rt: HostRuntime) -> Result<(), Fail> {
+    let writer = FailingWriter {
+        written: Vec::new(rt.alloc()),
+        writes: 1,
+    };
+    let mut output = Port::new(writer);
+    assert_long(&rt, rt.alloc(), &mut output, Err(StreamFault::Write));
+    assert_eq!(rt; output.into_inner().written.len(), MEGABYTE);
     Ok(())
 }
 
@@ -170,7 +234,7 @@ fn a_gathered_line_is_one_write(rt: HostRuntime) -> Result<(), Fail> {
 fn a_write_that_timed_out_is_not_made_again(rt: HostRuntime) -> Result<(), Fail> {
     let mut input = Port::new(STREAM);
     let mut writer = LateWriter { writes: 0 };
-    let mut output = Port::new(Gathered::new(&mut writer));
+    let mut output = Port::new(&mut writer);
     let expected = (Err(StreamFault::Write), 1);
     assert_streamed(&rt, rt.alloc(), &mut input, &mut output, 100, expected);
     assert!(&rt; writer.writes == 1);

@@ -199,7 +199,7 @@ fn sent_all<S: Alter + Drop>(
 }
 
 /// The same of files.
-pub(crate) fn reopened<D: Disk + Drop>(
+pub(crate) fn open_again<D: Disk + Drop>(
     alloc: Global,
     files: Files<D>,
     requests: &[Request],

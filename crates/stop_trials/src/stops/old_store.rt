@@ -9,7 +9,7 @@ use crate::stops::files::{
 };
 use crate::stops::office::connected;
 use crate::stops::worked_rows::{DONE_1_17, IN_1_17, IN_3_38, MIGRATED};
-use crate::stops::{CASES, MOST_CALLS, assert_end};
+use crate::stops::{BOTH, MOST_CALLS, assert_end};
 use office_migration::migrate;
 use sqlite::types::ValueRef;
 use sqlite::{Alter, Connection, Error, Files};
@@ -216,11 +216,16 @@ fn assert_migrations(
     Err(Fail::from("it stops at each call"))
 }
 
-/// Stops either file of one of the stores, under both readings of a crash.
-fn count_migrations(rt: &impl Abort, alloc: Global, store: Store) -> Result<Counts, Fail> {
+/// Stops either file of one of the stores.
+fn count_migrations(
+    rt: &impl Abort,
+    alloc: Global,
+    store: Store,
+    mixes: bool,
+) -> Result<Counts, Fail> {
     let trial = trial_of(alloc, MIGRATED)?;
     let mut counts = NO_COUNTS;
-    for (mixes, file) in CASES {
+    for file in BOTH {
         let start = filled_files(rt, alloc, mixes)?;
         assert_migrations(rt, alloc, &trial, &start, (store, file), &mut counts)?;
     }
@@ -229,14 +234,17 @@ fn count_migrations(rt: &impl Abort, alloc: Global, store: Store) -> Result<Coun
 
 #[test]
 fn a_stop_leaves_a_new_store_whole_or_without_tables(rt: HostRuntime) -> Result<(), Fail> {
-    let counts = count_migrations(&rt, rt.alloc(), Store::New)?;
-    assert_both(&rt, counts);
+    for mixes in [false, true] {
+        let counts = count_migrations(&rt, rt.alloc(), Store::New, mixes)?;
+        assert_both(&rt, counts);
+    }
     Ok(())
 }
 
+/// The new store is whole only where nothing stopped.
 #[test]
 fn an_old_store_that_stops_stays_as_it_was(rt: HostRuntime) -> Result<(), Fail> {
-    let counts = count_migrations(&rt, rt.alloc(), Store::Old)?;
+    let counts = count_migrations(&rt, rt.alloc(), Store::Old, true)?;
     assert_both(&rt, counts);
     Ok(())
 }

@@ -1,3 +1,4 @@
+use Rattle.std.proofs.lemmas.Result.{IfOk-weaker}
 use Rattle.sqlite.specs.Files.{over_files}
 use Rattle.office_desk.specs.Reports.{DeskTells, TellsAfter}
 use Rattle.office_commands.specs.Reporting.{TellsOver}
@@ -9,15 +10,15 @@ use Rattle.office_commands.proofs.report.report_over.Goals as goal
 pub returns-clause-ok : goal.returns-clause-ok
 returns-clause-ok g c =
     let desk = c.in_ok-desk.desk in
-    let ends = c.in_ok-status.ensures.ok in
     let kind = c.args.kind in
     let key = c.args.key.now in
-    record {
+    IfOk-weaker c.report_on-status.result _ _
+    (λ status ends. record {
       found = ends.found;
       printed = ends.printed;
       is = λ sound.
           let told = ends.is sound in
-          let was = c.report_on.ensures.looks.stays sound in
+          let was = c.report_on-status.ensures.looks.stays sound in
           record {
             after = λ content es begins.
                 let at = c.in_ok-desk.ensures.opens was content es begins.0 begins.1 in
@@ -27,9 +28,11 @@ returns-clause-ok g c =
                 key_also (DeskTells over_files desk) (TellsOver db) kind key ends.found
                 (λ asked tells. told_over db desk asked ends.found (c.in_ok-desk.ensures.office was db held) tells) told;
           };
-    }
+    })
+    c.report_on-status.ensures.ok
 
+-- It only looked, also where it met a fault.
 pub returns-clause-looks : goal.returns-clause-looks
 returns-clause-looks g c =
     looked_over _ c.in_ok-desk.desk _ (record { events = λ sound content es begins. c.in_ok-desk.ensures.opens sound content es begins.0 begins.1; office = c.in_ok-desk.ensures.office })
-    c.report_on.ensures.looks
+    c.report_on-status.ensures.looks

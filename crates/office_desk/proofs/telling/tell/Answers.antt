@@ -1,10 +1,13 @@
-use Rattle.std.proofs.Common.{◌≡◌, None, Some, option_map, string_bytes, refl, sym, ap, subst, ◌∙◌}
+use Rattle.std.proofs.Common.{◌≡◌, length, None, Some, inl, option_map, string_bytes, refl, sym, ap, subst, ◌∙◌, arith}
 use Rattle.std.proofs.lemmas.Result.{IfErr-weaker}
 use Rattle.office_rows.proofs.StepLemmas.{if_ok}
+use Rattle.office_tables.specs.Answers.{LacksNext}
 use Rattle.office_tables.specs.Faults.{IsOfStoreOr}
-use Rattle.office_desk.specs.Causes.{AsksUnreadable, HasUnfitReplyOf, LacksReply}
+use Rattle.office_tables.proofs.FaultLemmas.{of_store_weaker}
+use Rattle.office_desk.specs.Causes.{AsksUnreadable, HasUnfitReplyOf, LacksReply, LacksSome}
 use Rattle.office_setup.specs.Setups.{setup_content}
 use Rattle.office_desk.specs.Reports.{TellsOf, TellsReplyOf, contrl_told, partner_called, ticket_of}
+use Rattle.office_desk.proofs.PartnerLemmas.{some_lacks}
 use Rattle.office_desk.proofs.ReportLemmas.{called}
 use Rattle.office_desk.proofs.telling.tell.Goals as goal
 
@@ -13,7 +16,7 @@ returns-in-Some-clause-told g c clean =
     let a = c.args in
     let content = setup_content a.setup.now in
     let own = string_bytes c.in-Ticket.partner in
-    let there : partner_called content own ≡ Some c.in-Some.id = called a.setup.now c.deref.result.now own (Some c.in-Some.id) (sym c.in-Some.is ∙ c.partner_called.ensures) c.deref.ensures in
+    let there : partner_called content own ≡ Some c.in-Some.id = called a.setup.now c.deref-in-Ticket.result.now own (Some c.in-Some.id) (sym c.in-Some.is ∙ c.partner_called.ensures) c.deref-in-Ticket.ensures in
     if_ok c.tell_ticket.result (λ found told. λ rows has once.
     subst (λ q. TellsOf content a.terminal.now rows q (option_map string_bytes found)) (sym c.in-Ticket.is)
     (rw c.deref-in-Some.ensures at (told rows has once) ∙ sym (ap (ticket_of a.terminal.now.visits rows own c.in-Ticket.number) there)))
@@ -24,7 +27,7 @@ returns-in-None-clause-told g c clean rows has once =
     let a = c.args in
     let content = setup_content a.setup.now in
     let own = string_bytes c.in-Ticket.partner in
-    let there : partner_called content own ≡ None = called a.setup.now c.deref.result.now own None (sym c.in-None.is ∙ c.partner_called.ensures) c.deref.ensures in
+    let there : partner_called content own ≡ None = called a.setup.now c.deref-in-Ticket.result.now own None (sym c.in-None.is ∙ c.partner_called.ensures) c.deref-in-Ticket.ensures in
     subst (λ q. TellsOf content a.terminal.now rows q None) (sym c.in-Ticket.is) (sym (ap (ticket_of a.terminal.now.visits rows own c.in-Ticket.number) there))
 
 pub returns-in-Some-partner_called-clause-told : goal.returns-in-Some-partner_called-clause-told
@@ -74,7 +77,7 @@ returns-in-Some-clause-fault g c clean =
     let a = c.args in
     let content = setup_content a.setup.now in
     let own = string_bytes c.in-Ticket.partner in
-    let there : partner_called content own ≡ Some c.in-Some.id = called a.setup.now c.deref.result.now own (Some c.in-Some.id) (sym c.in-Some.is ∙ c.partner_called.ensures) c.deref.ensures in
+    let there : partner_called content own ≡ Some c.in-Some.id = called a.setup.now c.deref-in-Ticket.result.now own (Some c.in-Some.id) (sym c.in-Some.is ∙ c.partner_called.ensures) c.deref-in-Ticket.ensures in
     IfErr-weaker c.tell_ticket.result _ _ (λ fault why rows has.
         subst (λ q. IsOfStoreOr (AsksUnreadable content rows q) fault) (sym c.in-Ticket.is)
         (subst (λ p. IsOfStoreOr (HasUnfitReplyOf rows c.in-Ticket.number p) fault) (sym there) (why rows has)))
@@ -101,3 +104,29 @@ returns-in-Some-partner_called-2-clause-fault g c clean =
         subst (λ q. IsOfStoreOr (AsksUnreadable content rows q) fault) (sym c.in-Contrl.is)
         (subst (λ p. IsOfStoreOr (HasUnfitReplyOf rows c.in-Contrl.number p) fault) (sym there) (why rows has)))
     (c.tell_contrl.ensures.fault clean)
+
+pub returns-in-Partner-clause-fault : goal.returns-in-Partner-clause-fault
+returns-in-Partner-clause-fault g c clean =
+    let content = setup_content c.args.setup.now in
+    IfErr-weaker c.tell_partner.result _ _ (λ fault why rows has. subst (λ q. IsOfStoreOr (AsksUnreadable content rows q) fault) (sym c.in-Partner.is) (why rows has))
+    (c.tell_partner.ensures.fault clean)
+
+pub returns-in-Next-clause-fault : goal.returns-in-Next-clause-fault
+returns-in-Next-clause-fault g c clean =
+    let content = setup_content c.args.setup.now in
+    IfErr-weaker c.tell_next.result _ _ (λ fault why rows has. subst (λ q. IsOfStoreOr (AsksUnreadable content rows q) fault) (sym c.in-Next.is) (why rows has))
+    (c.tell_next.ensures.fault clean)
+
+pub returns-in-Metrics-clause-fault : goal.returns-in-Metrics-clause-fault
+returns-in-Metrics-clause-fault g c clean =
+    let content = setup_content c.args.setup.now in
+    IfErr-weaker c.tell_metrics.result _ _ (λ fault why rows has. subst (λ q. IsOfStoreOr (AsksUnreadable content rows q) fault) (sym c.in-Metrics.is) (why rows has))
+    (c.tell_metrics.ensures.fault clean)
+
+-- there is a first account
+pub returns-in-Health-clause-fault : goal.returns-in-Health-clause-fault
+returns-in-Health-clause-fault g c clean =
+    let content = setup_content c.args.setup.now in
+    IfErr-weaker c.tell_health.result _ _ (λ fault why rows has. subst (λ q. IsOfStoreOr (AsksUnreadable content rows q) fault) (sym c.in-Health.is)
+        (of_store_weaker (LacksNext 1 rows) (LacksSome rows (length content.partners)) (λ lacks. some_lacks rows c.args.setup.now.partners.items 1 (omega arith) c.requires.some (inl lacks)) fault (why rows has)))
+    (c.tell_health.ensures.fault clean)

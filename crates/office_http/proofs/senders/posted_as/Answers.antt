@@ -1,6 +1,6 @@
 use Rattle.std.proofs.Common.{string_bytes, sym, subst, refl}
 use Rattle.office_http.specs.Requests.{IsDelivery}
-use Rattle.office_http.proofs.Senders.{posted_from}
+use Rattle.office_http.proofs.SenderLemmas.{posted_from}
 use Rattle.office_http.proofs.senders.posted_as.Goals as goal
 
 pub returns-in-Delivery : goal.returns-in-Delivery

@@ -1,5 +1,7 @@
 use Rattle.std.proofs.lemmas.Result.{err_from_is_err_and}
 use Rattle.sqlite.specs.Held.{state}
+use Rattle.terminal_core.specs.State.{TerminalState}
+use Rattle.office_setup.specs.declared.setup.Setup.{Setup}
 use Rattle.office_checks.specs.Contents.{opened_rows}
 use Rattle.office_loading.proofs.OfficeLemmas.{restoring_fails, restoring_tells, tables_fail}
 use Rattle.office_loading.proofs.VersionLemmas.{fault_tells}
@@ -36,7 +38,7 @@ returns-in-Ok-clause-version g c clean tree has = c.in_ok-tables.ensures.version
 
 pub returns-in-Err-clause-version : goal.returns-in-Err-clause-version
 returns-in-Err-clause-version g c clean tree has =
-    rw c.fault_of_restoring.ensures (fault_tells (Unit {0}) _ (fault_of_restoring c.in-Err.fault) (c.in_ok-tables.ensures.version clean tree has) (restoring_tells c.in-Err.fault))
+    rw c.fault_of_restoring.ensures (fault_tells (Setup × TerminalState) ((state g.S.Store c.args.conn.now).now.trees tree) (fault_of_restoring c.in-Err.fault) (c.in_ok-tables.ensures.version clean tree has) (restoring_tells c.in-Err.fault))
 
 pub returns-in-Ok-clause-missing : goal.returns-in-Ok-clause-missing
 returns-in-Ok-clause-missing g c clean none = absurd (c.in_ok-tables.ensures.missing clean none)

@@ -1,0 +1,39 @@
+use office_replies::{Deliver, Response};
+use std::alloc::Global;
+
+/// A desk that answers each text at length, and keeps no records.
+#[derive(Drop)]
+pub struct LongAnswers {
+    /// How many bytes an answer has.
+    pub size: usize,
+}
+
+/// So many bytes of a text; None without memory for them.
+fn long_text(alloc: Global, size: usize) -> Option<String> {
+    let mut text = String::new(alloc);
+    for _ in 0..size {
+        text.push('A').ok()?;
+    }
+    Some(text)
+}
+
+impl Deliver for LongAnswers {
+    ghost is_sound = { λ desk. Unit {0} };
+
+    ghost Opening = { Unit {0} };
+
+    ghost stands = { λ opening es desk. Unit {0} };
+
+    ghost answers = { λ opening es text response. Unit {0} };
+
+    ghost added = { λ opening es code kind answer. Unit {0} };
+
+    ghost leads = { λ old text response new. Unit {0} };
+
+    fn deliver(&mut self, alloc: Global, _delivered: &[u8]) -> Response {
+        match long_text(alloc, self.size) {
+            Some(text) => Response::Taken(text),
+            None => Response::NotNow,
+        }
+    }
+}
