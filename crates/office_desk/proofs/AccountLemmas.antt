@@ -5,7 +5,7 @@ use Rattle.std.proofs.lemmas.List.FromFn.{map-range_with_len_more}
 use Rattle.std.proofs.lemmas.Option.{slice_get-get_or, slice_get-map}
 use Rattle.std.proofs.lemmas.Simd.{map-map}
 use Rattle.std.specs.List.{range_with_len}
-use Rattle.std.specs.Prelude.{slice_get}
+use Rattle.std.specs.Prelude.{slice_get, OnErr, OnOk, Result, Ok, Err}
 use Rattle.sqlite.specs.Effect.{Database}
 use Rattle.sqlite.specs.Tree.{Trees}
 use Rattle.sqlite_trees.specs.declared.store.Store.{Ghosts}
@@ -28,6 +28,7 @@ use Rattle.office_setup.proofs.Named.{one_further}
 use Rattle.office_setup.specs.PartyCodes.{is_party_code}
 use Rattle.office_setup.specs.Setups.{SetupContent, setup_content, setup_with_account}
 use Rattle.office_setup.specs.Given.{IsGiven}
+use Rattle.office_tables.specs.declared.table_fault.TableFault.{TableFault}
 use Rattle.office_admission.specs.Accounts.{AccountContent, AccountPair, account_answer, added_as, by_kind, by_number, content_after, refused_for}
 use Rattle.office_admission.specs.Deliveries.{deliveries_of}
 use Rattle.office_admission.proofs.Adding.{account_adds, added_last, content_on, given_after, no_run_beyond, parties_grown}
@@ -188,3 +189,9 @@ not_added content es was is db db' old new holds set same (inr none) = record {
   after = holds.after;
   beside = subst (IsBeside content es) (sym none) tt;
 }
+
+-- the set-up that an addition leaves is one that can be given: the one with the account, or the old one
+pub given_left : {A S : Type 0} (met : Result A TableFault) (content : S → SetupContent) (old new : S) (grown : SetupContent) → OnOk met (content new ≡ grown) → OnErr met (new ≡ old)
+    → IsGiven (content old) → IsGiven grown → IsGiven (content new)
+given_left (Ok body) content old new grown with_it same was is = subst IsGiven (sym with_it) is
+given_left (Err fault) content old new grown with_it same was is = subst IsGiven (sym (ap content same)) was

@@ -47,3 +47,11 @@ pub gathered : (status : ℕ) (kind : ContentType) (allowed : Option (List ℕ))
 unfolding response_bytes
 gathered status kind allowed head text body head_is text_is =
     ap (λ (l : List ℕ). head ++ l) (append-nil text ∙ text_is) ∙ ap (λ (l : List ℕ). l ++ body) head_is
+
+-- one whose head was gathered, and whose body has three pieces
+pub gathered_in_three : (status size : ℕ) (kind : ContentType) (allowed : Option (List ℕ)) (head x y z : List ℕ) → head ≡ response_head status kind allowed size →
+    size ≡ length (x ++ (y ++ z)) → head ++ (x ++ (y ++ (z ++ []))) ≡ response_bytes status kind allowed (x ++ (y ++ z))
+unfolding response_bytes
+gathered_in_three status size kind allowed head x y z head_is size_is =
+    ap (λ (l : List ℕ). head ++ (x ++ (y ++ l))) (append-nil z)
+    ∙ ap (λ (l : List ℕ). l ++ (x ++ (y ++ z))) (head_is ∙ ap (response_head status kind allowed) size_is)

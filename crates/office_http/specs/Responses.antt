@@ -1,5 +1,5 @@
 -- The bytes of a response (RFC 9112, sections 4 and 5).
-use Rattle.std.specs.Prelude.{ℕ, ◌==◌, ◌||◌, List, [], ◌++◌, length, codes, decimal, unwrap_or, Option, None, Some, if◌then◌else◌}
+use Rattle.std.specs.Prelude.{ℕ, Bool, ◌==◌, ◌||◌, List, [], ◌++◌, length, codes, decimal, unwrap_or, Option, None, Some, if◌then◌else◌}
 use Rattle.http.specs.StatusCode.{code_digits, reason_phrase}
 use Rattle.office_http.specs.declared.content_type.ContentType.{ContentType}
 use Rattle.office_http.specs.declared.content_type.ContentType.TheVariants.{Json, Text, Table, Page, Interchange, Metrics}
@@ -25,9 +25,13 @@ unfoldable pub allow_line : Option (List ℕ) → List ℕ
 allow_line None = []
 allow_line (Some method) = field_line (codes "Allow") method
 
--- what may be asked again a little later: in how many seconds (RFC 9110, section 10.2.3)
+-- the same may be asked again a little later
+abbrev pub may_come_again : ℕ → Bool
+may_come_again status = status == 429 || status == 503
+
+-- in how many seconds (RFC 9110, section 10.2.3)
 unfoldable pub retry_line : ℕ → List ℕ
-retry_line status = if status == 429 || status == 503 then field_line (codes "Retry-After") (codes "5") else []
+retry_line status = if may_come_again status then field_line (codes "Retry-After") (codes "5") else []
 
 -- the connection closes, and the head ends
 unfoldable pub close_lines : List ℕ

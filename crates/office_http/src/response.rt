@@ -3,7 +3,7 @@ ghost use Rattle.http.specs.StatusCode.{reason_phrase};
 ghost use Rattle.office_replies.specs.AccountAnswers.{account_body, account_status};
 ghost use Rattle.office_replies.specs.Responses.{body_of, status_of};
 ghost use Rattle.office_http.specs.Ports.{Puts};
-ghost use Rattle.office_http.specs.Responses.{allow_line, close_lines, early_bytes, early_front, field_line, refusal_bytes};
+ghost use Rattle.office_http.specs.Responses.{allow_line, close_lines, early_bytes, early_front, field_line, may_come_again, refusal_bytes};
 ghost use Rattle.office_http.specs.Responses.{response_bytes, response_head, retry_line, status_line};
 ghost use Rattle.office_http.specs.declared.content_type.ContentType.TheVariants.{Json};
 
@@ -228,10 +228,18 @@ fn write_retry<W: Write>(port: &mut Port<W>, status: StatusCode) -> Result<()>
     ensures { Puts (retry_line status)
         (W.contents port.old.inner) (W.contents port.new.inner) port.old port.new result }
 {
-    match status.as_u16() {
-        429 | 503 => write_field(port, b"Retry-After", b"5"),
-        _ => port.write_all(b""),
+    if may_come_again(status) {
+        write_field(port, b"Retry-After", b"5")
+    } else {
+        port.write_all(b"")
     }
+}
+
+/// Whether the same may be asked again a little later.
+fn may_come_again(status: StatusCode) -> bool
+    ensures { result ≡ may_come_again status }
+{
+    status.as_u16() == 429 || status.as_u16() == 503
 }
 
 /// Writes that the connection closes, and the line that ends a head.

@@ -1,4 +1,5 @@
 use Rattle.std.proofs.Common.{◌≡◌, ◌++◌, [], ◌∷◌, map, List, inl, refl, sym, ap, subst, ◌∙◌, rules, string_bytes}
+use Rattle.std.specs.Prelude.{OnOk}
 use Rattle.sqlite.specs.Held.{state}
 use Rattle.sqlite.specs.State.{HasCleanDisk}
 use Rattle.office_admission.specs.Accounts.{AccountPair, account_answer, added_as, by_number, content_after, known_as, refused_for}
@@ -17,7 +18,7 @@ use Rattle.office_history.proofs.Growing.{account_adds_row}
 use Rattle.office_desk.specs.Accounts.{standing_content}
 use Rattle.office_desk.specs.Desks.{StandsFor}
 use Rattle.office_desk.specs.Telling.{Holds}
-use Rattle.office_desk.proofs.AccountLemmas.{account_after, account_held, asked_is, given_with, not_added, says_now, says_of}
+use Rattle.office_desk.proofs.AccountLemmas.{account_after, account_held, asked_is, given_left, given_with, not_added, says_now, says_of}
 use Rattle.office_desk.proofs.CrashLemmas.{committed_leaves, either_of, held_leaves}
 use Rattle.office_desk.proofs.LookLemmas.{noted_fault, noted_told}
 use Rattle.office_desk.proofs.desk.Desk.answer_account.Goals as goal
@@ -203,18 +204,21 @@ returns-in-Err-noted g c =
       };
     }
 
--- ---- the set-up with the account is one that can be given
+-- ---- the set-up that an addition leaves is one that can be given
 
-pub invariant_of-self-in-Ok-noted : goal.invariant_of-self-in-Ok-noted
-invariant_of-self-in-Ok-noted g c =
+pub invariant_of-self-in-New : goal.invariant_of-self-in-New
+invariant_of-self-in-New g c =
     let p = rw c.in-Some.is at c.asked.ensures in
     let id = c.in-New.id in
     let own = c.in-Some.kind in
     let desk = c.args.self.now in
-    let met = noted_told c.add_new-added.result _ c.in-Ok-noted.body _ c.in-Ok-noted.ensures in
+    let added = c.add_new-added.result in
+    let left = c.add_new-added.new.setup in
+    let grown = setup_with_account (setup_content desk.setup) c.args.code.now own in
     let said = asked_is (setup_content desk.setup).partners c.in-Some.code.now c.args.code.now c.args.kind.now own (added_as id) p.0 p.1 p.2 (ap standing_content (sym c.in-New.is) ∙ c.judge_account.ensures) in
+    let with_it = subst (λ text. OnOk added (setup_content left ≡ setup_with_account (setup_content desk.setup) text own)) p.0 c.add_new-added.ensures.setup in
     record {
       idle = search rules;
-      given = subst IsGiven (sym (subst (λ text. setup_content c.add_new-added.new.setup ≡ setup_with_account (setup_content desk.setup) text own) p.0 (rw met.0 at c.add_new-added.ensures.setup)))
+      given = given_left added setup_content desk.setup left grown with_it c.add_new-added.ensures.same desk.given
           (given_with (setup_content desk.setup) c.args.code.now c.args.kind.now id own desk.given p.2 said);
     }
