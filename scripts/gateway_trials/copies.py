@@ -61,9 +61,10 @@ def looked_at(checks, name, folder, senders, model):
     began = moment_of(folder)
     with senders.lock:
         answered = [(code, number) for when, code, number, _body in senders.answers if when < began]
+        sent = set(senders.texts.values())
     lost = [one for one in answered if senders.texts[one] not in kept]
     checks.expect(name + ': answered and not there', [], lost)
-    checks.expect(name + ': there and not sent', set(), kept - set(senders.texts.values()))
+    checks.expect(name + ': there and not sent', set(), kept - sent)
     model.holds(checks, name, store)
     return len(answered)
 
@@ -77,7 +78,8 @@ def begun(senders):
         number = 0
         while not senders.over.is_set():
             number += 1
-            senders.texts[code, number] = text_of(code, number)
+            with senders.lock:
+                senders.texts[code, number] = text_of(code, number)
             senders.send(code, number)
 
     threads = [threading.Thread(target=partner, args=[code], daemon=True) for code in SENDERS]

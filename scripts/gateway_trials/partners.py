@@ -119,7 +119,8 @@ def paths(clients, judge):
     for method in ('PUT', 'PATCH', 'OPTIONS', 'BREW'):
         judge.same(method + ' /interchanges', METHOD, clients.get('HAULA', '/interchanges', method=method))
     judge.same('small letters for a method', BAD_REQUEST, clients.get('HAULA', '/interchanges', method='post'))
-    judge.checks.expect('a target of 9,000 bytes', 414, clients.get('HAULA', '/replies/' + 9000 * '1').status)
+    judge.same('a target of 9,000 bytes', BAD_REQUEST, clients.get('HAULA', '/replies/' + 9000 * '1'))
+    judge.same('the path of an answer', NONE, clients.get('HAULA', '/office-bad-request'))
 
 
 # ---- bodies

@@ -1,4 +1,4 @@
-"""A plain slow model of the office, to be read against docs/PROFILE.md and docs/crates, and run beside the program.
+"""A plain slow model of the office, to be read against docs/PROFILE.md and the pages of crates, and run beside the program.
 
 It is written from the rules and not from the code: no spans, no columns, no next number, no texts that wait. Each
 file has one subject, in the order in which they stand on one another:

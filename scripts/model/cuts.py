@@ -1,4 +1,4 @@
-"""Interchanges out of a stream: docs/crates/edi_syntax.md and docs/crates/office.md.
+"""Interchanges out of a stream: crates/edi_syntax/README.md and crates/office/README.md.
 
 An interchange runs from its first byte that is no CR or LF to the terminator of its first segment UNZ. A fault stands
 at the earliest byte where one applies; behind it there is no interchange.

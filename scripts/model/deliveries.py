@@ -1,4 +1,4 @@
-"""The words of the headline, which look back over the whole list of deliveries: docs/crates/partner_core.md.
+"""The words of the headline, which look back over the whole list of deliveries: crates/partner_core/README.md.
 
 There is no next number and no text that waits: each word is computed from the list anew.
 """

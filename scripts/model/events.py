@@ -1,6 +1,6 @@
 """What happens to an office, in turn: texts are delivered, accounts are added, its store is brought to the newest version.
 
-docs/crates/office_admission.md. The words look back over the whole list: the accounts so far, and the deliveries, each
+crates/office_admission/README.md. The words look back over the whole list: the accounts so far, and the deliveries, each
 admitted or refused by the accounts that stood as it came.
 """
 from collections import namedtuple

@@ -1,4 +1,4 @@
-"""One request of HTTP and its response: docs/crates/office_http.md.
+"""One request of HTTP and its response: crates/office_http/README.md.
 
 A request is bytes, and so is its response. The head is the shortest front of the request that is one within the limits
 (RFC 9112, sections 2 to 5, as `httparse` reads it).

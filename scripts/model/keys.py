@@ -1,4 +1,4 @@
-"""Keys of reports, as the command line and HTTP have them: docs/crates/office_queries.md."""
+"""Keys of reports, as the command line and HTTP have them: crates/office_queries/README.md."""
 from .moments import DIGITS, are_digits
 
 # how many parts the key of each report has

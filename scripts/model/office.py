@@ -1,6 +1,6 @@
 """The office: what taking a text does, and the answers to a delivery and to the addition of an account.
 
-docs/crates/office.md and docs/crates/partner_core.md. An answer is a line of JSON, compact, its keys in order.
+crates/office/README.md and crates/partner_core/README.md. An answer is a line of JSON, compact, its keys in order.
 """
 import json
 

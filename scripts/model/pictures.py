@@ -67,7 +67,8 @@ const fits = g => all(g, 'text').every(text => holds(box(g.querySelector('use'))
 const leads = link => {
     link.click();
     const block = document.querySelector(link.hash), top = box(block).top;
-    return block.matches('section') && block.innerText.startsWith(link.innerText) && 0 <= Math.round(top) && top < innerHeight;
+    const is_named = block.matches('section') && block.innerText.startsWith(link.innerText);
+    return is_named && 0 <= Math.round(top) && top < innerHeight;
 };
 parent.document.body.dataset.measured = JSON.stringify({
     frame: innerWidth,

@@ -1,4 +1,4 @@
-"""A stream of interchanges: one line for each, in their order, and the exit status (docs/crates/office.md)."""
+"""A stream of interchanges: one line for each, in their order, and the exit status (crates/office/README.md)."""
 from .cuts import cut
 from .office import json_text
 

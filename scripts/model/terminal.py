@@ -1,4 +1,4 @@
-"""What an order does at the terminal (own): docs/crates/terminal_core.md.
+"""What an order does at the terminal (own): crates/terminal_core/README.md.
 
 Each order is refused for the first reason that applies, and then changes nothing. Otherwise it is carried out. The
 outcome is what the answer tells of it.

@@ -1,4 +1,4 @@
-"""The yard (own): docs/crates/yard_core.md.
+"""The yard (own): crates/yard_core/README.md.
 
 A plan is a list of blocks. A yard is a dict from each container's number to its place: its length (20 or 40), its slot
 and whether it is full. All is decided by the cells of all containers.

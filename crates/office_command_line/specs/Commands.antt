@@ -16,7 +16,7 @@ word_if_any id = record (new_rule id) { action = Some Set }
 abbrev pub flag : Text → Rule
 flag name = record (new_rule name) { long = Some name; action = Some SetTrue }
 
--- an option with a value, as --ahead N, which may be left out; help has a name for the value
+-- an option with a value, as --ahead N, which may be left out
 abbrev pub valued : Text → Rule
 valued name = record (new_rule name) { long = Some name; action = Some Set; value_names = 1 }
 

@@ -64,10 +64,10 @@ fn count_rows(
     rt: &impl Abort,
     trial: &Trial,
     rows: &String,
-    stages: [usize; 2],
+    stages: (usize, usize),
     counts: &mut Counts,
 ) {
-    let [before, after] = stages;
+    let (before, after) = stages;
     let is_before = trial.stages.get(before) == Some(rows);
     let is_after = trial.stages.get(after) == Some(rows);
     count(rt, counts, is_before, is_after);
@@ -80,17 +80,17 @@ fn left_after(
     trial: &Trial,
     start: &Start,
     stop: Stop,
-) -> Result<Option<(Left, [usize; 2])>, Fail> {
+) -> Result<Option<(Left, usize, usize)>, Fail> {
     let files = files_with(alloc, &start.held, stop)?;
-    let (stages, files) = match send(alloc, files, trial.worked.requests) {
-        Progress::Unopened(files) => ([start.stage; 2], files),
+    let (before, after, files) = match send(alloc, files, trial.worked.requests) {
+        Progress::Unopened(files) => (start.stage, start.stage, files),
         Progress::Unloaded => return Ok(None),
         Progress::Answered(answered, files) => {
             let next = answered.saturating_add(1);
-            ([answered.max(start.stage), next.max(start.stage)], files)
+            (answered.max(start.stage), next.max(start.stage), files)
         }
     };
-    Ok(Some((left_of(alloc, files)?, stages)))
+    Ok(Some((left_of(alloc, files)?, before, after)))
 }
 
 /// Sends all requests to an office whose files stop so, and opens again whatever a crash leaves of them. Whether neither
@@ -103,12 +103,12 @@ fn assert_stop(
     stop: Stop,
     counts: &mut Counts,
 ) -> Result<bool, Fail> {
-    let Some((left, stages)) = left_after(alloc, trial, start, stop)? else {
+    let Some((left, before, after)) = left_after(alloc, trial, start, stop)? else {
         return Ok(false);
     };
     for form in forms(alloc, &left)?.as_slice() {
         let rows = assert_end(rt, alloc, trial, form)?;
-        count_rows(rt, trial, &rows, stages, counts);
+        count_rows(rt, trial, &rows, (before, after), counts);
     }
     Ok(left.is_whole)
 }
@@ -173,7 +173,7 @@ fn assert_again(
     second: Stops,
     counts: &mut Counts,
 ) -> Result<bool, Fail> {
-    let Some((left, [before, after])) = left_after(alloc, trial, start, stop)? else {
+    let Some((left, before, after)) = left_after(alloc, trial, start, stop)? else {
         return Ok(false);
     };
     if before == after {
@@ -196,14 +196,14 @@ fn assert_twice(
     rt: &impl Abort,
     alloc: Global,
     worked: Worked,
-    stopped: [StoreFile; 2],
+    stopped: (StoreFile, StoreFile),
     step: u64,
 ) -> Result<(), Fail>
     requires { 0 < step }
 {
     let trial = trial_of(alloc, worked)?;
     let mut counts = NO_COUNTS;
-    let [first, file] = stopped;
+    let (first, file) = stopped;
     let held = made(rt, alloc, true)?;
     let start = Start { held, stage: 0 };
     for calls in 0..MOST_CALLS {
@@ -245,14 +245,14 @@ fn a_stop_leaves_an_account_whole_or_not_at_all(rt: HostRuntime) -> Result<(), F
 
 #[test]
 fn a_second_stop_of_the_log_leaves_it_whole_or_not_at_all(rt: HostRuntime) -> Result<(), Fail> {
-    let stopped = [StoreFile::Log, StoreFile::Log];
+    let stopped = (StoreFile::Log, StoreFile::Log);
     assert_twice(&rt, rt.alloc(), WAITING, stopped, 31)
 }
 
 #[test]
 fn a_stop_of_both_files_leaves_it_whole_or_not_at_all(rt: HostRuntime) -> Result<(), Fail> {
-    let stopped = [StoreFile::Log, StoreFile::Database];
+    let stopped = (StoreFile::Log, StoreFile::Database);
     assert_twice(&rt, rt.alloc(), WAITING, stopped, 7)?;
-    let stopped = [StoreFile::Database, StoreFile::Log];
+    let stopped = (StoreFile::Database, StoreFile::Log);
     assert_twice(&rt, rt.alloc(), WAITING, stopped, 31)
 }

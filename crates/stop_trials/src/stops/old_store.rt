@@ -141,11 +141,11 @@ fn assert_new(
     rt: &impl Abort,
     alloc: Global,
     trial: &Trial,
-    stores: [&Held; 2],
+    stores: (&Held, &Held),
     is_answered: bool,
     counts: &mut Counts,
 ) -> Result<(), Fail> {
-    let [old, new] = stores;
+    let (old, new) = stores;
     let again = migrate_files(
         alloc,
         files_with(alloc, old, NO_STOP)?,
@@ -166,10 +166,10 @@ fn assert_migration(
     alloc: Global,
     trial: &Trial,
     start: &Held,
-    stops: [Stop; 2],
+    stops: (Stop, Stop),
     counts: &mut Counts,
 ) -> Result<bool, Fail> {
-    let [old_stop, new_stop] = stops;
+    let (old_stop, new_stop) = stops;
     let none = empty(alloc, start.mixes);
     let tried = migrate_files(
         alloc,
@@ -181,7 +181,7 @@ fn assert_migration(
     assert!(rt; old.read.log == start.log && old.read.db == start.db);
     let new = left_of(alloc, tried.new)?;
     for form in forms(alloc, &new)?.as_slice() {
-        assert_new(rt, alloc, trial, [start, form], is_done, counts)?;
+        assert_new(rt, alloc, trial, (start, form), is_done, counts)?;
     }
     Ok(old.is_whole && new.is_whole)
 }
@@ -206,8 +206,8 @@ fn assert_migrations(
     for calls in 0..MOST_CALLS {
         let stop = stop_after(file, calls);
         let stops = match store {
-            Store::Old => [stop, NO_STOP],
-            Store::New => [NO_STOP, stop],
+            Store::Old => (stop, NO_STOP),
+            Store::New => (NO_STOP, stop),
         };
         if assert_migration(rt, alloc, trial, start, stops, counts)? {
             return Ok(());

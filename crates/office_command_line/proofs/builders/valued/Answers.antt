@@ -1,14 +1,10 @@
 use Rattle.std.proofs.Common.{◌∙◌, ap, Some}
 use Rattle.clap.specs.Words.{Rule, rule_of}
 use Rattle.clap.specs.declared.builder.ArgAction.TheVariants.{Set}
-use Rattle.clap.specs.declared.builder.arg.Arg.{Arg}
 use Rattle.office_command_line.proofs.builders.valued.Goals as goal
 
-pub returns : goal.returns
-returns c = record {
-  rule = ap rule_of c.help.ensures ∙ ap rule_of c.value_name.ensures
-      ∙ ap (λ (r : Rule). record r { value_names = 1 }) (ap rule_of c.action.ensures
-      ∙ ap (λ (r : Rule). record r { action = Some Set }) (ap rule_of c.long.ensures ∙ ap (λ (r : Rule). record r { long = Some c.args.name.now }) c.new.ensures.rule));
-  local = ap (λ (a : Arg). a.global) c.help.ensures ∙ ap (λ (a : Arg). a.global) c.value_name.ensures ∙ ap (λ (a : Arg). a.global) c.action.ensures
-      ∙ ap (λ (a : Arg). a.global) c.long.ensures ∙ c.new.ensures.optional.1;
-}
+pub returns-clause-rule : goal.returns-clause-rule
+returns-clause-rule c =
+    ap rule_of c.help.ensures ∙ ap rule_of c.value_name.ensures
+    ∙ ap (λ (r : Rule). record r { value_names = 1 })
+    (ap rule_of c.action.ensures ∙ ap (λ (r : Rule). record r { action = Some Set }) (ap rule_of c.long.ensures ∙ ap (λ (r : Rule). record r { long = Some c.args.name.now }) c.new.ensures.rule))

@@ -35,5 +35,5 @@ returns-in_err-number-in-Some-clause-fault g c clean =
     let many = length-map items (λ (account : Account). string_bytes account.code) in
     let p = err_from_is_err_and c.from_residual.result c.from_residual.ensures.1 in
     rw (p.1, p.2) (λ rows has.
-        of_store_weaker (LacksNext id rows) (LacksSome rows (length (account_contents items))) (λ lacks. some_lacks rows items id low.0 (omega (arith, low.1, many)) (inl lacks)) _
-        (c.in_err-number-in-Some.ensures.fault clean rows has))
+    of_store_weaker (LacksNext id rows) (LacksSome rows (length (account_contents items))) (λ lacks. some_lacks rows items id low.0 (omega (arith, low.1, many)) (inl lacks)) _
+    (c.in_err-number-in-Some.ensures.fault clean rows has))

@@ -29,5 +29,5 @@ returns-in_err-partner-in-Some-clause-fault g c clean =
     let low : index < length items = rw c.in-Some.is at c.index_called.ensures.within in
     let p = err_from_is_err_and c.from_residual.result c.from_residual.ensures.1 in
     rw (p.1, p.2) (λ rows has.
-        of_store_weaker (LacksNumbers rows (index + 1)) (LacksSome rows (length (account_contents items))) (λ lacks. some_lacks rows items (index + 1) (omega arith) (omega (arith, low)) lacks) _
-        (c.in_err-partner-in-Some.ensures.fault clean rows has))
+    of_store_weaker (LacksNumbers rows (index + 1)) (LacksSome rows (length (account_contents items))) (λ lacks. some_lacks rows items (index + 1) (omega arith) (omega (arith, low)) lacks) _
+    (c.in_err-partner-in-Some.ensures.fault clean rows has))

@@ -79,8 +79,8 @@ returns-in-Some-clause-fault g c clean =
     let own = string_bytes c.in-Ticket.partner in
     let there : partner_called content own ≡ Some c.in-Some.id = called a.setup.now c.deref-in-Ticket.result.now own (Some c.in-Some.id) (sym c.in-Some.is ∙ c.partner_called.ensures) c.deref-in-Ticket.ensures in
     IfErr-weaker c.tell_ticket.result _ _ (λ fault why rows has.
-        subst (λ q. IsOfStoreOr (AsksUnreadable content rows q) fault) (sym c.in-Ticket.is)
-        (subst (λ p. IsOfStoreOr (HasUnfitReplyOf rows c.in-Ticket.number p) fault) (sym there) (why rows has)))
+    subst (λ q. IsOfStoreOr (AsksUnreadable content rows q) fault) (sym c.in-Ticket.is)
+    (subst (λ p. IsOfStoreOr (HasUnfitReplyOf rows c.in-Ticket.number p) fault) (sym there) (why rows has)))
     (c.tell_ticket.ensures.fault clean)
 
 pub returns-in-Some-partner_called-clause-fault : goal.returns-in-Some-partner_called-clause-fault
@@ -90,8 +90,8 @@ returns-in-Some-partner_called-clause-fault g c clean =
     let own = string_bytes c.in-Reply.partner in
     let there : partner_called content own ≡ Some c.in-Some-partner_called.id = called a.setup.now c.deref-in-Reply.result.now own (Some c.in-Some-partner_called.id) (sym c.in-Some-partner_called.is ∙ c.partner_called-in-Reply.ensures) c.deref-in-Reply.ensures in
     IfErr-weaker c.tell_reply.result _ _ (λ fault why rows has.
-        subst (λ q. IsOfStoreOr (AsksUnreadable content rows q) fault) (sym c.in-Reply.is)
-        (subst (λ p. IsOfStoreOr (LacksReply rows c.in-Reply.number p) fault) (sym there) (why rows has)))
+    subst (λ q. IsOfStoreOr (AsksUnreadable content rows q) fault) (sym c.in-Reply.is)
+    (subst (λ p. IsOfStoreOr (LacksReply rows c.in-Reply.number p) fault) (sym there) (why rows has)))
     (c.tell_reply.ensures.fault clean)
 
 pub returns-in-Some-partner_called-2-clause-fault : goal.returns-in-Some-partner_called-2-clause-fault
@@ -101,8 +101,8 @@ returns-in-Some-partner_called-2-clause-fault g c clean =
     let own = string_bytes c.in-Contrl.partner in
     let there : partner_called content own ≡ Some c.in-Some-partner_called-2.id = called a.setup.now c.deref-in-Contrl.result.now own (Some c.in-Some-partner_called-2.id) (sym c.in-Some-partner_called-2.is ∙ c.partner_called-in-Contrl.ensures) c.deref-in-Contrl.ensures in
     IfErr-weaker c.tell_contrl.result _ _ (λ fault why rows has.
-        subst (λ q. IsOfStoreOr (AsksUnreadable content rows q) fault) (sym c.in-Contrl.is)
-        (subst (λ p. IsOfStoreOr (HasUnfitReplyOf rows c.in-Contrl.number p) fault) (sym there) (why rows has)))
+    subst (λ q. IsOfStoreOr (AsksUnreadable content rows q) fault) (sym c.in-Contrl.is)
+    (subst (λ p. IsOfStoreOr (HasUnfitReplyOf rows c.in-Contrl.number p) fault) (sym there) (why rows has)))
     (c.tell_contrl.ensures.fault clean)
 
 pub returns-in-Partner-clause-fault : goal.returns-in-Partner-clause-fault
@@ -128,5 +128,5 @@ pub returns-in-Health-clause-fault : goal.returns-in-Health-clause-fault
 returns-in-Health-clause-fault g c clean =
     let content = setup_content c.args.setup.now in
     IfErr-weaker c.tell_health.result _ _ (λ fault why rows has. subst (λ q. IsOfStoreOr (AsksUnreadable content rows q) fault) (sym c.in-Health.is)
-        (of_store_weaker (LacksNext 1 rows) (LacksSome rows (length content.partners)) (λ lacks. some_lacks rows c.args.setup.now.partners.items 1 (omega arith) c.requires.some (inl lacks)) fault (why rows has)))
+    (of_store_weaker (LacksNext 1 rows) (LacksSome rows (length content.partners)) (λ lacks. some_lacks rows c.args.setup.now.partners.items 1 (omega arith) c.requires.some (inl lacks)) fault (why rows has)))
     (c.tell_health.ensures.fault clean)
