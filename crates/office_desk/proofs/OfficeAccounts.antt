@@ -131,7 +131,7 @@ module _ (content : SetupContent) (rows : Rows) (its : KeepsAccounts content row
       let here : is.0.id ≡ p = eqb-true is.0.id p own.1 in
       sym is.2 ∙ next_by (λ q. its.runs q + 1) content.partners rows its.by_id is.0 (contains_had rows.partners is.0 own.0) ∙ ap (λ q. its.runs q + 1) here
 
-  next_there : (p : ℕ) → 1 ≤ p → p ≤ length content.partners → IsNextOf p rows (its.runs p + 1)
+  pub next_there : (p : ℕ) → 1 ≤ p → p ≤ length content.partners → IsNextOf p rows (its.runs p + 1)
   next_there p one most =
       let account = account_there 1 (λ q. its.runs q + 1) content.partners p one (omega (arith, most)) in
       let inside = Contains-permutation _ rows.partners account.0 (IsPermutation-sym _ _ its.by_id) account.1 in

@@ -1,8 +1,9 @@
-use Rattle.std.proofs.Common.{◌+◌, List, [], Ok, map, refl, sym, ap, subst, ◌∙◌, arith}
+use Rattle.std.proofs.Common.{◌+◌, List, [], Ok, length, map, refl, sym, ap, subst, ◌∙◌, arith}
 use Rattle.std.proofs.lemmas.List.{take_all}
 use Rattle.std.proofs.lemmas.Result.{err_from_is_err_and}
 use Rattle.sqlite.specs.Held.{state}
 use Rattle.sqlite.specs.State.{HasCleanDisk}
+use Rattle.office_rows.specs.Rows.{Rows}
 use Rattle.office_rows.specs.Stored.{HasRows}
 use Rattle.office_setup.specs.Setups.{account_contents}
 use Rattle.office_setup.specs.declared.account.Account.{Account}
@@ -12,6 +13,7 @@ use Rattle.office_tables.proofs.ReadingLemmas.{clean_first, reads_on, reads_stop
 use Rattle.office_delivery.proofs.ReadLemmas.{nothing_read, one_read, only_on, only_then}
 use Rattle.office_lookups.specs.Partners.{partner_content}
 use Rattle.office_lookups.specs.declared.partner.Partner.{Partner}
+use Rattle.office_desk.specs.Causes.{LacksNumbers, LacksSome}
 use Rattle.office_desk.specs.Reports.{AreLookedUp, IsLookedUp}
 use Rattle.office_desk.proofs.PartnerLemmas.{said, looked_up_more}
 use Rattle.office_desk.proofs.partners.look_all_up.Goals as goal
@@ -68,6 +70,8 @@ returns-in_err-partner-clause-fault g c clean =
     let p = err_from_is_err_and c.from_residual.result c.from_residual.ensures.1 in
     let before = c.loop-account.invariant in
     let same : IsSame old mid = before.reads.same (clean_first c.look_up.ensures.reads clean) in
+    let lacks_some : (rows : Rows) → LacksNumbers rows (c.loop-account.id + 1) → LacksSome rows (length c.args.accounts.now) = λ rows lacks.
+    (c.loop-account.id + 1, omega arith, omega (arith, before.id, c.loop-account-test.true), lacks) in
     rw (p.1, p.2) (λ rows has.
-        of_store_weaker _ _ (λ lacks. (c.loop-account.id + 1, omega arith, omega (arith, before.id, c.loop-account-test.true), lacks)) _
+        of_store_weaker _ _ (lacks_some rows) _
         (c.in_err-partner.ensures.fault clean rows (subst (HasRows rows) (sym same.now) has)))
