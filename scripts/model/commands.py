@@ -73,7 +73,7 @@ def serve(files, store, port, count):
     """Only its faults: what it answers is in http.py."""
     if not all(are_digits(text, 1, 9) and 1 <= int(text) <= most
                for text, most in ((port, 65535), (count, MOST_CONNECTIONS))):
-        raise Fault('usage: office serve DB PORT COUNT [--log] [--ahead N]', 2)
+        raise Fault('usage: office serve DB PORT COUNT', 2)
     office_in(files, store)
     return 'listening 127.0.0.1:%d\nserved %d\n' % (int(port), int(count)), 0
 

@@ -162,7 +162,7 @@ met_asks met = option_and_then (λ (m : Text × List Row). asked_by m.0 m.1) met
 -- how a subcommand is called
 abbrev pub usage_line : Text → Text
 usage_line name =
-    if bytes_eq name (codes "serve") then codes "usage: office serve DB PORT COUNT [--log] [--ahead N]\n"
+    if bytes_eq name (codes "serve") then codes "usage: office serve DB PORT COUNT\n"
     else if bytes_eq name (codes "report") then codes "usage: office report DB KIND [KEY]\n"
     else codes "usage: office COMMAND\n"
 

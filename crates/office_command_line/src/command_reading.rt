@@ -48,7 +48,7 @@ fn usage_of(name: &str) -> &'static str
     ensures { result.now ≡ usage_line name.now }
 {
     match name {
-        "serve" => "usage: office serve DB PORT COUNT [--log] [--ahead N]\n",
+        "serve" => "usage: office serve DB PORT COUNT\n",
         "report" => "usage: office report DB KIND [KEY]\n",
         _ => "usage: office COMMAND\n",
     }
