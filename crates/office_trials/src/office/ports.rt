@@ -169,7 +169,15 @@ fn a_stream_in_thousands_of_pieces_is_read_to_its_end(rt: HostRuntime) -> Result
     let mut input = Port::new(pieces);
     let mut output = Port::new(Vec::new(rt.alloc()));
     let mut desk = Logbook::new(Port::new(Vec::new(rt.alloc())));
-    let left = run_stream(rt.alloc(), &mut input, &mut output, &mut desk, 10_000);
+    let mut cut = None;
+    let left = run_stream(
+        rt.alloc(),
+        &mut input,
+        &mut output,
+        &mut desk,
+        10_000,
+        &mut cut,
+    );
     assert!(&rt; left == Ok(Worst::Refused));
     assert_eq!(rt; desk.into_pages().into_inner().len(), 300 * TEXTS.len());
     assert_eq!(rt; output.into_inner().len(), 300 * LINES.len());
@@ -202,7 +210,8 @@ fn assert_long<W: Write>(
 ) {
     let mut desk = LongAnswers { size: MEGABYTE };
     let mut input = Port::new(b"AAA+1'UNZ'".as_slice());
-    let left = run_stream(alloc, &mut input, writer, &mut desk, 100);
+    let mut cut = None;
+    let left = run_stream(alloc, &mut input, writer, &mut desk, 100, &mut cut);
     assert!(rt; left == expected);
 }
 
