@@ -10,18 +10,21 @@ use Rattle.terminal_core.specs.State.{TerminalState}
 use Rattle.office_replies.specs.Events.{Event}
 use Rattle.office_setup.specs.Parties.{partner_from}
 use Rattle.office_setup.specs.Setups.{SetupContent, setup_content}
+use Rattle.office_rows.specs.Opening.{tables_version}
 use Rattle.office_rows.specs.Rows.{Rows}
 use Rattle.office_rows.specs.Stored.{HasRows}
 use Rattle.office_loading.specs.Tables.{Loads}
 use Rattle.office_history.specs.After.{SaysSame, content_after}
 use Rattle.office_history.proofs.Alike.{parties_same}
+use Rattle.office_queries.specs.Program.{program_version}
 use Rattle.office_queries.specs.declared.query.Query.{Query}
 use Rattle.office_queries.specs.declared.query.Query.TheVariants as query
 use Rattle.office_queries.specs.declared.report_kind.ReportKind.{ReportKind}
 use Rattle.office_reports.specs.Visits.{visit_report}
 use Rattle.office_lookups.specs.Containers.{container_report}
+use Rattle.office_lookups.specs.Metrics.{metrics_text}
 use Rattle.office_picture.specs.Picture.{IsPicture}
-use Rattle.office_desk.specs.Reports.{TellsOf, TellsAfter, TellsPartners, TellsReplyOf, DeskTells, contrl_told, ticket_of, partner_called}
+use Rattle.office_desk.specs.Reports.{AreLookedUp, TellsOf, TellsAfter, TellsNext, TellsPartner, TellsPartners, TellsReplyOf, DeskTells, contrl_told, ticket_of, partner_called}
 use Rattle.office_desk.specs.declared.desk.Desk.{Desk}
 use Rattle.office_desk.proofs.AlikeLemmas.{answers_alike}
 use Rattle.office_commands.proofs.NowAlike.{now_alike}
@@ -59,6 +62,17 @@ module _ (one other : SetupContent) (says : SaysSame one other) where
       told ∙ ap (contrl_told rows number) (called_alike (string_bytes partner))
   of_alike state rows query.Picture found told =
       (told.0, told.1, subst (λ blocks. IsPicture state other.terminal blocks told.0) says.blocks (subst (λ name. IsPicture state name one.blocks told.0) says.terminal told.2))
+  of_alike state rows (query.Partner code) found told =
+      subst (λ accounts. TellsPartner rows accounts (partner_called other (string_bytes code)) found) says.partners
+      (subst (λ called. TellsPartner rows one.partners called found) (called_alike (string_bytes code)) told)
+  of_alike state rows (query.Next code) found told =
+      subst (λ called. TellsNext rows called found) (called_alike (string_bytes code)) told
+  of_alike state rows query.Health found told = told
+  of_alike state rows query.Metrics found told = (
+    told.0,
+    subst (λ accounts. AreLookedUp rows 1 accounts told.0) says.partners told.1,
+    told.2 ∙ ap (λ limit. Some (metrics_text program_version tables_version state limit told.0)) says.limit,
+  )
 
 module _ (one other : SetupContent) (says : SaysSame one other) where
   pub after_alike : (es : List Event) (asked : Query) (found : Option (List ℕ)) → TellsAfter one es asked found → TellsAfter other es asked found
