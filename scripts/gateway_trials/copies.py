@@ -13,7 +13,9 @@ from .judged import Replayed, texts_in
 from .load import PARTNERS, SETUP, Senders, prepared, text_of, word_of
 
 COPIES = int(os.environ.get('COPIES', 200))
-SENDERS = PARTNERS[:6]      # partners that send meanwhile, without a pause
+SENDERS = PARTNERS[:6]      # partners that send meanwhile
+MEANWHILE = 40              # interchanges that they send around each copy, without a pause
+WHOLE_EVERY = 10            # copies of which one has all its rows compared
 
 
 class Copying:
@@ -54,8 +56,9 @@ def state_of(process):
 
 # ---- copies under load
 
-def looked_at(checks, name, folder, senders, model):
-    """A copy has each answer that was given before its SIGSTOP, and nothing but what was sent; its rows are the model's."""
+def looked_at(checks, name, folder, senders, model, is_whole):
+    """A copy has each answer that was given before its SIGSTOP, and nothing but what was sent; its rows are the model's, of
+    which all are compared where `is_whole`."""
     store = os.path.join(folder, 'office.db')
     kept = set(texts_in(store))
     began = moment_of(folder)
@@ -65,18 +68,21 @@ def looked_at(checks, name, folder, senders, model):
     lost = [one for one in answered if senders.texts[one] not in kept]
     checks.expect(name + ': answered and not there', [], lost)
     checks.expect(name + ': there and not sent', set(), kept - sent)
-    model.holds(checks, name, store)
+    (model.holds if is_whole else model.follows)(checks, name, store)
     return len(answered)
 
 
 def begun(senders):
-    """Partners that send in order, each without a pause, until it is over."""
-    senders.texts = {}
+    """Partners that send in order, as far as they are let, until it is over."""
+    senders.texts, senders.allowed = {}, 0
 
     def partner(code):
         """One of them."""
         number = 0
         while not senders.over.is_set():
+            if len(senders.texts) >= senders.allowed:
+                time.sleep(0.005)
+                continue
             number += 1
             with senders.lock:
                 senders.texts[code, number] = text_of(code, number)
@@ -93,12 +99,13 @@ def copied(checks, copying, senders, model):
     middle, counts, began = copying.installed.file('middle'), [], time.monotonic()
     for place in range(COPIES):
         name = 'copy %d' % place
+        senders.allowed = len(senders.texts) + MEANWHILE
         folder, fault, status = copying.copy(KEEP='all')
         checks.expect(name, ('', 0), (fault, status))
         checks.expect(name + ': the office goes on', False, state_of(copying.installed.office.process) == 'T')
         if status:
             continue
-        counts.append(looked_at(checks, name, folder, senders, model))
+        counts.append(looked_at(checks, name, folder, senders, model, place % WHOLE_EVERY == 0))
         if place == COPIES // 2:
             shutil.copytree(folder, middle)
         if place + 1 < COPIES:

@@ -92,17 +92,24 @@ class Replayed:
     def __init__(self, setup):
         self.office, self.texts = Office(setup, keeps_fold=True), []
 
-    def holds(self, checks, name, store):
-        """All rows of a store are the model's, after the texts that it keeps, in their order."""
+    def follows(self, checks, name, store):
+        """A store keeps what it kept before, and more after it; it has as many visits as the model, which is cheap to see. Gives
+        its rows."""
         texts = texts_in(store)
-        checks.expect(name + ': what was kept before is kept', self.texts, texts[:len(self.texts)])
+        checks.expect(name + ': what was kept before is kept', True, self.texts == texts[:len(self.texts)])
         for text in texts[len(self.texts):]:
             self.office.answer(text)
         self.texts = texts
         rows, faults = rows_in(store)
         checks.expect(name + ': SQLite finds', [], faults)
+        checks.expect(name + ': visits', len(self.office.fold().terminal.visits), len(rows.get('visit', [])))
+        return rows
+
+    def holds(self, checks, name, store):
+        """All rows of a store are the model's, after the texts that it keeps, in their order."""
+        rows = self.follows(checks, name, store)
         checks.expect(name + ': the rows are the model\'s', True, rows == rows_of(self.office))
-        return len(texts)
+        return len(self.texts)
 
     def replied(self, checks, name, partner, number, body):
         """An answer with a reply has the model's."""

@@ -16,9 +16,9 @@ use Rattle.office_rows.specs.Stored.{HasRows}
 use Rattle.office_loading.specs.Tables.{Loads}
 use Rattle.office_history.specs.After.{SaysSame, content_after}
 use Rattle.office_history.proofs.Alike.{parties_same}
+use Rattle.office_queries.specs.Program.{program_version}
 use Rattle.office_queries.specs.declared.query.Query.{Query}
 use Rattle.office_queries.specs.declared.query.Query.TheVariants as query
-use Rattle.office_queries.specs.Program.{program_version}
 use Rattle.office_queries.specs.declared.report_kind.ReportKind.{ReportKind}
 use Rattle.office_reports.specs.Visits.{visit_report}
 use Rattle.office_lookups.specs.Containers.{container_report}
@@ -57,19 +57,22 @@ module _ (one other : SetupContent) (says : SaysSame one other) where
       told ∙ (λ i. container_report (record { terminal = one.terminal; codes = one.codes; partners = says.partners i; blocks = one.blocks; visit_limit = one.visit_limit }) state container)
   of_alike state rows query.Partners found told = subst (λ accounts. TellsPartners rows accounts found) says.partners told
   of_alike state rows query.Blocks found told = told
-  of_alike state rows (query.Partner code) found told =
-      subst (λ accounts. TellsPartner rows accounts (partner_called other (string_bytes code)) found) says.partners
-      (subst (λ called. TellsPartner rows one.partners called found) (called_alike (string_bytes code)) told)
-  of_alike state rows (query.Next code) found told = subst (λ called. TellsNext rows called found) (called_alike (string_bytes code)) told
-  of_alike state rows query.Health found told = told
-  of_alike state rows query.Metrics found told =
-      (told.0, subst (λ accounts. AreLookedUp rows 1 accounts told.0) says.partners told.1,
-      told.2 ∙ ap (λ (limit : ℕ). Some (metrics_text program_version tables_version state limit told.0)) says.limit)
   of_alike state rows (query.Work call side) found told = told
   of_alike state rows (query.Contrl partner number) found told =
       told ∙ ap (contrl_told rows number) (called_alike (string_bytes partner))
   of_alike state rows query.Picture found told =
       (told.0, told.1, subst (λ blocks. IsPicture state other.terminal blocks told.0) says.blocks (subst (λ name. IsPicture state name one.blocks told.0) says.terminal told.2))
+  of_alike state rows (query.Partner code) found told =
+      subst (λ accounts. TellsPartner rows accounts (partner_called other (string_bytes code)) found) says.partners
+      (subst (λ called. TellsPartner rows one.partners called found) (called_alike (string_bytes code)) told)
+  of_alike state rows (query.Next code) found told =
+      subst (λ called. TellsNext rows called found) (called_alike (string_bytes code)) told
+  of_alike state rows query.Health found told = told
+  of_alike state rows query.Metrics found told = (
+    told.0,
+    subst (λ accounts. AreLookedUp rows 1 accounts told.0) says.partners told.1,
+    told.2 ∙ ap (λ limit. Some (metrics_text program_version tables_version state limit told.0)) says.limit,
+  )
 
 module _ (one other : SetupContent) (says : SaysSame one other) where
   pub after_alike : (es : List Event) (asked : Query) (found : Option (List ℕ)) → TellsAfter one es asked found → TellsAfter other es asked found

@@ -1,5 +1,5 @@
 -- Requests that are served over a store in files.
-use Rattle.std.proofs.Common.{◌≡◌, ◌⊎◌, ◌≤◌, inl, inr, ℕ, Bool, List, [], ◌∷◌, ◌++◌, length, Option, Some, Result, Ok, Err, refl, sym, ap, subst, ◌∙◌}
+use Rattle.std.proofs.Common.{◌≡◌, ◌⊎◌, ◌≤◌, inl, inr, ℕ, Bool, true, false, List, [], ◌∷◌, ◌++◌, length, Option, Some, Result, Ok, Err, refl, sym, ap, subst, ◌∙◌}
 use Rattle.std.proofs.KnownBytes.{Appends-nil, Appends-trans}
 use Rattle.std.specs.Io.KnownBytes.{Appends}
 use Rattle.sqlite_disk.specs.declared.Disk.{Ghosts}
@@ -57,15 +57,15 @@ inner_steps inner outer_leads outer_enrols leads enrols looks old (report query 
     (inner next, led, inner_steps inner outer_leads outer_enrols leads enrols looks next steps new rest by by')
 
 -- what goes by the name of a file is done, or `not now`
-pub named_leads : {D : Type 0} (leads : D → List ℕ → Response → D → Type 0) (says : Bool → Type 0) (nameless : Bool) (old : D) (text : List ℕ) (given : Response) (new : D)
-    → LeadsWhile leads says nameless old text given new → LeadsNamed leads old text given new
-named_leads leads says nameless old text given new (inl (said, noted, led)) = inl led
-named_leads leads says nameless old text given new (inr (said, noted, off, same)) = inr (off, same)
+pub named_leads : {D : Type 0} (leads : D → List ℕ → Response → D → Type 0) (named unnamed : Type 0) (nameless : Bool) (old : D) (text : List ℕ) (given : Response) (new : D)
+    → (named × (nameless ≡ false) × leads old text given new) ⊎ (unnamed × (nameless ≡ true) × (given ≡ response.NotNow) × (new ≡ old)) → LeadsNamed leads old text given new
+named_leads leads named unnamed nameless old text given new (inl (said, noted, led)) = inl led
+named_leads leads named unnamed nameless old text given new (inr (said, noted, off, same)) = inr (off, same)
 
-pub named_enrols : {D : Type 0} (enrols : D → List ℕ → List ℕ → AccountAnswer → D → Type 0) (says : Bool → Type 0) (nameless : Bool) (old : D) (code kind : List ℕ) (given : AccountAnswer) (new : D)
-    → EnrolsWhile enrols says nameless old code kind given new → EnrolsNamed enrols old code kind given new
-named_enrols enrols says nameless old code kind given new (inl (said, noted, led)) = inl led
-named_enrols enrols says nameless old code kind given new (inr (said, noted, off, same)) = inr (off, same)
+pub named_enrols : {D : Type 0} (enrols : D → List ℕ → List ℕ → AccountAnswer → D → Type 0) (named unnamed : Type 0) (nameless : Bool) (old : D) (code kind : List ℕ) (given : AccountAnswer) (new : D)
+    → (named × (nameless ≡ false) × enrols old code kind given new) ⊎ (unnamed × (nameless ≡ true) × (given ≡ account_answer.NotNow) × (new ≡ old)) → EnrolsNamed enrols old code kind given new
+named_enrols enrols named unnamed nameless old code kind given new (inl (said, noted, led)) = inl led
+named_enrols enrols named unnamed nameless old code kind given new (inr (said, noted, off, same)) = inr (off, same)
 
 -- from what a desk was to what it is, by whatever stood around it
 pub served_by : {D : Type 0} (leads : D → List ℕ → Response → D → Type 0) (enrols : D → List ℕ → List ℕ → AccountAnswer → D → Type 0)

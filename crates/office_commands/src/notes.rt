@@ -90,8 +90,12 @@ impl Sender {
     pub(crate) fn of(alloc: Global, delivered: &[u8]) -> Option<Sender>
         ensures { IfSome result (IsSender (segments_in (interchange_of delivered.now))) }
     {
-        match Head::open(interchange_text(delivered)) {
-            Ok(head) => Sender::in_head(alloc, &head).ok(),
+        let text = interchange_text(delivered);
+        let Ok(head) = Head::open(text) else {
+            return None;
+        };
+        match Sender::in_head(alloc, &head) {
+            Ok(sender) => Some(sender),
             Err(_) => None,
         }
     }

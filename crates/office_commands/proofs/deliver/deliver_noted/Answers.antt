@@ -7,7 +7,7 @@ pub returns-clause-ends : goal.returns-clause-ends
 returns-clause-ends g c =
     let ends = c.deliver_to-status.ensures.ends in
     let before = c.new-noted.result in
-    let after = c.deliver_to-status.new.noted in
+    let after = c.deliver_to-status.new.desk in
     record {
       outcome = ends.outcome;
       status_is = ends.status_is;

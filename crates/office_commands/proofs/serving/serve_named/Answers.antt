@@ -22,8 +22,8 @@ returns g c =
         served_by leads enrols looks (calls_of c.args.service.count) c.args.desk before.desk.desk after.desk.desk _
             (ap (λ named. named.desk) c.new-noted.ensures ∙ c.new-named.ensures) (ap (λ named. named.desk) c.into_desk.ensures) done.5.steps done.5.few
             (inner_steps (λ noted. noted.desk.desk) _ _ (LeadsNamed leads) (EnrolsNamed enrols) looks before done.5.steps after done.5.led
-            (λ o text given n led. named_leads leads _ n.desk.is_nameless o.desk.desk text given n.desk.desk led)
-            (λ o code kind given n led. named_enrols enrols _ n.desk.is_nameless o.desk.desk code kind given n.desk.desk led)),
+            (λ o text given n led. named_leads leads _ _ n.desk.is_nameless o.desk.desk text given n.desk.desk led)
+            (λ o code kind given n led. named_enrols enrols _ _ n.desk.is_nameless o.desk.desk code kind given n.desk.desk led)),
       )
       | inr left ↦ (elim left [
         | inl cut ↦ inr (inl (
@@ -34,8 +34,8 @@ returns g c =
           served_by leads enrols looks (calls_of c.args.service.count) c.args.desk before.desk.desk after.desk.desk _
               (ap (λ named. named.desk) c.new-noted.ensures ∙ c.new-named.ensures) (ap (λ named. named.desk) c.into_desk.ensures) cut.4.steps cut.4.few
               (inner_steps (λ noted. noted.desk.desk) _ _ (LeadsNamed leads) (EnrolsNamed enrols) looks before cut.4.steps after cut.4.led
-              (λ o text given n led. named_leads leads _ n.desk.is_nameless o.desk.desk text given n.desk.desk led)
-              (λ o code kind given n led. named_enrols enrols _ n.desk.is_nameless o.desk.desk code kind given n.desk.desk led)),
+              (λ o text given n led. named_leads leads _ _ n.desk.is_nameless o.desk.desk text given n.desk.desk led)
+              (λ o code kind given n led. named_enrols enrols _ _ n.desk.is_nameless o.desk.desk code kind given n.desk.desk led)),
         ))
         | inr none ↦ inr (inr (
           none.0,
@@ -43,8 +43,8 @@ returns g c =
           served_by leads enrols looks 0 c.args.desk before.desk.desk after.desk.desk _
               (ap (λ named. named.desk) c.new-noted.ensures ∙ c.new-named.ensures) (ap (λ named. named.desk) c.into_desk.ensures) none.2.steps none.2.few
               (inner_steps (λ noted. noted.desk.desk) _ _ (LeadsNamed leads) (EnrolsNamed enrols) looks before none.2.steps after none.2.led
-              (λ o text given n led. named_leads leads _ n.desk.is_nameless o.desk.desk text given n.desk.desk led)
-              (λ o code kind given n led. named_enrols enrols _ n.desk.is_nameless o.desk.desk code kind given n.desk.desk led)),
+              (λ o text given n led. named_leads leads _ _ n.desk.is_nameless o.desk.desk text given n.desk.desk led)
+              (λ o code kind given n led. named_enrols enrols _ _ n.desk.is_nameless o.desk.desk code kind given n.desk.desk led)),
         ))
       ])
     ]
