@@ -73,5 +73,5 @@ returns-in_err-partner-clause-fault g c clean =
     let lacks_some : (rows : Rows) → LacksNumbers rows (c.loop-account.id + 1) → LacksSome rows (length c.args.accounts.now) = λ rows lacks.
     (c.loop-account.id + 1, omega arith, omega (arith, before.id, c.loop-account-test.true), lacks) in
     rw (p.1, p.2) (λ rows has.
-        of_store_weaker _ _ (lacks_some rows) _
-        (c.in_err-partner.ensures.fault clean rows (subst (HasRows rows) (sym same.now) has)))
+    of_store_weaker _ _ (lacks_some rows) _
+    (c.in_err-partner.ensures.fault clean rows (subst (HasRows rows) (sym same.now) has)))

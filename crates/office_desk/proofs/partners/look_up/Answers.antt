@@ -39,5 +39,5 @@ returns-in_err-waiting-clause-fault g c clean =
     let p = err_from_is_err_and c.from_residual-in_err-waiting.result c.from_residual-in_err-waiting.ensures.1 in
     let before : HasCleanDisk (state g.S.Store c.next_of.new.conn) = clean_first c.waiting_numbers.ensures.reads clean in
     rw (p.1, p.2) (λ rows has.
-        of_store_weaker _ _ (λ high. inr (c.in_ok-next.next, high)) _
-        (c.in_err-waiting.ensures.fault clean rows (subst (HasRows rows) (sym (c.in_ok-next.ensures.reads.unchanged before).0.now_is) has)))
+    of_store_weaker _ _ (λ high. inr (c.in_ok-next.next, high)) _
+    (c.in_err-waiting.ensures.fault clean rows (subst (HasRows rows) (sym (c.in_ok-next.ensures.reads.unchanged before).0.now_is) has)))

@@ -76,8 +76,8 @@ returns-in-Some-clause-fault g c clean =
     let own = string_bytes c.in-Ticket.partner in
     let there : partner_called content own ≡ Some c.in-Some.id = called a.setup.now c.deref.result.now own (Some c.in-Some.id) (sym c.in-Some.is ∙ c.partner_called.ensures) c.deref.ensures in
     IfErr-weaker c.tell_ticket.result _ _ (λ fault why rows has.
-        subst (λ q. IsOfStoreOr (AsksUnreadable content rows q) fault) (sym c.in-Ticket.is)
-        (subst (λ p. IsOfStoreOr (HasUnfitReplyOf rows c.in-Ticket.number p) fault) (sym there) (why rows has)))
+    subst (λ q. IsOfStoreOr (AsksUnreadable content rows q) fault) (sym c.in-Ticket.is)
+    (subst (λ p. IsOfStoreOr (HasUnfitReplyOf rows c.in-Ticket.number p) fault) (sym there) (why rows has)))
     (c.tell_ticket.ensures.fault clean)
 
 pub returns-in-Some-partner_called-clause-fault : goal.returns-in-Some-partner_called-clause-fault
@@ -87,8 +87,8 @@ returns-in-Some-partner_called-clause-fault g c clean =
     let own = string_bytes c.in-Reply.partner in
     let there : partner_called content own ≡ Some c.in-Some-partner_called.id = called a.setup.now c.deref-in-Reply.result.now own (Some c.in-Some-partner_called.id) (sym c.in-Some-partner_called.is ∙ c.partner_called-in-Reply.ensures) c.deref-in-Reply.ensures in
     IfErr-weaker c.tell_reply.result _ _ (λ fault why rows has.
-        subst (λ q. IsOfStoreOr (AsksUnreadable content rows q) fault) (sym c.in-Reply.is)
-        (subst (λ p. IsOfStoreOr (LacksReply rows c.in-Reply.number p) fault) (sym there) (why rows has)))
+    subst (λ q. IsOfStoreOr (AsksUnreadable content rows q) fault) (sym c.in-Reply.is)
+    (subst (λ p. IsOfStoreOr (LacksReply rows c.in-Reply.number p) fault) (sym there) (why rows has)))
     (c.tell_reply.ensures.fault clean)
 
 pub returns-in-Some-partner_called-2-clause-fault : goal.returns-in-Some-partner_called-2-clause-fault
@@ -98,6 +98,6 @@ returns-in-Some-partner_called-2-clause-fault g c clean =
     let own = string_bytes c.in-Contrl.partner in
     let there : partner_called content own ≡ Some c.in-Some-partner_called-2.id = called a.setup.now c.deref-in-Contrl.result.now own (Some c.in-Some-partner_called-2.id) (sym c.in-Some-partner_called-2.is ∙ c.partner_called-in-Contrl.ensures) c.deref-in-Contrl.ensures in
     IfErr-weaker c.tell_contrl.result _ _ (λ fault why rows has.
-        subst (λ q. IsOfStoreOr (AsksUnreadable content rows q) fault) (sym c.in-Contrl.is)
-        (subst (λ p. IsOfStoreOr (HasUnfitReplyOf rows c.in-Contrl.number p) fault) (sym there) (why rows has)))
+    subst (λ q. IsOfStoreOr (AsksUnreadable content rows q) fault) (sym c.in-Contrl.is)
+    (subst (λ p. IsOfStoreOr (HasUnfitReplyOf rows c.in-Contrl.number p) fault) (sym there) (why rows has)))
     (c.tell_contrl.ensures.fault clean)

@@ -46,5 +46,5 @@ returns-in_err-next-in-Some-clause-fault g c clean =
     let p = err_from_is_err_and c.from_residual-in_err-next-in-Some.result c.from_residual-in_err-next-in-Some.ensures.1 in
     let before = clean_first c.next_of.ensures.reads clean in
     rw (p.1, p.2) (λ rows has.
-        of_store_weaker _ _ inr _
-        (c.in_err-next-in-Some.ensures.fault clean rows (subst (HasRows rows) (sym (c.in_ok-kept.ensures.reads.unchanged before).0.now_is) has)))
+    of_store_weaker _ _ inr _
+    (c.in_err-next-in-Some.ensures.fault clean rows (subst (HasRows rows) (sym (c.in_ok-kept.ensures.reads.unchanged before).0.now_is) has)))

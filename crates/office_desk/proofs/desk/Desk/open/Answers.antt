@@ -81,6 +81,7 @@ returns g c = record {
         unchanged = still;
       };
   stays = λ sound. clean_first c.load_beside.ensures.reads (subst (λ k. HasCleanDisk (state g.S.Store k)) c.new.ensures.conn sound.0);
+  refused = tt;
 }
 
 -- It was refused as its tables were, and the connection was given up behind them.

@@ -112,9 +112,9 @@ returns-clause-fault g c = λ sound.
     let settled : old.now ≡ old.committed = c.is_autocommit-is_idle.ensures.settled (c.is_autocommit-is_idle.ensures.value ∙ ap not c.args.self.now.idle) (was_open c.beside_of.ensures.reads clean (was_open reads sound.0 sound.1)) in
     let same : IsSame old mid = c.in_ok-there.ensures.reads.same clean in
     IfErr-weaker c.tell-found.result _ _ (λ fault why rows kept holds.
-        let now : HoldsOffice content rows kept old.now c.args.self.now.beside = office_with content rows kept old.committed old.now c.args.self.now.beside c.args.self.now.beside settled holds.beside holds in
-        let its = (keeps_accounts content rows kept old.now now.has now.loads).0 in
-        of_store_weaker _ _ (asked_unfit content rows its asked) fault (why rows (subst (HasRows rows) (sym same.now) now.has)))
+    let now : HoldsOffice content rows kept old.now c.args.self.now.beside = office_with content rows kept old.committed old.now c.args.self.now.beside c.args.self.now.beside settled holds.beside holds in
+    let its = (keeps_accounts content rows kept old.now now.has now.loads).0 in
+    of_store_weaker _ _ (asked_unfit content rows its asked) fault (why rows (subst (HasRows rows) (sym same.now) now.has)))
     (c.tell-found.ensures.fault sound.0)
 
 pub returns-in_err-there-clause-fault : goal.returns-in_err-there-clause-fault
@@ -125,5 +125,5 @@ returns-in_err-there-clause-fault g c = λ sound.
     let p = err_from_is_err_and c.from_residual.result c.from_residual.ensures.1 in
     let settled : old.now ≡ old.committed = c.is_autocommit-is_idle.ensures.settled (c.is_autocommit-is_idle.ensures.value ∙ ap not c.args.self.now.idle) (was_open reads sound.0 sound.1) in
     rw (p.1, p.2) (λ rows kept holds.
-        let now : HoldsOffice content rows kept old.now c.take.result = office_with content rows kept old.committed old.now c.args.self.now.beside c.take.result settled (subst (IsOrNone rows kept) (sym c.take.ensures.value) holds.beside) holds in
-        of_store_or _ _ (c.in_err-there.ensures.fault sound.0 content rows kept now))
+    let now : HoldsOffice content rows kept old.now c.take.result = office_with content rows kept old.committed old.now c.args.self.now.beside c.take.result settled (subst (IsOrNone rows kept) (sym c.take.ensures.value) holds.beside) holds in
+    of_store_or _ _ (c.in_err-there.ensures.fault sound.0 content rows kept now))
