@@ -8,3 +8,4 @@ pub mod Accounts
 pub mod Reporting
 pub mod Looking
 pub mod Serving
+pub mod Migrating

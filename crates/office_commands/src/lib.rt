@@ -1,5 +1,5 @@
 //! How the program opens a store in files, and what it does with it over whatever is read and written: it takes
-//! interchanges, adds accounts, prints reports and serves requests. And the demonstration, which takes interchanges to a
+//! interchanges, adds accounts, prints reports, serves requests and migrates. And the demonstration, which takes interchanges to a
 //! terminal whose tables are in memory.
 #![tactic(auto)]
 
@@ -10,6 +10,7 @@ mod demo;
 mod demo_fault;
 pub mod demo_setup;
 mod faults;
+mod migration;
 mod named;
 mod noted;
 mod notes;
@@ -29,6 +30,7 @@ pub use deliver::{TURNS, deliver_over, deliver_to};
 pub use demo::run_demo;
 pub use demo_fault::DemoFault;
 pub use faults::Faults;
+pub use migration::{Migrated, MigrationFault, migrate_over};
 pub use named::Named;
 pub use notes::Notes;
 pub use opening::{NO_STORE, make_store, open_found, open_store, open_there};
