@@ -198,11 +198,11 @@ fn assert_twice(
     worked: Worked,
     stopped: (StoreFile, StoreFile),
     step: u64,
+    counts: &mut Counts,
 ) -> Result<(), Fail>
     requires { 0 < step }
 {
     let trial = trial_of(alloc, worked)?;
-    let mut counts = NO_COUNTS;
     let (first, file) = stopped;
     let held = made(rt, alloc, true)?;
     let start = Start { held, stage: 0 };
@@ -213,8 +213,7 @@ fn assert_twice(
             first: calls % step,
             step,
         };
-        if assert_again(rt, alloc, &trial, &start, stop, second, &mut counts)? {
-            assert_both(rt, counts);
+        if assert_again(rt, alloc, &trial, &start, stop, second, counts)? {
             return Ok(());
         }
     }
@@ -245,14 +244,20 @@ fn a_stop_leaves_an_account_whole_or_not_at_all(rt: HostRuntime) -> Result<(), F
 
 #[test]
 fn a_second_stop_of_the_log_leaves_it_whole_or_not_at_all(rt: HostRuntime) -> Result<(), Fail> {
+    let mut counts = NO_COUNTS;
     let stopped = (StoreFile::Log, StoreFile::Log);
-    assert_twice(&rt, rt.alloc(), WAITING, stopped, 31)
+    assert_twice(&rt, rt.alloc(), WAITING, stopped, 31, &mut counts)?;
+    assert_both(&rt, counts);
+    Ok(())
 }
 
 #[test]
 fn a_stop_of_both_files_leaves_it_whole_or_not_at_all(rt: HostRuntime) -> Result<(), Fail> {
+    let mut counts = NO_COUNTS;
     let stopped = (StoreFile::Log, StoreFile::Database);
-    assert_twice(&rt, rt.alloc(), WAITING, stopped, 7)?;
+    assert_twice(&rt, rt.alloc(), WAITING, stopped, 7, &mut counts)?;
     let stopped = (StoreFile::Database, StoreFile::Log);
-    assert_twice(&rt, rt.alloc(), WAITING, stopped, 31)
+    assert_twice(&rt, rt.alloc(), WAITING, stopped, 31, &mut counts)?;
+    assert_both(&rt, counts);
+    Ok(())
 }
