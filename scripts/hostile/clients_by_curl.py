@@ -17,7 +17,15 @@ PATHS = [
     '/tickets/HAULA/00001', '/tickets/HAULA/2', '/replies/HAULA/1', '/replies/LINEA/1', '/replies/HAULA/3', '/replies/HAULA/9',
     '/replies/HAULA%2F1', '/interchanges', '/', '/nothing', '/yard/', '/visits/%zz', '/yard.csv', '/picture', '/blocks', '/partners',
     '/containers/ABCU0000017', '/containers/%41BCU0000017', '/containers/ABCU0000022', '/work/91%2F23/V12/load',
-    '/work/91/23/V12/load', '/work/91%2F23/V12/discharge', '/contrls/HAULA/1', '/contrls/HAULA/3', '/contrls/HAULA/9', '/picture/']
+    '/work/91/23/V12/load', '/work/91%2F23/V12/discharge', '/contrls/HAULA/1', '/contrls/HAULA/3', '/contrls/HAULA/9', '/picture/',
+    '/partners/HAULA', '/partners/%48AULA', '/partners/HAULX', '/partners/', '/partners/%zz', '/partners/HAULA/interchanges',
+    '/health', '/health?a=b', '/health/', '/metrics', '/metrics/HAULA']
+# a path of HAULA and what it may bring: its own, another's, one too early, one that names nobody, and paths that name nobody
+OWN_TEXTS = [
+    ('HAULA', gate_in(1)), ('HAULA', gate_in(1)), ('%48AULA', gate_in(4)), ('HAULA', gate_in(5)), ('HAULA', gate_in(2)),
+    ('HAULA', gate_in(6)), ('HAULA', gate_in(7)), ('HAULB', gate_in(3)), ('HAULA', gate_in(3).replace('+HAULA+', '+haula+')),
+    ('HAULA', 'UNA:+.? \'\r\n' + gate_in(3)), ('HAULA', 'AAAA'), ('HAULA', ''), ('HAULX', gate_in(9, 'HAULX')),
+    ('HAULX', gate_in(1)), ('%zz', gate_in(8)), ('%00', gate_in(8)), (36 * 'H', gate_in(8)), ('', gate_in(8))]
 ODD_ACCOUNTS = [
     '/partners/%48AULF/%67ate', '/partners/%zz/gate', '/partners/HAULG/%zz', '/partners/%00/gate', '/partners/%2F/gate',
     '/partners/HAUL%2fG/gate', '/partners/' + 35 * 'H' + '/yard', '/partners/' + 36 * 'H' + '/yard', '/partners/HAULG',
@@ -71,6 +79,19 @@ def accounts(checks, path):
         came, _seconds = server.curl('/partners/HAULC/gate')
         checks.expect('curl, GET of an account', server.owed(get('/partners/HAULC/gate')), came)
         server.same(checks, 'behind its account', post(text))
+
+
+def own_paths(checks, path):
+    """Interchanges by the paths of partners, with a bound: only the partner's own are delivered, and none too far ahead."""
+    with Served(path, ahead=2) as server:
+        for code, text in OWN_TEXTS:
+            asked = '/partners/%s/interchanges' % code
+            came, _seconds = server.curl(asked, '--path-as-is', '--data-binary', server.file(text))
+            checks.expect('curl %s, %s' % (asked, text[:50]), server.owed(post(text).replace('/interchanges', asked, 1)), came)
+            for look in ('/partners/HAULA', '/partners/HAULX', '/metrics'):
+                server.same(checks, 'then ' + look, get(look))
+        server.same(checks, 'by the way of all, no bound', post(gate_in(50)))
+        server.same(checks, 'a path of its own without a length', 'POST /partners/HAULA/interchanges HTTP/1.1\r\n\r\n')
 
 
 def forms(checks, path):
@@ -155,4 +176,4 @@ def served_so_many(checks, path):
         checks.expect('nothing listens behind it', 7, done.returncode)
 
 
-CHECKS = [bound, served_so_many, routes, accounts, forms, piece_by_piece, of_a_mebibyte, expecting]
+CHECKS = [bound, served_so_many, routes, accounts, own_paths, forms, piece_by_piece, of_a_mebibyte, expecting]

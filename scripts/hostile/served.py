@@ -63,19 +63,21 @@ class Checks:
 
 
 class Served:
-    """A server on a port of its own, until it is left. `count` is how many connections it serves."""
+    """A server on a port of its own, until it is left. `count` is how many connections it serves, and `ahead` how far above
+    the next one a number may be by the path of its partner."""
 
-    def __init__(self, path, setup=DEMO, count=1000000):
+    def __init__(self, path, setup=DEMO, count=1000000, ahead=None):
         self.folder = tempfile.TemporaryDirectory(prefix='clients-')
         self.program, self.office = Program(path, self.folder.name), Office(setup, keeps_fold=True)
         self.program.init(*files_of(setup))
-        self.count, self.process, self.port = count, None, None
+        self.count, self.ahead, self.process, self.port = count, ahead, None, None
         self.start()
 
     def start(self):
         """Serves the store, at a new port."""
         self.port = free_port()
         words = [self.program.path, 'serve', self.program.store, str(self.port), str(self.count)]
+        words += ['--ahead', str(self.ahead)] if self.ahead else []
         self.process = subprocess.Popen(words, stdout=subprocess.PIPE, encoding='utf-8')
         self.process.stdout.readline()
 
@@ -102,7 +104,7 @@ class Served:
 
     def owed(self, request):
         """The response that the model gives."""
-        return response(self.office, request)
+        return response(self.office, request, self.ahead)
 
     def same(self, checks, name, request):
         """A request is answered as it is owed."""

@@ -4,65 +4,85 @@ use sqlite_resolve::CompileError;
 use std::os::unix::fs::MetadataExt;
 use std::{fmt, fs};
 
-/// Why something could not be done, and what to do about it, for a person. A path stands before the words, if they need one.
+/// Words that tell a person why something could not be done, and what to do about it.
 #[derive(Clone, Copy, PartialEq, Eq)]
-pub(crate) struct Cause<'a> {
-    path: Option<&'a str>,
-    words: &'static str,
+pub(crate) struct Words {
+    /// Whether the path stands before them.
+    follow_path: bool,
+    text: &'static str,
 }
 
-impl<'a> Cause<'a> {
+impl Words {
     /// The store's file was removed while a process worked on it.
-    pub(crate) const NAMELESS: Cause<'static> = Cause {
-        path: None,
-        words: "the store's file was removed: reports still tell what was answered; stop, and put the last copy back",
+    pub(crate) const NAMELESS: Words = Words {
+        follow_path: false,
+        text: "the store's file was removed: reports still tell what was answered; stop, and put the last copy back",
     };
 
     /// Memory was refused.
-    pub(crate) const MEMORY: Cause<'static> = Cause {
-        path: None,
-        words: "memory ran out: try again",
+    pub(crate) const MEMORY: Words = Words {
+        follow_path: false,
+        text: "memory ran out: try again",
     };
 
-    fn plain(words: &'static str) -> Cause<'a> {
-        Cause { path: None, words }
-    }
+    const HAS_TABLES: Words = Words {
+        follow_path: true,
+        text: " has its tables already: work on it, or name another file",
+    };
 
-    fn has_tables(path: &'a str) -> Cause<'a> {
-        Cause {
-            path: Some(path),
-            words: " has its tables already: work on it, or name another file",
+    fn plain(text: &'static str) -> Words {
+        Words {
+            follow_path: false,
+            text,
         }
+    }
+}
+
+/// Why something could not be done at a path, and what to do about it, for a person.
+#[derive(Clone, Copy, PartialEq, Eq)]
+pub(crate) struct Cause<'a> {
+    path: &'a str,
+    words: Words,
+}
+
+impl<'a> Cause<'a> {
+    pub(crate) fn new(path: &'a str, words: Words) -> Cause<'a> {
+        Cause { path, words }
     }
 }
 
 impl fmt::Display for Cause<'_> {
     fn fmt<W: fmt::Write>(&self, f: &mut fmt::Formatter<W>) -> fmt::Result {
-        match self.path {
-            Some(path) => write!(f, "{path}{}", self.words),
-            None => f.write_str(self.words),
+        if self.words.follow_path {
+            f.write_str(self.path)?;
         }
+        f.write_str(self.words.text)
     }
 }
 
 /// Why a store could not be worked on. `path` is the store's.
 pub(crate) fn cause_of<'a>(rt: &HostRuntime, path: &'a str, fault: &TableFault) -> Cause<'a> {
+    Cause::new(path, words_of(rt, path, fault))
+}
+
+/// The words for a fault of the store at a path.
+pub(crate) fn words_of(rt: &HostRuntime, path: &str, fault: &TableFault) -> Words {
     match fault {
-        TableFault::Store(Error::SqliteFailure(ErrorCode::NameTaken)) => Cause::has_tables(path),
+        TableFault::Store(Error::SqliteFailure(ErrorCode::NameTaken)) => Words::HAS_TABLES,
         TableFault::Store(Error::SqliteFailure(code)) => {
-            Cause::plain(words_of_code(rt, path, *code))
+            Words::plain(words_of_code(rt, path, *code))
         }
-        TableFault::Store(Error::SqlInputError(CompileError::Exists)) => Cause::has_tables(path),
-        TableFault::Store(_) => Cause::plain(
+        TableFault::Store(Error::SqlInputError(CompileError::Exists)) => Words::HAS_TABLES,
+        TableFault::Store(_) => Words::plain(
             "it is a database without the tables of an office: see that the path is right",
         ),
-        TableFault::Damaged => Cause::plain(
+        TableFault::Damaged => Words::plain(
             "its rows are those of no office: take the last copy, and deliver again what came since",
         ),
-        TableFault::Version => Cause::plain(
+        TableFault::Version => Words::plain(
             "its tables are of another version: `office migrate` brings those of version 1 and 2 to this one",
         ),
-        TableFault::Memory => Cause::MEMORY,
+        TableFault::Memory => Words::MEMORY,
     }
 }
 
@@ -102,16 +122,20 @@ fn words_at(rt: &HostRuntime, path: &str) -> &'static str {
 
 /// Why an input file can't be read. `-` is the standard input.
 pub(crate) fn cause_of_unread<'a>(rt: &HostRuntime, path: &'a str) -> Cause<'a> {
+    Cause::new(path, words_of_unread(rt, path))
+}
+
+fn words_of_unread(rt: &HostRuntime, path: &str) -> Words {
     if path == "-" {
-        return Cause::plain("a read of the standard input failed: see what it is");
+        return Words::plain("a read of the standard input failed: see what it is");
     }
-    let words = match fs::metadata(rt, path) {
+    let text = match fs::metadata(rt, path) {
         Err(_) => ": no such file: see that the path is right",
         Ok(found) if found.is_dir() => ": it is a folder: name a file in it",
         Ok(_) => ": the file can't be read: look at who may read it",
     };
-    Cause {
-        path: Some(path),
-        words,
+    Words {
+        follow_path: true,
+        text,
     }
 }

@@ -1,4 +1,4 @@
-use crate::cause::{Cause, cause_of};
+use crate::cause::{Cause, Words, words_of};
 use office_commands::WhyNotNow;
 
 /// What a person was told of why answers are `not now`: once, and again when it changes.
@@ -30,10 +30,11 @@ impl<'a> Causes<'a> {
     }
 
     fn cause(&self, rt: &HostRuntime, why: &WhyNotNow<'_>) -> Cause<'a> {
-        match why.fault {
-            _ if why.is_nameless => Cause::NAMELESS,
-            Some(fault) => cause_of(rt, self.path, fault),
-            None => Cause::MEMORY,
-        }
+        let words = match why.fault {
+            _ if why.is_nameless => Words::NAMELESS,
+            Some(fault) => words_of(rt, self.path, fault),
+            None => Words::MEMORY,
+        };
+        Cause::new(self.path, words)
     }
 }

@@ -15,8 +15,10 @@ pub(crate) fn report<W: Write, E: Write>(
     errors: &mut Port<E>,
 ) -> u8 {
     match report_over(rt, store, Unknown, kind, key.unwrap_or(""), writer) {
-        Ok((_desk, Ok(status))) => status,
-        Ok((_desk, Err(fault))) => tell_store(rt, errors, store, &fault),
+        Ok((_desk, told)) => match told {
+            Ok(status) => status,
+            Err(fault) => tell_store(rt, errors, store, &fault),
+        },
         Err(fault) => tell_store(rt, errors, store, &fault),
     }
 }

@@ -114,7 +114,10 @@ fn answered<S: Alter + Drop>(
 ) -> Option<(usize, S)>
     requires idle { conn.in_transaction ≡ false }
 {
-    let mut desk = Desk::open(alloc, conn).ok()?;
+    let mut desk = match Desk::open(alloc, conn) {
+        Ok(desk) => desk,
+        Err(_) => return None,
+    };
     let count = count_answered(alloc, &mut desk, requests);
     Some((count, desk.into_connection().into_store()))
 }
@@ -182,7 +185,10 @@ fn sent_all<S: Alter + Drop>(
 {
     let mut conn = conn;
     let first = rows(alloc, &mut conn).ok();
-    let mut desk = Desk::open(alloc, conn).ok()?;
+    let mut desk = match Desk::open(alloc, conn) {
+        Ok(desk) => desk,
+        Err(_) => return None,
+    };
     let answered = count_answered(alloc, &mut desk, requests);
     let yard = told(alloc, &mut desk, ReportKind::Yard, "");
     let load_list = told(alloc, &mut desk, ReportKind::List, "9123456/V12/load");
@@ -259,7 +265,9 @@ fn with_tables<S: Alter + Drop>(conn: Connection<S>, setup: &Setup) -> (bool, S)
 pub(crate) fn made(rt: &impl Abort, alloc: Global, mixes: bool) -> Result<Held, Fail> {
     let setup = setup(rt, alloc)?;
     let files = files_with(alloc, &empty(alloc, mixes), NO_STOP)?;
-    let conn = connected(alloc, files).ok().ok_or("files that open")?;
+    let Ok(conn) = connected(alloc, files) else {
+        return Err(Fail::from("files that do not open"));
+    };
     let (is_made, store) = with_tables(conn, &setup);
     assert!(rt; is_made);
     let left = left_of(alloc, store.close())?;

@@ -80,7 +80,9 @@ fn filled<S: Alter + Drop>(conn: Connection<S>) -> (bool, S) {
 /// What the files of the old store hold.
 fn filled_files(rt: &impl Abort, alloc: Global, mixes: bool) -> Result<Held, Fail> {
     let files = files_with(alloc, &empty(alloc, mixes), NO_STOP)?;
-    let conn = connected(alloc, files).ok().ok_or("files that open")?;
+    let Ok(conn) = connected(alloc, files) else {
+        return Err(Fail::from("files that do not open"));
+    };
     let (is_filled, store) = filled(conn);
     assert!(rt; is_filled);
     let left = left_of(alloc, store.close())?;
@@ -109,7 +111,22 @@ fn brought_over<S: Alter + Drop, T: Alter + Drop>(
     (is_done, old.into_store(), new.into_store())
 }
 
-/// The same of files, which may not open.
+/// The same to files, which may not open.
+fn brought_to<S: Alter + Drop, D: Disk + Drop>(
+    alloc: Global,
+    old: Connection<S>,
+    new: Files<D>,
+) -> (bool, S, Files<D>) {
+    match connected(alloc, new) {
+        Err(new) => (false, old.into_store(), new),
+        Ok(new) => {
+            let (is_done, old, new) = brought_over(alloc, old, new);
+            (is_done, old, new.close())
+        }
+    }
+}
+
+/// The same from files to files.
 fn migrate_files<D: Disk + Drop>(alloc: Global, old: Files<D>, new: Files<D>) -> Stores<D> {
     match connected(alloc, old) {
         Err(old) => Stores {
@@ -117,21 +134,14 @@ fn migrate_files<D: Disk + Drop>(alloc: Global, old: Files<D>, new: Files<D>) ->
             old,
             new,
         },
-        Ok(old) => match connected(alloc, new) {
-            Err(new) => Stores {
-                is_done: false,
-                old: old.into_store().close(),
+        Ok(old) => {
+            let (is_done, old, new) = brought_to(alloc, old, new);
+            Stores {
+                is_done,
+                old: old.close(),
                 new,
-            },
-            Ok(new) => {
-                let (is_done, old, new) = brought_over(alloc, old, new);
-                Stores {
-                    is_done,
-                    old: old.close(),
-                    new: new.close(),
-                }
             }
-        },
+        }
     }
 }
 
