@@ -195,13 +195,14 @@ fn assert_again(
 fn assert_twice(
     rt: &impl Abort,
     alloc: Global,
-    trial: &Trial,
+    worked: Worked,
     stopped: (StoreFile, StoreFile),
     step: u64,
     counts: &mut Counts,
 ) -> Result<(), Fail>
     requires { 0 < step }
 {
+    let trial = trial_of(alloc, worked)?;
     let (first, file) = stopped;
     let held = made(rt, alloc, true)?;
     let start = Start { held, stage: 0 };
@@ -212,7 +213,7 @@ fn assert_twice(
             first: calls % step,
             step,
         };
-        if assert_again(rt, alloc, trial, &start, stop, second, counts)? {
+        if assert_again(rt, alloc, &trial, &start, stop, second, counts)? {
             return Ok(());
         }
     }
@@ -242,15 +243,21 @@ fn a_stop_leaves_an_account_whole_or_not_at_all(rt: HostRuntime) -> Result<(), F
 }
 
 #[test]
-fn a_second_stop_leaves_it_whole_or_not_at_all(rt: HostRuntime) -> Result<(), Fail> {
-    let trial = trial_of(rt.alloc(), WAITING)?;
+fn a_second_stop_of_the_log_leaves_it_whole_or_not_at_all(rt: HostRuntime) -> Result<(), Fail> {
     let mut counts = NO_COUNTS;
-    let twice = (StoreFile::Log, StoreFile::Log);
-    assert_twice(&rt, rt.alloc(), &trial, twice, 31, &mut counts)?;
-    let then_database = (StoreFile::Log, StoreFile::Database);
-    assert_twice(&rt, rt.alloc(), &trial, then_database, 7, &mut counts)?;
-    let then_log = (StoreFile::Database, StoreFile::Log);
-    assert_twice(&rt, rt.alloc(), &trial, then_log, 31, &mut counts)?;
+    let stopped = (StoreFile::Log, StoreFile::Log);
+    assert_twice(&rt, rt.alloc(), WAITING, stopped, 31, &mut counts)?;
+    assert_both(&rt, counts);
+    Ok(())
+}
+
+#[test]
+fn a_stop_of_both_files_leaves_it_whole_or_not_at_all(rt: HostRuntime) -> Result<(), Fail> {
+    let mut counts = NO_COUNTS;
+    let stopped = (StoreFile::Log, StoreFile::Database);
+    assert_twice(&rt, rt.alloc(), WAITING, stopped, 7, &mut counts)?;
+    let stopped = (StoreFile::Database, StoreFile::Log);
+    assert_twice(&rt, rt.alloc(), WAITING, stopped, 31, &mut counts)?;
     assert_both(&rt, counts);
     Ok(())
 }
