@@ -30,6 +30,7 @@ REFUSED = [name for name, _applies in FAULTS if name != 'TooLong'] + ['UnknownSe
 
 LONGEST_CODE = 35
 SEEN = 256                  # bytes of a request in which its target is looked for
+SEEN_WORDS = re.compile('([!-~]*)[^!-~]([!-~]*)')  # each ends at the first character that is no printable ASCII
 
 
 # ---- counts
@@ -123,7 +124,7 @@ def log(setup, events):
     for event in events:
         request = request_of(event)
         given = response(office, request)
-        method, target = request[:SEEN].split(' ')[:2]
+        method, target = SEEN_WORDS.match(request[:SEEN]).groups()
         requests.append(request)
         lines.append('TIME %s %s %s %d bytes N us%s' % (
             method, target, given.split(' ')[1], len(given), words_of(other, event)))
