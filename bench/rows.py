@@ -381,5 +381,5 @@ def beside_a_scanner(top, crate, wanted):
 def syntax(top):
     """What is read of an interchange of a megabyte: its syntax, and its messages as orders."""
     return (
-        beside_a_scanner(top, 'edi_syntax', {'open and walk': '2.0 times', 'cut in pieces': '3.0 times'})
+        beside_a_scanner(top, 'edi_syntax', {'cut in pieces': '3.0 times'})
         + beside_a_scanner(top, 'edi_messages', {'open and read': '2.0 times'}))

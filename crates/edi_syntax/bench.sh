@@ -2,9 +2,9 @@
 # bench.sh [CRATE]: times edi_syntax, or edi_messages if that is named, on an interchange of a megabyte, beside a plain
 # C scanner in the same run: the crate's bench/main.rt.txt, as a program over a copy of it and those that it stands on,
 # and bench/scan.c.txt. Prints the best time of each per megabyte, and the share of the scanner's speed that it is.
-# Wanted: half of it for opening and walking in one go and for opening and reading as orders, a third of it for cutting.
+# Wanted: half of it for opening and reading as orders, a third of it for cutting.
 # Of edi_messages also the instructions a byte, if valgrind is there. Wanted: 60.
-# Of edi_syntax also the allocations while opening and walking, by bench/count.c.txt. Wanted: none.
+# Of edi_syntax also the allocations while opening and walking over the segments, by bench/count.c.txt. Wanted: none.
 set -eu
 top=$(cd "$(dirname "$0")/../.." && pwd)
 crate=${1:-edi_syntax}
@@ -45,8 +45,6 @@ awk '
     END {
         printf "C scanner:       %5d us\n", best["scan"]
         row("open", "open")
-        row("walk", "open and walk", " (wanted: 0.50)")
-        row("messages", "by messages")
         row("cut", "cut in pieces", " (wanted: 0.33)")
         row("orders", "open and read", " (wanted: 0.50)")
     }' "$work/times"

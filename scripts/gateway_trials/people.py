@@ -18,6 +18,7 @@ REPORTS = [
     ('/picture', 'picture', '', ROLES), ('/containers/ABCU0000017', 'container', 'ABCU0000017', ROLES),
     ('/visits/ABCU0000017', 'visits', 'ABCU0000017', ROLES), ('/visits/ABCU0000022', 'visits', 'ABCU0000022', ROLES),
     ('/visits/%41BCU0000017', 'visits', 'ABCU0000017', ROLES),
+    ('/calls', 'calls', '', ['planner', 'quay', 'edi']),
     ('/lists/91%2F23/V12/load', 'list', '91%2F23/V12/load', ['planner', 'quay', 'edi']),
     ('/work/91%2F23/V12/load', 'work', '91%2F23/V12/load', ['planner', 'quay', 'edi']),
     ('/tickets/HAULA/1', 'ticket', 'HAULA/1', ['gate', 'edi']), ('/replies/HAULA/1', 'reply', 'HAULA/1', ['edi']),

@@ -41,6 +41,7 @@ ROUTES = [
     (r'/yard', 'GET', 'yard'),
     (r'/yard\.csv', 'GET', 'yardcsv'),
     (r'/blocks', 'GET', 'blocks'),
+    (r'/calls', 'GET', 'calls'),
     (r'/picture', 'GET', 'picture'),
     (r'/containers/([^/]+)', 'GET', 'container'),
     (r'/visits/([^/]+)', 'GET', 'visits'),

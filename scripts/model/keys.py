@@ -3,8 +3,8 @@ from .moments import DIGITS, are_digits
 
 # how many parts the key of each report has
 PARTS = {
-    'yard': 0, 'yardcsv': 0, 'picture': 0, 'blocks': 0, 'partners': 0, 'health': 0, 'metrics': 0, 'visits': 1, 'container': 1,
-    'partner': 1, 'list': 3, 'work': 3, 'ticket': 2, 'reply': 2, 'contrl': 2}
+    'yard': 0, 'yardcsv': 0, 'picture': 0, 'blocks': 0, 'calls': 0, 'partners': 0, 'health': 0, 'metrics': 0, 'visits': 1,
+    'container': 1, 'partner': 1, 'list': 3, 'work': 3, 'ticket': 2, 'reply': 2, 'contrl': 2}
 
 
 def decoded(part):

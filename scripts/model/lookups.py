@@ -1,5 +1,5 @@
-"""What people look up: a container, what is left of a vessel's list, the partners, the blocks and a CONTRL; and what
-watches over the office (docs/PROFILE.md, Reports).
+"""What people look up: a container, what is left of a vessel's list, the calls, the partners, the blocks and a CONTRL; and
+what watches over the office (docs/PROFILE.md, Reports).
 
 Each is a text of whole lines, or None where there is nothing to tell, computed from all deliveries as the other reports
 are.
@@ -105,6 +105,18 @@ def work(office, vessel, voyage, side):
         return None
     lines = {'load': load_lines, 'discharge': discharge_lines}[side](terminal, open_on(terminal, call, side))
     return text_of(['%s WORK %s %s' % (side.upper(), vessel, voyage)] + lines)
+
+
+def calls(office):
+    """Each list that has a line, by vessel, voyage and side, with how many of its lines are open and how many are done."""
+    lines = office.fold().terminal.lines
+    texts = []
+    for call in sorted({of_call for of_call, _side, _number in lines}):
+        for side in ('load', 'discharge'):
+            done = [line.is_done for (of_call, of_side, _number), line in lines.items() if (of_call, of_side) == (call, side)]
+            if done:
+                texts.append('%s %s %s %d OPEN %d DONE' % (*call, side.upper(), done.count(False), done.count(True)))
+    return text_of(texts)
 
 
 # ---- the partners

@@ -109,8 +109,8 @@ def reply(office, partner, number):
 # ---- all of them
 
 REPORTS = {
-    'yard': yard, 'yardcsv': yardcsv, 'picture': picture, 'blocks': lookups.blocks, 'partners': lookups.partners,
-    'partner': lookups.partner, 'health': lookups.health, 'metrics': lookups.metrics,
+    'yard': yard, 'yardcsv': yardcsv, 'picture': picture, 'blocks': lookups.blocks, 'calls': lookups.calls,
+    'partners': lookups.partners, 'partner': lookups.partner, 'health': lookups.health, 'metrics': lookups.metrics,
     'visits': visits, 'container': lookups.container, 'list': vessel_list, 'work': lookups.work, 'ticket': ticket,
     'reply': reply, 'contrl': lookups.contrl}
 

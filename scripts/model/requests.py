@@ -12,7 +12,7 @@ ODD_KEYS = [
     '%2F/1', '9123456%2FV12%2Fload']
 
 KEYED = ['visits', 'container', 'list', 'work', 'ticket', 'reply', 'contrl', 'partner']
-WHOLE = ['yard', 'yard', 'yardcsv', 'blocks', 'partners', 'partners', 'picture', 'health', 'metrics']
+WHOLE = ['yard', 'yard', 'yardcsv', 'blocks', 'calls', 'calls', 'partners', 'partners', 'picture', 'health', 'metrics']
 
 KINDS = [
     (12, 'delivery'), (6, 'own delivery'), (2, 'altered delivery'), (8, 'report'), (2, 'odd report'), (1, 'method'), (1, 'route'),
@@ -20,8 +20,8 @@ KINDS = [
 METHODS = ['GET', 'POST', 'PUT', 'HEAD', 'get', 'OPTIONS', 'DELETE', 'X', 'PATCH', 'CONNECT', "!#$%&'*+-.^_`|~"]
 PATHS = [
     '/', '*', '/x', '/yard/', '//yard', '/Yard', 'yard', 'http://127.0.0.1/yard', '/yardcsv', '/yard.CSV', '/visits',
-    '/visits/', '/containers', '/containers/', '/containers/A/B', '/blocks/', '/partners/', '/partners/HAULA', '/Partners',
-    '/picture/1', '/work/9123456/V12', '/contrls/HAULA', '/contrls/HAULA/1/',
+    '/visits/', '/containers', '/containers/', '/containers/A/B', '/blocks/', '/calls/', '/calls/9123456', '/partners/',
+    '/partners/HAULA', '/Partners', '/picture/1', '/work/9123456/V12', '/contrls/HAULA', '/contrls/HAULA/1/',
     '/visits/A/B', '/lists/9123456/V12', '/lists//V12/load', '/tickets/HAULA/', '/replies/HAULA', '/replies/HAULA/1/',
     '/interchanges/', '/interchanges/1', '/yard#1', '/%79ard', '/interchange', '/visits/%zz', '/tickets/HAULA%2F1',
     '/lists/a/b/c/d', '/yard\xe9', '/visits/\xc3\xa9', '/visits/\xff']
@@ -153,8 +153,8 @@ def get(random, path, method='GET'):
 def path_of(kind, key):
     """Where a report stands."""
     fronts = {
-        'yard': '/yard', 'yardcsv': '/yard.csv', 'picture': '/picture', 'blocks': '/blocks', 'partners': '/partners',
-        'partner': '/partners/', 'health': '/health', 'metrics': '/metrics', 'visits': '/visits/', 'container': '/containers/', 'list': '/lists/', 'work': '/work/', 'ticket': '/tickets/',
+        'yard': '/yard', 'yardcsv': '/yard.csv', 'picture': '/picture', 'blocks': '/blocks', 'calls': '/calls',
+        'partners': '/partners', 'partner': '/partners/', 'health': '/health', 'metrics': '/metrics', 'visits': '/visits/', 'container': '/containers/', 'list': '/lists/', 'work': '/work/', 'ticket': '/tickets/',
         'reply': '/replies/', 'contrl': '/contrls/'}
     return fronts[kind] + key
 

@@ -25,6 +25,10 @@ from .stores import Program
 from .stream import answers, lines
 
 
+# how a cell says that a command prints nothing, or that a body has no bytes
+NOTHING = 'an empty text'
+
+
 class Store(tempfile.TemporaryDirectory):
     """A folder with a store of a set-up, which the program made."""
 
@@ -121,6 +125,8 @@ def output_of(cell):
 
 def is_output(cell, printed_text, told_text):
     """Whether a command printed, or told, what a cell says."""
+    if cell == NOTHING:
+        return (printed_text, told_text) == ('', '')
     if '`' in cell and not re.match('`|fault|a text', cell):
         return False
     is_fault, wanted = output_of(cell)
@@ -257,6 +263,8 @@ def is_response(cells, given):
     told = re.findall('`([^`]*)`', cell)
     if told and not cell.startswith('`'):
         return False
+    if cell == NOTHING:
+        return head == '\r\n'.join(wanted) and body == ''
     is_body = is_told(cell, json.loads(body)) if not told else body == (text_of(told) if is_report else told[0])
     return head == '\r\n'.join(wanted) and is_body
 

@@ -3,18 +3,9 @@
 #![tactic(auto)]
 
 pub mod box_number;
-mod characters;
-pub mod check;
-pub mod length;
-pub mod number_fault;
-pub mod size_fault;
 pub mod size_type;
 pub mod slot;
 
-pub use box_number::BoxNumber;
-pub use check::check_digit;
-pub use length::Length;
-pub use number_fault::NumberFault;
-pub use size_fault::SizeFault;
-pub use size_type::SizeType;
+pub use box_number::{BoxNumber, NumberFault, check_digit};
+pub use size_type::{Length, SizeFault, SizeType};
 pub use slot::Slot;

@@ -4,10 +4,9 @@ ghost use Rattle.std.specs.Prelude.{◌≡◌, ◌<◌, length};
 ghost use Rattle.std.specs.Str.{bytes_eq};
 ghost use Rattle.box6346.specs.SizeText.{has_form, has_length};
 
-use crate::characters::are_code_characters;
-use crate::length::Length;
-use crate::size_fault::SizeFault;
+use crate::box_number::are_code_characters;
 use std::marker::Model;
+use thiserror::Error;
 
 /// A size-type code of ISO 6346, as `22G1`. It is seen as its four characters.
 #[derive(Clone, Copy, Eq, Debug)]
@@ -94,4 +93,24 @@ fn has_length(text: &[u8]) -> bool
     ensures { result ≡ has_length text.now }
 {
     text[0] == b'2' || text[0] == b'4' || text[0] == b'L'
+}
+
+/// Why a text is no size-type code that the terminal can place.
+#[derive(Clone, Copy, PartialEq, Eq, Debug, Error)]
+pub enum SizeFault {
+    /// It isn't four capitals or digits.
+    #[error("not of the form of a size-type code")]
+    Form,
+    /// It has that form, and its first character is none of the lengths `2`, `4` and `L`.
+    #[error("no length that the yard can place")]
+    Length,
+}
+
+/// How much of a row a container covers (ISO 6346, the first character of a size-type code).
+#[derive(Clone, Copy, PartialEq, Eq, Debug)]
+pub enum Length {
+    /// 20 foot: one cell.
+    Twenty,
+    /// 40 foot, or 45 foot placed as one: two neighbouring cells.
+    Forty,
 }

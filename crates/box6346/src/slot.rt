@@ -3,7 +3,7 @@ ghost use Rattle.std.specs.Cmp.Rules.{comparing};
 ghost use Rattle.std.specs.Prelude.{◌≡◌, ◌==◌, ◌&&◌};
 ghost use Rattle.box6346.specs.SlotName.{are_six_digits, NamesAreReadAgain};
 
-use crate::characters::{are_digits, digit};
+use crate::box_number::{are_digits, digit};
 
 /// A place of the yard, named by a block letter, a bay of three digits, a row of two and a tier of one:
 /// `A001011` is block A, bay 1, row 1, tier 1.

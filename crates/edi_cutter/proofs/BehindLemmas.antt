@@ -6,15 +6,15 @@ use Rattle.std.proofs.Math.Seq.{take-append-add}
 use Rattle.edi_segments.specs.Characters.{is_break, begins_with_advice}
 use Rattle.edi_segments.specs.Reading.{breaks_len}
 use Rattle.edi_segments.specs.Advice.{service_at}
-use Rattle.edi_segments.specs.declared.service.Service.{Service}
+use Rattle.edi_segments.specs.declared.characters.Service.{Service}
 use Rattle.edi_cutter.specs.Positions as positions
 use Rattle.edi_cutter.specs.Positions.{position_after, is_refused, stops, Reads, ReadsTo}
 use Rattle.edi_cutter.specs.Cuts.{is_in_advice, breaks_advice, position_of, is_closed, fault_of, is_whole, IsOpen, IsOpenBefore, IsPending}
 use Rattle.edi_cutter.specs.Steps.{Holds, IsReadOn, IsRefusedBehind}
 use Rattle.edi_cutter.specs.declared.position.Position.{Position}
 use Rattle.edi_cutter.specs.declared.position.Position.TheVariants.{Between, First, Second, Tagged, Inside, Refused}
-use Rattle.edi_cutter.specs.declared.reading.Reading.{Reading}
-use Rattle.edi_cutter.specs.declared.cut_fault.CutFault.TheVariants.{TooLong, Service as ServiceFault, Segment}
+use Rattle.edi_cutter.specs.declared.position.Reading.{Reading}
+use Rattle.edi_cutter.specs.declared.cutter.CutFault.TheVariants.{TooLong, Service as ServiceFault, Segment}
 use Rattle.edi_cutter.proofs.CutLemmas.{no_fault, grows}
 
 -- ---- more bytes

@@ -8,8 +8,8 @@ use Rattle.edi_segments.specs.Characters.{is_break}
 use Rattle.edi_segments.specs.Reading.{breaks_len}
 use Rattle.edi_cutter.specs.Cuts.{fault_of, is_closed, is_whole, IsOpenBefore, Faults}
 use Rattle.edi_cutter.specs.Steps.{IsReadingOf, Holds, IsReadOn, IsRefusedBehind}
-use Rattle.edi_cutter.specs.declared.reading.Reading.{Reading}
-use Rattle.edi_cutter.specs.declared.cut_fault.CutFault.{CutFault}
+use Rattle.edi_cutter.specs.declared.position.Reading.{Reading}
+use Rattle.edi_cutter.specs.declared.cutter.CutFault.{CutFault}
 use Rattle.edi_cutter.proofs.HoldLemmas.{before_more, no_breaks}
 
 -- the bytes of the piece so far stand behind the text, and were read

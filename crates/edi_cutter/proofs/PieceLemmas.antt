@@ -8,9 +8,9 @@ use Rattle.edi_segments.specs.Reading.{breaks_len}
 use Rattle.edi_segments.specs.Advice.{without_breaks}
 use Rattle.edi_cutter.specs.Cuts.{Cutting, fault_of, is_closed, is_whole, is_nil, IsOpenBefore, IsInterchange, IsPending, Faults, HasNoFault, Answers, Fails, FaultsWithin}
 use Rattle.edi_cutter.specs.Steps.{Holds, IsReadOn, IsRefusedBehind}
-use Rattle.edi_cutter.specs.declared.reading.Reading.{Reading}
-use Rattle.edi_cutter.specs.declared.cut_fault.CutFault.{CutFault}
-use Rattle.edi_cutter.specs.declared.cut_fault.CutFault.TheVariants.{TooLong, Service as ServiceFault, Segment, Memory}
+use Rattle.edi_cutter.specs.declared.position.Reading.{Reading}
+use Rattle.edi_cutter.specs.declared.cutter.CutFault.{CutFault}
+use Rattle.edi_cutter.specs.declared.cutter.CutFault.TheVariants.{TooLong, Service as ServiceFault, Segment, Memory}
 use Rattle.edi_cutter.proofs.HoldLemmas.{never_memory, no_breaks}
 use Rattle.edi_cutter.proofs.FirstLemmas.{first_is_one}
 use Rattle.edi_cutter.proofs.StreamLemmas.{none_left}

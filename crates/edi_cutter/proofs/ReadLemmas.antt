@@ -8,7 +8,7 @@ use Rattle.edi_segments.specs.Characters.{is_data_byte, is_tag_byte, is_release}
 use Rattle.edi_segments.proofs.SegmentsLemmas.{tag_is_no_break}
 use Rattle.edi_segments.specs.Tokens as tokens
 use Rattle.edi_segments.specs.Tokens.{token_of}
-use Rattle.edi_segments.specs.declared.service.Service.{Service}
+use Rattle.edi_segments.specs.declared.characters.Service.{Service}
 use Rattle.edi_segments.specs.declared.token.Token.TheVariants.{Data, Release, Component, Element, Terminator, Invalid}
 use Rattle.edi_cutter.specs.Positions as positions
 use Rattle.edi_cutter.specs.Positions.{position_by, inside_by, position_after, stops, Reads, ReadsTo, Keeps, StayInside}

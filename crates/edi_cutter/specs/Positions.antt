@@ -5,7 +5,7 @@ use Rattle.std.specs.List.{list_all}
 use Rattle.edi_segments.specs.Characters.{is_tag_byte, is_break}
 use Rattle.edi_segments.specs.Tokens.{token_of}
 use Rattle.edi_segments.specs.Text.{Content, SegmentText, SegmentsText}
-use Rattle.edi_segments.specs.declared.service.Service.{Service}
+use Rattle.edi_segments.specs.declared.characters.Service.{Service}
 use Rattle.edi_segments.specs.declared.token.Token.{Token}
 use Rattle.edi_segments.specs.declared.token.Token.TheVariants.{Data, Release, Component, Element, Terminator, Invalid}
 use Rattle.edi_cutter.specs.declared.position.Position.{Position}

@@ -15,8 +15,8 @@ use Rattle.edi_syntax.specs.Faults.{body_fault_of}
 use Rattle.edi_syntax.proofs.NumberLemmas.{digits_one}
 use Rattle.edi_messages.specs.Contrl.{unh, uci, ucm, unt, unz, answer_segments, ContrlsAreCounted}
 use Rattle.edi_messages.proofs.ContrlLemmas.{length_ucms}
-use Rattle.edi_messages.specs.declared.verdict.Verdict.{Verdict}
-use Rattle.edi_messages.specs.declared.verdict.Verdict.TheVariants.{Accepted, Rejected}
+use Rattle.edi_messages.specs.declared.message.Verdict.{Verdict}
+use Rattle.edi_messages.specs.declared.message.Verdict.TheVariants.{Accepted, Rejected}
 
 -- segments that neither begin nor end anything
 abbrev pub AreInner : List Content → Type 0

@@ -16,8 +16,8 @@ use Rattle.edi_syntax.specs.Envelope.{header_of, trailer_of, messages_of, has_en
 use Rattle.edi_syntax.specs.Faults.{header_fault_of}
 use Rattle.edi_syntax.proofs.FaultLemmas.{header_found, body_found}
 use Rattle.edi_messages.specs.Contrl.{unb, unh, uci, ucm, unt, unz, answer_segments, contrl_text, rejection_text, IsReadAs, ContrlsAreWithoutFault}
-use Rattle.edi_messages.specs.declared.verdict.Verdict.{Verdict}
-use Rattle.edi_messages.specs.declared.verdict.Verdict.TheVariants.{Accepted, Rejected}
+use Rattle.edi_messages.specs.declared.message.Verdict.{Verdict}
+use Rattle.edi_messages.specs.declared.message.Verdict.TheVariants.{Accepted, Rejected}
 use Rattle.edi_messages.proofs.ContrlCounts.{AreInner, ucms_inner, last, faultless}
 use Rattle.edi_messages.proofs.WrittenText.{four_bytes_each, read_without_fault}
 use Rattle.edi_messages.proofs.WritableContrl.{printable_component, writable_header, uci_written, ucms_written, answer_writable}

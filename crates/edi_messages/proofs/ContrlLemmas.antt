@@ -12,8 +12,8 @@ use Rattle.edi_segments.specs.Written.{with_segments}
 use Rattle.edi_segments.proofs.WriterLemmas.{writes_segments}
 use Rattle.edi_syntax.specs.Messages.{Message}
 use Rattle.edi_messages.specs.Contrl.{unb, unh, uci, ucm, unt, unz, answer_segments, contrl_text, rejection_text}
-use Rattle.edi_messages.specs.declared.verdict.Verdict.{Verdict}
-use Rattle.edi_messages.specs.declared.verdict.Verdict.TheVariants.{Accepted, Rejected}
+use Rattle.edi_messages.specs.declared.message.Verdict.{Verdict}
+use Rattle.edi_messages.specs.declared.message.Verdict.TheVariants.{Accepted, Rejected}
 
 pub length_ucms : (messages : List Message) (verdicts : List Verdict) → length verdicts ≡ length messages → length (map ucm (zip verdicts messages)) ≡ length verdicts
 length_ucms messages [] same = refl

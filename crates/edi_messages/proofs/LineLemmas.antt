@@ -9,10 +9,10 @@ use Rattle.box6346.specs.SizeCode.{size_of}
 use Rattle.box6346.specs.SlotName.{slot_of}
 use Rattle.box6346.specs.NumberText.{has_form, is_checked}
 use Rattle.box6346.specs.SizeText as size
-use Rattle.box6346.specs.declared.number_fault.NumberFault.{NumberFault}
-use Rattle.box6346.specs.declared.number_fault.NumberFault as number_fault
-use Rattle.box6346.specs.declared.size_fault.SizeFault.{SizeFault}
-use Rattle.box6346.specs.declared.size_fault.SizeFault as size_fault
+use Rattle.box6346.specs.declared.box_number.NumberFault.{NumberFault}
+use Rattle.box6346.specs.declared.box_number.NumberFault as number_fault
+use Rattle.box6346.specs.declared.size_type.SizeFault.{SizeFault}
+use Rattle.box6346.specs.declared.size_type.SizeFault as size_fault
 use Rattle.box6346.specs.declared.box_number.BoxNumber.{BoxNumber}
 use Rattle.box6346.specs.declared.size_type.SizeType.{SizeType}
 use Rattle.box6346.specs.declared.slot.Slot.{Slot}
@@ -24,8 +24,8 @@ use Rattle.edi_messages.specs.Purposes as purpose
 use Rattle.edi_messages.specs.Orders.{OrderContent, EntryContent, number_text, size_text, location, names_slot, moment_stated, then_read, line_fault_of, read_number, read_size, read_moment, read_slot, read_slot_if_named, read_entry, order_of}
 use Rattle.edi_messages.specs.Orders as order
 use Rattle.edi_messages.specs.LineFaults.{is_size, has_bad_moment, line_fault_in}
-use Rattle.edi_messages.specs.declared.line_fault.LineFault.{LineFault}
-use Rattle.edi_messages.specs.declared.line_fault.LineFault.TheVariants.{Form, CheckDigit, Size, Moment, SlotText}
+use Rattle.edi_messages.specs.declared.line.LineFault.{LineFault}
+use Rattle.edi_messages.specs.declared.line.LineFault.TheVariants.{Form, CheckDigit, Size, Moment, SlotText}
 
 -- ---- a step of a line: its own fault, or the faults behind it
 

@@ -3,7 +3,7 @@ use Rattle.std.proofs.Common.{◌≡◌, ℕ, Bool, true, false, cond, List, [],
 use Rattle.std.specs.Option.{option_map}
 use Rattle.std.specs.List.{find}
 use Rattle.std.specs.Str.{bytes_eq}
-use Rattle.edi_messages.specs.declared.order_kind.OrderKind.{OrderKind}
+use Rattle.edi_messages.specs.declared.order.OrderKind.{OrderKind}
 
 by_tests : (a b : Bool) (first second : List ℕ × OrderKind) →
     cond a (Some first.1) (cond b (Some second.1) None)

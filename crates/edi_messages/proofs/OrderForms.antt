@@ -13,9 +13,9 @@ use Rattle.box6346.specs.SizeText as size
 use Rattle.box6346.specs.SizeText.{is_size}
 use Rattle.box6346.specs.SlotName.{slot_of}
 use Rattle.box6346.specs.declared.box_number.BoxNumber.{BoxNumber}
-use Rattle.box6346.specs.declared.number_fault.NumberFault as number_fault
-use Rattle.box6346.specs.declared.size_fault.SizeFault.{SizeFault}
-use Rattle.box6346.specs.declared.size_fault.SizeFault as size_fault
+use Rattle.box6346.specs.declared.box_number.NumberFault as number_fault
+use Rattle.box6346.specs.declared.size_type.SizeFault.{SizeFault}
+use Rattle.box6346.specs.declared.size_type.SizeFault as size_fault
 use Rattle.box6346.specs.declared.size_type.SizeType.{SizeType}
 use Rattle.box6346.specs.declared.slot.Slot.{Slot}
 use Rattle.edi_moments.specs.Moments.{CivilMoment, is_moment, are_moment_digits, moment_written, moment_of}
@@ -31,12 +31,12 @@ use Rattle.edi_messages.specs.Purposes.{CallContent, Purpose, purpose_with}
 use Rattle.edi_messages.specs.Purposes as purpose
 use Rattle.edi_messages.specs.Texts.{is_name}
 use Rattle.edi_messages.proofs.Weights.{weight_short}
-use Rattle.edi_messages.specs.declared.line_fault.LineFault.{LineFault}
-use Rattle.edi_messages.specs.declared.line_fault.LineFault.TheVariants.{Moment, Size, SlotText}
-use Rattle.edi_messages.specs.declared.message_fault.MessageFault.{MessageFault}
-use Rattle.edi_messages.specs.declared.message_fault.MessageFault.TheVariants.{Code}
-use Rattle.edi_messages.specs.declared.order_kind.OrderKind.{OrderKind}
-use Rattle.edi_messages.specs.declared.order_kind.OrderKind.TheVariants.{GateIn, GateOut, Move, ListDischarge, ListLoad, Discharge, Load}
+use Rattle.edi_messages.specs.declared.line.LineFault.{LineFault}
+use Rattle.edi_messages.specs.declared.line.LineFault.TheVariants.{Moment, Size, SlotText}
+use Rattle.edi_messages.specs.declared.message.MessageFault.{MessageFault}
+use Rattle.edi_messages.specs.declared.message.MessageFault.TheVariants.{Code}
+use Rattle.edi_messages.specs.declared.order.OrderKind.{OrderKind}
+use Rattle.edi_messages.specs.declared.order.OrderKind.TheVariants.{GateIn, GateOut, Move, ListDischarge, ListLoad, Discharge, Load}
 
 -- what is read, if it is, is such
 abbrev Gives : {T : Type 0} → (T → Type 0) → Result T LineFault → Type 0

@@ -12,10 +12,10 @@ use Rattle.edi_messages.specs.Laws.{ReplacingIsOfAList}
 use Rattle.edi_messages.specs.Message.{MessageContent, message_of, judged_message}
 use Rattle.edi_messages.specs.Purposes.{CallContent, Purpose, purpose_with, kind_of, call_of}
 use Rattle.edi_messages.specs.declared.codes.Codes.{Codes}
-use Rattle.edi_messages.specs.declared.order_kind.OrderKind.{OrderKind}
-use Rattle.edi_messages.specs.declared.order_kind.OrderKind.TheVariants.{GateIn, GateOut, Move, ListDischarge, ListLoad, Discharge, Load}
-use Rattle.edi_messages.specs.declared.message_fault.MessageFault.{MessageFault}
-use Rattle.edi_messages.specs.declared.message_fault.MessageFault.TheVariants.{OtherType, NoBgm, Code, Function}
+use Rattle.edi_messages.specs.declared.order.OrderKind.{OrderKind}
+use Rattle.edi_messages.specs.declared.order.OrderKind.TheVariants.{GateIn, GateOut, Move, ListDischarge, ListLoad, Discharge, Load}
+use Rattle.edi_messages.specs.declared.message.MessageFault.{MessageFault}
+use Rattle.edi_messages.specs.declared.message.MessageFault.TheVariants.{OtherType, NoBgm, Code, Function}
 use Rattle.edi_messages.proofs.PurposeLemmas.{past_first}
 
 -- ---- the purpose

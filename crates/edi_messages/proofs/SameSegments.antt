@@ -5,8 +5,8 @@ use Rattle.std.specs.Option.{is_none}
 use Rattle.edi_segments.specs.Characters.{is_printable}
 use Rattle.edi_segments.specs.Text.{Content, no_segment, IsSameSegment}
 use Rattle.edi_segments.specs.Written.{AreSameSegments}
-use Rattle.edi_segments.specs.declared.syntax_fault.SyntaxFault.{SyntaxFault}
-use Rattle.edi_segments.specs.declared.syntax_fault.SyntaxFault.TheVariants.{TooLong, Service, Segment, NoEnvelope, Group, Version, Number, Moment, Test, MessageFrame, SegmentCount, MessageReference, Empty, ControlCount, ControlReference}
+use Rattle.edi_segments.specs.declared.interchange.SyntaxFault.{SyntaxFault}
+use Rattle.edi_segments.specs.declared.interchange.SyntaxFault.TheVariants.{TooLong, Service, Segment, NoEnvelope, Group, Version, Number, Moment, Test, MessageFrame, SegmentCount, MessageReference, Empty, ControlCount, ControlReference}
 use Rattle.edi_syntax.specs.Header.{preparation, is_printable_element, is_known_syntax}
 use Rattle.edi_syntax.specs.Messages.{Message, begins_message, ends_message, message_from, messages_in, before_trailer, trailer_in, are_messages, is_counted, is_referenced}
 use Rattle.edi_syntax.specs.Envelope.{header_of, behind_header, last_of, is_of_functional_group}

@@ -17,8 +17,8 @@ use Rattle.edi_syntax.specs.Header.{control_reference, control_number, preparati
 use Rattle.edi_syntax.specs.Numbers.{as_control_number}
 use Rattle.edi_syntax.specs.Messages.{Message, is_referenced, is_reference, message_reference, message_identity, is_printable_identity, is_printable_component}
 use Rattle.edi_messages.specs.Contrl.{sender_of, recipient_of, identity_of, unb, unh, uci, ucm, unt, unz, verdict_elements, answer_segments}
-use Rattle.edi_messages.specs.declared.verdict.Verdict.{Verdict}
-use Rattle.edi_messages.specs.declared.verdict.Verdict.TheVariants.{Accepted, Rejected}
+use Rattle.edi_messages.specs.declared.message.Verdict.{Verdict}
+use Rattle.edi_messages.specs.declared.message.Verdict.TheVariants.{Accepted, Rejected}
 
 -- ---- bytes
 

@@ -8,7 +8,7 @@ use Rattle.edi_segments.specs.Text.{Content}
 use Rattle.edi_segments.specs.Interchange.{most_bytes, segments_in, read_fault}
 use Rattle.edi_segments.specs.Spelling.{elements_text, segment_text, segments_text}
 use Rattle.edi_segments.specs.Written.{IsWritableSegment, AreSameSegments}
-use Rattle.edi_segments.specs.declared.syntax_fault.SyntaxFault.{SyntaxFault}
+use Rattle.edi_segments.specs.declared.interchange.SyntaxFault.{SyntaxFault}
 use Rattle.edi_segments.proofs.AdviceLemmas.{interchange_complete}
 use Rattle.edi_segments.proofs.WriterLemmas.{reads_back}
 use Rattle.edi_syntax.specs.Faults.{applies, applies_to, header_faults, body_faults, fault_of, header_fault_of, body_fault_of}

@@ -4,8 +4,8 @@ use Rattle.std.specs.Borrow.{Bor}
 use Rattle.std.specs.List.{list_all}
 use Rattle.std.specs.Str.{bytes_eq}
 use Rattle.edi_segments.specs.Characters.{is_tag_byte}
-use Rattle.edi_messages.specs.declared.code_fault.CodeFault.{CodeFault}
-use Rattle.edi_messages.specs.declared.code_fault.CodeFault.TheVariants.{Form, Twice}
+use Rattle.edi_messages.specs.declared.code.CodeFault.{CodeFault}
+use Rattle.edi_messages.specs.declared.code.CodeFault.TheVariants.{Form, Twice}
 
 -- 1 to 3 capitals or digits
 abbrev pub is_code : List ℕ → Bool

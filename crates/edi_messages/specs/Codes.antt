@@ -4,14 +4,14 @@ use Rattle.std.specs.Option.{option_map}
 use Rattle.std.specs.List.{find}
 use Rattle.std.specs.Str.{bytes_eq}
 use Rattle.edi_messages.specs.declared.code.Code.{Code}
-use Rattle.edi_messages.specs.declared.code_table.CodeTable.{CodeTable}
+use Rattle.edi_messages.specs.declared.code.CodeTable.{CodeTable}
 use Rattle.edi_messages.specs.declared.codes.Codes.{Codes}
-use Rattle.edi_messages.specs.declared.partner_kind.PartnerKind.{PartnerKind}
-use Rattle.edi_messages.specs.declared.partner_kind.PartnerKind.TheVariants.{Gate, Line, Quay, Yard}
-use Rattle.edi_messages.specs.declared.message_type.MessageType.{MessageType}
-use Rattle.edi_messages.specs.declared.message_type.MessageType.TheVariants.{Codeco, Coprar, Coarri}
-use Rattle.edi_messages.specs.declared.order_kind.OrderKind.{OrderKind}
-use Rattle.edi_messages.specs.declared.order_kind.OrderKind.TheVariants.{GateIn, GateOut, Move, ListDischarge, ListLoad, Discharge, Load}
+use Rattle.edi_messages.specs.declared.codes.PartnerKind.{PartnerKind}
+use Rattle.edi_messages.specs.declared.codes.PartnerKind.TheVariants.{Gate, Line, Quay, Yard}
+use Rattle.edi_messages.specs.declared.message.MessageType.{MessageType}
+use Rattle.edi_messages.specs.declared.message.MessageType.TheVariants.{Codeco, Coprar, Coarri}
+use Rattle.edi_messages.specs.declared.order.OrderKind.{OrderKind}
+use Rattle.edi_messages.specs.declared.order.OrderKind.TheVariants.{GateIn, GateOut, Move, ListDischarge, ListLoad, Discharge, Load}
 
 -- a code's characters
 abbrev pub code_text : Code → List ℕ

@@ -10,8 +10,8 @@ use Rattle.edi_syntax.specs.Header.{sender, recipient, preparation_date, prepara
 use Rattle.edi_syntax.specs.Messages.{Message, message_reference, message_identity}
 use Rattle.edi_syntax.specs.Envelope.{header_of, messages_of}
 use Rattle.edi_syntax.specs.Faults.{fault_of, header_fault_of, body_fault_of}
-use Rattle.edi_messages.specs.declared.verdict.Verdict.{Verdict}
-use Rattle.edi_messages.specs.declared.verdict.Verdict.TheVariants.{Accepted, Rejected}
+use Rattle.edi_messages.specs.declared.message.Verdict.{Verdict}
+use Rattle.edi_messages.specs.declared.message.Verdict.TheVariants.{Accepted, Rejected}
 
 -- ---- its segments, by their elements
 

@@ -12,12 +12,12 @@ use Rattle.edi_messages.specs.Types.{message_type_of}
 use Rattle.edi_messages.specs.Codes.{order_meant}
 use Rattle.edi_messages.specs.Purposes.{CallContent, Purpose, purpose_with}
 use Rattle.edi_messages.specs.declared.codes.Codes.{Codes}
-use Rattle.edi_messages.specs.declared.order_kind.OrderKind.{OrderKind}
-use Rattle.edi_messages.specs.declared.order_kind.OrderKind.TheVariants.{ListDischarge, ListLoad}
-use Rattle.edi_messages.specs.declared.message_type.MessageType.{MessageType}
-use Rattle.edi_messages.specs.declared.message_type.MessageType.TheVariants.{Codeco, Coprar, Coarri}
-use Rattle.edi_messages.specs.declared.message_fault.MessageFault.{MessageFault}
-use Rattle.edi_messages.specs.declared.message_fault.MessageFault.TheVariants.{OtherType, NoBgm, Code, Function, NoTransport, NoEquipment, EquipmentCount, TooMany, Memory}
+use Rattle.edi_messages.specs.declared.order.OrderKind.{OrderKind}
+use Rattle.edi_messages.specs.declared.order.OrderKind.TheVariants.{ListDischarge, ListLoad}
+use Rattle.edi_messages.specs.declared.message.MessageType.{MessageType}
+use Rattle.edi_messages.specs.declared.message.MessageType.TheVariants.{Codeco, Coprar, Coarri}
+use Rattle.edi_messages.specs.declared.message.MessageFault.{MessageFault}
+use Rattle.edi_messages.specs.declared.message.MessageFault.TheVariants.{OtherType, NoBgm, Code, Function, NoTransport, NoEquipment, EquipmentCount, TooMany, Memory}
 
 -- ---- what the message says of itself
 

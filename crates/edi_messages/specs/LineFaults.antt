@@ -7,10 +7,10 @@ use Rattle.box6346.specs.SizeText as size
 use Rattle.box6346.specs.SlotName.{slot_of}
 use Rattle.edi_messages.specs.Parts.{EquipmentGroup, states_moment}
 use Rattle.edi_messages.specs.Orders.{number_text, size_text, location, names_slot, moment_stated}
-use Rattle.edi_messages.specs.declared.order_kind.OrderKind.{OrderKind}
-use Rattle.edi_messages.specs.declared.order_kind.OrderKind.TheVariants.{GateIn, GateOut, Move, ListDischarge, ListLoad, Discharge, Load}
-use Rattle.edi_messages.specs.declared.line_fault.LineFault.{LineFault}
-use Rattle.edi_messages.specs.declared.line_fault.LineFault.TheVariants.{Form, CheckDigit, Size, Moment, SlotText}
+use Rattle.edi_messages.specs.declared.order.OrderKind.{OrderKind}
+use Rattle.edi_messages.specs.declared.order.OrderKind.TheVariants.{GateIn, GateOut, Move, ListDischarge, ListLoad, Discharge, Load}
+use Rattle.edi_messages.specs.declared.line.LineFault.{LineFault}
+use Rattle.edi_messages.specs.declared.line.LineFault.TheVariants.{Form, CheckDigit, Size, Moment, SlotText}
 
 -- ---- what each kind of order reads, beside the number
 

@@ -10,11 +10,11 @@ use Rattle.edi_messages.specs.Parts.{EquipmentGroup, groups_of}
 use Rattle.edi_messages.specs.Faults.{is_container, purpose_of, fault_of, replaces_list}
 use Rattle.edi_messages.specs.Purposes.{CallContent, Purpose, kind_of, call_of}
 use Rattle.edi_messages.specs.Orders.{OrderContent, read_number, order_of}
-use Rattle.edi_messages.specs.declared.line_fault.LineFault.{LineFault}
+use Rattle.edi_messages.specs.declared.line.LineFault.{LineFault}
 use Rattle.edi_messages.specs.declared.codes.Codes.{Codes}
-use Rattle.edi_messages.specs.declared.order_kind.OrderKind.{OrderKind}
-use Rattle.edi_messages.specs.declared.message_fault.MessageFault.{MessageFault}
-use Rattle.edi_messages.specs.declared.message_fault.MessageFault.TheVariants.{Code}
+use Rattle.edi_messages.specs.declared.order.OrderKind.{OrderKind}
+use Rattle.edi_messages.specs.declared.message.MessageFault.{MessageFault}
+use Rattle.edi_messages.specs.declared.message.MessageFault.TheVariants.{Code}
 
 -- an order, or the fault of the line with its container, if the number could be read
 pub data LineContent : Type 0 where

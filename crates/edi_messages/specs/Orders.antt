@@ -10,8 +10,8 @@ use Rattle.box6346.specs.SlotName.{slot_of}
 use Rattle.box6346.specs.declared.box_number.BoxNumber.{BoxNumber}
 use Rattle.box6346.specs.declared.size_type.SizeType.{SizeType}
 use Rattle.box6346.specs.declared.slot.Slot.{Slot}
-use Rattle.box6346.specs.declared.number_fault.NumberFault.{NumberFault}
-use Rattle.box6346.specs.declared.number_fault.NumberFault as number_fault
+use Rattle.box6346.specs.declared.box_number.NumberFault.{NumberFault}
+use Rattle.box6346.specs.declared.box_number.NumberFault as number_fault
 use Rattle.edi_syntax.specs.Moments.{CivilMoment, moment_of}
 use Rattle.edi_syntax.specs.Numbers as numbers
 use Rattle.edi_segments.specs.Text.{Content, component_of}
@@ -19,8 +19,8 @@ use Rattle.edi_messages.specs.Parts.{EquipmentGroup, is_qualified, states_moment
 use Rattle.edi_messages.specs.Texts.{is_name}
 use Rattle.edi_messages.specs.Purposes.{CallContent, Purpose}
 use Rattle.edi_messages.specs.Purposes as purpose
-use Rattle.edi_messages.specs.declared.line_fault.LineFault.{LineFault}
-use Rattle.edi_messages.specs.declared.line_fault.LineFault as line_fault
+use Rattle.edi_messages.specs.declared.line.LineFault.{LineFault}
+use Rattle.edi_messages.specs.declared.line.LineFault as line_fault
 
 -- a container that comes into the yard
 pub record EntryContent : Type 0 where

@@ -5,7 +5,7 @@ use Rattle.edi_messages.specs.Purposes.{CallContent}
 use Rattle.edi_messages.specs.Orders.{EntryContent, OrderContent, gate_in, gate_out, move, list_discharge, list_load, discharge, load}
 use Rattle.edi_messages.specs.Message.{LineContent, ordered, refused, MessageContent}
 use Rattle.edi_messages.specs.declared.call.Call.{Call}
-use Rattle.edi_messages.specs.declared.entry.Entry.{Entry}
+use Rattle.edi_messages.specs.declared.order.Entry.{Entry}
 use Rattle.edi_messages.specs.declared.order.Order.{Order}
 use Rattle.edi_messages.specs.declared.order.Order.TheVariants.{GateIn, GateOut, Move, ListDischarge, ListLoad, Discharge, Load}
 use Rattle.edi_messages.specs.declared.line.Line as line

@@ -6,11 +6,11 @@ use Rattle.edi_messages.specs.Faults.{call_named}
 use Rattle.edi_messages.specs.Purposes.{CallContent, Purpose}
 use Rattle.edi_messages.specs.Purposes as purpose
 use Rattle.edi_messages.specs.Orders.{EntryContent}
-use Rattle.edi_messages.specs.declared.group.Group.{Group}
-use Rattle.edi_messages.specs.declared.call_span.CallSpan.{CallSpan}
-use Rattle.edi_messages.specs.declared.entry_facts.EntryFacts.{EntryFacts}
-use Rattle.edi_messages.specs.declared.purpose_span.PurposeSpan.{PurposeSpan}
-use Rattle.edi_messages.specs.declared.purpose_span.PurposeSpan as span
+use Rattle.edi_messages.specs.declared.line.Group.{Group}
+use Rattle.edi_messages.specs.declared.call.CallSpan.{CallSpan}
+use Rattle.edi_messages.specs.declared.order.EntryFacts.{EntryFacts}
+use Rattle.edi_messages.specs.declared.call.PurposeSpan.{PurposeSpan}
+use Rattle.edi_messages.specs.declared.call.PurposeSpan as span
 
 abbrev pub group_content : Group → EquipmentGroup
 group_content group = record { equipment = content group.equipment; details = part_left group.details }

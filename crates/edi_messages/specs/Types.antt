@@ -2,8 +2,8 @@
 use Rattle.std.specs.Prelude.{ℕ, ◌&&◌, List, codes, Option, None, Some, if◌then◌else◌}
 use Rattle.std.specs.Str.{bytes_eq}
 use Rattle.edi_segments.specs.Text.{Content, component_of}
-use Rattle.edi_messages.specs.declared.message_type.MessageType.{MessageType}
-use Rattle.edi_messages.specs.declared.message_type.MessageType.TheVariants.{Codeco, Coprar, Coarri}
+use Rattle.edi_messages.specs.declared.message.MessageType.{MessageType}
+use Rattle.edi_messages.specs.declared.message.MessageType.TheVariants.{Codeco, Coprar, Coarri}
 
 -- the message type that 0065 names
 abbrev pub type_named : List ℕ → Option MessageType

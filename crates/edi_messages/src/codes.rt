@@ -1,14 +1,25 @@
 ghost use Rattle.std.specs.Prelude.{◌≡◌, Some, None, if◌then◌else◌};
 ghost use Rattle.std.specs.Str.{bytes_eq};
-ghost use Rattle.edi_segments.specs.Segment.{value};
 ghost use Rattle.edi_messages.specs.Codes.{code_text, order_meant};
+ghost use Rattle.edi_segments.specs.Segment.{value};
 
-use crate::code::Code;
-use crate::code_table::CodeTable;
-use crate::message_type::MessageType;
-use crate::order_kind::OrderKind;
-use crate::partner_kind::PartnerKind;
+use crate::code::{Code, CodeTable};
+use crate::message::MessageType;
+use crate::order::OrderKind;
 use edi_segments::Component;
+
+/// What a partner of the terminal is, which decides the codes that it may send.
+#[derive(Clone, Copy, PartialEq, Eq, Debug)]
+pub enum PartnerKind {
+    /// A haulier at the gate: gate-ins and gate-outs.
+    Gate,
+    /// A shipping line: discharge and load lists.
+    Line,
+    /// A quay crew: discharge and load reports.
+    Quay,
+    /// The yard's own crew: moves.
+    Yard,
+}
 
 /// The codes that one partner may send: those of its kind.
 #[derive(Clone, Copy, Debug)]

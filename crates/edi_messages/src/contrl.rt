@@ -1,19 +1,50 @@
 ghost use Rattle.std.specs.Prelude.{◌≡◌, ◌∷◌, [], length, map, zip, decimal, false, true, OnOk, IfOk};
+ghost use Rattle.edi_messages.specs.Contrl.{sender_of, recipient_of, identity_of, unb, unh, verdict_elements, uci, ucm, unt, unz, contrl_text, rejection_text};
+ghost use Rattle.edi_messages.specs.ErrorCodes.{message_error, interchange_error};
 ghost use Rattle.edi_segments.specs.Segment.{value};
 ghost use Rattle.edi_segments.specs.Spelling.{with_element, with_elements, with_segment};
 ghost use Rattle.edi_segments.specs.Written.{with_segments};
 ghost use Rattle.edi_syntax.specs.Envelope.{header_of, messages_of};
-ghost use Rattle.edi_syntax.specs.Heads.{head_segments};
-ghost use Rattle.edi_syntax.specs.Header.{control_reference};
 ghost use Rattle.edi_syntax.specs.Envelopes.{envelope_segments};
 ghost use Rattle.edi_syntax.specs.Frames.{message, messages_left};
-ghost use Rattle.edi_messages.specs.Contrl.{sender_of, recipient_of, identity_of, unb, unh, verdict_elements, uci, ucm, unt, unz, contrl_text, rejection_text};
+ghost use Rattle.edi_syntax.specs.Header.{control_reference};
+ghost use Rattle.edi_syntax.specs.Heads.{head_segments};
 
-use crate::verdict::Verdict;
+use crate::message::{MessageFault, Verdict};
 use edi_segments::{Component, SegmentWriter};
-use edi_syntax::{Envelope, Frame, Frames, Head};
+use edi_syntax::{Envelope, Frame, Frames, Head, SyntaxFault};
 use itoa::Buffer;
 use std::alloc::{AllocError, Global};
+
+/// The error code (0085) for an interchange whose recipient is another than who got it.
+pub const WRONG_RECIPIENT: u8 = 7;
+
+/// The error code (0085) for a message that is rejected. `None` for want of memory, which no CONTRL tells.
+pub fn message_error(fault: MessageFault) -> Option<u8>
+    ensures { result ≡ message_error fault }
+{
+    match fault {
+        MessageFault::OtherType | MessageFault::Code | MessageFault::Function => Some(12),
+        MessageFault::NoBgm | MessageFault::NoTransport | MessageFault::NoEquipment => Some(13),
+        MessageFault::EquipmentCount => Some(29),
+        MessageFault::TooMany => Some(18),
+        MessageFault::Memory => None,
+    }
+}
+
+/// The error code (0085) for an interchange that is rejected. `None` for a fault that is told of the text
+/// before its messages are looked at: no CONTRL answers these.
+pub fn interchange_error(fault: SyntaxFault) -> Option<u8>
+    ensures { result ≡ interchange_error fault }
+{
+    match fault {
+        SyntaxFault::Test => Some(25),
+        SyntaxFault::MessageFrame | SyntaxFault::Empty => Some(13),
+        SyntaxFault::SegmentCount | SyntaxFault::ControlCount => Some(29),
+        SyntaxFault::MessageReference | SyntaxFault::ControlReference => Some(28),
+        _ => None,
+    }
+}
 
 /// The CONTRL that acknowledges an interchange (UCI, 0083 `7`), with a verdict on each of its messages, in their order
 /// (UCM, 0083 and 0085). An error is that memory was refused.

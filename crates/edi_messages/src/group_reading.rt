@@ -8,14 +8,13 @@ ghost use Rattle.edi_segments.specs.Segment.{content, value};
 ghost use Rattle.edi_messages.specs.Orders.{is_laden, booking, weight, moment_stated, moment_of_length, read_number, read_size, read_moment, read_slot, read_slot_if_named, read_entry};
 ghost use Rattle.edi_messages.specs.Spans.{group_content, entry_with};
 
-use crate::entry_facts::EntryFacts;
-use crate::group::Group;
-use crate::line_fault::LineFault;
+use crate::line::{Group, LineFault};
+use crate::order::EntryFacts;
 use crate::part::is_value;
 use box6346::{BoxNumber, NumberFault, SizeFault, SizeType, Slot};
 use edi_moments::Moment;
 use edi_segments::{Component, Segment};
-use edi_syntax::numbers;
+use edi_syntax::head;
 
 /// What a group says of a container that comes into the yard, or the first fault of its line.
 pub(crate) fn read_entry_facts(opened: Moment, group: &Group<'_>) -> Result<EntryFacts, LineFault>
@@ -99,7 +98,7 @@ fn kilos(group: &Group<'_>) -> u32
     let Some(segment) = group.weight else {
         return 0;
     };
-    match numbers::number_of(segment.component(3, 2), 6) {
+    match head::number_of(segment.component(3, 2), 6) {
         Some(number) => number as u32,
         None => 0,
     }

@@ -1,12 +1,81 @@
-ghost use Rattle.std.specs.Prelude.{◌≡◌, ◌∷◌, [], codes, false, MatchOption, IfNone, IfSome, Option, Some, None, if◌then◌else◌};
+ghost use Rattle.std.specs.List.{list_all};
 ghost use Rattle.std.specs.Option.{option_map, option_or};
+ghost use Rattle.std.specs.Prelude.{IsTrue, ◌≡◌, ◌∷◌, [], codes, false, MatchOption, IfNone, IfSome, Option, Some, None, if◌then◌else◌, IfOk, string_bytes};
 ghost use Rattle.std.specs.Str.{bytes_eq};
-ghost use Rattle.edi_syntax.specs.Frames.{message_segments_left};
-ghost use Rattle.edi_segments.specs.Segment.{content, value};
+ghost use Rattle.edi_messages.specs.Faults.{names_call, call_in, purpose_of};
+ghost use Rattle.edi_messages.specs.Orders.{booking, port, name_kept};
+ghost use Rattle.edi_messages.specs.Owned.{call_content};
 ghost use Rattle.edi_messages.specs.Parts.{is_equipment, ends_group, before_end, part_left, is_qualified, states_moment, states_weight};
+ghost use Rattle.edi_messages.specs.Purposes.{kind_of, call_of};
+ghost use Rattle.edi_messages.specs.Spans.{call_spanned, purpose_spanned, group_content};
+ghost use Rattle.edi_segments.specs.Characters.{is_printable};
+ghost use Rattle.edi_segments.specs.Segment.{content, value};
+ghost use Rattle.edi_syntax.specs.Frames.{message, message_segments_left};
 
+use crate::call::{Call, CallSpan, PurposeSpan};
+use crate::codes::Codes;
+use crate::faults::{is_name, names_call, order_kind};
+use crate::line::Group;
+use crate::message::Survey;
+use crate::order::OrderKind;
 use edi_segments::{Component, Segment};
 use edi_syntax::MessageSegments;
+use std::alloc::{AllocError, Global};
+
+/// What the message is for.
+pub(crate) fn purpose<'a>(survey: &Survey<'a>, codes: &Codes) -> Option<PurposeSpan<'a>>
+    ensures { option_map purpose_spanned result ≡ purpose_of codes.now (message survey.now.frame) }
+{
+    match order_kind(survey, codes)? {
+        OrderKind::GateIn => Some(PurposeSpan::GateIn),
+        OrderKind::GateOut => Some(PurposeSpan::GateOut),
+        OrderKind::Move => Some(PurposeSpan::Move),
+        OrderKind::ListDischarge => Some(PurposeSpan::ListDischarge(call(survey)?)),
+        OrderKind::ListLoad => Some(PurposeSpan::ListLoad(call(survey)?)),
+        OrderKind::Discharge => Some(PurposeSpan::Discharge(call(survey)?)),
+        OrderKind::Load => Some(PurposeSpan::Load(call(survey)?)),
+    }
+}
+
+/// The call that the heading names.
+fn call<'a>(survey: &Survey<'a>) -> Option<CallSpan<'a>>
+    ensures { option_map call_spanned result ≡ call_in (message survey.now.frame) }
+{
+    let transport = survey.transport?;
+    if names_call(&transport) {
+        Some(CallSpan { transport })
+    } else {
+        None
+    }
+}
+
+/// What a message for the purpose orders.
+pub(crate) fn kind_of(purpose: PurposeSpan<'_>) -> OrderKind
+    ensures { result ≡ kind_of (purpose_spanned purpose.entry) }
+{
+    match purpose {
+        PurposeSpan::GateIn => OrderKind::GateIn,
+        PurposeSpan::GateOut => OrderKind::GateOut,
+        PurposeSpan::Move => OrderKind::Move,
+        PurposeSpan::ListDischarge(_) => OrderKind::ListDischarge,
+        PurposeSpan::ListLoad(_) => OrderKind::ListLoad,
+        PurposeSpan::Discharge(_) => OrderKind::Discharge,
+        PurposeSpan::Load(_) => OrderKind::Load,
+    }
+}
+
+/// The call that a message for the purpose is about.
+pub(crate) fn call_of<'a>(purpose: PurposeSpan<'a>) -> Option<CallSpan<'a>>
+    ensures { option_map call_spanned result ≡ call_of (purpose_spanned purpose.entry) }
+{
+    match purpose {
+        PurposeSpan::GateIn | PurposeSpan::GateOut | PurposeSpan::Move => None,
+        PurposeSpan::ListDischarge(call)
+        | PurposeSpan::ListLoad(call)
+        | PurposeSpan::Discharge(call)
+        | PurposeSpan::Load(call) => Some(call),
+    }
+}
 
 /// The segments behind an equipment, before the next equipment or control total.
 #[derive(Clone, Copy)]
@@ -114,5 +183,72 @@ pub(crate) fn keep_first_places<'a>(
         let qualifier = segment.component(1, 1);
         keep_first(slot, segment, is_value(qualifier, b"ZZZ"));
         keep_first(port, segment, is_value(qualifier, b"11"));
+    }
+}
+
+/// The text of a printable value.
+fn own_text(alloc: Global, component: Component<'_>) -> Result<String, AllocError>
+    requires { IsTrue (list_all is_printable (value component)) }
+    ensures { IfOk result (λ text. string_bytes text ≡ value component.entry) }
+{
+    let Some(bytes) = component.plain() else {
+        return own_text_by_bytes(alloc, component);
+    };
+    match str::from_utf8(bytes) {
+        Ok(text) => String::from_str(alloc, text),
+        Err(_) => own_text_by_bytes(alloc, component),
+    }
+}
+
+/// The same, also if release characters stand in the text.
+fn own_text_by_bytes(alloc: Global, component: Component<'_>) -> Result<String, AllocError>
+    requires { IsTrue (list_all is_printable (value component)) }
+    ensures { IfOk result (λ text. string_bytes text ≡ value component.entry) }
+{
+    let mut text = String::with_capacity(alloc, component.len())?;
+    for byte in component.bytes() {
+        text.push(char::from(byte))?;
+    }
+    Ok(text)
+}
+
+/// The text of a value that is a name. A value that is none is kept as empty.
+#[tactic(auto, using(crate::proofs::Names::name_printable))]
+fn own_name(alloc: Global, component: Component<'_>) -> Result<String, AllocError>
+    ensures { IfOk result (λ text. string_bytes text ≡ name_kept (value component.entry)) }
+{
+    if is_name(component) {
+        own_text(alloc, component)
+    } else {
+        Ok(String::new(alloc))
+    }
+}
+
+/// The call with texts of its own.
+pub(crate) fn own_call(alloc: Global, call: CallSpan<'_>) -> Result<Call, AllocError>
+    ensures { IfOk result (λ owned. call_content owned ≡ call_spanned call.entry) }
+{
+    let vessel = own_text(alloc, call.transport.component(8, 1))?;
+    let voyage = own_text(alloc, call.transport.component(2, 1))?;
+    Ok(Call { vessel, voyage })
+}
+
+/// The booking that a group names, or an empty text.
+pub(crate) fn own_booking(alloc: Global, group: &Group<'_>) -> Result<String, AllocError>
+    ensures { IfOk result (λ text. string_bytes text ≡ booking (group_content group.now)) }
+{
+    match group.booking {
+        Some(segment) => own_name(alloc, segment.component(1, 2)),
+        None => Ok(String::new(alloc)),
+    }
+}
+
+/// The port of discharge that a group names, or an empty text.
+pub(crate) fn own_port(alloc: Global, group: &Group<'_>) -> Result<String, AllocError>
+    ensures { IfOk result (λ text. string_bytes text ≡ port (group_content group.now)) }
+{
+    match group.port {
+        Some(segment) => own_name(alloc, segment.component(2, 1)),
+        None => Ok(String::new(alloc)),
     }
 }

@@ -10,7 +10,7 @@ use Rattle.edi_segments.specs.Advice.{ServiceCharacters, characters, advised_cha
 use Rattle.edi_segments.specs.Text.{Content, SegmentsText}
 use Rattle.edi_segments.specs.Reading.{breaks_len, are_segments, segments_of}
 use Rattle.edi_segments.specs.Interchange.{release_byte, AdviceText, InterchangeText, segments_in, is_segment_text}
-use Rattle.edi_segments.specs.declared.service.Service.{Service}
+use Rattle.edi_segments.specs.declared.characters.Service.{Service}
 use Rattle.edi_segments.proofs.SegmentsLemmas.{segments_sound, segments_complete, breaks_at, breaks_only, no_break_before}
 
 service_from : (c : ServiceCharacters) × IsTrue (may_be_used c) → Service

@@ -11,5 +11,4 @@ pub mod BreakLemmas
 pub mod SpelledLemmas
 pub mod WriterLemmas
 pub mod ReaderLemmas
-pub mod PlacedLemmas
 pub mod PlainLemmas

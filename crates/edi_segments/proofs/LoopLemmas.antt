@@ -4,7 +4,7 @@ use Rattle.std.specs.Option.{option_map}
 use Rattle.std.proofs.lemmas.List.{at_drop_more, at_drop_all, drop-drop}
 use Rattle.edi_segments.specs.Tokens.{token_of, releases, stays_unreleased}
 use Rattle.edi_segments.specs.Reading.{stays_inside, with_end, end_of}
-use Rattle.edi_segments.specs.declared.service.Service.{Service}
+use Rattle.edi_segments.specs.declared.characters.Service.{Service}
 use Rattle.edi_segments.specs.declared.token.Token.{Token}
 use Rattle.edi_segments.specs.declared.token.Token.TheVariants.{Data, Release, Component, Element, Terminator, Invalid}
 use Rattle.edi_segments.proofs.TokenLemmas.{released_means}

@@ -8,7 +8,7 @@ use Rattle.std.proofs.lemmas.Bool.{eqb-true, eq-eqb, cases_Bool}
 use Rattle.edi_segments.specs.Tokens.{token_of, releases}
 use Rattle.edi_segments.specs.Reading.{push_byte, push_value, push_element, with_token, elements_of}
 use Rattle.edi_segments.specs.Parts.{separates, push_front, parts_of, separator_of, split_of, value_of}
-use Rattle.edi_segments.specs.declared.service.Service.{Service}
+use Rattle.edi_segments.specs.declared.characters.Service.{Service}
 use Rattle.edi_segments.specs.declared.token.Token.{Token}
 use Rattle.edi_segments.specs.declared.token.Token.TheVariants.{Data, Release, Component, Element, Terminator, Invalid}
 use Rattle.edi_segments.proofs.TokenLemmas.{MeansUnreleased, token_means, released_means, component_token, element_token}
@@ -331,34 +331,5 @@ pub values_split : (s : Service) (text : List ℕ) → map (value_of s false) (p
 values_split s text = ap (map (value_of s false)) (parts_split s s.component text) ∙ moved (split_of s s.component text)
   where
     moved : (o : Option (List ℕ × List ℕ)) → map (value_of s false) (option_map_or (λ (p : List ℕ × List ℕ). p.0 ∷ parts_of s s.component false p.1) o (text ∷ [])) ≡ option_map_or (λ (p : List ℕ × List ℕ). value_of s false p.0 ∷ map (value_of s false) (parts_of s s.component false p.1)) o (value_of s false text ∷ [])
-    moved None = refl
-    moved (Some p) = refl
-
--- ---- the elements of a segment, one after the other
-
--- the values of the elements of a text
-abbrev pub elements_by : Service → List ℕ → List (List (List ℕ))
-elements_by s text = map (λ (part : List ℕ). map (value_of s false) (parts_of s s.component false part)) (parts_of s s.element false text)
-
-each_values : (s : Service) (texts : List (List ℕ)) → map (components_in s false) texts ≡ map (λ (part : List ℕ). map (value_of s false) (parts_of s s.component false part)) texts
-each_values s [] = refl
-each_values s (text ∷ texts) = rw (values_all s (parts_of s s.component false text), each_values s texts) refl
-
-pub elements_are_by : (s : Service) (text : List ℕ) → elements_of s false text ≡ elements_by s text
-elements_are_by s text =
-    elements_by_parts s text false ∙ sym (elements_all s (parts_of s s.element false text)) ∙ each_values s (parts_of s s.element false text)
-
-pub elements_split : (s : Service) (text : List ℕ) → elements_by s text ≡ option_map_or (λ (p : List ℕ × List ℕ). map (value_of s false) (parts_of s s.component false p.0) ∷ elements_by s p.1) (split_of s s.element text) (map (value_of s false) (parts_of s s.component false text) ∷ [])
-elements_split s text = ap (map (λ (part : List ℕ). map (value_of s false) (parts_of s s.component false part))) (parts_split s s.element text) ∙ moved (split_of s s.element text)
-  where
-    moved : (o : Option (List ℕ × List ℕ)) → map (λ (part : List ℕ). map (value_of s false) (parts_of s s.component false part)) (option_map_or (λ (p : List ℕ × List ℕ). p.0 ∷ parts_of s s.element false p.1) o (text ∷ [])) ≡ option_map_or (λ (p : List ℕ × List ℕ). map (value_of s false) (parts_of s s.component false p.0) ∷ elements_by s p.1) o (map (value_of s false) (parts_of s s.component false text) ∷ [])
-    moved None = refl
-    moved (Some p) = refl
-
--- those behind the first
-pub elements_behind : (s : Service) (text : List ℕ) → drop 1 (elements_of s false text) ≡ option_map_or (λ (p : List ℕ × List ℕ). elements_by s p.1) (split_of s s.element text) []
-elements_behind s text = ap (drop 1) (elements_are_by s text ∙ elements_split s text) ∙ moved (split_of s s.element text)
-  where
-    moved : (o : Option (List ℕ × List ℕ)) → drop 1 (option_map_or (λ (p : List ℕ × List ℕ). map (value_of s false) (parts_of s s.component false p.0) ∷ elements_by s p.1) o (map (value_of s false) (parts_of s s.component false text) ∷ [])) ≡ option_map_or (λ (p : List ℕ × List ℕ). elements_by s p.1) o []
     moved None = refl
     moved (Some p) = refl

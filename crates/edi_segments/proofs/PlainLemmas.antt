@@ -1,13 +1,13 @@
 -- A text with no release character among its bytes is the value that it spells.
-use Rattle.std.proofs.Common.{◌≡◌, ◌≢◌, ℕ, suc, ◌<◌, Bool, true, false, ◌||◌, nat_eq, List, [], ◌∷◌, length, Option, Some, None, refl, sym, ap, ◌∙◌, inl, inr, arith}
+use Rattle.std.proofs.Common.{◌≡◌, ℕ, ◌<◌, Bool, true, false, ◌||◌, nat_eq, List, [], ◌∷◌, length, Option, Some, None, refl, sym, ap, ◌∙◌, inl, inr, arith}
 use Rattle.std.specs.List.{list_all, list_any}
 use Rattle.std.specs.Str.{bytes_eq}
 use Rattle.std.proofs.lemmas.Slice.Eq.{bytes_eq-Decides}
-use Rattle.std.proofs.lemmas.Bool.{or_parts, or_from, and_parts, and_from, eq-eqb, cases_Bool, false≢true}
+use Rattle.std.proofs.lemmas.Bool.{or_parts, and_parts, and_from, eq-eqb, cases_Bool, false≢true}
 use Rattle.edi_segments.specs.Characters.{is_release}
 use Rattle.edi_segments.specs.Tokens.{token_of, releases}
 use Rattle.edi_segments.specs.Parts.{value_of}
-use Rattle.edi_segments.specs.declared.service.Service.{Service}
+use Rattle.edi_segments.specs.declared.characters.Service.{Service}
 use Rattle.edi_segments.specs.declared.token.Token.{Token}
 use Rattle.edi_segments.specs.declared.token.Token.TheVariants.{Data, Release, Component, Element, Terminator, Invalid}
 use Rattle.edi_segments.proofs.TokenLemmas.{MeansUnreleased, token_means}
@@ -36,39 +36,6 @@ plain_value s (b ∷ text) h =
     let parts = or_parts (is_release s.release b) (list_any (is_release s.release) text) h in
     let shows = no_release s b (token_of s false b) (token_means s b) parts.0 in
     rw shows (ap (λ (t : List ℕ). b ∷ t) (plain_value s text parts.1))
-
--- a value that is as long as its text
-pub whole_value : (s : Service) (released : Bool) (text : List ℕ) → length (value_of s released text) ≡ length text → value_of s released text ≡ text
-unfolding value_of
-whole_value s released [] h = refl
-whole_value s released (b ∷ text) h =
-    let t = token_of s released b in
-    elim (cases_Bool (releases t)) [
-      | inl e ↦ (let l : length (value_of s true text) ≡ suc (length text) = rw e at h in let most = length-value s text true in absurd (omega (arith, l, most)))
-      | inr e ↦ (let l : suc (length (value_of s false text)) ≡ suc (length text) = rw e at h in rw e (ap (λ (u : List ℕ). b ∷ u) (whole_value s false text (omega (arith, l)))))
-    ]
-
-release_hides : (s : Service) (b : ℕ) → is_release s.release b ≡ true → releases (token_of s false b) ≡ true
-unfolding token_of
-release_hides s b is = rw is refl
-
--- In the text of a value that is as long as it, no release character stands.
-pub whole_unreleased : (s : Service) (text : List ℕ) → length (value_of s false text) ≡ length text → list_any (is_release s.release) text ≡ false
-unfolding value_of
-whole_unreleased s [] h = refl
-whole_unreleased s (b ∷ text) h =
-    elim (cases_Bool (is_release s.release b)) [
-      | inl is ↦ (let hides = release_hides s b is in let l : length (value_of s true text) ≡ suc (length text) = rw hides at h in let most = length-value s text true in absurd (omega (arith, l, most)))
-      | inr other ↦ (let shows = no_release s b (token_of s false b) (token_means s b) other in let l : suc (length (value_of s false text)) ≡ suc (length text) = rw shows at h in or_from _ _ other (whole_unreleased s text (omega (arith, l))))
-    ]
-
--- a value that is shorter than its text
-pub short_value : (s : Service) (text : List ℕ) → length (value_of s false text) ≢ length text → list_any (is_release s.release) text ≡ true
-short_value s text other =
-    elim (cases_Bool (list_any (is_release s.release) text)) [
-      | inl e ↦ e
-      | inr e ↦ absurd (other (ap length (plain_value s text e)))
-    ]
 
 -- what all bytes of a text are, all bytes of the value are
 pub value_all : (p : ℕ → Bool) (s : Service) (released : Bool) (text : List ℕ) → list_all p text ≡ true → list_all p (value_of s released text) ≡ true

@@ -10,7 +10,7 @@ use Rattle.edi_segments.specs.Tokens.{token_of, releases}
 use Rattle.edi_segments.specs.Parts.{separates, separator_of, split_of}
 use Rattle.edi_segments.specs.Text.{Content}
 use Rattle.edi_segments.specs.Reading.{with_end, end_of, begins_elements, body_len, content_of, next_at, breaks_len, are_segments}
-use Rattle.edi_segments.specs.declared.service.Service.{Service}
+use Rattle.edi_segments.specs.declared.characters.Service.{Service}
 use Rattle.edi_segments.specs.declared.token.Token.{Token}
 use Rattle.edi_segments.specs.declared.token.Token.TheVariants.{Data, Release, Component, Element, Terminator, Invalid}
 use Rattle.edi_segments.proofs.TokenLemmas.{MeansUnreleased, token_means, released_means, terminator_token}

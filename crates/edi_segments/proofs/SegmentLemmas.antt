@@ -8,7 +8,7 @@ use Rattle.edi_segments.specs.Characters.{is_tag_byte}
 use Rattle.edi_segments.specs.Tokens.{token_of, releases}
 use Rattle.edi_segments.specs.Text.{Content, ElementsText, SegmentText}
 use Rattle.edi_segments.specs.Reading.{elements_of, stays_inside, are_elements, with_end, end_of, begins_elements, body_len, content_of}
-use Rattle.edi_segments.specs.declared.service.Service.{Service}
+use Rattle.edi_segments.specs.declared.characters.Service.{Service}
 use Rattle.edi_segments.specs.declared.token.Token.{Token}
 use Rattle.edi_segments.specs.declared.token.Token.TheVariants.{Data, Release, Component, Element, Terminator, Invalid}
 use Rattle.edi_segments.proofs.TokenLemmas.{MeansUnreleased, token_means, released_means, element_token, terminator_token}

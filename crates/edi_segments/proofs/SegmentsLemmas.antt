@@ -8,7 +8,7 @@ use Rattle.std.proofs.lemmas.Option.{none-some}
 use Rattle.edi_segments.specs.Characters.{is_tag_byte, is_break}
 use Rattle.edi_segments.specs.Text.{Content, SegmentsText}
 use Rattle.edi_segments.specs.Reading.{end_of, body_len, content_of, next_at, breaks_len, segments_from, are_segments_from, segments_of, are_segments}
-use Rattle.edi_segments.specs.declared.service.Service.{Service}
+use Rattle.edi_segments.specs.declared.characters.Service.{Service}
 use Rattle.edi_segments.proofs.SegmentLemmas.{segment_at, body_sound, segment_found, segment_complete, mapped_some}
 
 -- ---- line breaks

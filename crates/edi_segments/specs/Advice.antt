@@ -3,7 +3,7 @@ use Rattle.std.specs.Prelude.{◌≡◌, ℕ, Bool, true, false, not, ◌&&◌, 
 use Rattle.edi_segments.specs.Bytes.{space, colon, plus_sign, question_mark, apostrophe}
 use Rattle.edi_segments.specs.Characters.{are_service_characters, begins_with_advice}
 use Rattle.edi_segments.specs.Reading.{breaks_len}
-use Rattle.edi_segments.specs.declared.service.Service.{Service}
+use Rattle.edi_segments.specs.declared.characters.Service.{Service}
 
 -- service characters as numbers
 pub record ServiceCharacters : Type 0 where

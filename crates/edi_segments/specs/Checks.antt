@@ -2,8 +2,8 @@
 use Rattle.std.specs.Prelude.{Bool, List}
 use Rattle.edi_segments.specs.Text.{Content}
 use Rattle.edi_segments.specs.Reading.{segments_of, are_segments}
-use Rattle.edi_segments.specs.declared.checked_segments.CheckedSegments.{CheckedSegments}
-use Rattle.edi_segments.specs.declared.segment_check.SegmentCheck.{SegmentCheck}
+use Rattle.edi_segments.specs.declared.segment.CheckedSegments.{CheckedSegments}
+use Rattle.edi_segments.specs.declared.segments.SegmentCheck.{SegmentCheck}
 
 -- the segments that are left, as far as there are any
 abbrev pub checked_left : CheckedSegments → List Content

@@ -6,9 +6,9 @@ use Rattle.edi_segments.specs.Characters.{is_break, begins_with_advice}
 use Rattle.edi_segments.specs.Advice.{without_breaks, default_service, service_at, has_bad_advice, behind_advice}
 use Rattle.edi_segments.specs.Text.{Content, SegmentsText}
 use Rattle.edi_segments.specs.Reading.{segments_of, are_segments}
-use Rattle.edi_segments.specs.declared.service.Service.{Service}
-use Rattle.edi_segments.specs.declared.syntax_fault.SyntaxFault.{SyntaxFault}
-use Rattle.edi_segments.specs.declared.syntax_fault.SyntaxFault.TheVariants.{Service as ServiceFault, Segment as SegmentFault}
+use Rattle.edi_segments.specs.declared.characters.Service.{Service}
+use Rattle.edi_segments.specs.declared.interchange.SyntaxFault.{SyntaxFault}
+use Rattle.edi_segments.specs.declared.interchange.SyntaxFault.TheVariants.{Service as ServiceFault, Segment as SegmentFault}
 
 -- the most bytes that an interchange's text may have
 abbrev pub most_bytes : ℕ

@@ -9,7 +9,4 @@ pub mod Advice
 pub mod Interchange
 pub mod Spelling
 pub mod Written
-pub mod Placed
-pub mod Values
-pub mod ValueEnds
 pub mod Checks

@@ -4,7 +4,7 @@ use Rattle.std.specs.Option.{option_map}
 use Rattle.std.specs.List.{list_any}
 use Rattle.edi_segments.specs.Characters.{is_release}
 use Rattle.edi_segments.specs.Tokens.{token_of, releases}
-use Rattle.edi_segments.specs.declared.service.Service.{Service}
+use Rattle.edi_segments.specs.declared.characters.Service.{Service}
 
 -- the byte is the separator, and not released
 abbrev pub separates : ℕ → Bool → ℕ → Bool

@@ -5,7 +5,7 @@ use Rattle.std.specs.List.{list_all}
 use Rattle.edi_segments.specs.Characters.{is_tag_byte, is_break}
 use Rattle.edi_segments.specs.Tokens.{token_of, releases}
 use Rattle.edi_segments.specs.Text.{Content}
-use Rattle.edi_segments.specs.declared.service.Service.{Service}
+use Rattle.edi_segments.specs.declared.characters.Service.{Service}
 use Rattle.edi_segments.specs.declared.token.Token.{Token}
 use Rattle.edi_segments.specs.declared.token.Token.TheVariants.{Data, Release, Component, Element, Terminator, Invalid}
 
@@ -51,20 +51,6 @@ unfoldable pub are_elements : Service → Bool → List ℕ → Bool
 are_elements s released [] = not released
 are_elements s released (b ∷ bytes) =
     let token = token_of s released b in stays_inside token && are_elements s (releases token) bytes
-
--- the bytes spell one value: data, and release characters with what they release
-abbrev pub stays_in_value : Token → Bool
-stays_in_value Data = true
-stays_in_value Release = true
-stays_in_value Component = false
-stays_in_value Element = false
-stays_in_value Terminator = false
-stays_in_value Invalid = false
-
-unfoldable pub is_value : Service → Bool → List ℕ → Bool
-is_value s released [] = not released
-is_value s released (b ∷ bytes) =
-    let token = token_of s released b in stays_in_value token && is_value s (releases token) bytes
 
 -- how many bytes stand before the first terminator, if none of them is invalid
 abbrev pub with_end : Token → Option ℕ → Option ℕ

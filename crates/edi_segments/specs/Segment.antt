@@ -4,10 +4,9 @@ use Rattle.std.specs.Option.{option_map_or}
 use Rattle.edi_segments.specs.Text.{Content}
 use Rattle.edi_segments.specs.Reading.{content_of, segments_of}
 use Rattle.edi_segments.specs.Parts.{value_of, parts_of}
-use Rattle.edi_segments.specs.declared.components.Components.{Components}
-use Rattle.edi_segments.specs.declared.elements.Elements.{Elements}
+use Rattle.edi_segments.specs.declared.component.Components.{Components}
 use Rattle.edi_segments.specs.declared.component.Component.{Component}
-use Rattle.edi_segments.specs.declared.bytes.Bytes.{Bytes}
+use Rattle.edi_segments.specs.declared.component.Bytes.{Bytes}
 use Rattle.edi_segments.specs.declared.segments.Segments.{Segments}
 use Rattle.edi_segments.specs.declared.segment.Segment.{Segment}
 
@@ -38,14 +37,6 @@ components_left components =
     option_map_or (λ text.
     map (value_of components.service false)
     (parts_of components.service components.service.component false text.now)) components.rest []
-
--- the elements that are left, each by its values
-abbrev pub elements_left : Elements → List (List (List ℕ))
-elements_left elements =
-    option_map_or (λ text.
-    map (λ (part : List ℕ).
-    map (value_of elements.service false) (parts_of elements.service elements.service.component false part))
-    (parts_of elements.service elements.service.element false text.now)) elements.rest []
 
 -- the value as an array of that length, if it has that length
 abbrev pub fixed : ℕ → List ℕ → Option (List ℕ)

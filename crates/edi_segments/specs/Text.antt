@@ -5,7 +5,7 @@ use Rattle.std.specs.Str.{bytes_eq}
 use Rattle.std.specs.List.{list_all}
 use Rattle.edi_segments.specs.Characters.{is_tag_byte, is_break}
 use Rattle.edi_segments.specs.Tokens.{is_plain, may_be_released}
-use Rattle.edi_segments.specs.declared.service.Service.{Service}
+use Rattle.edi_segments.specs.declared.characters.Service.{Service}
 
 -- a segment: its tag, and the values of each element
 pub record Content : Type 0 where

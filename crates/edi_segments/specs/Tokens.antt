@@ -1,7 +1,7 @@
 -- What a byte is, by the service characters and whether the byte before it releases it.
 use Rattle.std.specs.Prelude.{ℕ, Bool, true, false, not, ◌&&◌, ◌||◌, ◌==◌, if◌then◌else◌}
 use Rattle.edi_segments.specs.Characters.{is_data_byte, is_release}
-use Rattle.edi_segments.specs.declared.service.Service.{Service}
+use Rattle.edi_segments.specs.declared.characters.Service.{Service}
 use Rattle.edi_segments.specs.declared.token.Token.{Token}
 use Rattle.edi_segments.specs.declared.token.Token.TheVariants.{Data, Release, Component, Element, Terminator, Invalid}
 
@@ -43,12 +43,3 @@ stays_unreleased Element = true
 stays_unreleased Release = false
 stays_unreleased Terminator = false
 stays_unreleased Invalid = false
-
--- the byte ends a value
-abbrev pub ends_value : Token → Bool
-ends_value Data = false
-ends_value Release = false
-ends_value Component = true
-ends_value Element = true
-ends_value Terminator = true
-ends_value Invalid = false

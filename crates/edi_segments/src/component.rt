@@ -1,16 +1,15 @@
-ghost use Rattle.std.specs.Prelude.{◌≡◌, ◌↔◌, ◌++◌, ℕ, length, IsTrue, IfSome, IfNone, OnOk, OnErr, false, true};
-ghost use Rattle.edi_segments.specs.Parts.{has_release, value_of};
-ghost use Rattle.edi_segments.specs.Characters.{is_printable};
-ghost use Rattle.edi_segments.specs.Spelling.{spelling};
-ghost use Rattle.std.specs.List.{list_all};
+ghost use Rattle.std.specs.Iterator.{YieldsFirstBy, item_count, YieldsFirst};
+ghost use Rattle.std.specs.List.{list_all, list_any};
+ghost use Rattle.std.specs.Prelude.{◌≡◌, ◌↔◌, ◌++◌, ℕ, length, IsTrue, IfSome, IfNone, OnOk, OnErr, false, true, map, ◌==◌};
 ghost use Rattle.std.specs.Str.{bytes_eq};
-ghost use Rattle.std.proofs.Props.{props};
+ghost use Rattle.edi_segments.specs.Characters.{is_printable};
+ghost use Rattle.edi_segments.specs.Parts.{has_release, value_of, parts_of};
+ghost use Rattle.edi_segments.specs.Segment.{value, components_left, bytes_left};
+ghost use Rattle.edi_segments.specs.Spelling.{spelling};
 
-use super::bytes::{Bytes, are_bytes, are_same};
-use super::characters::{are_printable, is_printable};
-use super::plain::has_release;
-use super::service::Service;
-use super::spelling::{write_byte, write_value};
+use crate::characters::{Service, are_printable, is_printable};
+use crate::part::split_once;
+use crate::writing::{write_byte, write_value};
 use std::alloc::AllocError;
 
 /// The value of a component, as its spelling in the text.
@@ -18,8 +17,6 @@ use std::alloc::AllocError;
 pub struct Component<'a> {
     service: Service,
     text: &'a [u8],
-    known_len: Option<usize>,
-    ghost counted: { IfSome known_len (λ n. n ≡ length (value_of service false text.now)) } by { Prim.hlevel props },
 }
 
 impl<'a> Component<'a> {
@@ -28,24 +25,7 @@ impl<'a> Component<'a> {
     pub(crate) fn new(service: Service, text: &'a [u8]) -> Component<'a>
         ensures { value result ≡ value_of service false text.now }
     {
-        Component {
-            service,
-            text,
-            known_len: None,
-        }
-    }
-
-    /// A component whose value is known to have that many bytes.
-    #[inline(always)]
-    pub(crate) fn of_len(service: Service, text: &'a [u8], len: usize) -> Component<'a>
-        requires { len ≡ length (value_of service false text.now) }
-        ensures { value result ≡ value_of service false text.now }
-    {
-        Component {
-            service,
-            text,
-            known_len: Some(len),
-        }
+        Component { service, text }
     }
 
     /// The bytes of the value.
@@ -61,11 +41,11 @@ impl<'a> Component<'a> {
         ensures unreleased { IfSome result (λ bytes. has_release self.now.service self.now.text.now ≡ false) }
         ensures none { IfNone result (has_release self.now.service self.now.text.now ≡ true) }
     {
-        let is_plain = match self.known_len {
-            Some(len) => len == self.text.len(),
-            None => !has_release(self.service, self.text),
-        };
-        if is_plain { Some(self.text) } else { None }
+        if has_release(self.service, self.text) {
+            None
+        } else {
+            Some(self.text)
+        }
     }
 
     /// The value has no byte.
@@ -79,9 +59,6 @@ impl<'a> Component<'a> {
     pub fn len(&self) -> usize
         ensures { result ≡ length (value self.now) }
     {
-        if let Some(len) = self.known_len {
-            return len;
-        }
         match self.plain() {
             Some(bytes) => bytes.len(),
             None => self.len_by_bytes(),
@@ -111,10 +88,7 @@ impl<'a> Component<'a> {
         if self.text.len() < other.len() {
             return false;
         }
-        match self.known_len {
-            Some(len) if len == self.text.len() => self.text == other,
-            _ => are_bytes(self.bytes(), other),
-        }
+        are_bytes(self.bytes(), other)
     }
 
     /// The value is that of the other component, also if they are spelled in other ways.
@@ -233,4 +207,131 @@ impl<'a> Component<'a> {
         }
         Ok(())
     }
+}
+
+/// The values of an element that are left.
+#[derive(Clone, Copy)]
+pub struct Components<'a> {
+    service: Service,
+    rest: Option<&'a [u8]>,
+}
+
+impl<'a> Components<'a> {
+    pub(crate) fn new(service: Service, text: &'a [u8]) -> Components<'a>
+        ensures { components_left result
+            ≡ map (value_of service false) (parts_of service service.component false text.now) }
+    {
+        Components {
+            service,
+            rest: Some(text),
+        }
+    }
+}
+
+impl<'a> Iterator for Components<'a> {
+    type Item = Component<'a>;
+
+    ghost next_gives = { YieldsFirstBy value components_left };
+
+    ghost remaining = { item_count components_left };
+
+    fn next(&mut self) -> Option<Component<'a>> {
+        let text = self.rest?;
+        match split_once(self.service, self.service.component, text) {
+            Some((first, behind)) => {
+                self.rest = Some(behind);
+                Some(Component::new(self.service, first))
+            }
+            None => {
+                self.rest = None;
+                Some(Component::new(self.service, text))
+            }
+        }
+    }
+}
+
+/// The bytes of a value that are left.
+#[derive(Clone, Copy)]
+pub struct Bytes<'a> {
+    service: Service,
+    text: &'a [u8],
+}
+
+impl<'a> Bytes<'a> {
+    pub(crate) fn new(service: Service, text: &'a [u8]) -> Bytes<'a>
+        ensures { bytes_left result ≡ value_of service false text.now }
+    {
+        Bytes { service, text }
+    }
+}
+
+impl<'a> Iterator for Bytes<'a> {
+    type Item = u8;
+
+    ghost next_gives = { YieldsFirst bytes_left };
+
+    ghost remaining = { item_count bytes_left };
+
+    fn next(&mut self) -> Option<u8> {
+        let (first, rest) = self.text.split_first()?;
+        if self.service.releases(false, *first) {
+            let (second, rest) = rest.split_first()?;
+            self.text = rest;
+            Some(*second)
+        } else {
+            self.text = rest;
+            Some(*first)
+        }
+    }
+}
+
+/// The bytes are these.
+pub(crate) fn are_bytes(bytes: Bytes<'_>, other: &[u8]) -> bool
+    ensures { IsTrue result ↔ (bytes_left bytes.entry ≡ other.now) }
+{
+    let mut rest = other;
+    for byte in bytes {
+        match rest.split_first() {
+            Some((first, behind)) if *first == byte => rest = behind,
+            _ => return false,
+        }
+    }
+    rest.is_empty()
+}
+
+/// The bytes are the same.
+pub(crate) fn are_same(bytes: Bytes<'_>, others: Bytes<'_>) -> bool
+    ensures { IsTrue result ↔ (bytes_left bytes.entry ≡ bytes_left others.entry) }
+{
+    let mut rest = others;
+    for byte in bytes {
+        match rest.next() {
+            Some(other) if other == byte => {}
+            _ => return false,
+        }
+    }
+    rest.next().is_none()
+}
+
+/// A release character stands in the text.
+#[tactic(auto, using(crate::proofs::PlainLemmas::releases_never))]
+pub(crate) fn has_release(service: Service, text: &[u8]) -> bool
+    ensures { result ≡ has_release service text.now }
+{
+    match service.release {
+        Some(release) => has_byte(release, text),
+        None => false,
+    }
+}
+
+/// The byte stands in the text.
+fn has_byte(byte: u8, text: &[u8]) -> bool
+    ensures { result ≡ list_any (λ b. b == byte) text.now }
+{
+    for other in text {
+        if *other == byte {
+            return true;
+        }
+    }
+    false
 }

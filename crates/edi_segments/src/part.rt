@@ -1,10 +1,9 @@
-ghost use Rattle.std.specs.Prelude.{◌≡◌, ℕ, ◌+◌, ◌<◌, ◌≤◌, ◌==◌, get_or, length, drop, IfSome, []};
 ghost use Rattle.std.specs.List.{position_or_len};
 ghost use Rattle.std.specs.Option.{option_map};
+ghost use Rattle.std.specs.Prelude.{◌≡◌, ℕ, ◌+◌, ◌<◌, ◌≤◌, ◌==◌, get_or, length, drop, IfSome, [], false};
 ghost use Rattle.edi_segments.specs.Parts.{parts_of, separator_of, split_of};
-ghost use Rattle.std.specs.Prelude.{false};
 
-use super::service::Service;
+use crate::characters::Service;
 use memchr::memchr;
 
 /// The part at the index, of those between the separators. One that isn't there is empty.

@@ -6,12 +6,10 @@ ghost use Rattle.edi_segments.specs.Advice.{behind_advice, advice_len};
 ghost use Rattle.edi_segments.specs.Reading.{end_of, begins_elements, body_len, next_at, breaks_len, are_segments};
 ghost use Rattle.edi_segments.specs.Segment.{content};
 
-use super::characters::{is_break, is_tag_byte};
-use super::part::split_once_in_rest;
-use super::segment::Segment;
-use super::service::Service;
-use super::token::Token;
-use super::token_table::TokenTable;
+use crate::characters::{Service, is_break, is_tag_byte};
+use crate::part::split_once_in_rest;
+use crate::segment::Segment;
+use crate::token::{Token, TokenTable};
 
 /// What stands behind a service string advice of that length and the line breaks after it: the whole text, if there
 /// is none.

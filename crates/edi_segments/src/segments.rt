@@ -1,13 +1,16 @@
-ghost use Rattle.std.specs.Prelude.{◌≡◌, IfOk, IfErr, IsOkAnd, ◌≤◌, length, List, None, Some, true};
 ghost use Rattle.std.specs.Iterator.{YieldsFirstBy, item_count};
-ghost use Rattle.edi_segments.specs.Text.{Content};
+ghost use Rattle.std.specs.Prelude.{◌≡◌, IfOk, IfErr, IsOkAnd, ◌≤◌, length, List, None, Some, true, false};
+ghost use Rattle.edi_segments.specs.Advice.{has_bad_advice};
+ghost use Rattle.edi_segments.specs.Checks.{checked_left, are_all, segments_to_check, are_all_segments};
+ghost use Rattle.edi_segments.specs.Interchange.{InterchangeText, segments_in, read_fault, is_segment_text};
 ghost use Rattle.edi_segments.specs.Reading.{are_segments, segments_of};
-ghost use Rattle.edi_segments.specs.Interchange.{InterchangeText, segments_in, read_fault};
+ghost use Rattle.edi_segments.specs.Text.{Content};
 
-use super::reader::{are_segments, behind_advice, next_of_segments};
-use super::segment::Segment;
-use super::service::Service;
-use super::syntax_fault::SyntaxFault;
+use crate::characters::Service;
+use crate::interchange::SyntaxFault;
+use crate::reader::{are_segments, behind_advice, next_of_segments};
+use crate::segment::{CheckedSegments, Segment};
+use crate::token::TokenTable;
 
 /// Segments one after the other, as far as there are any.
 #[derive(Clone, Copy)]
@@ -51,18 +54,6 @@ impl<'a> Segments<'a> {
     {
         Segments { service, rest }
     }
-
-    pub(crate) fn service(&self) -> Service
-        ensures { result ≡ self.now.service }
-    {
-        self.service
-    }
-
-    pub(crate) fn rest(&self) -> &'a [u8]
-        ensures { result.now ≡ self.now.rest.now }
-    {
-        self.rest
-    }
 }
 
 impl<'a> Iterator for Segments<'a> {
@@ -78,5 +69,47 @@ impl<'a> Iterator for Segments<'a> {
         let (segment, rest) = next_of_segments(self.service, self.rest)?;
         self.rest = rest;
         Some(segment)
+    }
+}
+
+/// A text whose segments are checked one by one.
+#[derive(Clone, Copy)]
+pub struct SegmentCheck<'a> {
+    table: TokenTable,
+    rest: &'a [u8],
+}
+
+impl<'a> SegmentCheck<'a> {
+    /// Reads an interchange's text as far as its service string advice, if it has one. Answers
+    /// `SyntaxFault::Service` if the advice is bad, and nothing else.
+    pub fn of(text: &'a [u8]) -> Result<SegmentCheck<'a>, SyntaxFault>
+        ensures ok { IfOk result (λ check. (has_bad_advice text.now ≡ false)
+            × (segments_to_check check ≡ segments_in text.now)
+            × (are_all_segments check ≡ is_segment_text text.now)) }
+        ensures err { IfErr result (λ fault. read_fault text.now ≡ Some fault) }
+        ensures advice { IfErr result (λ fault. (fault ≡ SyntaxFault.Service)
+            × (has_bad_advice text.now ≡ true)) }
+
+        // No segment takes less than one byte.
+        ensures fewer { IfOk result (λ check. length (segments_to_check check)
+            ≤ length text.now) }
+
+        // If there is nothing but segments, they are those of the grammar.
+        ensures spelled { IfOk result (λ check. are_all_segments check ≡ true
+            → InterchangeText (segments_to_check check) text.now) }
+    {
+        let (service, start) = Service::read(text)?;
+        Ok(SegmentCheck {
+            table: TokenTable::new(service),
+            rest: behind_advice(text, start),
+        })
+    }
+
+    /// The segments, from the first on.
+    pub fn segments(&self) -> CheckedSegments<'_, 'a>
+        ensures left { checked_left result ≡ segments_to_check self.now }
+        ensures all { are_all result ≡ are_all_segments self.now }
+    {
+        CheckedSegments::new(&self.table, self.rest)
     }
 }

@@ -1,4 +1,10 @@
-ghost use Rattle.std.specs.Prelude.{◌≡◌, IsTrue};
+ghost use Rattle.std.specs.List.{range_with_len};
+ghost use Rattle.std.specs.Option.{option_map};
+ghost use Rattle.std.specs.Prelude.{◌≡◌, ◌+◌, ◌≤◌, length, map, drop, false, true};
+ghost use Rattle.edi_segments.specs.Reading.{end_of};
+ghost use Rattle.edi_segments.specs.Tokens.{token_of};
+
+use crate::characters::Service;
 
 /// What a byte is where it stands: data, or a service character.
 #[derive(Clone, Copy, PartialEq, Eq, Debug)]
@@ -18,7 +24,7 @@ pub enum Token {
 }
 
 impl Token {
-    ghost use Rattle.edi_segments.specs.Tokens.{releases, stays_unreleased, ends_value};
+    ghost use Rattle.edi_segments.specs.Tokens.{releases, stays_unreleased};
 
     /// The byte behind this one is released.
     pub fn releases(self) -> bool
@@ -40,26 +46,66 @@ impl Token {
             _ => false,
         }
     }
+}
 
-    /// The byte ends a value: a separator or the terminator.
-    #[inline(always)]
-    pub(crate) fn ends_value(self) -> bool
-        ensures { result ≡ ends_value self }
+/// What each byte is if it is not released, looked up and not worked out anew at each place of a text.
+#[derive(Clone, Copy)]
+pub(crate) struct TokenTable {
+    service: Service,
+    tokens: [Token; 256],
+    ghost exact: { tokens ≡ map (token_of service false) (range_with_len 0 256) },
+}
+
+impl TokenTable {
+    pub(crate) fn new(service: Service) -> TokenTable
+        ensures { result.service ≡ service }
     {
-        match self {
-            Token::Component | Token::Element | Token::Terminator => true,
-            _ => false,
+        let mut tokens = [Token::Data; 256];
+        for byte in 0..256 {
+            tokens[byte] = service.token(false, byte as u8);
         }
+        TokenTable { service, tokens }
     }
 
-    /// The byte stands for itself.
-    #[inline(always)]
-    pub(crate) fn is_data(self) -> bool
-        ensures { IsTrue result → self ≡ Token.Data }
+    pub(crate) fn service(&self) -> Service
+        ensures { result ≡ self.now.service }
     {
-        match self {
-            Token::Data => true,
-            _ => false,
+        self.service
+    }
+
+    /// What the byte is, if it is not released.
+    #[inline(always)]
+    pub(crate) fn token(&self, byte: u8) -> Token
+        ensures { result ≡ token_of self.now.service false byte }
+    {
+        self.tokens[byte as usize]
+    }
+
+    /// What the byte is behind the release character.
+    pub(crate) fn released_token(&self, byte: u8) -> Token
+        ensures { result ≡ token_of self.now.service true byte }
+    {
+        self.service.token(true, byte)
+    }
+
+    /// How many bytes at the front may be passed over when the end of the segment is sought: none of them ends it,
+    /// releases another or is invalid.
+    #[inline(always)]
+    pub(crate) fn len_of_inside(&self, bytes: &[u8]) -> usize
+        ensures within { result ≤ length bytes.now }
+        ensures passes { end_of self.now.service false bytes.now ≡ option_map (λ n. result + n)
+            (end_of self.now.service false (drop result bytes.now)) }
+    {
+        let mut at = 0;
+        while at + 1 < bytes.len() {
+            if !self.token(bytes[at]).stays_unreleased() {
+                return at;
+            }
+            if !self.token(bytes[at + 1]).stays_unreleased() {
+                return at + 1;
+            }
+            at += 2;
         }
+        at
     }
 }

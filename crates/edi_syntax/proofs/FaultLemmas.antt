@@ -10,8 +10,8 @@ use Rattle.edi_segments.specs.Text.{Content}
 use Rattle.edi_segments.specs.Advice.{has_bad_advice}
 use Rattle.edi_segments.specs.Segment.{fixed}
 use Rattle.edi_segments.specs.Interchange.{segments_in, is_segment_text, read_fault}
-use Rattle.edi_segments.specs.declared.syntax_fault.SyntaxFault.{SyntaxFault}
-use Rattle.edi_segments.specs.declared.syntax_fault.SyntaxFault.TheVariants.{Service, Segment, NoEnvelope, Group, Version, Number, Moment, Test, MessageFrame, SegmentCount, MessageReference, Empty, ControlCount, ControlReference}
+use Rattle.edi_segments.specs.declared.interchange.SyntaxFault.{SyntaxFault}
+use Rattle.edi_segments.specs.declared.interchange.SyntaxFault.TheVariants.{Service, Segment, NoEnvelope, Group, Version, Number, Moment, Test, MessageFrame, SegmentCount, MessageReference, Empty, ControlCount, ControlReference}
 use Rattle.edi_syntax.specs.Numbers.{number_of, as_control_number}
 use Rattle.edi_syntax.specs.Header.{control_number, control_reference, preparation, test_indicator, is_known_syntax}
 use Rattle.edi_syntax.specs.Envelope.{header_of, behind_header, has_envelope, messages_of, counts_messages, repeats_reference}

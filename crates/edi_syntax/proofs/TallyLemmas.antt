@@ -7,7 +7,7 @@ use Rattle.edi_syntax.specs.Messages.{begins_message, ends_message, is_inner, be
 use Rattle.edi_syntax.specs.Envelope.{last_of, is_of_functional_group}
 use Rattle.edi_syntax.specs.TallyValues.{tally_in}
 use Rattle.edi_syntax.specs.Tallies.{IsTally}
-use Rattle.edi_syntax.specs.declared.tally.Tally.{Tally}
+use Rattle.edi_syntax.specs.declared.faults.Tally.{Tally}
 use Rattle.edi_syntax.proofs.BlockLemmas.{other_tag, inner_tags}
 
 -- the trailer of a message

@@ -3,9 +3,9 @@ use Rattle.std.specs.Prelude.{List}
 use Rattle.edi_segments.specs.Text.{Content}
 use Rattle.edi_segments.specs.Segment.{content, segments_left}
 use Rattle.edi_syntax.specs.Messages.{Message, message_from, messages_in, before_trailer}
-use Rattle.edi_syntax.specs.declared.frame.Frame.{Frame}
+use Rattle.edi_syntax.specs.declared.frames.Frame.{Frame}
 use Rattle.edi_syntax.specs.declared.frames.Frames.{Frames}
-use Rattle.edi_syntax.specs.declared.message_segments.MessageSegments.{MessageSegments}
+use Rattle.edi_syntax.specs.declared.envelope.MessageSegments.{MessageSegments}
 
 -- the message of a frame
 abbrev pub message : Frame → Message

@@ -16,8 +16,6 @@ pub use Rattle.edi_segments.specs.Text
 pub use Rattle.edi_segments.specs.Advice
 pub use Rattle.edi_segments.specs.Interchange
 pub use Rattle.edi_segments.specs.Segment
-pub use Rattle.edi_segments.specs.Placed
-pub use Rattle.edi_segments.specs.Values
 pub use Rattle.edi_segments.specs.Checks
 pub use Rattle.edi_segments.specs.Spelling
 pub use Rattle.edi_segments.specs.Written

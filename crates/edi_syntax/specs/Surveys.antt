@@ -4,10 +4,10 @@ use Rattle.std.specs.List.{list_any}
 use Rattle.edi_segments.specs.Text.{Content}
 use Rattle.edi_segments.specs.Segment.{content}
 use Rattle.edi_segments.specs.Checks.{checked_left, are_all}
-use Rattle.edi_segments.specs.declared.checked_segments.CheckedSegments.{CheckedSegments}
+use Rattle.edi_segments.specs.declared.segment.CheckedSegments.{CheckedSegments}
 use Rattle.edi_syntax.specs.Envelope.{last_of, is_of_functional_group}
 use Rattle.edi_syntax.specs.TallyValues.{tally_in}
-use Rattle.edi_syntax.specs.declared.survey.Survey.{Survey}
+use Rattle.edi_syntax.specs.declared.faults.Survey.{Survey}
 
 -- of a header and nothing but segments behind it
 pub record IsSurvey (header : Content) (rest : CheckedSegments) (survey : Survey) : Type 0 where

@@ -4,12 +4,12 @@ use Rattle.std.specs.List.{list_all, list_any}
 use Rattle.edi_segments.specs.Text.{Content}
 use Rattle.edi_segments.specs.Segment.{content}
 use Rattle.edi_segments.specs.Checks.{checked_left, are_all}
-use Rattle.edi_segments.specs.declared.checked_segments.CheckedSegments.{CheckedSegments}
+use Rattle.edi_segments.specs.declared.segment.CheckedSegments.{CheckedSegments}
 use Rattle.edi_syntax.specs.Envelope.{last_of, is_of_functional_group}
 use Rattle.edi_syntax.specs.Messages.{before_trailer, trailer_in, messages_in, are_messages, is_counted, is_referenced}
-use Rattle.edi_syntax.specs.declared.tally.Tally.{Tally}
-use Rattle.edi_syntax.specs.declared.tallied.Tallied.{Tallied}
-use Rattle.edi_syntax.specs.declared.message_end.MessageEnd.{MessageEnd}
+use Rattle.edi_syntax.specs.declared.faults.Tally.{Tally}
+use Rattle.edi_syntax.specs.declared.faults.Tallied.{Tallied}
+use Rattle.edi_syntax.specs.declared.frames.MessageEnd.{MessageEnd}
 
 -- the end of the message that these segments are behind the header of
 pub record EndsMessage (behind : CheckedSegments) (end : MessageEnd) : Type 0 where

@@ -3,7 +3,7 @@ use Rattle.std.specs.Prelude.{List, length, false, Option, None, Some, if◌then
 use Rattle.std.specs.List.{list_all}
 use Rattle.edi_segments.specs.Text.{Content}
 use Rattle.edi_syntax.specs.Messages.{messages_in, are_messages, is_counted, is_referenced}
-use Rattle.edi_syntax.specs.declared.tally.Tally.{Tally}
+use Rattle.edi_syntax.specs.declared.faults.Tally.{Tally}
 
 -- whether the messages are counted and referenced, and how many they are, if there are messages alone and a UNZ
 abbrev pub tally_in : List Content → Option Tally

@@ -1,13 +1,16 @@
+ghost use Rattle.std.specs.Iterator.{YieldsFirstBy, item_count};
 ghost use Rattle.std.specs.Prelude.{◌≡◌, ◌≤◌, length, None};
 ghost use Rattle.edi_segments.specs.Interchange.{most_bytes};
-ghost use Rattle.edi_segments.specs.Values.{reader_segments};
-ghost use Rattle.edi_syntax.specs.Envelope.{messages_of, behind_header};
-ghost use Rattle.edi_syntax.specs.Heads.{head_segments};
+ghost use Rattle.edi_segments.specs.Segment.{content, segments_left};
+ghost use Rattle.edi_syntax.specs.Envelope.{messages_of};
 ghost use Rattle.edi_syntax.specs.Faults.{body_fault_of};
+ghost use Rattle.edi_syntax.specs.Frames.{message_segments_left};
+ghost use Rattle.edi_syntax.specs.Heads.{head_segments};
+ghost use Rattle.edi_syntax.specs.Messages.{before_trailer};
 
-use super::frames::Frames;
-use super::head::Head;
-use edi_segments::SegmentReader;
+use crate::frames::Frames;
+use crate::head::Head;
+use edi_segments::{Segment, Segments};
 
 /// An interchange without fault.
 #[derive(Clone, Copy)]
@@ -41,11 +44,36 @@ impl<'a> Envelope<'a> {
     {
         Frames::new(self.head.behind())
     }
+}
 
-    /// A reader of all segments behind the header, value by value: those of the messages, and the trailer.
-    pub fn reader(&self) -> SegmentReader<'a>
-        ensures { reader_segments result ≡ behind_header (envelope_segments self.now) }
+/// The segments of a message that are left, before its trailer.
+#[derive(Clone, Copy)]
+pub struct MessageSegments<'a> {
+    rest: Segments<'a>,
+}
+
+impl<'a> MessageSegments<'a> {
+    pub(crate) fn new(behind: Segments<'a>) -> MessageSegments<'a>
+        ensures { message_segments_left result ≡ before_trailer (segments_left behind.entry) }
     {
-        SegmentReader::new(self.head.behind())
+        MessageSegments { rest: behind }
+    }
+}
+
+impl<'a> Iterator for MessageSegments<'a> {
+    type Item = Segment<'a>;
+
+    ghost next_gives = { YieldsFirstBy content message_segments_left };
+
+    ghost remaining = { item_count message_segments_left };
+
+    fn next(&mut self) -> Option<Segment<'a>> {
+        let mut rest = self.rest;
+        let segment = rest.next()?;
+        if segment.has_tag(b"UNT") {
+            return None;
+        }
+        self.rest = rest;
+        Some(segment)
     }
 }

@@ -1,11 +1,63 @@
-ghost use Rattle.std.specs.Prelude.{◌≡◌, ◌≤◌, length};
-ghost use Rattle.edi_segments.specs.Interchange.{most_bytes};
 ghost use Rattle.std.specs.Iterator.{YieldsFirstBy, item_count};
-ghost use Rattle.edi_segments.specs.Segment.{segments_left};
-ghost use Rattle.edi_syntax.specs.Messages.{messages_in};
+ghost use Rattle.std.specs.Prelude.{◌≡◌, ℕ, ◌<◌, ◌≤◌, length, MatchOption, true, false, ◌==◌, get_or};
+ghost use Rattle.edi_segments.specs.Checks.{checked_left};
+ghost use Rattle.edi_segments.specs.Interchange.{most_bytes};
+ghost use Rattle.edi_segments.specs.Segment.{content, segments_left, value};
+ghost use Rattle.edi_syntax.specs.Envelope.{is_of_functional_group};
+ghost use Rattle.edi_syntax.specs.Messages.{message_from, message_reference, message_identity, messages_in, are_messages, is_inner};
+ghost use Rattle.edi_syntax.specs.Tallies.{EndsMessage};
 
-use super::frame::Frame;
-use edi_segments::Segments;
+use crate::envelope::MessageSegments;
+use edi_segments::{CheckedSegments, Component, Segment, Segments};
+
+/// A message, by where it begins and ends in the text.
+#[derive(Clone, Copy)]
+pub struct Frame<'a> {
+    header: Segment<'a>,
+    behind: Segments<'a>,
+    ghost bounded: { length (segments_left behind) ≤ most_bytes },
+}
+
+impl<'a> Frame<'a> {
+    ghost use Rattle.edi_syntax.specs.Frames.{message, message_segments_left};
+
+    pub(crate) fn new(header: Segment<'a>, behind: Segments<'a>) -> Frame<'a>
+        requires { length (segments_left behind) ≤ most_bytes }
+        ensures { message result
+            ≡ message_from (content header.entry) (segments_left behind.entry) }
+    {
+        Frame { header, behind }
+    }
+
+    /// The header, UNH.
+    pub fn header(&self) -> Segment<'a>
+        ensures { content result ≡ (message self.now).header }
+    {
+        self.header
+    }
+
+    /// The message reference number (0062).
+    pub fn reference(&self) -> Component<'a>
+        ensures { value result ≡ message_reference (message self.now) }
+    {
+        self.header.component(1, 1)
+    }
+
+    /// A part of the message identifier (S009), counted from one: type, version, release, agency, association.
+    pub fn identity(&self, component: usize) -> Component<'a>
+        requires { 0 < component }
+        ensures { value result ≡ message_identity (message self.now) component }
+    {
+        self.header.component(2, component)
+    }
+
+    /// The segments between header and trailer.
+    pub fn segments(&self) -> MessageSegments<'a>
+        ensures { message_segments_left result ≡ (message self.now).segments }
+    {
+        MessageSegments::new(self.behind)
+    }
+}
 
 /// The messages that are left.
 #[derive(Clone, Copy)]
@@ -45,5 +97,77 @@ impl<'a> Iterator for Frames<'a> {
         }
         self.rest = rest;
         None
+    }
+}
+
+/// The end of a message, by where it is in the text.
+#[derive(Clone, Copy)]
+pub struct MessageEnd<'t, 'a> {
+    /// The trailer, UNT.
+    pub(crate) trailer: Segment<'a>,
+    /// How many segments stand between header and trailer.
+    pub(crate) between: u64,
+    /// A segment behind the header, up to the trailer, is of a functional group.
+    pub(crate) has_functional_group: bool,
+    /// What stands behind the trailer.
+    pub(crate) rest: CheckedSegments<'t, 'a>,
+}
+
+/// The end of the message that the segments are behind the header of. `None` if something stands before it that may
+/// not stand in a message.
+pub(crate) fn message_end<'t, 'a>(behind: CheckedSegments<'t, 'a>) -> Option<MessageEnd<'t, 'a>>
+    requires { length (checked_left behind) ≤ most_bytes }
+    ensures { MatchOption result (are_messages true (checked_left behind.entry)
+        ≡ false) (EndsMessage behind.entry) }
+{
+    let mut rest = behind;
+    let mut between = 0u64;
+    let mut has_functional_group = false;
+    while let Some(segment) = rest.next_segment() {
+        if segment.has_tag(b"UNT") {
+            return Some(MessageEnd {
+                trailer: segment,
+                between,
+                has_functional_group,
+                rest,
+            });
+        }
+        if !is_inner(segment) {
+            return None;
+        }
+        has_functional_group = has_functional_group || is_of_functional_group(segment);
+        between += 1;
+    }
+    None
+}
+
+/// A segment that neither begins nor ends a message or an interchange.
+#[tactic(auto, using(crate::proofs::TagLemmas::of_inside))]
+fn is_inner(segment: Segment<'_>) -> bool
+    ensures { result ≡ is_inner (content segment.entry) }
+{
+    !may_be_of_service(segment)
+        || !segment.has_tag(b"UNH")
+            && !segment.has_tag(b"UNT")
+            && !segment.has_tag(b"UNB")
+            && !segment.has_tag(b"UNZ")
+}
+
+/// A segment of a functional group.
+#[tactic(auto, using(crate::proofs::TagLemmas::of_no_group))]
+pub(crate) fn is_of_functional_group(segment: Segment<'_>) -> bool
+    ensures { result ≡ is_of_functional_group (content segment.entry) }
+{
+    may_be_of_service(segment) && (segment.has_tag(b"UNG") || segment.has_tag(b"UNE"))
+}
+
+/// The tag begins with U, as the tags of all service segments do.
+#[inline(always)]
+pub(crate) fn may_be_of_service(segment: Segment<'_>) -> bool
+    ensures { result ≡ (get_or (content segment.entry).tag 0 0 == 85) }
+{
+    match segment.tag().first() {
+        Some(byte) => *byte == b'U',
+        None => false,
     }
 }

@@ -1,21 +1,18 @@
-ghost use Rattle.std.specs.Prelude.{◌≡◌, ◌∷◌, ℕ, ◌<◌, ◌≤◌, length, IfOk, IfErr, Some, None, true};
-ghost use Rattle.edi_segments.specs.Interchange.{most_bytes};
 ghost use Rattle.std.proofs.Props.{props};
+ghost use Rattle.std.specs.Prelude.{◌≡◌, ◌∷◌, ℕ, ◌<◌, ◌≤◌, length, IfOk, IfErr, Some, None, true, ◌++◌, codes};
+ghost use Rattle.edi_moments.specs.Moments.{moment_of};
 ghost use Rattle.edi_segments.specs.Checks.{checked_left, are_all};
-ghost use Rattle.edi_syntax.specs.TallyValues.{tally_in};
-ghost use Rattle.edi_segments.specs.Interchange.{InterchangeText, segments_in};
+ghost use Rattle.edi_segments.specs.Interchange.{most_bytes, InterchangeText, segments_in};
 ghost use Rattle.edi_segments.specs.Segment.{content, segments_left, value};
 ghost use Rattle.edi_segments.specs.Text.{component_of};
 ghost use Rattle.edi_syntax.specs.Envelope.{header_of, behind_header, last_of};
-ghost use Rattle.edi_syntax.specs.Header.{sender, recipient, control_reference, control_number, preparation};
 ghost use Rattle.edi_syntax.specs.Faults.{head_fault_of, header_fault_of, body_fault_of, segments_fault};
-ghost use Rattle.edi_syntax.specs.Numbers.{last_number};
+ghost use Rattle.edi_syntax.specs.Header.{sender, recipient, control_reference, control_number, preparation, names_partners, is_printable_element, is_known_syntax};
+ghost use Rattle.edi_syntax.specs.Numbers.{last_number, number_of, is_count};
+ghost use Rattle.edi_syntax.specs.TallyValues.{tally_in};
 
-use super::envelope::Envelope;
-use super::faults::{body_fault, header_fault};
-use super::header::{control_number, preparation};
-use super::survey::look_through;
-use super::tally::Tally;
+use crate::envelope::Envelope;
+use crate::faults::{Tally, body_fault, header_fault, look_through};
 use edi_moments::Moment;
 use edi_segments::{
     CheckedSegments, Component, MOST_BYTES, Segment, SegmentCheck, Segments, SyntaxFault,
@@ -154,4 +151,97 @@ impl<'a> Head<'a> {
     {
         self.rest
     }
+}
+
+/// The last number that an interchange may have.
+pub const LAST_NUMBER: u32 = 999_999_999;
+
+/// The header names sender and recipient in bytes that can be printed.
+pub(crate) fn names_partners(header: &Segment<'_>) -> bool
+    ensures { result ≡ names_partners (content header.now) }
+{
+    header.component(2, 1).len() != 0
+        && header.component(3, 1).len() != 0
+        && is_printable_element(header, 2)
+        && is_printable_element(header, 3)
+}
+
+/// Each value of the element can be printed.
+fn is_printable_element(segment: &Segment<'_>, element: usize) -> bool
+    requires { 0 < element }
+    ensures { result ≡ is_printable_element (content segment.now) element }
+{
+    for component in segment.components(element) {
+        if !component.is_printable() {
+            return false;
+        }
+    }
+    true
+}
+
+/// UNOA, UNOB or UNOC, in version 1, 2 or 3.
+pub(crate) fn is_known_syntax(header: &Segment<'_>) -> bool
+    ensures { result ≡ is_known_syntax (content header.now) }
+{
+    let identifier = header.component(1, 1);
+    let version = header.component(1, 2);
+    (identifier.equals(b"UNOA") || identifier.equals(b"UNOB") || identifier.equals(b"UNOC"))
+        && (version.equals(b"1") || version.equals(b"2") || version.equals(b"3"))
+}
+
+/// The number that the control reference (0020) writes in 1 to 14 digits, from 1 to 999,999,999.
+pub(crate) fn control_number(header: &Segment<'_>) -> Option<u32>
+    ensures { result ≡ control_number (content header.now) }
+{
+    let number = number_of(header.component(5, 1), 14)?;
+    if number >= 1 && number <= LAST_NUMBER as u64 {
+        Some(number as u32)
+    } else {
+        None
+    }
+}
+
+/// The moment of preparation (S004), six and four digits in 2000 to 2099.
+pub(crate) fn preparation(header: &Segment<'_>) -> Option<Moment>
+    ensures { result ≡ preparation (content header.now) }
+{
+    let date = header.component(4, 1).fixed::<6>()?;
+    let time = header.component(4, 2).fixed::<4>()?;
+    moment_in_century(&date, &time)
+}
+
+/// The moment of a date YYMMDD in 2000 to 2099 and a time HHMM.
+fn moment_in_century(date: &[u8; 6], time: &[u8; 4]) -> Option<Moment>
+    ensures { result ≡ moment_of (codes "20" ++ date.now ++ time.now) }
+{
+    let [y1, y0, m1, m0, d1, d0] = *date;
+    let [h1, h0, n1, n0] = *time;
+    Moment::parse(&[b'2', b'0', y1, y0, m1, m0, d1, d0, h1, h0, n1, n0])
+}
+
+/// The value is one to six digits with this number.
+pub fn is_count(component: Component<'_>, number: u64) -> bool
+    ensures { result ≡ is_count (value component.entry) number }
+{
+    match number_of(component, 6) {
+        Some(count) => count == number,
+        None => false,
+    }
+}
+
+/// The number that one to `limit` digits write.
+pub fn number_of(component: Component<'_>, limit: u32) -> Option<u64>
+    requires { limit ≤ 14 }
+    ensures { result ≡ number_of limit (value component.entry) }
+{
+    let mut number = 0u64;
+    let mut len = 0u32;
+    for byte in component.bytes() {
+        if len == limit || !byte.is_ascii_digit() {
+            return None;
+        }
+        number = number * 10 + u64::from(byte - b'0');
+        len += 1;
+    }
+    if len == 0 { None } else { Some(number) }
 }

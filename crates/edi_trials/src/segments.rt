@@ -1,8 +1,8 @@
 //! Segments by their bytes. What is no segment, and other service characters that may not serve, go through the program:
 //! the model's cases.
 use edi_segments::{
-    Components, Segment, SegmentCheck, SegmentReader, SegmentWriter, Segments, SyntaxFault,
-    interchange_text, write_component,
+    Components, Segment, SegmentCheck, SegmentWriter, Segments, SyntaxFault, interchange_text,
+    write_component,
 };
 use std::alloc::{AllocError, Global};
 use std::process::Abort;
@@ -77,10 +77,8 @@ fn tells_what_a_value_is_like(rt: HostRuntime) -> Result<(), Fail> {
 }
 
 /// Whether an element has just these values.
-fn are_values(element: Option<Components<'_>>, values: &[&[u8]]) -> bool {
-    let Some(mut found) = element else {
-        return false;
-    };
+fn are_values(element: Components<'_>, values: &[&[u8]]) -> bool {
+    let mut found = element;
     for value in values {
         match found.next() {
             Some(component) if component.equals(value) => {}
@@ -90,14 +88,13 @@ fn are_values(element: Option<Components<'_>>, values: &[&[u8]]) -> bool {
     found.next().is_none()
 }
 
-/// The values of both elements, in turn.
+/// The values of both elements, and of one that isn't there.
 #[test]
-fn goes_over_elements_and_values(rt: HostRuntime) -> Result<(), Fail> {
+fn goes_over_values(rt: HostRuntime) -> Result<(), Fail> {
     let segment = first(RELEASED).ok_or("no segment")?;
-    let mut elements = segment.elements();
-    assert!(rt; are_values(elements.next(), &[b"BN", b"A+B", b"?", b"':\x80"]));
-    assert!(rt; are_values(elements.next(), &[b"\xff"]));
-    assert!(rt; elements.next().is_none());
+    assert!(rt; are_values(segment.components(1), &[b"BN", b"A+B", b"?", b"':\x80"]));
+    assert!(rt; are_values(segment.components(2), &[b"\xff"]));
+    assert!(rt; are_values(segment.components(3), &[b""]));
     Ok(())
 }
 
@@ -127,42 +124,17 @@ fn takes_breaks_off_both_ends(rt: HostRuntime) {
     assert!(rt; interchange_text(b"\r\n").is_empty());
 }
 
-/// The places and the values of three segments, in their order.
-const PLACED: [(usize, usize, &[u8]); 9] = [
-    (0, 1, b"BGM"),
-    (1, 1, b"34"),
-    (2, 1, b"G1"),
-    (2, 2, b"A+B"),
-    (2, 3, b""),
-    (0, 1, b"UNS"),
-    (0, 1, b"EQD"),
-    (1, 1, b""),
-    (2, 1, b"X'"),
-];
-
-/// How many values stand in those places, one after the other.
-fn placed(segments: Segments<'_>) -> usize {
-    let reader = SegmentReader::new(segments);
-    let mut count = 0usize;
-    for placed in reader.values() {
-        match PLACED.get(count) {
-            Some((element, component, value))
-                if placed.element == *element
-                    && placed.component == *component
-                    && placed.value.equals(value) => {
-                count = count.wrapping_add(1);
-            }
-            _ => return 0,
-        }
-    }
-    count
-}
-
+/// The last byte of a text must be a terminator that is not released.
 #[test]
-fn reads_values_in_their_places(rt: HostRuntime) -> Result<(), Fail> {
+fn reads_segments_up_to_their_end(rt: HostRuntime) -> Result<(), Fail> {
     assert!(rt; Segments::read(b"BGM+34+G1:A?+B:'UNS'\r\nEQD++X?'?'").is_err());
-    let segments = Segments::read(b"BGM+34+G1:A?+B:'UNS'\r\nEQD++X?''")?;
-    assert!(rt; placed(segments) == PLACED.len());
+    let mut segments = Segments::read(b"BGM+34+G1:A?+B:'UNS'\r\nEQD++X?''")?;
+    for tag in [b"BGM", b"UNS"] {
+        assert!(rt; segments.next().ok_or("no segment")?.has_tag(tag));
+    }
+    let last = segments.next().ok_or("no segment")?;
+    assert!(rt; last.has_tag(b"EQD") && last.component(2, 1).equals(b"X'"));
+    assert!(rt; segments.next().is_none());
     Ok(())
 }
 

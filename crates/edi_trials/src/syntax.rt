@@ -2,7 +2,6 @@
 //! answers: the model's cases.
 use edi_segments::Segment;
 use edi_syntax::{Head, open_envelope};
-use std::test::Fail;
 
 const GATE_IN: &[u8] =
     b"UNB+UNOA:3+HAULA+TERM1+240305:0910+000001'UNH+1+CODECO:D:95B:UN:ITG14'BGM+34+G1+9'EQD+CN+ABCU0000017+22G1:102:5+++5'UNT+4+1'UNZ+1+000001'";
@@ -56,22 +55,4 @@ fn reads_values_within_a_message(rt: HostRuntime) {
     for (text, element, component, value) in rows {
         assert!(rt; has_value(text, element, component, value));
     }
-}
-
-#[test]
-fn reads_an_interchange_value_by_value(rt: HostRuntime) -> Result<(), Fail> {
-    let envelope = open_envelope(GATE_IN)?;
-    let reader = envelope.reader();
-    let mut tags = 0u32;
-    let mut count = 0u32;
-    let mut bytes = 0usize;
-    for placed in reader.values() {
-        count = count.wrapping_add(1);
-        bytes = bytes.wrapping_add(placed.value.len());
-        if placed.element == 0 {
-            tags = tags.wrapping_add(1);
-        }
-    }
-    assert!(rt; tags == 5 && count == 26 && bytes == 69);
-    Ok(())
 }

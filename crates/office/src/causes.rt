@@ -1,5 +1,148 @@
-use crate::cause::{Cause, Words, words_of};
-use office_commands::WhyNotNow;
+use office_commands::{FAILED, WhyNotNow, tell, tell_fault};
+use office_stream::Port;
+use office_tables::TableFault;
+use sqlite::{Error, ErrorCode};
+use sqlite_resolve::CompileError;
+use std::alloc::Global;
+use std::io::{IsTerminal, Write};
+use std::os::unix::fs::MetadataExt;
+use std::{fmt, fs};
+
+/// Words that tell a person why something could not be done, and what to do about it.
+#[derive(Clone, Copy, PartialEq, Eq)]
+pub(crate) struct Words {
+    /// Whether the path stands before them.
+    follow_path: bool,
+    text: &'static str,
+}
+
+impl Words {
+    /// The store's file was removed while a process worked on it.
+    pub(crate) const NAMELESS: Words = Words {
+        follow_path: false,
+        text: "the store's file was removed: reports still tell what was answered; stop, and put the last copy back",
+    };
+
+    /// Memory was refused.
+    pub(crate) const MEMORY: Words = Words {
+        follow_path: false,
+        text: "memory ran out: try again",
+    };
+
+    const HAS_TABLES: Words = Words {
+        follow_path: true,
+        text: " has its tables already: work on it, or name another file",
+    };
+
+    fn plain(text: &'static str) -> Words {
+        Words {
+            follow_path: false,
+            text,
+        }
+    }
+}
+
+/// Why something could not be done at a path, and what to do about it, for a person.
+#[derive(Clone, Copy, PartialEq, Eq)]
+pub(crate) struct Cause<'a> {
+    path: &'a str,
+    words: Words,
+}
+
+impl<'a> Cause<'a> {
+    pub(crate) fn new(path: &'a str, words: Words) -> Cause<'a> {
+        Cause { path, words }
+    }
+}
+
+impl fmt::Display for Cause<'_> {
+    fn fmt<W: fmt::Write>(&self, f: &mut fmt::Formatter<W>) -> fmt::Result {
+        if self.words.follow_path {
+            f.write_str(self.path)?;
+        }
+        f.write_str(self.words.text)
+    }
+}
+
+/// Why a store could not be worked on. `path` is the store's.
+pub(crate) fn cause_of<'a>(rt: &HostRuntime, path: &'a str, fault: &TableFault) -> Cause<'a> {
+    Cause::new(path, words_of(rt, path, fault))
+}
+
+/// The words for a fault of the store at a path.
+pub(crate) fn words_of(rt: &HostRuntime, path: &str, fault: &TableFault) -> Words {
+    match fault {
+        TableFault::Store(Error::SqliteFailure(ErrorCode::NameTaken)) => Words::HAS_TABLES,
+        TableFault::Store(Error::SqliteFailure(code)) => {
+            Words::plain(words_of_code(rt, path, *code))
+        }
+        TableFault::Store(Error::SqlInputError(CompileError::Exists)) => Words::HAS_TABLES,
+        TableFault::Store(_) => Words::plain(
+            "it is a database without the tables of an office: see that the path is right",
+        ),
+        TableFault::Damaged => Words::plain(
+            "its rows are those of no office: take the last copy, and deliver again what came since",
+        ),
+        TableFault::Version => Words::plain(
+            "its tables are of another version: `office migrate` brings those of version 1 and 2 to this one",
+        ),
+        TableFault::Memory => Words::MEMORY,
+    }
+}
+
+fn words_of_code(rt: &HostRuntime, path: &str, code: ErrorCode) -> &'static str {
+    match code {
+        ErrorCode::DatabaseBusy => {
+            "another process works on it: wait for its end, or ask `office serve` over HTTP"
+        }
+        ErrorCode::NotADatabase => "it is no database: see that the path is right",
+        ErrorCode::DatabaseCorrupt => {
+            "it is damaged, or the log beside it is not its own: put the last copy of both back"
+        }
+        ErrorCode::DiskFull => "the disk is full: make room, and try again",
+        ErrorCode::SystemIoFailure => {
+            "a read or a write of it failed: look at the disk and at who may write there"
+        }
+        ErrorCode::Closed => "a write of it failed before: start the program again",
+        ErrorCode::CannotOpen => words_at(rt, path),
+        _ => "the database refuses what was asked: see that the path is right",
+    }
+}
+
+/// Why the file at a path can't be opened.
+fn words_at(rt: &HostRuntime, path: &str) -> &'static str {
+    match fs::metadata(rt, path) {
+        Err(_) =>
+            "no such file or folder: see that the path is right, or make a store by `office init`",
+        Ok(found) if found.is_dir() => "it is a folder: name the file in it",
+        Ok(found) if !found.is_file() => "it is no file: see that the path is right",
+        Ok(found) if found.nlink() > 1 =>
+            "the file has a second name (a hard link): remove that name",
+        Ok(found) if found.len() == 0 => "the file is empty: make a store by `office init`",
+        Ok(_) =>
+            "the file can't be opened: look at who may read and write it and what lies beside it",
+    }
+}
+
+/// Why an input file can't be read. `-` is the standard input.
+pub(crate) fn cause_of_unread<'a>(rt: &HostRuntime, path: &'a str) -> Cause<'a> {
+    Cause::new(path, words_of_unread(rt, path))
+}
+
+fn words_of_unread(rt: &HostRuntime, path: &str) -> Words {
+    if path == "-" {
+        return Words::plain("a read of the standard input failed: see what it is");
+    }
+    let text = match fs::metadata(rt, path) {
+        Err(_) => ": no such file: see that the path is right",
+        Ok(found) if found.is_dir() => ": it is a folder: name a file in it",
+        Ok(_) => ": the file can't be read: look at who may read it",
+    };
+    Words {
+        follow_path: true,
+        text,
+    }
+}
 
 /// What a person was told of why answers are `not now`: once, and again when it changes.
 #[derive(Clone, Copy)]
@@ -37,4 +180,75 @@ impl<'a> Causes<'a> {
         };
         Cause::new(self.path, words)
     }
+}
+
+/// Tells a text, and gives the status that goes with it.
+pub(crate) fn tell_with<E: Write>(errors: &mut Port<E>, text: &str, status: u8) -> u8 {
+    tell(errors, text);
+    status
+}
+
+/// Tells that an input file can't be read, and to a person which one, and why.
+pub(crate) fn tell_unread<E: Write>(rt: &HostRuntime, errors: &mut Port<E>, path: &str) -> u8 {
+    let status = tell_with(errors, "cannot read\n", FAILED);
+    tell_unread_cause(rt, errors, path);
+    status
+}
+
+/// Tells a person which input file can't be read, and why.
+pub(crate) fn tell_unread_cause<E: Write>(rt: &HostRuntime, errors: &mut Port<E>, path: &str) {
+    if is_looked_at(rt) {
+        tell_cause(rt.alloc(), errors, cause_of_unread(rt, path));
+    }
+}
+
+/// Tells why the store at a path did not do what was asked, and to a person also the cause and what to do.
+pub(crate) fn tell_store<E: Write>(
+    rt: &HostRuntime,
+    errors: &mut Port<E>,
+    path: &str,
+    fault: &TableFault,
+) -> u8 {
+    let status = tell_fault(errors, fault);
+    tell_store_cause(rt, errors, path, fault);
+    status
+}
+
+/// Tells a person why the store at a path did not do what was asked, and what to do.
+pub(crate) fn tell_store_cause<E: Write>(
+    rt: &HostRuntime,
+    errors: &mut Port<E>,
+    path: &str,
+    fault: &TableFault,
+) {
+    if is_looked_at(rt) {
+        tell_cause(rt.alloc(), errors, cause_of(rt, path, fault));
+    }
+}
+
+/// Tells a person why an answer was `not now`, if one was: the fault for which the store at a path gave it.
+pub(crate) fn tell_not_now<E: Write>(
+    rt: &HostRuntime,
+    errors: &mut Port<E>,
+    path: &str,
+    fault: Option<&TableFault>,
+) {
+    match fault {
+        Some(fault) if is_looked_at(rt) => {
+            let _ = errors.write_all(b"not now: ");
+            tell_cause(rt.alloc(), errors, cause_of(rt, path, fault));
+        }
+        _ => {}
+    }
+}
+
+fn tell_cause<E: Write>(alloc: Global, errors: &mut Port<E>, cause: Cause<'_>) {
+    if let Ok(text) = format!(in alloc; "{cause}\n") {
+        let _ = errors.write_all(text.as_bytes());
+    }
+}
+
+/// Whether a person looks at the stream of errors: only then it is told more than faults.
+pub(crate) fn is_looked_at(rt: &HostRuntime) -> bool {
+    rt.stderr().is_terminal()
 }

@@ -1,14 +1,25 @@
-use crate::account::account;
-use crate::deliver::deliver;
-use crate::init::init;
-use crate::looked_at::is_looked_at;
-use crate::migrate::migrate;
-use crate::report::report;
-use crate::serve::serve;
-use crate::telling::tell_with;
+ghost use Rattle.std.specs.Prelude.{◌≡◌, false};
+
+use crate::causes::{
+    is_looked_at, tell_not_now, tell_store, tell_store_cause, tell_unread, tell_unread_cause,
+    tell_with,
+};
+use crate::init::{Store, init};
+use crate::request_log::RequestLog;
+use crate::watch::DeliveryWatch;
 use office_command_line::{CommandFault, REPORT_KINDS, Request, read_command};
-use office_commands::{COMMAND_LINE, DONE, FAILED, Service, demonstrate, print, tell};
+use office_commands::{
+    COMMAND_LINE, DONE, FAILED, Service, account_over, deliver_over, demonstrate, open_found,
+    open_there, print, report_over, serve_over, tell,
+};
+use office_loading::load_old;
+use office_migration::migrate as migrate_tables;
+use office_queries::ReportKind;
 use office_stream::Port;
+use office_tables::TableFault;
+use sqlite::{Alter, Connection, Unknown};
+use std::alloc::Global;
+use std::fs::File;
 use std::io::{Read, Write};
 
 /// Runs the program on its words, of which the first is its name, and answers its exit status: 0 if all was done, 1
@@ -88,5 +99,146 @@ fn tell_kinds<E: Write>(rt: &HostRuntime, errors: &mut Port<E>) {
         tell(errors, "KIND is ");
         tell(errors, REPORT_KINDS);
         tell(errors, "; KEY is required from `container` on\n");
+    }
+}
+
+/// `deliver DB FILE`: delivers the interchanges of a file, and prints an answer a line. `-` is the standard input.
+pub(crate) fn deliver<R: Read, W: Write, E: Write>(
+    rt: &HostRuntime,
+    store: &str,
+    file: &str,
+    reader: &mut Port<R>,
+    writer: &mut Port<W>,
+    errors: &mut Port<E>,
+) -> u8 {
+    if file == "-" {
+        return deliver_all(rt, store, file, reader, writer, errors);
+    }
+    match File::open(rt, file) {
+        Ok(opened) => deliver_all(rt, store, file, &mut Port::new(opened), writer, errors),
+        Err(_) => tell_unread(rt, errors, file),
+    }
+}
+
+/// Delivers what a reader gives. A person is told more than a program: what the watch tells, and the cause of a fault.
+fn deliver_all<R: Read, W: Write, E: Write>(
+    rt: &HostRuntime,
+    store: &str,
+    file: &str,
+    reader: &mut Port<R>,
+    writer: &mut Port<W>,
+    errors: &mut Port<E>,
+) -> u8 {
+    let watch = DeliveryWatch::new(rt, is_looked_at(rt), store);
+    let (status, ended) = deliver_over(rt, store, Unknown, &watch, reader, writer, errors);
+    match ended.err() {
+        Some(fault) => tell_store_cause(rt, errors, store, &fault),
+        None if watch.is_unread() => tell_unread_cause(rt, errors, file),
+        None => {}
+    }
+    status
+}
+
+/// `account DB CODE KIND`: adds an account, and prints the answer.
+pub(crate) fn account<W: Write, E: Write>(
+    rt: &HostRuntime,
+    store: &str,
+    code: &str,
+    kind: &str,
+    writer: &mut Port<W>,
+    errors: &mut Port<E>,
+) -> u8 {
+    match account_over(rt, store, Unknown, code, kind, writer) {
+        Ok((status, desk)) => {
+            tell_not_now(rt, errors, store, desk.last_fault());
+            status
+        }
+        Err(fault) => tell_store(rt, errors, store, &fault),
+    }
+}
+
+/// `report DB KIND [KEY]`: prints a report, or `none` if there is nothing to tell.
+pub(crate) fn report<W: Write, E: Write>(
+    rt: &HostRuntime,
+    store: &str,
+    kind: ReportKind,
+    key: Option<&str>,
+    writer: &mut Port<W>,
+    errors: &mut Port<E>,
+) -> u8 {
+    match report_over(rt, store, Unknown, kind, key.unwrap_or(""), writer) {
+        Ok((_desk, told)) => match told {
+            Ok(status) => status,
+            Err(fault) => tell_store(rt, errors, store, &fault),
+        },
+        Err(fault) => tell_store(rt, errors, store, &fault),
+    }
+}
+
+/// `migrate OLD NEW`: makes a store of this version with what an older one keeps. What is wrong with OLD is told before
+/// NEW is touched.
+pub(crate) fn migrate<W: Write, E: Write>(
+    rt: &HostRuntime,
+    old: &str,
+    new: &str,
+    writer: &mut Port<W>,
+    errors: &mut Port<E>,
+) -> u8 {
+    let mut older = match open_older(rt, old) {
+        Ok(conn) => conn,
+        Err(fault) => return tell_store(rt, errors, old, &fault),
+    };
+    match fill(rt, &mut older, new) {
+        Ok(()) => print(writer, "ready\n", DONE),
+        Err(fault) => tell_store(rt, errors, new, &fault),
+    }
+}
+
+/// A connection to the store at a path, which holds an office of an older version.
+fn open_older(rt: &HostRuntime, path: &str) -> Result<Connection<Store>, TableFault> {
+    let mut conn = open_there(rt, path, Unknown)?;
+    load_old(rt.alloc(), &mut conn)?;
+    Ok(conn)
+}
+
+/// Makes the store at a path with what the older one keeps, wholly or not at all. A file that isn't there is made.
+fn fill<S: Alter>(
+    rt: &HostRuntime,
+    older: &mut Connection<S>,
+    path: &str,
+) -> Result<(), TableFault> {
+    let newer = open_found(rt, path, Unknown)?;
+    fill_store(rt.alloc(), older, newer)
+}
+
+/// Makes the tables of a store with what an older one keeps. Over stores of any kind, so that what is said of them stays
+/// short where a file is known to be one.
+fn fill_store<S: Alter, T: Alter + Drop>(
+    alloc: Global,
+    older: &mut Connection<S>,
+    newer: Connection<T>,
+) -> Result<(), TableFault>
+    requires { newer.in_transaction ≡ false }
+{
+    let mut newer = newer;
+    let is_idle = newer.is_autocommit();
+    prove!(is_idle);
+    migrate_tables(alloc, older, &mut newer)
+}
+
+/// `serve DB PORT COUNT [--log] [--ahead N]`: serves so many connections at a port of this machine, one after the other. It
+/// writes a line for each to the stream of errors if that is a terminal, or if a log is wanted.
+pub(crate) fn serve<W: Write, E: Write>(
+    rt: &HostRuntime,
+    store: &str,
+    service: Service,
+    log: bool,
+    writer: &mut Port<W>,
+    errors: &mut Port<E>,
+) -> u8 {
+    let log = RequestLog::new(rt, log || is_looked_at(rt), store);
+    match serve_over(rt, store, Unknown, service, &log, writer, errors) {
+        Ok((status, _desk)) => status,
+        Err(fault) => tell_store(rt, errors, store, &fault),
     }
 }

@@ -1,12 +1,25 @@
-use crate::looked_at::is_looked_at;
-use crate::store::make_store;
-use crate::telling::{tell_store, tell_unread, tell_with};
-use office_commands::{DONE, REFUSED, print};
+use crate::causes::{is_looked_at, tell_store, tell_unread, tell_with};
+use office_commands::{DONE, NO_STORE, REFUSED, make_store as make_over, print};
+use office_setup::{MOST_PARTNERS, Setup};
 use office_setup_files::{SetupFault, WrongRecord, first_wrong, read_setup};
 use office_stream::Port;
+use office_tables::TableFault;
+use sqlite::{File, FileStore, Unknown};
 use std::alloc::{AllocError, Global};
 use std::fs;
 use std::io::Write;
+
+/// A store in a file of the operating system.
+pub(crate) type Store = FileStore<File>;
+
+/// Makes the tables of a store with the rows of a set-up, wholly or not at all. A file that isn't there is made.
+pub(crate) fn make_store(rt: &HostRuntime, path: &str, setup: &Setup) -> Result<(), TableFault> {
+    if setup.partners.as_slice().len() > MOST_PARTNERS {
+        return Err(TableFault::Store(NO_STORE));
+    }
+    let _conn = make_over(rt, path, Unknown, setup)?;
+    Ok(())
+}
 
 /// `init DB PARTNERS BLOCKS`: makes the tables of a store by the set-up that two files say.
 pub(crate) fn init<W: Write, E: Write>(

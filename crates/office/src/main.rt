@@ -4,30 +4,19 @@
 //! exit statuses are tested; what its commands are made of is proved.
 #![tactic(auto)]
 
-mod account;
-mod cause;
 mod causes;
-mod clock_time;
 mod command;
-mod deliver;
 mod init;
-mod looked_at;
-mod migrate;
-mod report;
 mod request_log;
-mod serve;
-mod store;
-mod tally;
-mod telling;
 mod watch;
 
+use causes::tell_with;
 use command::run;
 use office_commands::{COMMAND_LINE, FAILED};
 use office_stream::Port;
 use std::io::ErrorKind;
 use std::process::ExitCode;
 use std::{env, io};
-use telling::tell_with;
 
 fn main(rt: HostRuntime) -> ExitCode {
     let status = match run_words(&rt) {

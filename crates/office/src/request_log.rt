@@ -1,13 +1,13 @@
 use crate::causes::Causes;
-use crate::clock_time::ClockTime;
-use crate::tally::Became;
+use crate::watch::Became;
+use jiff::Timestamp;
 use office_commands::{AccountNote, DeliveryNote, Notes, Sender, WhyNotNow};
 use office_http::Seen;
 use office_replies::Worst;
 use office_stream::{Cut, StreamFault};
 use std::alloc::Global;
 use std::cell::Cell;
-use std::time::Instant;
+use std::time::{Duration, Instant, SystemTime, UNIX_EPOCH};
 use std::{fmt, str};
 
 /// A line for each request, on the stream of errors: what was done for it is noted first, and told when its connection is
@@ -199,5 +199,34 @@ fn write_byte<W: fmt::Write>(byte: u8, f: &mut fmt::Formatter<W>) -> fmt::Result
         write!(f, "{}", char::from(byte))
     } else {
         write!(f, "%{byte:02X}")
+    }
+}
+
+/// A moment by the clock of the machine, in universal time, to the second. `Display` writes it by RFC 3339.
+#[derive(Clone, Copy)]
+pub(crate) struct ClockTime {
+    second: u64,
+}
+
+impl ClockTime {
+    /// The moment now. The first of 1970, if the clock can't be read.
+    pub(crate) fn now(rt: &HostRuntime) -> ClockTime {
+        let since = match SystemTime::now(rt) {
+            Ok(now) => now.duration_since(UNIX_EPOCH).unwrap_or(Duration::ZERO),
+            Err(_) => Duration::ZERO,
+        };
+        ClockTime {
+            second: since.as_secs(),
+        }
+    }
+}
+
+impl fmt::Display for ClockTime {
+    fn fmt<W: fmt::Write>(&self, f: &mut fmt::Formatter<W>) -> fmt::Result {
+        let second = i64::try_from(self.second).unwrap_or(0);
+        match Timestamp::from_second(second) {
+            Ok(moment) => moment.fmt(f),
+            Err(_) => f.write_str("-"),
+        }
     }
 }

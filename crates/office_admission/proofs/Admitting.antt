@@ -5,20 +5,20 @@ use Rattle.std.specs.List.{find, list_all}
 use Rattle.std.specs.Str.{bytes_eq}
 use Rattle.edi_segments.specs.Text.{Content}
 use Rattle.edi_segments.specs.Interchange.{segments_in}
-use Rattle.edi_segments.specs.declared.syntax_fault.SyntaxFault.{SyntaxFault}
+use Rattle.edi_segments.specs.declared.interchange.SyntaxFault.{SyntaxFault}
 use Rattle.edi_syntax.specs.Envelope.{header_of}
 use Rattle.edi_syntax.specs.Header.{sender, recipient}
 use Rattle.edi_syntax.proofs.FaultLemmas.{of_body}
 use Rattle.edi_syntax.specs.Faults.{applies, text_faults, header_faults, fault_of, head_fault_of, body_fault_of}
 use Rattle.edi_messages.specs.ErrorCodes.{interchange_error}
-use Rattle.office_replies.specs.declared.fault.Fault.TheVariants.{Syntax, UnknownSender, WrongRecipient}
+use Rattle.office_replies.specs.declared.deliver.Fault.TheVariants.{Syntax, UnknownSender, WrongRecipient}
 use Rattle.partner_core.specs.Numbered.{with_number}
 use Rattle.partner_core.proofs.Numbered.{with_number-at}
 use Rattle.std.specs.Prelude.{slice_get}
 use Rattle.std.proofs.lemmas.Option.{slice_get-map}
 use Rattle.edi_syntax.specs.Heads.{head_segments}
 use Rattle.edi_syntax.specs.declared.head.Head.{Head}
-use Rattle.office_setup.specs.declared.account.Account.{Account}
+use Rattle.office_setup.specs.declared.setup.Account.{Account}
 use Rattle.office_setup.specs.Parties.{Parties, partner_from, partner_kinds}
 use Rattle.office_admission.specs.Outcomes.{IsOpened}
 use Rattle.office_admission.specs.Admission.{admission, by_header, by_recipient, sender_of, number_in}

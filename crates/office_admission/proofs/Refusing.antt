@@ -4,9 +4,9 @@ use Rattle.edi_segments.specs.Text.{Content}
 use Rattle.edi_segments.specs.Interchange.{segments_in}
 use Rattle.edi_syntax.specs.Envelope.{header_of}
 use Rattle.edi_syntax.specs.Header.{sender}
-use Rattle.office_replies.specs.declared.fault.Fault.{Fault}
-use Rattle.office_replies.specs.declared.response.Response.{Response}
-use Rattle.office_replies.specs.declared.response.Response.TheVariants as response
+use Rattle.office_replies.specs.declared.deliver.Fault.{Fault}
+use Rattle.office_replies.specs.declared.deliver.Response.{Response}
+use Rattle.office_replies.specs.declared.deliver.Response.TheVariants as response
 use Rattle.office_setup.specs.Parties.{Parties}
 use Rattle.office_admission.specs.Admission.{admission, sender_of}
 use Rattle.office_replies.specs.Contents.{GivesOrNotNow}

@@ -1,11 +1,11 @@
 -- The accounts so far: those of the set-up, and those that were added.
 use Rattle.std.specs.Prelude.{ℕ, ◌+◌, nat_lt, List, [], ◌∷◌, ◌++◌, map, length, Option, None, Some, if◌then◌else◌}
-use Rattle.edi_messages.specs.declared.partner_kind.PartnerKind.{PartnerKind}
-use Rattle.edi_messages.specs.declared.partner_kind.PartnerKind.TheVariants.{Gate, Line, Quay, Yard}
+use Rattle.edi_messages.specs.declared.codes.PartnerKind.{PartnerKind}
+use Rattle.edi_messages.specs.declared.codes.PartnerKind.TheVariants.{Gate, Line, Quay, Yard}
 use Rattle.partner_core.specs.Numbered.{with_number}
 use Rattle.office_replies.specs.Events.{Event, delivered, migrated, added}
-use Rattle.office_replies.specs.declared.account_fault.AccountFault.{AccountFault}
-use Rattle.office_replies.specs.declared.account_fault.AccountFault.TheVariants.{Partner, Kind, Accounts}
+use Rattle.office_replies.specs.declared.accounts.AccountFault.{AccountFault}
+use Rattle.office_replies.specs.declared.accounts.AccountFault.TheVariants.{Partner, Kind, Accounts}
 use Rattle.office_setup.specs.Kinds.{kind_named}
 use Rattle.office_setup.specs.Limits.{most_partners}
 use Rattle.office_setup.specs.Parties.{partner_from}

@@ -1,10 +1,10 @@
 -- What one event more adds to the accounts and to what was delivered.
 use Rattle.std.specs.Prelude.{◌≡◌, ℕ, ◌+◌, ◌<◌, List, [], ◌∷◌, ◌++◌, length, Ok, Err, None, Some}
-use Rattle.edi_messages.specs.declared.partner_kind.PartnerKind.{PartnerKind}
+use Rattle.edi_messages.specs.declared.codes.PartnerKind.{PartnerKind}
 use Rattle.edi_segments.specs.Interchange.{interchange_of}
 use Rattle.partner_core.specs.Deliveries.{first_text, run}
 use Rattle.office_replies.specs.Events.{Event, delivered, added}
-use Rattle.office_replies.specs.declared.fault.Fault.{Fault}
+use Rattle.office_replies.specs.declared.deliver.Fault.{Fault}
 use Rattle.office_setup.specs.Given.{IsGiven}
 use Rattle.office_setup.specs.Kinds.{kind_named}
 use Rattle.office_setup.specs.Limits.{most_partners}

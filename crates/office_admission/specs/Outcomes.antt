@@ -7,12 +7,12 @@ use Rattle.edi_syntax.specs.Faults.{head_fault_of}
 use Rattle.edi_syntax.specs.declared.head.Head.{Head}
 use Rattle.edi_syntax.specs.Heads.{head_segments}
 use Rattle.partner_core.specs.Numbered.{with_number}
-use Rattle.office_replies.specs.declared.fault.Fault.{Fault}
+use Rattle.office_replies.specs.declared.deliver.Fault.{Fault}
 use Rattle.office_setup.specs.Parties.{parties_of, partner_kinds}
 use Rattle.office_setup.specs.declared.setup.Setup.{Setup}
 use Rattle.office_admission.specs.Admission.{admission, number_in, sender_of}
 use Rattle.office_admission.specs.Refusals.{HasNoContrl, error_of}
-use Rattle.office_admission.specs.declared.admitted.Admitted.{Admitted}
+use Rattle.office_admission.specs.declared.admission.Admitted.{Admitted}
 use Rattle.office_admission.specs.declared.refusal.Refusal.{Refusal}
 use Rattle.office_admission.specs.declared.refusal.Refusal.TheVariants.{Plain, WithContrl}
 

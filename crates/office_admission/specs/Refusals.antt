@@ -11,11 +11,11 @@ use Rattle.office_replies.specs.Kinds as kinds
 use Rattle.office_replies.specs.Names.{fault_name}
 use Rattle.office_replies.specs.Refusals.{refusal_text}
 use Rattle.office_replies.specs.Responses.{fault_status}
-use Rattle.office_replies.specs.declared.fault.Fault.{Fault}
-use Rattle.office_replies.specs.declared.fault.Fault.TheVariants.{Syntax, UnknownSender, WrongRecipient}
-use Rattle.office_replies.specs.declared.response.Response.{Response}
-use Rattle.office_replies.specs.declared.response.Response.TheVariants as response
-use Rattle.office_replies.specs.declared.worst.Worst.TheVariants as worst
+use Rattle.office_replies.specs.declared.deliver.Fault.{Fault}
+use Rattle.office_replies.specs.declared.deliver.Fault.TheVariants.{Syntax, UnknownSender, WrongRecipient}
+use Rattle.office_replies.specs.declared.deliver.Response.{Response}
+use Rattle.office_replies.specs.declared.deliver.Response.TheVariants as response
+use Rattle.office_replies.specs.declared.deliver.Worst.TheVariants as worst
 use Rattle.office_setup.specs.Parties.{Parties}
 use Rattle.office_admission.specs.Admission.{admission, sender_of}
 

@@ -1,20 +1,30 @@
 ghost use Rattle.std.specs.Prelude.{◌≡◌, ℕ, List, ◌+◌, ◌<◌, ◌≤◌, false, IfNone, IfSome, IfOk, IfErr, length};
 ghost use Rattle.edi_segments.specs.Interchange.{segments_in};
 ghost use Rattle.edi_syntax.specs.Envelope.{header_of};
-ghost use Rattle.office_replies.specs.declared.fault.Fault.{Fault};
+ghost use Rattle.office_admission.specs.Admission.{admission, is_for, sender_of};
+ghost use Rattle.office_admission.specs.Outcomes.{IsAdmitted, IsRefused, IsOpened};
+ghost use Rattle.office_replies.specs.declared.deliver.Fault.{Fault};
 ghost use Rattle.office_setup.specs.Limits.{most_partners};
 ghost use Rattle.office_setup.specs.Parties.{parties_of};
 ghost use Rattle.office_setup.specs.declared.setup.Setup.{Setup};
-ghost use Rattle.office_admission.specs.Admission.{admission, is_for, sender_of};
-ghost use Rattle.office_admission.specs.Outcomes.{IsAdmitted, IsRefused, IsOpened};
 
-use crate::admitted::Admitted;
 use crate::refusal::Refusal;
-use edi_messages::{WRONG_RECIPIENT, interchange_error};
+use edi_messages::{PartnerKind, WRONG_RECIPIENT, interchange_error};
 use edi_segments::SyntaxFault;
-use edi_syntax::Head;
+use edi_syntax::{Envelope, Head};
 use office_replies::Fault;
 use office_setup::Setup;
+
+/// An interchange that the office takes.
+#[derive(Clone, Copy)]
+pub struct Admitted<'a> {
+    /// The partner that sent it, counted from 1.
+    pub partner: u16,
+    /// What the partner is.
+    pub kind: PartnerKind,
+    /// What it sent.
+    pub envelope: Envelope<'a>,
+}
 
 /// Whose interchange a text is, or the first refusal: the lowest of its faults 1 to 15, a sender without an account
 /// (16), another recipient than the terminal (17). The text is what was delivered, without the CR and LF at both ends.

@@ -2,10 +2,8 @@
 #![tactic(auto)]
 
 mod admission;
-mod admitted;
 pub mod laws;
 mod refusal;
 
-pub use admission::{admit, admit_for};
-pub use admitted::Admitted;
+pub use admission::{Admitted, admit, admit_for};
 pub use refusal::Refusal;

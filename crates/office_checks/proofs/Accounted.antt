@@ -1,14 +1,15 @@
 -- Accounts by their places.
-use Rattle.std.proofs.Common.{◌≡◌, ◌≢◌, ℕ, ◌+◌, ◌<◌, ◌≤◌, zero, suc, List, [], ◌∷◌, map, take, Some, string_bytes, refl, sym, ap, ◌∙◌, arith, subst, inl, inr, ◌⊎◌}
+use Rattle.std.proofs.Common.{◌≡◌, ◌≢◌, ℕ, ◌+◌, ◌<◌, ◌≤◌, zero, suc, List, [], ◌∷◌, map, take, Some, string_bytes, refl, sym, ap, ◌∙◌, arith, subst, inl, inr, below_more}
 use Rattle.std.specs.Prelude.{slice_get}
 use Rattle.std.specs.Option.{option_map}
+use Rattle.std.proofs.lemmas.Bool.{cases_order}
 use Rattle.std.proofs.lemmas.Option.{same_Some, slice_get-map}
-use Rattle.edi_messages.specs.declared.partner_kind.PartnerKind.{PartnerKind}
+use Rattle.edi_messages.specs.declared.codes.PartnerKind.{PartnerKind}
 use Rattle.office_setup.specs.Given.{AreDistinct}
 use Rattle.office_rows.specs.Office.{AreAccounts}
 use Rattle.office_checks.specs.Accounts.{accounts_in}
 use Rattle.office_checks.specs.Contents.{partner_content}
-use Rattle.office_checks.specs.declared.partner_row.PartnerRow.{PartnerRow}
+use Rattle.office_checks.specs.declared.numbers.PartnerRow.{PartnerRow}
 
 abbrev pub IsAccount : ℕ → PartnerRow → Type 0
 IsAccount id row = (row.id ≡ id) × (1 ≤ row.next) × (row.next ≤ 1000000000)
@@ -50,18 +51,15 @@ account_row [] k account at = absurd (cc)
 account_row (r ∷ rows) zero account at = (r, refl, ap (λ (a : List ℕ × PartnerKind). a.0) (same_Some (string_bytes r.code, r.kind) account at))
 account_row (r ∷ rows) (suc k) account at = account_row rows k account at
 
-sides : (j k : ℕ) → (j < k) ⊎ ((k < j) ⊎ (j ≡ k))
-sides j k = grind arith
-
 pub distinct_from : (rows : List PartnerRow) → ((j k : ℕ) (a b : PartnerRow) → j < k → slice_get rows j ≡ Some a → slice_get rows k ≡ Some b → string_bytes a.code ≢ string_bytes b.code) → AreDistinct (accounts_in rows)
 distinct_from rows apart i j a b e f same =
     let first = account_row rows i a e in
     let second = account_row rows j b f in
-    elim (sides i j) [
-      | inl before ↦ absurd (apart i j first.0 second.0 before first.1 second.1 (first.2 ∙ same ∙ sym second.2))
-      | inr after ↦ elim after [
-        | inl later ↦ absurd (apart j i second.0 first.0 later second.1 first.1 (second.2 ∙ sym same ∙ sym first.2))
-        | inr equal ↦ equal
+    elim (cases_order i j) [
+      | inl equal ↦ equal
+      | inr differ ↦ elim differ [
+        | inl before ↦ absurd (apart i j first.0 second.0 before first.1 second.1 (first.2 ∙ same ∙ sym second.2))
+        | inr later ↦ absurd (apart j i second.0 first.0 later second.1 first.1 (second.2 ∙ sym same ∙ sym first.2))
       ]
     ]
 
@@ -86,12 +84,4 @@ before_of (r ∷ rows) (suc i) (suc k) row low at = before_of rows i k row (omeg
 pub rows_more : (P : ℕ → PartnerRow → Type 0) (rows : List PartnerRow) (i : ℕ) (row : PartnerRow) → slice_get rows i ≡ Some row → P i row → ((k : ℕ) (r : PartnerRow) → k < i → slice_get rows k ≡ Some r → P k r)
     → (k : ℕ) (r : PartnerRow) → k < i + 1 → slice_get rows k ≡ Some r → P k r
 rows_more P rows i row at here before k r low there =
-    elim (cases k i low) [
-      | inl below ↦ before k r below there
-      | inr same ↦ (let e : row ≡ r = same_Some row r (sym at ∙ ap (slice_get rows) (sym same) ∙ there) in
-          let Q : PartnerRow → Type 0 = P k in
-          let R : ℕ → Type 0 = λ n. P n row in
-          subst Q e (subst R (sym same) here))
-    ] where
-      cases : (k i : ℕ) → k < i + 1 → (k < i) ⊎ (k ≡ i)
-      cases k i h = grind arith
+    below_more (λ n. (r : PartnerRow) → slice_get rows n ≡ Some r → P n r) i (λ n below r there. before n r below there) (λ r there. subst (P i) (same_Some row r (sym at ∙ there)) here) k low r there

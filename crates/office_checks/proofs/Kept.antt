@@ -1,19 +1,19 @@
 -- The interchanges that are kept, partner after partner.
 use Rattle.std.proofs.Common.{◌≡◌, ◌≢◌, ℕ, ◌+◌, ◌-◌, ◌<◌, ◌≤◌, List, [], ◌∷◌, ◌++◌, length, take, drop, map, get_or, length-append, Bool, true, false, IsTrue, refl, sym, ap, ◌∙◌, arith, subst, ◌↔◌}
 use Rattle.std.specs.List.{range_with_len}
-use Rattle.std.proofs.lemmas.List.{map-append, get_or-map, take-map, drop-map, take-append-drop, length-map}
+use Rattle.std.proofs.lemmas.List.{drop_all, map-append, get_or-map, take-map, drop-map, take-append-drop, length-map}
 use Rattle.std.proofs.lemmas.List.FromFn.{map-range_with_len_more, get_or-map-range_with_len, length-map-range_with_len}
 use Rattle.std.proofs.Math.Seq.{take-append_seam, drop-append_seam}
-use Rattle.edi_messages.specs.declared.partner_kind.PartnerKind.{PartnerKind}
+use Rattle.edi_messages.specs.declared.codes.PartnerKind.{PartnerKind}
 use Rattle.office_rows.specs.Rows.{Partner}
 use Rattle.office_rows.specs.Opened.{Numbered}
 use Rattle.office_rows.specs.Office.{taken_numbers, AreWaiting, IsKeptFor, AreKept, AreAccounts}
 use Rattle.office_checks.specs.Accounts.{accounts_in}
 use Rattle.office_checks.specs.Contents.{number_content, partner_content}
 use Rattle.office_checks.specs.Owned.{AreOwn, BeginsElse}
-use Rattle.office_checks.specs.declared.number_row.NumberRow.{NumberRow}
-use Rattle.office_checks.specs.declared.partner_row.PartnerRow.{PartnerRow}
-use Rattle.office_checks.proofs.Lists.{next_of, none_from, one_more}
+use Rattle.office_checks.specs.declared.numbers.NumberRow.{NumberRow}
+use Rattle.office_checks.specs.declared.numbers.PartnerRow.{PartnerRow}
+use Rattle.office_checks.proofs.Lists.{next_of, one_more}
 
 -- ---- one partner's
 
@@ -34,7 +34,7 @@ begins_else id rows i d row low at isnt =
 pub begins_not : (id : ℕ) (rows : List NumberRow) (i : ℕ) → length rows ≤ i → BeginsElse id (map number_content (drop i rows))
 begins_not id rows i low =
     let P : List NumberRow → Type 0 = λ r. BeginsElse id (map number_content r) in
-    subst P (sym (none_from rows i low)) tt
+    subst P (sym (drop_all i rows low)) tt
 
 own_taken : (id : ℕ) (numbers : List ℕ) → AreOwn id (map (λ number. record { partner = id; number = number; is_taken = true }) numbers)
 own_taken id [] = tt

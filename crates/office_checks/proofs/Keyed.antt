@@ -5,17 +5,18 @@ use Rattle.std.specs.FinMap as finite_map
 use Rattle.std.specs.Option.{option_map}
 use Rattle.std.specs.Str.{bytes_eq}
 use Rattle.std.specs.Cmp.{eq_by_cmp_equiv}
+use Rattle.std.proofs.Math.Bool.{and_comm}
 use Rattle.std.proofs.lemmas.List.Sums.{sum_by-cons}
 use Rattle.std.proofs.lemmas.Simd.{map-map}
 use Rattle.std.proofs.lemmas.Option.{same_Some, slice_get_within}
 use Rattle.box6346.specs.declared.box_number.BoxNumber.{BoxNumber}
 use Rattle.edi_messages.specs.Purposes.{CallContent}
 use Rattle.edi_messages.specs.Owned.{call_content}
-use Rattle.terminal_core.specs.declared.listing.Listing.{Listing}
-use Rattle.terminal_core.specs.declared.place.Place.{Place}
-use Rattle.terminal_core.specs.declared.side.Side.{Side}
-use Rattle.terminal_core.specs.declared.side.Side.TheVariants.{Load, Discharge}
-use Rattle.terminal_core.specs.declared.visit.Visit.{Visit}
+use Rattle.terminal_core.specs.declared.lines.Listing.{Listing}
+use Rattle.terminal_core.specs.declared.change.Place.{Place}
+use Rattle.terminal_core.specs.declared.lines.Side.{Side}
+use Rattle.terminal_core.specs.declared.lines.Side.TheVariants.{Load, Discharge}
+use Rattle.terminal_core.specs.declared.visits.Visit.{Visit}
 use Rattle.terminal_core.specs.Rows.{visit_content}
 use Rattle.terminal_core.specs.State.{line_key, side_code}
 use Rattle.terminal_core.specs.Changes.{Standing, standing_in}
@@ -70,22 +71,7 @@ typed_placed_once places once container =
 -- ---- lines
 
 turned : (a b c d : Bool) → (a && (b && (c && d))) ≡ (((d && c) && b) && a)
-turned true true true true = refl
-turned true true true false = refl
-turned true true false true = refl
-turned true true false false = refl
-turned true false true true = refl
-turned true false true false = refl
-turned true false false true = refl
-turned true false false false = refl
-turned false true true true = refl
-turned false true true false = refl
-turned false true false true = refl
-turned false true false false = refl
-turned false false true true = refl
-turned false false true false = refl
-turned false false false true = refl
-turned false false false false = refl
+turned a b c d = and_comm a (b && (c && d)) ∙ ap (λ x. x && a) (and_comm b (c && d) ∙ ap (λ x. x && b) (and_comm c d))
 
 same_test : (call : CallContent) (side : Side) (container : BoxNumber) (row : Listing) → is_line call side container (listing_content row) ≡ typed.is_line call side container row
 same_test call side container row = turned (bytes_eq (string_bytes row.call.vessel) call.vessel) (bytes_eq (string_bytes row.call.voyage) call.voyage) (side_code row.side == side_code side) (bytes_eq row.container container)

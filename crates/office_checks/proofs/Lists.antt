@@ -1,16 +1,10 @@
 -- A list from a place on.
-use Rattle.std.proofs.Common.{◌≡◌, ℕ, ◌+◌, ◌<◌, ◌≤◌, zero, suc, List, [], ◌∷◌, ◌++◌, length, take, drop, get_or, refl, sym, ap, ◌∙◌, subst, All, arith, add-one, drop-cons}
+use Rattle.std.proofs.Common.{◌≡◌, ℕ, ◌+◌, ◌<◌, ◌≤◌, suc, List, [], ◌∷◌, ◌++◌, length, take, drop, get_or, sym, ap, ◌∙◌, subst, All, add-one, drop-cons}
 use Rattle.std.proofs.lemmas.List.{take_more, take_all}
 use Rattle.std.proofs.lemmas.List.Elements.{All-more}
 
 pub next_of : {A : Type 0} (xs : List A) (i : ℕ) (d x : A) → i < length xs → x ≡ get_or xs i d → drop i xs ≡ x ∷ drop (i + 1) xs
 next_of xs i d x low at = rw (add-one, drop-cons xs i d) (ap (λ z. z ∷ drop (suc i) xs) (sym at))
-
-pub none_from : {A : Type 0} (xs : List A) (i : ℕ) → length xs ≤ i → drop i xs ≡ []
-none_from [] zero low = refl
-none_from [] (suc i) low = refl
-none_from (x ∷ xs) zero low = absurd (omega arith)
-none_from (x ∷ xs) (suc i) low = none_from xs i (omega arith)
 
 pub one_more : {A : Type 0} (xs : List A) (i : ℕ) (d x : A) → i < length xs → x ≡ get_or xs i d → take (i + 1) xs ≡ take i xs ++ x ∷ []
 one_more xs i d x low at = take_more xs i d low ∙ ap (λ z. take i xs ++ z ∷ []) (sym at)

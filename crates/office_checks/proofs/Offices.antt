@@ -14,15 +14,15 @@ use Rattle.box6346.specs.declared.box_number.BoxNumber.{BoxNumber}
 use Rattle.box6346.specs.declared.slot.Slot.{Slot}
 use Rattle.edi_messages.specs.Purposes.{CallContent}
 use Rattle.edi_messages.specs.Owned.{call_content}
-use Rattle.edi_messages.specs.declared.partner_kind.PartnerKind.{PartnerKind}
-use Rattle.yard_core.specs.declared.block.Block.{Block}
+use Rattle.edi_messages.specs.declared.codes.PartnerKind.{PartnerKind}
+use Rattle.yard_core.specs.declared.plan.Block.{Block}
 use Rattle.yard_core.specs.Plan.{IsPlan, InPlan}
-use Rattle.yard_core.specs.declared.placement.Placement.{Placement}
+use Rattle.yard_core.specs.declared.placements.Placement.{Placement}
 use Rattle.yard_core.specs.YardMap.{placement_of}
-use Rattle.terminal_core.specs.declared.listing.Listing.{Listing}
-use Rattle.terminal_core.specs.declared.restore_fault.RestoreFault.{RestoreFault}
-use Rattle.terminal_core.specs.declared.restore_fault.RestoreFault.TheVariants.{Unsound, Memory}
-use Rattle.terminal_core.specs.declared.side.Side.{Side}
+use Rattle.terminal_core.specs.declared.lines.Listing.{Listing}
+use Rattle.terminal_core.specs.declared.restoring.RestoreFault.{RestoreFault}
+use Rattle.terminal_core.specs.declared.restoring.RestoreFault.TheVariants.{Unsound, Memory}
+use Rattle.terminal_core.specs.declared.lines.Side.{Side}
 use Rattle.terminal_core.specs.Rows.{VisitContent, visit_content}
 use Rattle.terminal_core.specs.State.{TerminalState, LineContent, Lines, LineKey, line_key}
 use Rattle.terminal_core.specs.Forms.{IsFormedLine}
@@ -40,8 +40,8 @@ use Rattle.office_checks.specs.Contents.{partner_content, number_content, settin
 use Rattle.office_checks.specs.Formed.{IsSoundVisit, IsSoundLine, AreSoundVisits, AreSoundLines, AreByLetter, AreTerminal, RefusesTerminal}
 use Rattle.office_checks.specs.Said.{AreSettings, RefusesSettings}
 use Rattle.office_checks.specs.Refusals.{RefusesTables}
-use Rattle.office_checks.specs.declared.opened_tables.OpenedTables.{OpenedTables}
-use Rattle.office_checks.specs.declared.partner_row.PartnerRow.{PartnerRow}
+use Rattle.office_checks.specs.declared.restoring.OpenedTables.{OpenedTables}
+use Rattle.office_checks.specs.declared.numbers.PartnerRow.{PartnerRow}
 use Rattle.office_checks.proofs.Accounted.{accounts_are}
 use Rattle.office_checks.proofs.Told.{limit_so}
 use Rattle.office_checks.proofs.Keyed.{placed_once, typed_placed_once, listed_once, typed_listed_once, rows_same, first_or_none, key_is, side_is, line_there}

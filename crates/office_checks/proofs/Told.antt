@@ -1,7 +1,8 @@
 -- What the ten settings say, by their places.
-use Rattle.std.proofs.Common.{◌≡◌, ℕ, zero, suc, List, [], ◌∷◌, length, get_or, map, Some, refl, sym, ap, ◌∙◌, arith, string_bytes, codes, decimal}
+use Rattle.std.proofs.Common.{◌≡◌, ℕ, List, [], ◌∷◌, length, get_or, map, Some, refl, sym, ap, ◌∙◌, arith, string_bytes, codes, decimal}
 use Rattle.std.specs.Prelude.{slice_get}
-use Rattle.std.proofs.lemmas.Option.{same_Some}
+use Rattle.std.specs.Option.{option_map}
+use Rattle.std.proofs.lemmas.Option.{same_Some, slice_get-map}
 use Rattle.std.proofs.lemmas.List.{length-map}
 use Rattle.edi_messages.specs.Codes.{table_texts}
 use Rattle.office_setup.specs.Setups.{SetupContent}
@@ -10,31 +11,17 @@ use Rattle.office_rows.specs.Opening.{tables_version}
 use Rattle.office_rows.specs.Office.{settings_with, settings_by_name}
 use Rattle.office_checks.specs.Contents.{setting_content}
 use Rattle.office_checks.specs.Said.{setting_names, names_of, values_of, code_values}
-use Rattle.office_checks.specs.declared.setting.Setting as read
+use Rattle.office_checks.specs.declared.settings.Setting as read
 
 pub name_in : (settings : List read.Setting) (k : ℕ) (s : read.Setting) → slice_get settings k ≡ Some s → slice_get (names_of (map setting_content settings)) k ≡ Some (string_bytes s.name)
-name_in [] k s at = absurd (cc)
-name_in (x ∷ settings) zero s at = ap (λ (y : read.Setting). Some (string_bytes y.name)) (same_Some x s at)
-name_in (x ∷ settings) (suc k) s at = name_in settings k s at
+name_in settings k s at = slice_get-map (λ (row : Setting). row.name) (map setting_content settings) k ∙ ap (option_map (λ (row : Setting). row.name)) (slice_get-map setting_content settings k ∙ ap (option_map setting_content) at)
 
 pub value_in : (settings : List read.Setting) (k : ℕ) (s : read.Setting) → slice_get settings k ≡ Some s → slice_get (values_of (map setting_content settings)) k ≡ Some (string_bytes s.value)
-value_in [] k s at = absurd (cc)
-value_in (x ∷ settings) zero s at = ap (λ (y : read.Setting). Some (string_bytes y.value)) (same_Some x s at)
-value_in (x ∷ settings) (suc k) s at = value_in settings k s at
+value_in settings k s at = slice_get-map (λ (row : Setting). row.value) (map setting_content settings) k ∙ ap (option_map (λ (row : Setting). row.value)) (slice_get-map setting_content settings k ∙ ap (option_map setting_content) at)
 
 -- the codes by the places of their values
 pub seven_codes : (values : List (List ℕ)) (x2 x3 x9 x0 x4 x1 x5 : List ℕ) → length values ≡ 10 → slice_get values 2 ≡ Some x2 → slice_get values 3 ≡ Some x3 → slice_get values 9 ≡ Some x9 → slice_get values 0 ≡ Some x0 → slice_get values 4 ≡ Some x4 → slice_get values 1 ≡ Some x1 → slice_get values 5 ≡ Some x5
     → code_values values ≡ x2 ∷ x3 ∷ x9 ∷ x0 ∷ x4 ∷ x1 ∷ x5 ∷ []
-seven_codes [] x2 x3 x9 x0 x4 x1 x5 ten e2 e3 e9 e0 e4 e1 e5 = absurd (cc)
-seven_codes (v0 ∷ []) x2 x3 x9 x0 x4 x1 x5 ten e2 e3 e9 e0 e4 e1 e5 = absurd (cc)
-seven_codes (v0 ∷ v1 ∷ []) x2 x3 x9 x0 x4 x1 x5 ten e2 e3 e9 e0 e4 e1 e5 = absurd (cc)
-seven_codes (v0 ∷ v1 ∷ v2 ∷ []) x2 x3 x9 x0 x4 x1 x5 ten e2 e3 e9 e0 e4 e1 e5 = absurd (cc)
-seven_codes (v0 ∷ v1 ∷ v2 ∷ v3 ∷ []) x2 x3 x9 x0 x4 x1 x5 ten e2 e3 e9 e0 e4 e1 e5 = absurd (cc)
-seven_codes (v0 ∷ v1 ∷ v2 ∷ v3 ∷ v4 ∷ []) x2 x3 x9 x0 x4 x1 x5 ten e2 e3 e9 e0 e4 e1 e5 = absurd (cc)
-seven_codes (v0 ∷ v1 ∷ v2 ∷ v3 ∷ v4 ∷ v5 ∷ []) x2 x3 x9 x0 x4 x1 x5 ten e2 e3 e9 e0 e4 e1 e5 = absurd (cc)
-seven_codes (v0 ∷ v1 ∷ v2 ∷ v3 ∷ v4 ∷ v5 ∷ v6 ∷ []) x2 x3 x9 x0 x4 x1 x5 ten e2 e3 e9 e0 e4 e1 e5 = absurd (cc)
-seven_codes (v0 ∷ v1 ∷ v2 ∷ v3 ∷ v4 ∷ v5 ∷ v6 ∷ v7 ∷ []) x2 x3 x9 x0 x4 x1 x5 ten e2 e3 e9 e0 e4 e1 e5 = absurd (cc)
-seven_codes (v0 ∷ v1 ∷ v2 ∷ v3 ∷ v4 ∷ v5 ∷ v6 ∷ v7 ∷ v8 ∷ []) x2 x3 x9 x0 x4 x1 x5 ten e2 e3 e9 e0 e4 e1 e5 = absurd (cc)
 seven_codes (v0 ∷ v1 ∷ v2 ∷ v3 ∷ v4 ∷ v5 ∷ v6 ∷ v7 ∷ v8 ∷ v9 ∷ []) x2 x3 x9 x0 x4 x1 x5 ten e2 e3 e9 e0 e4 e1 e5 =
     let s2 : v2 ≡ x2 = same_Some v2 x2 e2 in
     let s3 : v3 ≡ x3 = same_Some v3 x3 e3 in
@@ -44,7 +31,7 @@ seven_codes (v0 ∷ v1 ∷ v2 ∷ v3 ∷ v4 ∷ v5 ∷ v6 ∷ v7 ∷ v8 ∷ v9 �
     let s1 : v1 ≡ x1 = same_Some v1 x1 e1 in
     let s5 : v5 ≡ x5 = same_Some v5 x5 e5 in
     λ i. s2 i ∷ s3 i ∷ s9 i ∷ s0 i ∷ s4 i ∷ s1 i ∷ s5 i ∷ []
-seven_codes (v0 ∷ v1 ∷ v2 ∷ v3 ∷ v4 ∷ v5 ∷ v6 ∷ v7 ∷ v8 ∷ v9 ∷ v ∷ values) x2 x3 x9 x0 x4 x1 x5 ten e2 e3 e9 e0 e4 e1 e5 = absurd (omega (arith, ten))
+seven_codes values x2 x3 x9 x0 x4 x1 x5 ten e2 e3 e9 e0 e4 e1 e5 = absurd (omega (arith, ten))
 
 -- ---- the settings of a set-up
 
@@ -72,16 +59,6 @@ named_as row name value e f = λ i. record { name = e i; value = f i }
 
 pub settings_so : (rows : List Setting) (content : SetupContent) → names_of rows ≡ setting_names → slice_get (values_of rows) 6 ≡ Some content.terminal → slice_get (values_of rows) 7 ≡ Some tables_version
     → slice_get (values_of rows) 8 ≡ Some (decimal content.visit_limit) → table_texts content.codes ≡ code_values (values_of rows) → rows ≡ settings_by_name content
-settings_so [] content named terminal version limit table = let ten = ten_long [] named in absurd (omega (arith, ten))
-settings_so (r0 ∷ []) content named terminal version limit table = let ten = ten_long (r0 ∷ []) named in absurd (omega (arith, ten))
-settings_so (r0 ∷ r1 ∷ []) content named terminal version limit table = let ten = ten_long (r0 ∷ r1 ∷ []) named in absurd (omega (arith, ten))
-settings_so (r0 ∷ r1 ∷ r2 ∷ []) content named terminal version limit table = let ten = ten_long (r0 ∷ r1 ∷ r2 ∷ []) named in absurd (omega (arith, ten))
-settings_so (r0 ∷ r1 ∷ r2 ∷ r3 ∷ []) content named terminal version limit table = let ten = ten_long (r0 ∷ r1 ∷ r2 ∷ r3 ∷ []) named in absurd (omega (arith, ten))
-settings_so (r0 ∷ r1 ∷ r2 ∷ r3 ∷ r4 ∷ []) content named terminal version limit table = let ten = ten_long (r0 ∷ r1 ∷ r2 ∷ r3 ∷ r4 ∷ []) named in absurd (omega (arith, ten))
-settings_so (r0 ∷ r1 ∷ r2 ∷ r3 ∷ r4 ∷ r5 ∷ []) content named terminal version limit table = let ten = ten_long (r0 ∷ r1 ∷ r2 ∷ r3 ∷ r4 ∷ r5 ∷ []) named in absurd (omega (arith, ten))
-settings_so (r0 ∷ r1 ∷ r2 ∷ r3 ∷ r4 ∷ r5 ∷ r6 ∷ []) content named terminal version limit table = let ten = ten_long (r0 ∷ r1 ∷ r2 ∷ r3 ∷ r4 ∷ r5 ∷ r6 ∷ []) named in absurd (omega (arith, ten))
-settings_so (r0 ∷ r1 ∷ r2 ∷ r3 ∷ r4 ∷ r5 ∷ r6 ∷ r7 ∷ []) content named terminal version limit table = let ten = ten_long (r0 ∷ r1 ∷ r2 ∷ r3 ∷ r4 ∷ r5 ∷ r6 ∷ r7 ∷ []) named in absurd (omega (arith, ten))
-settings_so (r0 ∷ r1 ∷ r2 ∷ r3 ∷ r4 ∷ r5 ∷ r6 ∷ r7 ∷ r8 ∷ []) content named terminal version limit table = let ten = ten_long (r0 ∷ r1 ∷ r2 ∷ r3 ∷ r4 ∷ r5 ∷ r6 ∷ r7 ∷ r8 ∷ []) named in absurd (omega (arith, ten))
 settings_so (r0 ∷ r1 ∷ r2 ∷ r3 ∷ r4 ∷ r5 ∷ r6 ∷ r7 ∷ r8 ∷ r9 ∷ []) content named terminal version limit table =
     let n0 : r0.name ≡ codes "discharge-list" = ap (λ (l : List (List ℕ)). get_or l 0 []) named in
     let n1 : r1.name ≡ codes "discharge-report" = ap (λ (l : List (List ℕ)). get_or l 1 []) named in
@@ -105,4 +82,4 @@ settings_so (r0 ∷ r1 ∷ r2 ∷ r3 ∷ r4 ∷ r5 ∷ r6 ∷ r7 ∷ r8 ∷ r9 �
     let s9 : r9 ≡ record { name = codes "yard-move"; value = r9.value } = named_as r9 (codes "yard-move") r9.value n9 refl in
     let all : r0 ∷ r1 ∷ r2 ∷ r3 ∷ r4 ∷ r5 ∷ r6 ∷ r7 ∷ r8 ∷ r9 ∷ [] ≡ settings_with content (code_values (values_of (r0 ∷ r1 ∷ r2 ∷ r3 ∷ r4 ∷ r5 ∷ r6 ∷ r7 ∷ r8 ∷ r9 ∷ []))) = λ i. s0 i ∷ s1 i ∷ s2 i ∷ s3 i ∷ s4 i ∷ s5 i ∷ s6 i ∷ s7 i ∷ s8 i ∷ s9 i ∷ [] in
     all ∙ ap (settings_with content) (sym table)
-settings_so (r0 ∷ r1 ∷ r2 ∷ r3 ∷ r4 ∷ r5 ∷ r6 ∷ r7 ∷ r8 ∷ r9 ∷ r ∷ rows) content named terminal version limit table = let ten = ten_long (r0 ∷ r1 ∷ r2 ∷ r3 ∷ r4 ∷ r5 ∷ r6 ∷ r7 ∷ r8 ∷ r9 ∷ r ∷ rows) named in absurd (omega (arith, ten))
+settings_so rows content named terminal version limit table = let ten = ten_long rows named in absurd (omega (arith, ten))

@@ -1,12 +1,12 @@
 -- The accounts that rows of partners say: what the code relies on, and no caller has to read.
 use Rattle.std.specs.Prelude.{◌≡◌, ℕ, ◌≤◌, List, length, map, string_bytes, true}
 use Rattle.std.specs.List.{list_all}
-use Rattle.edi_messages.specs.declared.partner_kind.PartnerKind.{PartnerKind}
+use Rattle.edi_messages.specs.declared.codes.PartnerKind.{PartnerKind}
 use Rattle.office_setup.specs.Given.{is_party_code, AreDistinct}
 use Rattle.office_setup.specs.Limits.{most_partners}
 use Rattle.office_rows.specs.Office.{AreAccounts}
 use Rattle.office_checks.specs.Contents.{partner_content}
-use Rattle.office_checks.specs.declared.partner_row.PartnerRow.{PartnerRow}
+use Rattle.office_checks.specs.declared.numbers.PartnerRow.{PartnerRow}
 
 -- the code of each partner, and what it is
 abbrev pub accounts_in : List PartnerRow → List (List ℕ × PartnerKind)

@@ -1,13 +1,13 @@
 -- What rows that were read say, whatever memory holds them.
 use Rattle.std.specs.Prelude.{map, string_bytes}
-use Rattle.terminal_core.specs.declared.place.Place.{Place}
+use Rattle.terminal_core.specs.declared.change.Place.{Place}
 use Rattle.terminal_core.specs.Rows.{visit_content}
 use Rattle.office_rows.specs.Rows.{Partner, PlaceContent, Setting, listing_content}
 use Rattle.office_rows.specs.Opened.{Numbered, OpenedRows}
-use Rattle.office_checks.specs.declared.number_row.NumberRow.{NumberRow}
-use Rattle.office_checks.specs.declared.opened_tables.OpenedTables.{OpenedTables}
-use Rattle.office_checks.specs.declared.partner_row.PartnerRow.{PartnerRow}
-use Rattle.office_checks.specs.declared.setting.Setting as read
+use Rattle.office_checks.specs.declared.numbers.NumberRow.{NumberRow}
+use Rattle.office_checks.specs.declared.restoring.OpenedTables.{OpenedTables}
+use Rattle.office_checks.specs.declared.numbers.PartnerRow.{PartnerRow}
+use Rattle.office_checks.specs.declared.settings.Setting as read
 
 abbrev pub partner_content : PartnerRow → Partner
 partner_content row = record { id = row.id; code = string_bytes row.code; kind = row.kind; next = row.next }

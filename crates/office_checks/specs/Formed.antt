@@ -2,16 +2,16 @@
 use Rattle.std.specs.Prelude.{ℕ, ◌≤◌, List, Option, None, Some, IsTrue, All}
 use Rattle.std.specs.List.Sorted.{IsNonDecreasingBy}
 use Rattle.box6346.specs.SlotName.{IsNamed}
-use Rattle.yard_core.specs.declared.block.Block.{Block}
+use Rattle.yard_core.specs.declared.plan.Block.{Block}
 use Rattle.edi_moments.specs.Moments.{is_moment}
-use Rattle.terminal_core.specs.declared.arrival.Arrival.{Arrival}
-use Rattle.terminal_core.specs.declared.departure.Departure.{Departure}
-use Rattle.terminal_core.specs.declared.source.Source.{Source}
-use Rattle.terminal_core.specs.declared.listing.Listing.{Listing}
-use Rattle.terminal_core.specs.declared.place.Place.{Place}
-use Rattle.terminal_core.specs.declared.restore_fault.RestoreFault.{RestoreFault}
-use Rattle.terminal_core.specs.declared.restore_fault.RestoreFault.TheVariants.{Unsound, Memory}
-use Rattle.terminal_core.specs.declared.visit.Visit.{Visit}
+use Rattle.terminal_core.specs.declared.visits.Arrival.{Arrival}
+use Rattle.terminal_core.specs.declared.visits.Departure.{Departure}
+use Rattle.terminal_core.specs.declared.change.Source.{Source}
+use Rattle.terminal_core.specs.declared.lines.Listing.{Listing}
+use Rattle.terminal_core.specs.declared.change.Place.{Place}
+use Rattle.terminal_core.specs.declared.restoring.RestoreFault.{RestoreFault}
+use Rattle.terminal_core.specs.declared.restoring.RestoreFault.TheVariants.{Unsound, Memory}
+use Rattle.terminal_core.specs.declared.visits.Visit.{Visit}
 use Rattle.terminal_core.specs.Forms.{IsSource, IsFormedVisit, IsFormedLine}
 use Rattle.terminal_core.specs.Listings.{line_content}
 use Rattle.terminal_core.specs.Restoring.{AreRowsOf}

@@ -2,8 +2,8 @@
 use Rattle.std.specs.Prelude.{◌≡◌, ℕ, ◌≤◌, List, [], ◌∷◌, map, codes, string_bytes, None, IsTrue}
 use Rattle.edi_messages.specs.CodeText.{table_fault}
 use Rattle.edi_messages.specs.Codes.{table_texts}
-use Rattle.terminal_core.specs.declared.restore_fault.RestoreFault.{RestoreFault}
-use Rattle.terminal_core.specs.declared.restore_fault.RestoreFault.TheVariants.{Unsound, Memory}
+use Rattle.terminal_core.specs.declared.restoring.RestoreFault.{RestoreFault}
+use Rattle.terminal_core.specs.declared.restoring.RestoreFault.TheVariants.{Unsound, Memory}
 use Rattle.office_setup.specs.Setups.{SetupContent}
 use Rattle.office_setup.specs.Given.{is_party_code}
 use Rattle.office_setup.specs.Limits.{most_visits}

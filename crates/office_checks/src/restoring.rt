@@ -1,19 +1,35 @@
 ghost use Rattle.std.specs.Prelude.{IfOk, IfErr, length};
-ghost use Rattle.office_setup.specs.Setups.{setup_content};
-ghost use Rattle.office_rows.specs.Office.{IsOffice};
 ghost use Rattle.office_checks.specs.Contents.{opened_rows};
 ghost use Rattle.office_checks.specs.Formed.{AreTerminal, RefusesTerminal};
 ghost use Rattle.office_checks.specs.Refusals.{RefusesTables};
+ghost use Rattle.office_rows.specs.Office.{IsOffice};
+ghost use Rattle.office_setup.specs.Setups.{setup_content};
 
-use crate::accounts::{accounts_of, are_accounts};
-use crate::forms::{are_by_letter, are_sound_lines, are_sound_visits};
-use crate::numbers::are_kept;
-use crate::opened_tables::OpenedTables;
-use crate::saying::read_settings;
+use crate::numbers::{NumberRow, PartnerRow, accounts_of, are_accounts, are_kept};
+use crate::settings::{Setting, are_by_letter, are_sound_lines, are_sound_visits, read_settings};
 use office_setup::Setup;
 use std::alloc::Global;
 use terminal_core::{Listing, Place, RestoreFault, Terminal, Visit};
 use yard_core::{Block, Plan};
+
+/// The rows of the seven tables as they were read, each table by its key from the least up.
+#[derive(Drop)]
+pub struct OpenedTables {
+    /// The accounts.
+    pub partners: Vec<PartnerRow>,
+    /// The interchanges that are kept.
+    pub numbers: Vec<NumberRow>,
+    /// The visits.
+    pub visits: Vec<Visit>,
+    /// Where containers stand.
+    pub places: Vec<Place>,
+    /// The lines of the vessels' lists.
+    pub lines: Vec<Listing>,
+    /// The settings.
+    pub settings: Vec<Setting>,
+    /// The blocks of the yard.
+    pub blocks: Vec<Block>,
+}
 
 /// The set-up and the terminal of an office, whose rows these are. Unsound if they are those of no office, and
 /// Memory. What was handed in is given up.

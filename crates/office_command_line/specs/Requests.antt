@@ -7,12 +7,12 @@ use Rattle.clap.specs.declared.error.kind.ErrorKind.{ErrorKind}
 use Rattle.clap.specs.declared.error.kind.ErrorKind.TheVariants.{DisplayHelp, DisplayVersion}
 use Rattle.edi_syntax.specs.Numbers.{number_of}
 use Rattle.office_command_line.specs.Commands.{office_app}
-use Rattle.office_command_line.specs.declared.command_fault.CommandFault.{CommandFault}
-use Rattle.office_command_line.specs.declared.command_fault.CommandFault.TheVariants.{Words, Values, Memory}
-use Rattle.office_queries.specs.declared.report_kind.ReportKind.{ReportKind}
-use Rattle.office_queries.specs.declared.report_kind.ReportKind.TheVariants.{Yard, YardTable, Visits, List as VesselList, Ticket, Reply, Container, Work, Partners, Partner, Blocks, Contrl, Picture, Health, Metrics}
-use Rattle.office_command_line.specs.declared.request.Request.{Request}
-use Rattle.office_command_line.specs.declared.request.Request.TheVariants as request
+use Rattle.office_command_line.specs.declared.command_reading.CommandFault.{CommandFault}
+use Rattle.office_command_line.specs.declared.command_reading.CommandFault.TheVariants.{Words, Values, Memory}
+use Rattle.office_queries.specs.declared.query.ReportKind.{ReportKind}
+use Rattle.office_queries.specs.declared.query.ReportKind.TheVariants.{Yard, YardTable, Visits, List as VesselList, Ticket, Reply, Container, Work, Partners, Partner, Blocks, Calls, Contrl, Picture, Health, Metrics}
+use Rattle.office_command_line.specs.declared.command_reading.Request.{Request}
+use Rattle.office_command_line.specs.declared.command_reading.Request.TheVariants as request
 
 -- a request, whatever memory holds its texts
 pub data Asked : Type 0 where
@@ -59,6 +59,7 @@ kind_said word =
     else if bytes_eq word (codes "work") then Some Work
     else if bytes_eq word (codes "partners") then Some Partners
     else if bytes_eq word (codes "blocks") then Some Blocks
+    else if bytes_eq word (codes "calls") then Some Calls
     else if bytes_eq word (codes "contrl") then Some Contrl
     else if bytes_eq word (codes "picture") then Some Picture
     else if bytes_eq word (codes "partner") then Some Partner
@@ -78,6 +79,7 @@ wants_key Container = true
 wants_key Work = true
 wants_key Partners = false
 wants_key Blocks = false
+wants_key Calls = false
 wants_key Contrl = true
 wants_key Picture = false
 wants_key Reply = true

@@ -1,14 +1,15 @@
 ghost use Rattle.std.specs.Prelude.{◌≡◌, IfOk, true, false};
 ghost use Rattle.clap.specs.Words.{app_of, rule_of};
 ghost use Rattle.clap.specs.declared.builder.command.Command.TheViews.{out-Command};
-ghost use Rattle.office_command_line.specs.Commands.{word, word_if_any, flag, valued, init_app, deliver_app, serve_app, report_app, account_app, migrate_app, demo_app};
+ghost use Rattle.office_command_line.specs.Commands.{word, word_if_any, flag, valued, init_app, deliver_app, serve_app, report_app, account_app, migrate_app, demo_app, office_app};
 
 use clap::{Arg, ArgAction, Command};
+use office_queries::program_version;
 use std::alloc::{AllocError, Global};
 
 /// The kinds of reports. Those from `container` on want a key.
 pub const REPORT_KINDS: &str =
-    "yard, yardcsv, picture, blocks, partners, health, metrics, container, visits, list, work, ticket, reply, contrl or partner";
+    "yard, yardcsv, picture, blocks, calls, partners, health, metrics, container, visits, list, work, ticket, reply, contrl or partner";
 
 /// `init DB PARTNERS BLOCKS`
 pub(crate) fn init_command<'a>(alloc: Global) -> Result<Command<'a>, AllocError>
@@ -195,4 +196,29 @@ fn flag<'a>(alloc: Global, name: &'a str, help: &'a str) -> Arg<'a>
         .long(name)
         .action(ArgAction::SetTrue)
         .help(help)
+}
+
+/// The program's command line.
+pub(crate) fn office_command<'a>(alloc: Global) -> Result<Command<'a>, AllocError>
+    ensures { IfOk result (λ command. app_of command ≡ office_app) }
+{
+    let init = init_command(alloc)?;
+    let deliver = deliver_command(alloc)?;
+    let serve = serve_command(alloc)?;
+    let report = report_command(alloc)?;
+    let account = account_command(alloc)?;
+    let migrate = migrate_command(alloc)?;
+    let demo = demo_command(alloc);
+    let office = Command::new(alloc, "office")
+        .about("The office system of a container terminal")
+        .version(program_version())
+        .subcommand_required(true)
+        .subcommand(init)?
+        .subcommand(deliver)?
+        .subcommand(serve)?
+        .subcommand(report)?
+        .subcommand(account)?
+        .subcommand(migrate)?
+        .subcommand(demo)?;
+    Ok(office)
 }

@@ -1,16 +1,122 @@
-ghost use Rattle.std.specs.Prelude.{◌≡◌, IfOk, IfErr, map};
 ghost use Rattle.std.specs.Option.{option_map};
+ghost use Rattle.std.specs.Prelude.{◌≡◌, IfOk, IfErr, map};
 ghost use Rattle.clap.specs.Words.{found_of, rows_of, subcommand_rows_of, first_of};
-ghost use Rattle.office_command_line.specs.Requests.{request_asked, init_asked, account_asked, migrate_asked, deliver_asked, serve_asked, report_asked, report_with, asked_by, met_asks, is_set, kind_said, usage_line, wants_key, RefusesWords, RefusesMet, WordsAsk};
+ghost use Rattle.office_command_line.specs.Requests.{request_asked, init_asked, account_asked, migrate_asked, deliver_asked, serve_asked, report_asked, report_with, asked_by, met_asks, is_set, kind_said, usage_line, wants_key, RefusesWords, RefusesMet, WordsAsk, number_if_any, number_upto};
 
-use crate::command_fault::CommandFault;
-use crate::numbers::{number_if_any, number_upto};
-use crate::office::office_command;
-use crate::request::Request;
-use clap::ArgMatches;
+use crate::builders::office_command;
 use clap::error::ErrorKind;
-use office_queries::ReportKind;
+use clap::{ArgMatches, Error};
+use office_queries::{ReportKind, number_of};
 use std::alloc::Global;
+use std::fmt;
+
+/// Why a command line asks for nothing that the program does. `Display` gives what to print, in whole lines.
+#[derive(Debug, Drop)]
+pub enum CommandFault {
+    /// The words aren't those of a command, or ask for help or for the version.
+    Words(Error),
+    /// A value is outside its limits, or a key is missing or not wanted: the usage line of the command.
+    Values(&'static str),
+    /// Memory was refused.
+    Memory,
+}
+
+impl CommandFault {
+    ghost use Rattle.std.specs.Prelude.{◌≡◌};
+    ghost use Rattle.office_command_line.specs.Requests.{is_asked};
+
+    /// Whether the text was asked for, as help or as the version: then it is a result and no fault.
+    pub fn is_asked(&self) -> bool
+        ensures { result ≡ is_asked self.now }
+    {
+        match self {
+            CommandFault::Words(error) => matches!(
+                error.kind(),
+                ErrorKind::DisplayHelp | ErrorKind::DisplayVersion
+            ),
+            CommandFault::Values(_) => false,
+            CommandFault::Memory => false,
+        }
+    }
+}
+
+impl fmt::Display for CommandFault {
+    ghost use Rattle.office_command_line.specs.Requests.{fault_text};
+
+    ghost output = { fault_text };
+
+    fn fmt<W: fmt::Write>(&self, f: &mut fmt::Formatter<W>) -> fmt::Result {
+        match self {
+            CommandFault::Words(error) => error.fmt(f),
+            CommandFault::Values(line) => f.write_str(line),
+            CommandFault::Memory => f.write_str("store: Memory\n"),
+        }
+    }
+}
+
+impl std::error::Error for CommandFault {}
+
+/// What a command line asks for.
+#[derive(Clone, Copy)]
+pub enum Request<'a> {
+    /// To make the tables of a store by the set-up that two files say.
+    Init {
+        /// The store's path.
+        store: &'a str,
+        /// The path of the file of partners.
+        partners: &'a str,
+        /// The path of the file of blocks.
+        blocks: &'a str,
+    },
+    /// To deliver the interchanges of a file.
+    Deliver {
+        /// The store's path.
+        store: &'a str,
+        /// The path of the file.
+        file: &'a str,
+    },
+    /// To serve so many connections at a port of this machine.
+    Serve {
+        /// The store's path.
+        store: &'a str,
+        /// The port, from 1.
+        port: u16,
+        /// How many connections, from 1 to 1,000,000.
+        count: u32,
+        /// Whether a line is written for each request, also if nobody looks on.
+        log: bool,
+        /// How far above its next number a partner's may be, from 1 to 999,999,999; none for no bound.
+        ahead: Option<u32>,
+    },
+    /// To report on the store.
+    Report {
+        /// The store's path.
+        store: &'a str,
+        /// What the report is about.
+        kind: ReportKind,
+        /// Which container, list, interchange or partner it is about; none for a report on the whole yard, on all partners
+        /// or on the office.
+        key: Option<&'a str>,
+    },
+    /// To add an account to a store.
+    Account {
+        /// The store's path.
+        store: &'a str,
+        /// The partner's code, of whatever form.
+        code: &'a str,
+        /// The name of a kind, if it is one.
+        kind: &'a str,
+    },
+    /// To bring what a store of an older version keeps into a new store.
+    Migrate {
+        /// The path of the store that is there.
+        old: &'a str,
+        /// The path of the store to make.
+        new: &'a str,
+    },
+    /// To deliver the interchanges of the standard input over tables in memory.
+    Demo,
+}
 
 /// What the words of a command line ask for, of which the first is the program's name.
 pub fn read_command<'a>(alloc: Global, words: &'a [&'a str]) -> Result<Request<'a>, CommandFault>
@@ -151,6 +257,7 @@ fn wants_key(kind: ReportKind) -> bool
         | ReportKind::YardTable
         | ReportKind::Partners
         | ReportKind::Blocks
+        | ReportKind::Calls
         | ReportKind::Picture
         | ReportKind::Health
         | ReportKind::Metrics => false,
@@ -179,6 +286,7 @@ fn kind_of(word: &str) -> Option<ReportKind>
         "work" => Some(ReportKind::Work),
         "partners" => Some(ReportKind::Partners),
         "blocks" => Some(ReportKind::Blocks),
+        "calls" => Some(ReportKind::Calls),
         "contrl" => Some(ReportKind::Contrl),
         "picture" => Some(ReportKind::Picture),
         "partner" => Some(ReportKind::Partner),
@@ -203,4 +311,26 @@ fn text_of<'a>(matches: &ArgMatches<'a>, id: &str) -> Option<&'a str>
     ensures { option_map (λ text. text.now) result ≡ first_of id.now (rows_of (found_of matches.now)) }
 {
     matches.get_str(id)
+}
+
+/// The number that 1 to 9 digits write, if it is from 1 to the greatest.
+pub(crate) fn number_upto(greatest: u32, text: &str) -> Option<u32>
+    ensures { result ≡ number_upto greatest text.now }
+{
+    let number = number_of(text.as_bytes(), 9)?;
+    if 1 <= number && number <= u64::from(greatest) {
+        Some(number as u32)
+    } else {
+        None
+    }
+}
+
+/// The same of a text that may be left out.
+pub(crate) fn number_if_any(greatest: u32, text: Option<&str>) -> Option<Option<u32>>
+    ensures { result ≡ number_if_any greatest (option_map (λ text. text.now) text.entry) }
+{
+    match text {
+        Some(text) => Some(Some(number_upto(greatest, text)?)),
+        None => Some(None),
+    }
 }

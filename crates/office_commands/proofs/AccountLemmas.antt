@@ -5,19 +5,17 @@ use Rattle.sqlite.specs.Files.{over_files}
 use Rattle.sqlite.specs.Recovery.{Image}
 use Rattle.sqlite.specs.declared.FileStore.{FileStore}
 use Rattle.office_admission.specs.Accounts.{account_answer}
-use Rattle.office_replies.specs.Calls.{IsAsked}
 use Rattle.office_replies.specs.Events.{Event}
-use Rattle.office_replies.specs.declared.account_answer.AccountAnswer.{AccountAnswer}
-use Rattle.office_replies.specs.declared.worst.Worst.{Worst}
+use Rattle.office_replies.specs.declared.accounts.AccountAnswer.{AccountAnswer}
+use Rattle.office_replies.specs.declared.deliver.Worst.{Worst}
 use Rattle.office_setup.specs.Setups.{SetupContent}
 use Rattle.office_history.specs.After.{SaysSame, content_after}
 use Rattle.office_stream.specs.Accounts.{AnsweredAccount, AccountCutShort}
 use Rattle.office_stream.specs.declared.port.Port.{Port}
-use Rattle.office_stream.specs.declared.stream_fault.StreamFault.{StreamFault}
-use Rattle.office_stream.specs.declared.stream_fault.StreamFault.TheVariants.{Write}
+use Rattle.office_stream.specs.declared.stream.StreamFault.{StreamFault}
+use Rattle.office_stream.specs.declared.stream.StreamFault.TheVariants.{Write}
 use Rattle.office_desk.specs.Accounts.{AnswersAccount, Says}
 use Rattle.office_desk.specs.Calls.{Enrols}
-use Rattle.office_desk.specs.Desks.{IsSound, StandsFor}
 use Rattle.office_desk.specs.declared.desk.Desk.{Desk}
 use Rattle.office_commands.specs.Accounts.{AnswersAsked, IsAskedOver, LeavesWriter}
 use Rattle.office_commands.specs.Delivering.{OpensOn}
@@ -37,19 +35,19 @@ module _ (one other : SetupContent) (says : SaysSame one other) where
 
 -- an account that was asked for of a desk that was opened on files
 pub asked_over : {D : Type 0} {g : Ghosts D} (image : Image) (opened desk : Desk (FileStore D g) over_files) → OpensOn image opened → (code kind : List ℕ) (answer : AccountAnswer)
-    → IsAsked (IsSound over_files) (StandsFor over_files) AnswersAccount (Enrols over_files) opened code kind answer desk → IsAskedOver image desk code kind answer
-asked_over image opened desk opens code kind answer done = record {
+    → Enrols over_files opened code kind answer desk → IsAskedOver image desk code kind answer
+asked_over image opened desk opens code kind answer enrolled = record {
   opened = opened;
   opens = opens;
-  enrolled = done.enrolled;
+  enrolled = enrolled;
   adds = λ sound content es begins.
-      let at = opens.events (done.stays sound) content es begins in
-      let added = done.adds sound at.opening es at.stands in
+      let at = opens.events (enrolled.stays sound) content es begins in
+      let added = enrolled.adds sound at.opening es at.stands in
       (account_alike at.opening content at.opening_says es code kind answer added.0, stand_alike at.opening content at.opening_says _ desk added.1);
   leaves = λ sound content es begins.
-      let was = done.stays sound in
+      let was = enrolled.stays sound in
       let at = opens.events was content es begins in
-      record { opening = at.opening; says = at.opening_says; holds = done.enrolled.crash was sound.0 at.opening es at.stands };
+      record { opening = at.opening; says = at.opening_says; holds = enrolled.crash was sound.0 at.opening es at.stands };
 }
 
 -- its line, or a front of it

@@ -5,8 +5,8 @@ use Rattle.std.specs.Str.{bytes_eq}
 use Rattle.std.proofs.lemmas.Bool.{and_parts}
 use Rattle.edi_messages.specs.CodeText.{table_fault}
 use Rattle.edi_messages.specs.Codes.{table_texts}
-use Rattle.edi_messages.specs.declared.code_table.CodeTable.{CodeTable}
-use Rattle.edi_messages.specs.declared.partner_kind.PartnerKind.{PartnerKind}
+use Rattle.edi_messages.specs.declared.code.CodeTable.{CodeTable}
+use Rattle.edi_messages.specs.declared.codes.PartnerKind.{PartnerKind}
 use Rattle.terminal_core.proofs.Boxes.{same_self}
 use Rattle.yard_core.specs.Plan.{AreApart}
 use Rattle.office_setup.specs.Given.{IsGiven, AreDistinct}

@@ -1,5 +1,5 @@
 -- What the demonstration's stream leaves behind where it ends before the input.
-use Rattle.std.proofs.Common.{◌≡◌, ℕ, Bool, true, List, [], Result, Ok, Err, rules}
+use Rattle.std.proofs.Common.{◌≡◌, ◌<◌, ℕ, Bool, true, List, [], Result, Ok, Err, rules}
 use Rattle.sqlite_trees.specs.View.{doubt}
 use Rattle.sqlite.specs.Held.{state}
 use Rattle.sqlite.specs.State.{HasCleanDisk}
@@ -8,15 +8,17 @@ use Rattle.sqlite.specs.declared.connection.Connection.{Connection}
 use Rattle.sqlite_trees.specs.declared.memory.MemStore.{MemStore}
 use Rattle.office_setup.specs.Setups.{setup_content}
 use Rattle.office_desk.specs.Answers.{AnswersNext}
-use Rattle.office_replies.specs.declared.worst.Worst.{Worst}
+use Rattle.office_replies.specs.declared.deliver.Worst.{Worst}
 use Rattle.office_desk.specs.Calls.{Leads}
 use Rattle.office_desk.specs.Desks.{IsSound, StandsFor}
-use Rattle.office_stream.specs.Streams.{AreDelivered, Answered, PortBytes, Streams}
+use Rattle.office_desk.proofs.CallLemmas.{answered_all}
+use Rattle.office_replies.specs.Delivering.{Answered, LeadsOn}
+use Rattle.office_stream.specs.Streams.{PortBytes, Streams}
 use Rattle.office_stream.specs.Faults.{MatchFault}
-use Rattle.office_stream.specs.declared.stream_fault.StreamFault.{StreamFault}
-use Rattle.office_stream.specs.declared.stream_fault.StreamFault.TheVariants.{Read, Write, Turns}
+use Rattle.office_stream.specs.declared.stream.StreamFault.{StreamFault}
+use Rattle.office_stream.specs.declared.stream.StreamFault.TheVariants.{Read, Write, Turns}
 use Rattle.office_stream.proofs.StreamLemmas.{streams_as}
-use Rattle.office_commands.specs.declared.demo_fault.DemoFault.TheVariants.{Stream}
+use Rattle.office_commands.specs.declared.demo.DemoFault.TheVariants.{Stream}
 use Rattle.office_commands.specs.Opening.{MemoryDesk}
 use Rattle.office_commands.specs.Demo.{OpensDemo, DemoLeft, IsOfPorts, port_failures}
 
@@ -44,11 +46,18 @@ failed_by read read' write write' Read Many Ended failed = failed
 failed_by read read' write write' Turns Many Ended failed = (failed.0, failed.1)
 failed_by read read' write write' Write Many Ended failed = failed
 
+-- if the stream was left for the number of its turns, what is said of them
+pub left_for_turns : (fault : StreamFault) (turns : ℕ) → 0 < turns → (AfterRead AfterWrite Kept Written Many Ended : Type 0)
+    → MatchFault fault AfterRead AfterWrite (Kept × Written × Many × (0 < turns → Ended)) → Stream fault ≡ Stream Turns → Many × Ended
+left_for_turns Read turns positive AfterRead AfterWrite Kept Written Many Ended failed is = cc
+left_for_turns Write turns positive AfterRead AfterWrite Kept Written Many Ended failed is = cc
+left_for_turns Turns turns positive AfterRead AfterWrite Kept Written Many Ended failed is = (failed.2, failed.3 positive)
+
 -- what a stream to such a desk did, which is sound in the end
 pub answered_in_memory : (ports : PortBytes) (opening desk : MemoryDesk) (outcome : Result Worst StreamFault) → OpensDemo opening
-    → Streams (AreDelivered (IsSound over_memory) (StandsFor over_memory) AnswersNext (Leads over_memory) opening desk) ports outcome
+    → Streams (λ texts responses. LeadsOn (Leads over_memory) opening texts responses desk) ports outcome
     → Streams (Answered (StandsFor over_memory (setup_content opening.setup)) (AnswersNext (setup_content opening.setup)) [] desk) ports outcome
 answered_in_memory ports opening desk outcome opens =
-    streams_as (AreDelivered (IsSound over_memory) (StandsFor over_memory) AnswersNext (Leads over_memory) opening desk)
+    streams_as (λ texts responses. LeadsOn (Leads over_memory) opening texts responses desk)
     (Answered (StandsFor over_memory (setup_content opening.setup)) (AnswersNext (setup_content opening.setup)) [] desk)
-    (λ texts responses done. done.answered (memory_sound desk) (setup_content opening.setup) [] opens.opens.stands) ports outcome
+    (λ texts responses led. answered_all over_memory opening desk texts responses led (memory_sound desk) (setup_content opening.setup) [] opens.opens.stands) ports outcome

@@ -19,7 +19,7 @@ use Rattle.office_history.proofs.Alike.{parties_same}
 use Rattle.office_queries.specs.Program.{program_version}
 use Rattle.office_queries.specs.declared.query.Query.{Query}
 use Rattle.office_queries.specs.declared.query.Query.TheVariants as query
-use Rattle.office_queries.specs.declared.report_kind.ReportKind.{ReportKind}
+use Rattle.office_queries.specs.declared.query.ReportKind.{ReportKind}
 use Rattle.office_reports.specs.Visits.{visit_report}
 use Rattle.office_lookups.specs.Containers.{container_report}
 use Rattle.office_lookups.specs.Metrics.{metrics_text}
@@ -57,6 +57,7 @@ module _ (one other : SetupContent) (says : SaysSame one other) where
       told ∙ (λ i. container_report (record { terminal = one.terminal; codes = one.codes; partners = says.partners i; blocks = one.blocks; visit_limit = one.visit_limit }) state container)
   of_alike state rows query.Partners found told = subst (λ accounts. TellsPartners rows accounts found) says.partners told
   of_alike state rows query.Blocks found told = told
+  of_alike state rows query.Calls found told = told
   of_alike state rows (query.Work call side) found told = told
   of_alike state rows (query.Contrl partner number) found told =
       told ∙ ap (contrl_told rows number) (called_alike (string_bytes partner))

@@ -1,5 +1,5 @@
 -- Requests that are served over a store in files.
-use Rattle.std.proofs.Common.{◌≡◌, ◌⊎◌, ◌≤◌, inl, inr, ℕ, Bool, true, false, List, [], ◌∷◌, ◌++◌, length, Option, Some, Result, Ok, Err, refl, sym, ap, subst, ◌∙◌}
+use Rattle.std.proofs.Common.{◌≡◌, ◌⊎◌, inl, inr, ℕ, Bool, true, false, List, [], ◌∷◌, ◌++◌, Option, Some, Result, Ok, Err, refl, sym, ap, subst, ◌∙◌}
 use Rattle.std.proofs.KnownBytes.{Appends-nil, Appends-trans}
 use Rattle.std.specs.Io.KnownBytes.{Appends}
 use Rattle.sqlite_disk.specs.declared.Disk.{Ghosts}
@@ -11,18 +11,18 @@ use Rattle.sqlite.specs.declared.FileStore.{FileStore}
 use Rattle.office_replies.specs.Adding.{with_added}
 use Rattle.office_replies.specs.Delivering.{with_answered}
 use Rattle.office_replies.specs.Events.{Event, delivered, added}
-use Rattle.office_replies.specs.declared.account_answer.AccountAnswer.{AccountAnswer}
-use Rattle.office_replies.specs.declared.account_answer.AccountAnswer.TheVariants as account_answer
-use Rattle.office_replies.specs.declared.response.Response.{Response}
-use Rattle.office_replies.specs.declared.response.Response.TheVariants as response
+use Rattle.office_replies.specs.declared.accounts.AccountAnswer.{AccountAnswer}
+use Rattle.office_replies.specs.declared.accounts.AccountAnswer.TheVariants as account_answer
+use Rattle.office_replies.specs.declared.deliver.Response.{Response}
+use Rattle.office_replies.specs.declared.deliver.Response.TheVariants as response
 use Rattle.office_queries.specs.Looking.{Tells}
-use Rattle.office_queries.specs.declared.not_now.NotNow.{NotNow}
+use Rattle.office_queries.specs.declared.query.NotNow.{NotNow}
 use Rattle.office_queries.specs.declared.query.Query.{Query}
 use Rattle.office_setup.specs.Setups.{SetupContent}
 use Rattle.office_history.specs.After.{SaysSame}
 use Rattle.office_stream.specs.Fronts.{AppendsFront}
 use Rattle.office_stream.specs.declared.port.Port.{Port}
-use Rattle.office_http.specs.Served.{calls_of}
+use Rattle.office_http.specs.Served.{AtMost, calls_of}
 use Rattle.office_http.specs.Steps.{Step, delivery, account, report, with_step, events_after, StepLeads, StepsLead}
 use Rattle.office_desk.specs.Answers.{AnswersNext}
 use Rattle.office_desk.specs.Accounts.{AnswersAccount}
@@ -41,7 +41,7 @@ use Rattle.office_commands.proofs.StreamLemmas.{answer_alike, stand_alike}
 -- ---- what stands around a desk
 
 -- steps of what a desk stands in are steps of the desk, if each one is
-pub inner_steps : {W D : Type 0} (inner : W → D) (outer_leads : W → List ℕ → Response → W → Type 0) (outer_enrols : W → List ℕ → List ℕ → AccountAnswer → W → Type 0)
+inner_steps : {W D : Type 0} (inner : W → D) (outer_leads : W → List ℕ → Response → W → Type 0) (outer_enrols : W → List ℕ → List ℕ → AccountAnswer → W → Type 0)
     (leads : D → List ℕ → Response → D → Type 0) (enrols : D → List ℕ → List ℕ → AccountAnswer → D → Type 0)
     (looks : D → Query → Result (Option (List ℕ)) NotNow → D → Type 0) (old : W) (steps : List Step) (new : W)
     → StepsLead outer_leads outer_enrols (λ o query found n. looks (inner o) query found (inner n)) old steps new
@@ -68,14 +68,18 @@ named_enrols enrols named unnamed nameless old code kind given new (inl (said, n
 named_enrols enrols named unnamed nameless old code kind given new (inr (said, noted, off, same)) = inr (off, same)
 
 -- from what a desk was to what it is, by whatever stood around it
-pub served_by : {D : Type 0} (leads : D → List ℕ → Response → D → Type 0) (enrols : D → List ℕ → List ℕ → AccountAnswer → D → Type 0)
-    (looks : D → Query → Result (Option (List ℕ)) NotNow → D → Type 0) (count : ℕ) (opened first last end : D) → first ≡ opened → end ≡ last → (steps : List Step) → length steps ≤ count
-    → StepsLead (LeadsNamed leads) (EnrolsNamed enrols) looks first steps last → AreServedBy leads enrols looks count opened end
-served_by {D} leads enrols looks count opened first last end begins ends steps few led = record {
-  steps = steps;
-  few = few;
-  led = subst (λ (at : D). StepsLead (LeadsNamed leads) (EnrolsNamed enrols) looks opened steps at) (sym ends)
-      (subst (λ (at : D). StepsLead (LeadsNamed leads) (EnrolsNamed enrols) looks at steps last) begins led);
+served_by : {W D : Type 0} (inner : W → D) (outer_leads : W → List ℕ → Response → W → Type 0) (outer_enrols : W → List ℕ → List ℕ → AccountAnswer → W → Type 0)
+    (leads : D → List ℕ → Response → D → Type 0) (enrols : D → List ℕ → List ℕ → AccountAnswer → D → Type 0)
+    (looks : D → Query → Result (Option (List ℕ)) NotNow → D → Type 0) (count : ℕ) (first last : W) (opened end : D) → inner first ≡ opened → end ≡ inner last
+    → ((o : W) (text : List ℕ) (given : Response) (n : W) → outer_leads o text given n → LeadsNamed leads (inner o) text given (inner n))
+    → ((o : W) (code kind : List ℕ) (given : AccountAnswer) (n : W) → outer_enrols o code kind given n → EnrolsNamed enrols (inner o) code kind given (inner n))
+    → AtMost outer_leads outer_enrols (λ o query found n. looks (inner o) query found (inner n)) count first last → AreServedBy leads enrols looks count opened end
+served_by {W} {D} inner outer_leads outer_enrols leads enrols looks count first last opened end begins ends by by' served = record {
+  steps = served.steps;
+  few = served.few;
+  led = subst (λ (at : D). StepsLead (LeadsNamed leads) (EnrolsNamed enrols) looks opened served.steps at) (sym ends)
+      (subst (λ (at : D). StepsLead (LeadsNamed leads) (EnrolsNamed enrols) looks at served.steps (inner last)) begins
+      (inner_steps inner outer_leads outer_enrols (LeadsNamed leads) (EnrolsNamed enrols) looks first served.steps last served.led by by'));
 }
 
 -- ---- set-ups that say the same
@@ -266,3 +270,18 @@ pub ends_as : {W : Type 0} (port count : ℕ) (old new : Port W) (a b : Option (
 ends_as port count old new a b tells Served Served' status on (inl (zero, writes, flushed, well, told, served)) = inl (zero, writes, flushed, well, told, on (calls_of count) served)
 ends_as port count old new a b tells Served Served' status on (inr (inl (three, fails, first, told, served))) = inr (inl (three, fails, first, told, on (calls_of count) served))
 ends_as port count old new a b tells Served Served' status on (inr (inr (three, none, served))) = inr (inr (three, none, on 0 served))
+
+-- what was served of what stands around a desk, as what was served of the desk
+pub ends_inner : {P W D : Type 0} (port count : ℕ) (old new : Port P) (a b : Option (List ℕ)) (tells : List ℕ → Type 0) (inner : W → D)
+    (outer_leads : W → List ℕ → Response → W → Type 0) (outer_enrols : W → List ℕ → List ℕ → AccountAnswer → W → Type 0)
+    (leads : D → List ℕ → Response → D → Type 0) (enrols : D → List ℕ → List ℕ → AccountAnswer → D → Type 0)
+    (looks : D → Query → Result (Option (List ℕ)) NotNow → D → Type 0) (first last : W) (status : ℕ)
+    → EndsServing port count old new a b tells (λ most. AtMost outer_leads outer_enrols (λ o query found n. looks (inner o) query found (inner n)) most first last) status
+    → (opened end : D) → inner first ≡ opened → end ≡ inner last
+    → ((o : W) (text : List ℕ) (given : Response) (n : W) → outer_leads o text given n → LeadsNamed leads (inner o) text given (inner n))
+    → ((o : W) (code kind : List ℕ) (given : AccountAnswer) (n : W) → outer_enrols o code kind given n → EnrolsNamed enrols (inner o) code kind given (inner n))
+    → EndsServing port count old new a b tells (λ most. AreServedBy leads enrols looks most opened end) status
+ends_inner port count old new a b tells inner outer_leads outer_enrols leads enrols looks first last status served opened end begins ends by by' =
+    ends_as port count old new a b tells (λ most. AtMost outer_leads outer_enrols (λ o query found n. looks (inner o) query found (inner n)) most first last)
+    (λ most. AreServedBy leads enrols looks most opened end) status
+    (λ most calls. served_by inner outer_leads outer_enrols leads enrols looks most first last opened end begins ends by by' calls) served

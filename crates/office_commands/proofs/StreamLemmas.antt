@@ -5,25 +5,24 @@ use Rattle.sqlite.specs.Files.{over_files}
 use Rattle.sqlite.specs.Recovery.{Image}
 use Rattle.sqlite.specs.declared.FileStore.{FileStore}
 use Rattle.edi_segments.specs.Interchange.{interchange_of}
-use Rattle.office_replies.specs.Delivering.{AnswersEach, LeadsOn, with_answered, events_behind}
+use Rattle.office_replies.specs.Delivering.{Answered, AnswersEach, LeadsOn, with_answered, events_behind}
 use Rattle.office_replies.specs.Events.{Event}
-use Rattle.office_replies.specs.declared.response.Response.{Response}
-use Rattle.office_replies.specs.declared.response.Response.TheVariants.{Taken, Repeat, Waiting, Clash, Refused, RefusedWithContrl, NotNow}
-use Rattle.office_replies.specs.declared.worst.Worst.{Worst}
+use Rattle.office_replies.specs.declared.deliver.Response.{Response}
+use Rattle.office_replies.specs.declared.deliver.Response.TheVariants.{Taken, Repeat, Waiting, Clash, Refused, RefusedWithContrl, NotNow}
+use Rattle.office_replies.specs.declared.deliver.Worst.{Worst}
 use Rattle.office_admission.specs.Refusals.{MayBeNotNow}
 use Rattle.office_setup.specs.Setups.{SetupContent}
 use Rattle.office_history.specs.After.{SaysSame, content_after}
 use Rattle.office_history.proofs.Alike.{parties_same}
 use Rattle.office_stream.specs.Faults.{MatchFault}
-use Rattle.office_stream.specs.Streams.{Answered, AreDelivered}
-use Rattle.office_stream.specs.declared.stream_fault.StreamFault.{StreamFault}
-use Rattle.office_stream.specs.declared.stream_fault.StreamFault.TheVariants.{Read, Write, Turns}
+use Rattle.office_stream.specs.declared.stream.StreamFault.{StreamFault}
+use Rattle.office_stream.specs.declared.stream.StreamFault.TheVariants.{Read, Write, Turns}
 use Rattle.office_desk.specs.Answers.{AnswersNext}
 use Rattle.office_desk.specs.Calls.{Leads}
-use Rattle.office_desk.specs.Desks.{IsSound, StandsFor}
+use Rattle.office_desk.specs.Desks.{StandsFor}
 use Rattle.office_desk.specs.declared.desk.Desk.{Desk}
 use Rattle.office_desk.proofs.AlikeLemmas.{answers_alike}
-use Rattle.office_desk.proofs.CallLemmas.{leaves_all, sound_before}
+use Rattle.office_desk.proofs.CallLemmas.{answered_all, leaves_all, sound_before}
 use Rattle.office_commands.proofs.NowAlike.{now_alike}
 use Rattle.office_commands.specs.Delivering.{AreDeliveredOver, OpensOn, StandsAlike}
 use Rattle.office_commands.specs.Ending.{Ports, LeavesPorts, most_turns}
@@ -82,18 +81,19 @@ module _ (one other : SetupContent) (says : SaysSame one other) where
 
 -- deliveries to a desk that was opened on files
 pub delivered_over : {D : Type 0} {g : Ghosts D} (image : Image) (opened desk : Desk (FileStore D g) over_files) → OpensOn image opened → (texts : List (List ℕ)) (responses : List Response)
-    → AreDelivered (IsSound over_files) (StandsFor over_files) AnswersNext (Leads over_files) opened desk texts responses → AreDeliveredOver image desk texts responses
-delivered_over image opened desk opens texts responses done = record {
+    → LeadsOn (Leads over_files) opened texts responses desk → AreDeliveredOver image desk texts responses
+delivered_over image opened desk opens texts responses led = record {
   opened = opened;
   opens = opens;
-  led = done.led;
+  led = led;
   answered = λ sound content es begins.
-      let at = opens.events (sound_before over_files opened desk texts responses done.led sound) content es begins in
+      let at = opens.events (sound_before over_files opened desk texts responses led sound) content es begins in
       answered_also (StandsFor over_files at.opening) (StandsAlike content) (AnswersNext at.opening) (AnswersNext content)
-      (stand_alike at.opening content at.opening_says) (answer_alike at.opening content at.opening_says) es desk texts responses (done.answered sound at.opening es at.stands);
+      (stand_alike at.opening content at.opening_says) (answer_alike at.opening content at.opening_says) es desk texts responses
+      (answered_all over_files opened desk texts responses led sound at.opening es at.stands);
   leaves = λ sound content es begins.
-      let at = opens.events (sound_before over_files opened desk texts responses done.led sound) content es begins in
-      record { opening = at.opening; says = at.opening_says; holds = leaves_all over_files opened desk texts responses done.led sound at.opening es at.stands at.leaves };
+      let at = opens.events (sound_before over_files opened desk texts responses led sound) content es begins in
+      record { opening = at.opening; says = at.opening_says; holds = leaves_all over_files opened desk texts responses led sound at.opening es at.stands at.leaves };
 }
 
 -- ---- what stands around a desk
@@ -107,16 +107,8 @@ inner_leads inner leads old (text ∷ texts) [] new none = absurd none
 inner_leads inner leads old (text ∷ texts) (given ∷ responses) new (next, led, rest) = (inner next, led, inner_leads inner leads next texts responses new rest)
 
 -- from what a desk was to what it is, by whatever stood around it
-pub delivered_by : {W D Opening : Type 0} (inner : W → D) (is_sound : D → Type 0) (stands : Opening → List Event → D → Type 0) (answers : Opening → List Event → List ℕ → Response → Type 0)
-    (leads : D → List ℕ → Response → D → Type 0) (first last : W) (opened end : D) → inner first ≡ opened → end ≡ inner last → (texts : List (List ℕ)) (responses : List Response)
-    → AreDelivered (λ n. is_sound (inner n)) (λ opening es n. stands opening es (inner n)) answers (λ o text given n. leads (inner o) text given (inner n)) first last texts responses
-    → AreDelivered is_sound stands answers leads opened end texts responses
-delivered_by {W} {D} {Opening} inner is_sound stands answers leads first last opened end begins ends texts responses done =
-    let here : AreDelivered is_sound stands answers leads (inner first) (inner last) texts responses = record {
-      led = inner_leads inner leads first texts responses last done.led;
-      answered = λ sound opening es at.
-          let answered = done.answered sound opening es at in
-          record { each = answered.each; stands_now = answered.stands_now };
-    } in
-    subst (λ (at : D). AreDelivered is_sound stands answers leads opened at texts responses) (sym ends)
-    (subst (λ (at : D). AreDelivered is_sound stands answers leads at (inner last) texts responses) begins here)
+pub delivered_by : {W D : Type 0} (inner : W → D) (leads : D → List ℕ → Response → D → Type 0) (first last : W) (opened end : D) → inner first ≡ opened → end ≡ inner last
+    → (texts : List (List ℕ)) (responses : List Response) → LeadsOn (λ o text given n. leads (inner o) text given (inner n)) first texts responses last → LeadsOn leads opened texts responses end
+delivered_by {W} {D} inner leads first last opened end begins ends texts responses led =
+    subst (λ (at : D). LeadsOn leads opened texts responses at) (sym ends)
+    (subst (λ (at : D). LeadsOn leads at texts responses (inner last)) begins (inner_leads inner leads first texts responses last led))

@@ -8,11 +8,11 @@ use Rattle.sqlite.specs.State.{State}
 use Rattle.sqlite.specs.declared.FileStore.{FileStore}
 use Rattle.office_replies.specs.Adding.{Adds}
 use Rattle.office_replies.specs.Events.{Event}
-use Rattle.office_replies.specs.declared.account_answer.AccountAnswer.{AccountAnswer}
-use Rattle.office_replies.specs.declared.worst.Worst.{Worst}
+use Rattle.office_replies.specs.declared.accounts.AccountAnswer.{AccountAnswer}
+use Rattle.office_replies.specs.declared.deliver.Worst.{Worst}
 use Rattle.office_stream.specs.Accounts.{AnsweredAccount, AccountCutShort}
 use Rattle.office_stream.specs.declared.port.Port.{Port}
-use Rattle.office_stream.specs.declared.stream_fault.StreamFault.{StreamFault}
+use Rattle.office_stream.specs.declared.stream.StreamFault.{StreamFault}
 use Rattle.office_setup.specs.Setups.{SetupContent}
 use Rattle.office_desk.specs.Accounts.{AnswersAccount, LeavesAdded}
 use Rattle.office_desk.specs.Calls.{Enrols}

@@ -7,10 +7,9 @@ use Rattle.sqlite.specs.Recovery.{Image}
 use Rattle.sqlite.specs.State.{State}
 use Rattle.sqlite.specs.Tree.{Trees}
 use Rattle.sqlite.specs.declared.FileStore.{FileStore}
-use Rattle.office_replies.specs.Delivering.{LeadsOn}
+use Rattle.office_replies.specs.Delivering.{Answered, LeadsOn}
 use Rattle.office_replies.specs.Events.{Event}
-use Rattle.office_replies.specs.declared.response.Response.{Response}
-use Rattle.office_stream.specs.Streams.{Answered}
+use Rattle.office_replies.specs.declared.deliver.Response.{Response}
 use Rattle.office_setup.specs.Given.{IsGiven}
 use Rattle.office_setup.specs.Setups.{SetupContent}
 use Rattle.office_desk.specs.Answers.{AnswersNext}

@@ -15,16 +15,17 @@ use Rattle.office_rows.specs.Tables.{office_schema}
 use Rattle.office_loading.specs.Tables.{Loads}
 use Rattle.office_queries.specs.Keys.{query_asked, query_of}
 use Rattle.office_queries.specs.declared.query.Query.{Query}
-use Rattle.office_queries.specs.declared.report_kind.ReportKind.{ReportKind}
+use Rattle.office_queries.specs.declared.query.ReportKind.{ReportKind}
 use Rattle.office_desk.specs.Reports.{TellsOf, TellsAfter}
 use Rattle.office_commands.specs.Opening.{HoldsTables}
 use Rattle.office_commands.specs.Delivering.{BeginsAt}
 
 -- ---- the text and the status
 
--- a text in whole lines
+-- a text in whole lines: an empty one has none
 abbrev pub in_lines : List ℕ → List ℕ
-in_lines text = if ends_with eqb text (line_feed ∷ []) then text else line text
+in_lines [] = []
+in_lines (b ∷ bs) = if ends_with eqb (b ∷ bs) (line_feed ∷ []) then b ∷ bs else line (b ∷ bs)
 
 abbrev pub report_text : Option (List ℕ) → List ℕ
 report_text None = codes "none\n"

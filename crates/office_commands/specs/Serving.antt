@@ -1,5 +1,5 @@
 -- What requests that are served leave of an office whose files held the rows after some events.
-use Rattle.std.specs.Prelude.{◌≡◌, ◌⊎◌, ◌≤◌, ℕ, Bool, true, false, List, [], ◌∷◌, ◌++◌, length, Option, None, Some, Result, codes, decimal}
+use Rattle.std.specs.Prelude.{◌≡◌, ◌⊎◌, ℕ, Bool, true, false, List, [], ◌∷◌, ◌++◌, Option, None, Some, Result, codes, decimal}
 use Rattle.std.specs.Io.KnownBytes.{Appends}
 use Rattle.sqlite_disk.specs.declared.Disk.{Ghosts}
 use Rattle.sqlite.specs.Files.{over_files}
@@ -9,18 +9,18 @@ use Rattle.sqlite.specs.State.{State}
 use Rattle.sqlite.specs.Tree.{Trees}
 use Rattle.sqlite.specs.declared.FileStore.{FileStore}
 use Rattle.office_replies.specs.Events.{Event, delivered, added}
-use Rattle.office_replies.specs.declared.account_answer.AccountAnswer.{AccountAnswer}
-use Rattle.office_replies.specs.declared.account_answer.AccountAnswer.TheVariants as account_answer
-use Rattle.office_replies.specs.declared.response.Response.{Response}
-use Rattle.office_replies.specs.declared.response.Response.TheVariants as response
+use Rattle.office_replies.specs.declared.accounts.AccountAnswer.{AccountAnswer}
+use Rattle.office_replies.specs.declared.accounts.AccountAnswer.TheVariants as account_answer
+use Rattle.office_replies.specs.declared.deliver.Response.{Response}
+use Rattle.office_replies.specs.declared.deliver.Response.TheVariants as response
 use Rattle.office_queries.specs.Looking.{Tells}
-use Rattle.office_queries.specs.declared.not_now.NotNow.{NotNow as Unreported}
+use Rattle.office_queries.specs.declared.query.NotNow.{NotNow as Unreported}
 use Rattle.office_queries.specs.declared.query.Query.{Query}
 use Rattle.office_setup.specs.Setups.{SetupContent}
 use Rattle.office_stream.specs.Fronts.{AppendsFront}
 use Rattle.office_stream.specs.declared.port.Port.{Port}
-use Rattle.office_http.specs.Served.{calls_of}
-use Rattle.office_http.specs.Steps.{Step, delivery, account, report, with_step, events_after, StepsLead}
+use Rattle.office_http.specs.Served.{AtMost, calls_of}
+use Rattle.office_http.specs.Steps.{Step, delivery, account, report, with_step, events_after}
 use Rattle.office_desk.specs.Accounts.{AnswersAccount}
 use Rattle.office_desk.specs.Answers.{AnswersNext}
 use Rattle.office_desk.specs.Calls.{Leads, Enrols, Looks}
@@ -99,12 +99,10 @@ EnrolsWhile enrols says nameless old code kind given new =
 
 -- At most so many calls were made, and each did to the desk what the desk says of a call, or nothing and was answered
 -- `not now`.
-pub record AreServedBy {D : Type 0} (leads : D → List ℕ → Response → D → Type 0)
-    (enrols : D → List ℕ → List ℕ → AccountAnswer → D → Type 0)
-    (looks : D → Query → Result (Option (List ℕ)) Unreported → D → Type 0) (count : ℕ) (old new : D) : Type 0 where
-  pub steps : List Step
-  pub few : length steps ≤ count
-  pub led : StepsLead (LeadsNamed leads) (EnrolsNamed enrols) looks old steps new
+abbrev pub AreServedBy : {D : Type 0} → (leads : D → List ℕ → Response → D → Type 0) →
+    (enrols : D → List ℕ → List ℕ → AccountAnswer → D → Type 0) →
+    (looks : D → Query → Result (Option (List ℕ)) Unreported → D → Type 0) → (count : ℕ) → (old new : D) → Type 0
+AreServedBy leads enrols looks count old new = AtMost (LeadsNamed leads) (EnrolsNamed enrols) looks count old new
 
 module _ {D : Type 0} {g : Ghosts D} where
   -- So many calls at most were made of a desk that was opened on those files. If it is sound in the end, then from

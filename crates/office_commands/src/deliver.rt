@@ -1,21 +1,29 @@
-ghost use Rattle.std.specs.Prelude.{◌≡◌, ◌≤◌, ◌+◌, false, IfOk, IfErr};
-ghost use Rattle.sqlite.specs.WalFiles.{image_at};
-ghost use Rattle.office_stream.specs.Streams.{AreDelivered, Streams, port_bytes};
+ghost use Rattle.std.specs.Prelude.{◌≡◌, ◌≤◌, ◌+◌, false, IfOk, IfErr, OnErr, ℕ, List, Option, option_map, string_bytes};
+ghost use Rattle.office_commands.specs.Accounts.{AccountEnds, AnswersAsked, IsAskedOver, LeavesWriter};
 ghost use Rattle.office_commands.specs.Delivering.{AreDeliveredOver};
-ghost use Rattle.office_commands.specs.Ending.{Tells, StreamEnds, LeavesPorts, ports, store_text, most_turns};
+ghost use Rattle.office_commands.specs.Ending.{Tells, StreamEnds, LeavesPorts, ports, store_text, most_turns, outcome_status, Prints};
+ghost use Rattle.office_commands.specs.Looking.{LooksOver};
+ghost use Rattle.office_commands.specs.Reporting.{Reports, TellsKey, TellsHeld, in_lines};
+ghost use Rattle.office_desk.specs.Calls.{OnlyLooks};
+ghost use Rattle.office_desk.specs.Desks.{IsSound};
+ghost use Rattle.office_desk.specs.Reports.{DeskTells};
+ghost use Rattle.office_replies.specs.Delivering.{LeadsOn};
+ghost use Rattle.office_stream.specs.Streams.{Streams, port_bytes};
+ghost use Rattle.sqlite.specs.Files.{over_files};
+ghost use Rattle.sqlite.specs.WalFiles.{image_at};
 
-use crate::faults::{Faults, Tallied};
-use crate::noted::Noted;
-use crate::notes::Notes;
+use crate::notes::{Noted, Notes};
 use crate::opening::open_store;
-use crate::telling::{tell_fault, tell_outcome};
+use crate::telling::{
+    DONE, FAILED, Faults, REFUSED, Tallied, print, status_of, tell_fault, tell_outcome,
+};
 use office_desk::Desk;
-use office_queries::Report;
-use office_replies::Deliver;
-use office_stream::{Port, run_stream};
+use office_queries::{Report, ReportKind, read_query};
+use office_replies::{Deliver, Worst};
+use office_stream::{Port, StreamFault, answer_account, run_stream};
 use office_tables::TableFault;
-use sqlite::{FileFrom, FileStore, Start};
-use std::alloc::Global;
+use sqlite::{Alter, FileFrom, FileStore, Start};
+use std::alloc::{AllocError, Global};
 use std::io::{Read, Write};
 
 /// How many reads of an input are made at most.
@@ -32,15 +40,12 @@ pub fn deliver_to<D: Deliver, N: Notes, R: Read, W: Write, E: Write>(
     writer: &mut Port<W>,
     errors: &mut Port<E>,
 ) -> u8
-    // What each delivery did to the desk, and how it was answered, from whatever events it stood at.
+    // What each delivery did to the desk, and its line.
     ensures ends { StreamEnds (LeavesPorts (ports reader.old writer.old) (ports reader.new writer.new))
-        (Streams (AreDelivered D.is_sound D.stands D.answers D.leads desk.old desk.new)
+        (Streams (λ texts responses. LeadsOn D.leads desk.old texts responses desk.new)
         (port_bytes (R.remaining reader.old.inner) (R.remaining reader.new.inner)
         (W.contents writer.old.inner) (W.contents writer.new.inner)))
         (Tells errors.new.failed (E.contents errors.old.inner) (E.contents errors.new.inner)) result }
-
-    // Nothing is said of a desk whose records have not told the truth.
-    ensures stays { D.is_sound desk.new → D.is_sound desk.old }
 
     // No read is made behind one that found the end, and no more than turns.
     ensures in_time { reader.old.ended ≡ false → reader.new.read_behind_end ≡ reader.old.read_behind_end }
@@ -63,7 +68,7 @@ fn deliver_noted<D: Report + Faults + Tallied, N: Notes, R: Read, W: Write, E: W
     errors: &mut Port<E>,
 ) -> (u8, D)
     ensures ends { StreamEnds (LeavesPorts (ports reader.old writer.old) (ports reader.new writer.new))
-        (Streams (AreDelivered D.is_sound D.stands D.answers D.leads desk result.1)
+        (Streams (λ texts responses. LeadsOn D.leads desk texts responses result.1)
         (port_bytes (R.remaining reader.old.inner) (R.remaining reader.new.inner)
         (W.contents writer.old.inner) (W.contents writer.new.inner)))
         (Tells errors.new.failed (E.contents errors.old.inner) (E.contents errors.new.inner)) result.0 }
@@ -112,4 +117,117 @@ pub fn deliver_over<S: Start, N: Notes, R: Read, W: Write, E: Write>(
             (status, Err(fault))
         }
     }
+}
+
+/// Adds an account to the store in the file at a path, prints the answer as a line, and answers the exit status and the
+/// desk as it was left: 0 if there is such an account, now or before, 1 if it is refused, and 3 if that could not be
+/// answered now, or printing failed. A fault is that of `open_store`, and then nothing was printed. No clause says what
+/// the store holds behind a fault, since no desk is left: that nothing was asked of it is to be read in this body.
+pub fn account_over<S: Start, W: Write>(
+    rt: &HostRuntime,
+    path: &str,
+    start: S,
+    code: &str,
+    kind: &str,
+    writer: &mut Port<W>,
+) -> Result<(u8, Desk<FileStore<FileFrom<S>>>), TableFault>
+    // From whatever events the files held the rows, the line is the answer of that office, and an account that was added
+    // outlasts a crash. And what asking did to the desk, whatever the files held.
+    ensures ok { IfOk result (λ ended.
+        AccountEnds (LeavesWriter writer.old writer.new)
+        (AnswersAsked (IsAskedOver (image_at S.Start) ended.1 code.now kind.now)
+        (W.contents writer.old.inner) (W.contents writer.new.inner)) ended.0) }
+    ensures err { OnErr result (writer.new ≡ writer.old) }
+{
+    let mut desk = open_store(rt, path, start)?;
+    let outcome = answer_account(rt.alloc(), code, kind, writer, &mut desk);
+    Ok((outcome_status(outcome), desk))
+}
+
+/// The exit status of an answer, or of a line that could not be written.
+fn outcome_status(outcome: Result<Worst, StreamFault>) -> u8
+    ensures { result ≡ outcome_status outcome }
+{
+    match outcome {
+        Ok(worst) => status_of(worst),
+        Err(_) => FAILED,
+    }
+}
+
+/// Prints the report that a key asks for, from the store in the file at a path, and answers the desk as it was left and
+/// the exit status: 0, 1 if there is nothing to tell, which prints `none`, and 3 if printing failed; or the fault for which
+/// nothing was printed. A fault without a desk is that for which it did not open.
+pub fn report_over<S: Start, W: Write>(
+    rt: &HostRuntime,
+    path: &str,
+    start: S,
+    kind: ReportKind,
+    key: &str,
+    writer: &mut Port<W>,
+) -> Result<(Desk<FileStore<FileFrom<S>>>, Result<u8, TableFault>), TableFault>
+    ensures ok { IfOk result (λ ended. IfOk ended.1 (λ status.
+        Reports (λ found. IsSound over_files ended.0 → TellsHeld (image_at S.Start) kind key.now found)
+        (Prints writer.old.failed writer.new.failed writer.new.flushed
+        (W.contents writer.old.inner) (W.contents writer.new.inner)) status)) }
+
+    // It only looked, whether it told something or met a fault.
+    ensures looks { IfOk result (λ ended. LooksOver (image_at S.Start) ended.0) }
+    ensures err { IfOk result (λ ended. OnErr ended.1 (writer.new ≡ writer.old)) }
+    ensures refused { OnErr result (writer.new ≡ writer.old) }
+{
+    let mut desk = open_store(rt, path, start)?;
+    let status = report_on(rt.alloc(), &mut desk, kind, key, writer);
+    Ok((desk, status))
+}
+
+/// Prints the report that a key asks for, from a desk, and answers the exit status, as `report_over` does. It only looks.
+pub fn report_on<S: Alter + Drop, W: Write>(
+    alloc: Global,
+    desk: &mut Desk<S>,
+    kind: ReportKind,
+    key: &str,
+    writer: &mut Port<W>,
+) -> Result<u8, TableFault>
+    ensures ok { IfOk result (λ status.
+        Reports (λ found. IsSound S.Store desk.new → TellsKey (DeskTells S.Store desk.old) kind key.now found)
+        (Prints writer.old.failed writer.new.failed writer.new.flushed
+        (W.contents writer.old.inner) (W.contents writer.new.inner)) status) }
+    ensures err { OnErr result (writer.new ≡ writer.old) }
+    ensures looks { OnlyLooks S.Store desk.old desk.new }
+{
+    match find(alloc, desk, kind, key)? {
+        Some(text) => {
+            let lines = in_lines(text)?;
+            Ok(print(writer, lines.as_str(), DONE))
+        }
+        None => Ok(print(writer, "none\n", REFUSED)),
+    }
+}
+
+/// What a desk tells under a key, if there is something.
+fn find<S: Alter + Drop>(
+    alloc: Global,
+    desk: &mut Desk<S>,
+    kind: ReportKind,
+    key: &str,
+) -> Result<Option<String>, TableFault>
+    ensures found { IfOk result (λ found. IsSound S.Store desk.new →
+        TellsKey (DeskTells S.Store desk.old) kind key.now (option_map string_bytes found)) }
+    ensures looks { OnlyLooks S.Store desk.old desk.new }
+{
+    match read_query(alloc, kind, key)? {
+        Some(query) => desk.told(alloc, &query),
+        None => Ok(None),
+    }
+}
+
+/// A text in whole lines: a reply is a line without its end, and an empty text has no line.
+fn in_lines(text: String) -> Result<String, AllocError>
+    ensures { IfOk result (λ lines. string_bytes lines ≡ in_lines (string_bytes text)) }
+{
+    let mut text = text;
+    if !text.is_empty() && !text.as_bytes().ends_with(b"\n") {
+        text.push('\n')?;
+    }
+    Ok(text)
 }

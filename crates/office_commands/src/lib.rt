@@ -3,39 +3,21 @@
 //! terminal whose tables are in memory.
 #![tactic(auto)]
 
-mod account;
-mod command;
 mod deliver;
-mod demo;
-mod demo_fault;
-pub mod demo_setup;
-mod faults;
-mod named;
-mod noted;
+pub mod demo;
 mod notes;
-pub mod open_demo;
-pub mod open_desk;
-mod opening;
-mod report;
-mod service;
+pub mod opening;
 mod serving;
-mod status;
-mod store_file;
 mod telling;
-mod watching;
 
-pub use account::account_over;
-pub use command::demonstrate;
-pub use deliver::{TURNS, deliver_over, deliver_to};
-pub use demo::run_demo;
-pub use demo_fault::DemoFault;
-pub use faults::{Faults, Tallied};
-pub use named::Named;
+pub use deliver::{TURNS, account_over, deliver_over, deliver_to, report_on, report_over};
+pub use demo::{DemoFault, run_demo};
 pub use notes::{AccountNote, DeliveryNote, Notes, Sender, WhyNotNow};
-pub use opening::{NO_STORE, make_store, open_found, open_store, open_there};
-pub use report::{report_on, report_over};
-pub use service::Service;
-pub use serving::serve_over;
-pub use status::{COMMAND_LINE, DONE, FAILED, REFUSED};
-pub use store_file::{Names, StoreFile};
-pub use telling::{print, tell, tell_fault, tell_outcome};
+pub use opening::{
+    NO_STORE, Named, Names, StoreFile, make_store, open_found, open_store, open_there,
+};
+pub use serving::{Service, serve_over};
+pub use telling::{
+    COMMAND_LINE, DONE, FAILED, Faults, REFUSED, Tallied, demonstrate, print, tell, tell_fault,
+    tell_outcome,
+};

@@ -1,22 +1,30 @@
-ghost use Rattle.std.specs.Prelude.{◌≡◌, ◌≤◌, ℕ, List, [], length, false, IfOk};
-ghost use Rattle.sqlite.specs.State.{HasCleanDisk};
-ghost use Rattle.sqlite.specs.Files.{file_state, over_files};
-ghost use Rattle.sqlite.specs.Tree.{Trees};
-ghost use Rattle.sqlite.specs.WalFiles.{image_at};
+ghost use Rattle.std.specs.Prelude.{◌≡◌, ◌≤◌, ℕ, List, [], length, false, IfOk, not};
+ghost use Rattle.office_commands.specs.Opening.{HoldsAfter, HoldsTables, OpensOver, ShowsHeld, OpensEmpty};
+ghost use Rattle.office_commands.specs.Serving.{EnrolsWhile, LeadsWhile};
+ghost use Rattle.office_desk.specs.Crashes.{Leaves};
+ghost use Rattle.office_desk.specs.Desks.{IsSound, OpensAt};
 ghost use Rattle.office_replies.specs.Events.{Event};
+ghost use Rattle.office_rows.specs.Tables.{no_schema};
 ghost use Rattle.office_setup.specs.Given.{IsGiven};
 ghost use Rattle.office_setup.specs.Limits.{most_partners};
 ghost use Rattle.office_setup.specs.Setups.{SetupContent, setup_content};
-ghost use Rattle.office_rows.specs.Tables.{no_schema};
-ghost use Rattle.office_desk.specs.Crashes.{Leaves};
-ghost use Rattle.office_desk.specs.Desks.{IsSound, OpensAt};
-ghost use Rattle.office_commands.specs.Opening.{HoldsAfter, HoldsTables, OpensOver, ShowsHeld};
+ghost use Rattle.sqlite.specs.Files.{file_state, over_files};
+ghost use Rattle.sqlite.specs.State.{HasCleanDisk};
+ghost use Rattle.sqlite.specs.Tree.{Trees};
+ghost use Rattle.sqlite.specs.WalFiles.{image_at};
 
+use crate::telling::{Faults, Tallied};
 use office_desk::Desk;
+use office_queries::{NotNow, Query, Report};
+use office_replies::{AccountAnswer, AddAccount, Deliver, Response};
 use office_setup::Setup;
 use office_tables::{TableFault, create};
-use sqlite::{Connection, Error, ErrorCode, FileFrom, FileStore, Start};
+use office_taking::Tally;
+use sqlite::{Connection, Error, ErrorCode, FileFrom, FileStore, MemStore, Start};
+use std::alloc::Global;
 use std::fs;
+use std::fs::File;
+use std::os::unix::fs::MetadataExt;
 
 /// A store that can't be opened.
 pub const NO_STORE: Error = Error::SqliteFailure(ErrorCode::CannotOpen);
@@ -100,5 +108,152 @@ fn is_there(rt: &HostRuntime, path: &str) -> bool {
     match fs::metadata(rt, path) {
         Ok(found) => found.is_file() && found.len() > 0,
         Err(_) => false,
+    }
+}
+
+/// A desk over tables in memory, made for a set-up, to which nothing has been delivered. A set-up that set-up files
+/// could not give does not open.
+pub fn open_desk(alloc: Global, setup: &Setup) -> Result<Desk<MemStore>, TableFault>
+    requires few { length setup.now.partners.items ≤ most_partners }
+    ensures opens { IfOk result
+        (λ desk. IsGiven (setup_content setup.now) → OpensEmpty (setup_content setup.now) desk) }
+{
+    let mut conn = Connection::open_in_memory(alloc)?;
+    let is_idle = conn.is_autocommit();
+    prove!(is_idle);
+    create(&mut conn, setup)?;
+    Desk::open(alloc, conn)
+}
+
+/// What tells whether a store's file has a name still.
+pub trait Names: Drop {
+    ghost use Rattle.std.specs.Prelude.{Bool};
+
+    /// It was asked, and said so.
+    ghost says: { Self → Bool → Type 0 };
+
+    /// Whether it has one.
+    fn has_name(&self) -> bool
+        ensures { says self.now result };
+}
+
+/// A store's file, held open beside the store and only asked for its names: closing it earlier would give up the store's
+/// lock.
+#[derive(Drop)]
+pub struct StoreFile {
+    file: Option<File>,
+}
+
+impl StoreFile {
+    /// The file at a path. If it can't be opened, it counts as one with a name.
+    pub(crate) fn open(rt: &HostRuntime, path: &str) -> StoreFile {
+        StoreFile {
+            file: File::open(rt, path).ok(),
+        }
+    }
+}
+
+impl Names for StoreFile {
+    ghost says = { λ file answer. Unit {0} };
+
+    fn has_name(&self) -> bool {
+        match &self.file {
+            Some(file) => names_of(file) > 0,
+            None => true,
+        }
+    }
+}
+
+/// How many names a file has; none if that can't be told, since its file system is gone then.
+fn names_of(file: &File) -> u64 {
+    match file.metadata() {
+        Ok(found) => found.nlink(),
+        Err(_) => 0,
+    }
+}
+
+/// What works on a store for as long as the store's file has a name. If the file or its folder was removed, or its file
+/// system is gone, what comes is answered `not now`: a file without a name would keep it, and nobody could open that again.
+/// Reports go on, so that what was answered can still be read.
+#[derive(Drop)]
+pub struct Named<D, F> {
+    desk: D,
+    file: F,
+    is_nameless: bool,
+}
+
+impl<D: Deliver + Faults, F: Names> Named<D, F> {
+    /// A desk over the store that was just opened, and the store's file.
+    pub(crate) fn new(desk: D, file: F) -> Named<D, F>
+        ensures { result.desk ≡ desk }
+    {
+        Named {
+            desk,
+            file,
+            is_nameless: false,
+        }
+    }
+
+    /// Whether the store's file has a name still.
+    fn has_name(&mut self) -> bool
+        ensures desk { self.new.desk ≡ self.old.desk }
+        ensures says { F.says self.old.file result }
+        ensures noted { self.new.is_nameless ≡ not result }
+    {
+        let has_name = self.file.has_name();
+        self.is_nameless = !has_name;
+        has_name
+    }
+}
+
+impl<D: Deliver + Faults, F: Names> Deliver for Named<D, F> {
+    ghost leads = { λ old text response new.
+        LeadsWhile D.leads (F.says old.file) new.is_nameless old.desk text response new.desk };
+
+    fn deliver(&mut self, alloc: Global, delivered: &[u8]) -> Response {
+        if self.has_name() {
+            self.desk.deliver(alloc, delivered)
+        } else {
+            Response::NotNow
+        }
+    }
+}
+
+impl<D: AddAccount + Faults, F: Names> AddAccount for Named<D, F> {
+    ghost enrols = { λ old code kind answer new.
+        EnrolsWhile D.enrols (F.says old.file) new.is_nameless old.desk code kind answer new.desk };
+
+    fn add_account(&mut self, alloc: Global, code: &[u8], kind: &[u8]) -> AccountAnswer {
+        if self.has_name() {
+            self.desk.add_account(alloc, code, kind)
+        } else {
+            AccountAnswer::NotNow
+        }
+    }
+}
+
+impl<D: Report + Faults, F: Names> Report for Named<D, F> {
+    ghost looks = { λ old query found new. D.looks old.desk query found new.desk };
+
+    fn report(&mut self, alloc: Global, query: &Query) -> Result<Option<String>, NotNow> {
+        self.desk.report(alloc, query)
+    }
+}
+
+impl<D: Faults, F> Faults for Named<D, F> {
+    fn last_fault(&self) -> Option<&TableFault> {
+        self.desk.last_fault()
+    }
+
+    fn is_nameless(&self) -> bool
+        ensures { result ≡ self.now.is_nameless }
+    {
+        self.is_nameless
+    }
+}
+
+impl<D: Tallied, F> Tallied for Named<D, F> {
+    fn last_taken(&self) -> Tally {
+        self.desk.last_taken()
     }
 }

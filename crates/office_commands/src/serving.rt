@@ -1,20 +1,13 @@
-ghost use Rattle.std.specs.Prelude.{◌≡◌, IfOk, IfSome, OnErr, None, string_bytes};
 ghost use Rattle.std.specs.Io.KnownBytes.{Appends};
-ghost use Rattle.sqlite.specs.WalFiles.{image_at};
-ghost use Rattle.office_http.specs.Served.{AtMost};
+ghost use Rattle.std.specs.Prelude.{◌≡◌, IfOk, IfSome, OnErr, None, string_bytes};
 ghost use Rattle.office_commands.specs.Ending.{Tells};
 ghost use Rattle.office_commands.specs.Serving.{AreServedBy, EndsServing, IsServedOver, ServesNone, listening_line, served_line};
+ghost use Rattle.office_http.specs.Served.{AtMost};
+ghost use Rattle.sqlite.specs.WalFiles.{image_at};
 
-use crate::faults::{Faults, Tallied};
-use crate::named::Named;
-use crate::noted::Noted;
-use crate::notes::Notes;
-use crate::opening::open_store;
-use crate::service::Service;
-use crate::status::{DONE, FAILED};
-use crate::store_file::StoreFile;
-use crate::telling::{print, tell};
-use crate::watching::Watching;
+use crate::notes::{Noted, Notes, Watching};
+use crate::opening::{Named, StoreFile, open_store};
+use crate::telling::{DONE, FAILED, Faults, Tallied, print, tell};
 use office_desk::Desk;
 use office_http::serve_on;
 use office_queries::Report;
@@ -24,6 +17,17 @@ use office_tables::TableFault;
 use sqlite::{FileFrom, FileStore, Start};
 use std::io::Write;
 use std::net::TcpListener;
+
+/// Where requests are taken, how many, and how early.
+#[derive(Clone, Copy)]
+pub struct Service {
+    /// The port of this machine.
+    pub port: u16,
+    /// How many connections are accepted, one after the other.
+    pub count: u32,
+    /// How far above its next number a partner's may be, by the path of that partner; none for no bound.
+    pub ahead: Option<u32>,
+}
 
 /// Serves the store in the file at a path over HTTP: one request of each connection, until so many were accepted. It
 /// prints a line as soon as it listens, and one in the end, and answers the exit status and the desk as it was left: 0, or
@@ -85,7 +89,7 @@ fn serve_at<D: Report + AddAccount, N: Notes, W: Write, E: Write>(
     ensures { EndsServing service.port service.count writer.old writer.new
         (W.contents writer.old.inner) (W.contents writer.new.inner)
         (Tells errors.new.failed (E.contents errors.old.inner) (E.contents errors.new.inner))
-        (λ most. AtMost D.is_sound D.stands D.answers D.added D.leads D.enrols D.looks most desk.old desk.new) result }
+        (λ most. AtMost D.leads D.enrols D.looks most desk.old desk.new) result }
 {
     match listen(rt, service, writer, errors) {
         Some((listener, served)) => {

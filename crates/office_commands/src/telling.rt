@@ -1,13 +1,20 @@
-ghost use Rattle.std.specs.Prelude.{◌≡◌, true, OnOk, OnErr};
 ghost use Rattle.std.specs.Io.KnownBytes.{Appends};
-ghost use Rattle.office_stream.specs.Fronts.{AppendsFront};
+ghost use Rattle.std.specs.Prelude.{◌≡◌, true, OnOk, OnErr};
+ghost use Rattle.office_commands.specs.Command.{DemoEnds};
+ghost use Rattle.office_commands.specs.Demo.{port_failures};
 ghost use Rattle.office_commands.specs.Ending.{Tells, Prints, status_of, store_text, stream_text, outcome_status, outcome_text};
+ghost use Rattle.office_stream.specs.Fronts.{AppendsFront};
+ghost use Rattle.office_stream.specs.Streams.{port_bytes};
 
-use crate::status::{DONE, FAILED, REFUSED};
+use crate::demo::run_demo;
+use office_desk::Desk;
 use office_replies::Worst;
 use office_stream::{Port, StreamFault};
 use office_tables::TableFault;
-use std::io::{self, Write};
+use office_taking::Tally;
+use sqlite::Alter;
+use std::alloc::Global;
+use std::io::{self, Read, Write};
 
 /// Prints a result, and answers the status that it has, or 3 if it could not be written.
 pub fn print<W: Write>(writer: &mut Port<W>, text: &str, status: u8) -> u8
@@ -98,3 +105,70 @@ pub(crate) fn stream_text(fault: StreamFault) -> &'static str
         StreamFault::Write => "",
     }
 }
+
+/// `demo`: delivers the interchanges of a reader over tables in memory, and answers the exit status: 0 if each was
+/// taken, repeated or waits, 1 if one was refused, and 3 if the desk did not open, reading or writing failed, or
+/// one could not be answered now. `errors` takes what is told of a fault.
+pub fn demonstrate<R: Read, W: Write, E: Write>(
+    alloc: Global,
+    reader: &mut Port<R>,
+    writer: &mut Port<W>,
+    errors: &mut Port<E>,
+) -> u8
+    ensures { DemoEnds
+        (port_bytes (R.remaining reader.old.inner) (R.remaining reader.new.inner)
+        (W.contents writer.old.inner) (W.contents writer.new.inner))
+        (port_failures reader.old.failed reader.new.failed writer.old.failed writer.new.failed)
+        (Tells errors.new.failed (E.contents errors.old.inner) (E.contents errors.new.inner)) result }
+{
+    match run_demo(alloc, reader, writer) {
+        Ok(worst) => status_of(worst),
+        Err(fault) => {
+            tell(errors, fault.text());
+            FAILED
+        }
+    }
+}
+
+/// What tells why it last answered `not now`.
+pub trait Faults {
+    /// The fault for which it last did so.
+    fn last_fault(&self) -> Option<&TableFault>;
+
+    /// Whether it did so because the store's path names its file no more.
+    fn is_nameless(&self) -> bool;
+}
+
+impl<S: Alter> Faults for Desk<S> {
+    fn last_fault(&self) -> Option<&TableFault> {
+        Desk::last_fault(self)
+    }
+
+    fn is_nameless(&self) -> bool {
+        false
+    }
+}
+
+/// What tells what became of the interchanges that it took last.
+pub trait Tallied {
+    /// What became of the one that was delivered, and of those that had waited for it.
+    fn last_taken(&self) -> Tally;
+}
+
+impl<S: Alter> Tallied for Desk<S> {
+    fn last_taken(&self) -> Tally {
+        Desk::last_taken(self)
+    }
+}
+
+/// Done.
+pub const DONE: u8 = 0;
+
+/// Something was refused, or not found.
+pub const REFUSED: u8 = 1;
+
+/// The command line asks for nothing that the program does.
+pub const COMMAND_LINE: u8 = 2;
+
+/// A store, a file or a socket failed.
+pub const FAILED: u8 = 3;

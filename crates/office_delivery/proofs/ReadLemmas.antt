@@ -1,21 +1,23 @@
 -- Reading one after the other, and what is found.
-use Rattle.std.proofs.Common.{◌≡◌, inl, inr, ℕ, ◌≤◌, Bool, true, false, cond, List, [], ◌∷◌, length, filter, find, Contains, Option, None, Some, Result, Ok, Err, IsErr, IsTrue, OnOk, refl, sym, ap, subst, ◌∙◌, arith}
+use Rattle.std.proofs.Common.{◌≡◌, inl, ℕ, [], find, Contains, None, Some, Result, Ok, Err, IsErr, IsTrue, OnOk, refl, sym, ap, subst, ◌∙◌, arith}
 use Rattle.std.specs.Option.{option_map}
-use Rattle.std.proofs.lemmas.List.Sums.{length-filter}
 use Rattle.sqlite_rules.specs.Lists.{Has}
-use Rattle.sqlite_rules.proofs.ListLemmas.{has_contained}
+use Rattle.sqlite_rules.proofs.ListLemmas.{contains_had, has_contained, has_filtered, has_kept}
 use Rattle.sqlite.specs.State.{State, HasCleanDisk, IsUnchanged, Survives}
 use Rattle.sqlite.proofs.Callers.{unchanged_then}
+use Rattle.terminal_core.proofs.Counted.{found_is, some_or_none}
+use Rattle.terminal_core.proofs.Numbered.{contained}
 use Rattle.office_rows.specs.Rows.{Interchange, Rows}
 use Rattle.office_rows.specs.Effects.{is_pair}
 use Rattle.office_rows.proofs.StepLemmas.{keep_then, on_ok, quiet_then}
 use Rattle.office_tables.specs.Answers.{IsKept, pair_of}
 use Rattle.office_tables.specs.Reading.{Reads}
-use Rattle.office_tables.specs.declared.kept_interchange.Kept.{Kept}
+use Rattle.office_tables.specs.declared.interchanges.Kept.{Kept}
 use Rattle.office_tables.specs.declared.table_fault.TableFault.{TableFault}
 use Rattle.office_tables.proofs.ReadingLemmas.{clean_first, if_open_on, if_open_stopped}
 use Rattle.office_history.specs.Cascade.{text_in}
 use Rattle.office_history.specs.After.{AreKeptOnce}
+use Rattle.office_history.proofs.Shown.{found_only}
 use Rattle.office_delivery.specs.Reading.{IsSame, OnlyReads}
 
 -- ---- one after the other
@@ -104,32 +106,16 @@ stopped_reads (Err fault) err r = record { unchanged = λ clean. tt; keeps = r.r
 
 -- ---- what is found
 
-abbrev first_of : {X : Type 0} → List X → Option X
-first_of [] = None
-first_of (x ∷ xs) = Some x
-
-first_by : {X : Type 0} (here : Bool) (x : X) (found : Option X) (ys : List X) → found ≡ first_of ys → cond here (Some x) found ≡ first_of (cond here (x ∷ ys) ys)
-first_by true x found ys is = refl
-first_by false x found ys is = is
-
-first_found : {X : Type 0} (p : X → Bool) (xs : List X) → find p xs ≡ first_of (filter p xs)
-first_found p [] = refl
-first_found p (x ∷ xs) = first_by (p x) x (find p xs) (filter p xs) (first_found p xs)
-
-only_first : {X : Type 0} (ys : List X) (y : X) → length ys ≤ 1 → Has ys y → first_of ys ≡ Some y
-only_first [] y few has = absurd has
-only_first (x ∷ []) y few (inl same) = ap Some (sym same)
-only_first (x ∷ []) y few (inr later) = absurd later
-only_first (x ∷ z ∷ xs) y few has = absurd (omega (arith, few))
-
 -- the one interchange of the pair
 pub one_kept : (partner number : ℕ) (rows : Rows) (i : Interchange) → AreKeptOnce rows.interchanges → Contains (pair_of partner number rows) i → find (is_pair partner number) rows.interchanges ≡ Some i
 one_kept partner number rows i once there =
-    let few : length (pair_of partner number rows) ≤ 1 = subst (λ n. n ≤ 1) (sym (length-filter (is_pair partner number) rows.interchanges)) (once partner number) in
-    first_found (is_pair partner number) rows.interchanges ∙ only_first (pair_of partner number rows) i few (has_contained _ i there)
+    let own = has_filtered (is_pair partner number) rows.interchanges i (has_contained _ i there) in
+    found_only (is_pair partner number) rows.interchanges i (once partner number) (contains_had rows.interchanges i own.0) own.1
 
 pub none_kept : (partner number : ℕ) (rows : Rows) → pair_of partner number rows ≡ [] → find (is_pair partner number) rows.interchanges ≡ None
-none_kept partner number rows none = first_found (is_pair partner number) rows.interchanges ∙ ap first_of none
+none_kept partner number rows none = some_or_none (find (is_pair partner number) rows.interchanges) (λ i e.
+    let here = found_is (is_pair partner number) rows.interchanges i e in
+    subst (λ l. Has l i) none (has_kept (is_pair partner number) rows.interchanges i (has_contained _ i (contained rows.interchanges here.0 i here.1)) here.2))
 
 -- the text of what is kept
 pub text_kept : (partner number : ℕ) (rows : Rows) (kept : Kept) → AreKeptOnce rows.interchanges → IsKept partner number rows (Some kept) → text_in rows partner number ≡ Some kept.text.items

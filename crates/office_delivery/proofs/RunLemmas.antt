@@ -10,7 +10,7 @@ use Rattle.office_setup.specs.declared.setup.Setup.{Setup}
 use Rattle.office_history.specs.Cascade.{TakenContent, AreTakenFrom, text_in, texts_with}
 use Rattle.office_delivery.specs.Taken.{taken_content, taken_contents}
 use Rattle.office_delivery.specs.Taking.{IsTaken}
-use Rattle.office_delivery.specs.declared.taken.Taken.{Taken}
+use Rattle.office_delivery.specs.declared.running.Taken.{Taken}
 
 module _ (partner : ℕ) (texts : ℕ → Option (List ℕ)) where
   -- these are taken, and those that are taken from that number on follow them

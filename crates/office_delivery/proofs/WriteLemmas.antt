@@ -1,20 +1,25 @@
 -- Writing a list in turn, and committing what was written.
-use Rattle.std.proofs.Common.{◌≡◌, ℕ, ◌+◌, List, [], ◌∷◌, ◌++◌, IsTrue, false, Result, Ok, Err, OnErr, map, fold, refl, sym, ap, ◌∙◌}
+use Rattle.std.proofs.Common.{◌≡◌, ℕ, ◌+◌, List, [], ◌∷◌, ◌++◌, IsTrue, true, false, Result, Ok, Err, IfErr, OnErr, OnOk, map, fold, refl, sym, ap, ◌∙◌, arith}
 use Rattle.std.proofs.lemmas.List.{map-append}
 use Rattle.std.proofs.lemmas.List.Sums.{fold_push}
-use Rattle.sqlite.specs.State.{State, Shows}
+use Rattle.sqlite.specs.Held.{Held, state}
+use Rattle.sqlite.specs.State.{State, HasCleanDisk, Shows, Survives}
 use Rattle.sqlite.specs.Tree.{Trees}
-use Rattle.terminal_core.specs.Rows.{ChangeContent, visit_opened, visit_closed, placed_at, moved_to, removed_from, listed_on, line_done, unlisted}
+use Rattle.sqlite.proofs.Callers.{survives_begin}
+use Rattle.sqlite.proofs.StateLemmas.{survives_then}
+use Rattle.sqlite_trees.specs.declared.store.Store.{Ghosts}
+use Rattle.terminal_core.specs.Rows.{ChangeContent, visit_opened}
 use Rattle.office_rows.specs.Rows.{Rows}
 use Rattle.office_rows.specs.Effects.{with_kept, with_reply, with_next, with_change}
 use Rattle.office_rows.specs.Steps.{Steps}
-use Rattle.office_rows.proofs.StepLemmas.{steps_then, steps_same, stores}
+use Rattle.office_rows.proofs.StepLemmas.{on_ok, steps_then, steps_same, stores}
+use Rattle.office_tables.specs.Faults.{IsOfStore}
 use Rattle.office_tables.specs.Kept.{with_kept_reply}
 use Rattle.office_tables.specs.declared.table_fault.TableFault.{TableFault}
 use Rattle.office_tables.specs.Writes.{Writes, WritesIfOpen}
 use Rattle.office_tables.proofs.WritesLemmas.{writes_then, writes_then_if_open, writes_same}
 use Rattle.office_history.specs.Cascade.{TakenContent, with_changes, with_interchange, with_interchanges, with_run}
-use Rattle.office_delivery.specs.Writing.{Commits, IsWhole}
+use Rattle.office_delivery.specs.Writing.{Commits, IsUndone, IsWhole, WritesWhole}
 
 -- each of a list, one after the other
 abbrev pub in_turn : {B : Type 0} → (B → Rows → Rows) → List B → Rows → Rows
@@ -29,11 +34,11 @@ steps_more content one before after item old mid new is first second =
     (λ rows. sym (ap (λ l. in_turn one l rows) same ∙ fold_push _ rows (map content before) (content item)))
     (steps_then (in_turn one (map content before)) (one (content item)) old mid new first second)
 
-pub whole : (change : Rows → Rows) (old begun last : State) (db : Trees) → begun.now ≡ old.committed → Steps change begun last → db ≡ last.now.trees → IsWhole change old db
+whole : (change : Rows → Rows) (old begun last : State) (db : Trees) → begun.now ≡ old.committed → Steps change begun last → db ≡ last.now.trees → IsWhole change old db
 whole change old begun last db same steps is rows has = rw is (stores (change rows) last.now (steps.rows rows (rw same has)))
 
 -- the changes that a transaction made are committed as it ends
-pub committed : (change : Rows → Rows) (old begun last end : State) → begun.now ≡ old.committed → Steps change begun last →
+committed : (change : Rows → Rows) (old begun last end : State) → begun.now ≡ old.committed → Steps change begun last →
     (IsTrue end.is_open → (db : Trees) → end.may_leave db → db ≡ end.committed.trees) → Shows last end last.now last.now false → Commits change old end
 committed change old begun last end same steps alone shows = record {
   rows = λ rows has. rw shows.committed_is (steps.rows rows (rw same has));
@@ -43,22 +48,48 @@ committed change old begun last end same steps alone shows = record {
 }
 
 -- what a call that failed has undone
-pub on_failed : {X E : Type 0} {P Q : Type 0} (r : Result X E) → (P → Q) → OnErr r P → OnErr r Q
+on_failed : {X E : Type 0} {P Q : Type 0} (r : Result X E) → (P → Q) → OnErr r P → OnErr r Q
 on_failed (Ok x) f is = is
 on_failed (Err e) f is = f is
+
+-- ---- a transaction that is begun, written in and committed
+
+module _ {S X Y : Type 0} (g : Ghosts S) (change : Rows → Rows) (old : Held S) (last end : State) (x : X) (result : Result Y TableFault)
+    (settles : IsTrue (state g old).is_open → (state g old).now ≡ (state g old).committed) (writes : Writes change (state g (record old { in_transaction = true })) last (Ok x))
+    (was_open : HasCleanDisk end → IsTrue end.is_open → IsTrue last.is_open) (err : HasCleanDisk end → IsTrue last.in_transaction → IsTrue end.is_open → OnErr result (IsUndone last end))
+    (survives : Survives last end (λ db. db ≡ last.now.trees)) where
+  before : HasCleanDisk end → HasCleanDisk last
+  before clean = omega (arith, survives.clean)
+
+  stepped : HasCleanDisk last → Steps change (state g (record old { in_transaction = true })) last
+  stepped clean = writes.steps clean refl
+
+  settled : HasCleanDisk last → (state g old).now ≡ (state g old).committed
+  settled clean = settles ((writes.keeps clean refl).was_open (stepped clean).is_open)
+
+  crash : Survives (state g old) end (IsWhole change (state g old))
+  crash = survives_then (state g old) last end _ _ (IsWhole change (state g old)) (λ _ db none. absurd none)
+      (λ clean db is. whole change (state g old) (state g (record old { in_transaction = true })) last db (settled (before clean)) (stepped (before clean)) is) (survives_begin g old last _ writes.survives) survives
+
+  pub written_whole : end.in_transaction ≡ false → (HasCleanDisk end → OnOk result (Shows last end last.now last.now false)) → (IsTrue end.is_open → (db : Trees) → end.may_leave db → db ≡ end.committed.trees) → IfErr result IsOfStore →
+      WritesWhole change (state g old) end result
+  written_whole ended ok alone fault = record {
+    ends = record { idle = ended; clean = λ clean. omega (arith, crash.clean); was_open = λ clean is_open. (writes.keeps (before clean) refl).was_open (was_open clean is_open) };
+    ok = λ clean. on_ok result (committed change (state g old) (state g (record old { in_transaction = true })) last end (settled (before clean)) (stepped (before clean)) alone) (ok clean);
+    err = λ clean is_open. on_failed result (λ (undone : IsUndone last end). undone.committed ∙ (stepped (before clean)).committed) (err clean (stepped (before clean)).inside is_open);
+    crash = crash;
+    fault = fault;
+  }
+
+  pub none_left : HasCleanDisk end → IsTrue end.is_open → OnErr result (end.now ≡ (state g old).committed)
+  none_left clean is_open = on_failed result (λ (undone : IsUndone last end). undone.now ∙ (stepped (before clean)).committed) (err clean (stepped (before clean)).inside is_open)
 
 -- ---- a text that is taken at once
 
 -- a change alters no interchange
 change_then_reply : (partner number : ℕ) (reply : List ℕ) (change : ChangeContent) (rows : Rows) → with_change change (with_reply partner number reply rows) ≡ with_reply partner number reply (with_change change rows)
 change_then_reply partner number reply (visit_opened visit) rows = refl
-change_then_reply partner number reply (visit_closed visit departure) rows = refl
-change_then_reply partner number reply (placed_at container visit slot) rows = refl
-change_then_reply partner number reply (moved_to container slot) rows = refl
-change_then_reply partner number reply (removed_from container) rows = refl
-change_then_reply partner number reply (listed_on call side container port) rows = refl
-change_then_reply partner number reply (line_done call side container) rows = refl
-change_then_reply partner number reply (unlisted call side container) rows = refl
+change_then_reply partner number reply change rows = refl
 
 changes_then_reply : (partner number : ℕ) (reply : List ℕ) (changes : List ChangeContent) (rows : Rows) → with_changes changes (with_reply partner number reply rows) ≡ with_reply partner number reply (with_changes changes rows)
 changes_then_reply partner number reply [] rows = refl

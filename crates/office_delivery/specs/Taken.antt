@@ -2,7 +2,7 @@
 use Rattle.std.specs.Prelude.{List, map, string_bytes}
 use Rattle.terminal_core.specs.Rows.{change_content}
 use Rattle.office_history.specs.Cascade.{TakenContent}
-use Rattle.office_delivery.specs.declared.taken.Taken.{Taken}
+use Rattle.office_delivery.specs.declared.running.Taken.{Taken}
 
 abbrev pub taken_content : Taken → TakenContent
 taken_content taken =

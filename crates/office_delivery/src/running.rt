@@ -1,29 +1,28 @@
-ghost use Rattle.std.specs.Prelude.{◌≡◌, ℕ, List, ◌+◌, ◌++◌, [], ◌∷◌, ◌<◌, ◌≤◌, All, IfOk, IfErr, IfSome, OnOk, length};
 ghost use Rattle.std.specs.Option.{option_map};
-ghost use Rattle.office_setup.specs.Limits.{most_partners};
-ghost use Rattle.sqlite.specs.Held.{state};
-ghost use Rattle.sqlite.specs.State.{HasCleanDisk};
+ghost use Rattle.std.specs.Prelude.{◌≡◌, ℕ, List, ◌+◌, ◌++◌, [], ◌∷◌, ◌<◌, ◌≤◌, All, IfOk, IfErr, IfSome, OnOk, length};
+ghost use Rattle.office_admission.specs.Outcomes.{IsAdmitted};
+ghost use Rattle.office_delivery.specs.Reading.{HasUnfitBehind, OnlyReads};
+ghost use Rattle.office_delivery.specs.Taken.{taken_contents, taken_content};
+ghost use Rattle.office_delivery.specs.Taking.{IsNumbered, IsTaken};
+ghost use Rattle.office_history.specs.Cascade.{AreTakenFrom, text_in, texts_with};
 ghost use Rattle.office_rows.specs.Rows.{Rows};
 ghost use Rattle.office_rows.specs.Stored.{HasRows};
-ghost use Rattle.office_admission.specs.Outcomes.{IsAdmitted};
-ghost use Rattle.office_taking.specs.Taking.{machine_of};
+ghost use Rattle.office_setup.specs.Limits.{most_partners};
 ghost use Rattle.office_tables.specs.Answers.{HasUnfitReply};
 ghost use Rattle.office_tables.specs.Faults.{IsOfStoreOr};
-ghost use Rattle.office_history.specs.Cascade.{AreTakenFrom, text_in, texts_with};
-ghost use Rattle.office_delivery.specs.Reading.{HasUnfitBehind, OnlyReads};
-ghost use Rattle.office_delivery.specs.Taken.{taken_contents};
-ghost use Rattle.office_delivery.specs.Taking.{IsNumbered};
+ghost use Rattle.office_taking.specs.Taking.{machine_of};
+ghost use Rattle.sqlite.specs.Held.{state};
+ghost use Rattle.sqlite.specs.State.{HasCleanDisk};
 
-use crate::taken::Taken;
-use crate::taking::{take_admitted, take_text};
-use office_admission::Admitted;
+use office_admission::{Admitted, admit_for};
+use office_replies::reply;
 use office_setup::Setup;
 use office_tables::{Kept, TableFault, kept};
-use office_taking::Tally;
+use office_taking::{Tally, take};
 use partner_core::LAST_NUMBER;
 use sqlite::{Alter, Connection};
 use std::alloc::{AllocError, Global};
-use terminal_core::Terminal;
+use terminal_core::{Change, Terminal};
 
 /// Takes a partner's next interchange, and then each text that becomes next by it, as far as the tables keep one, and counts
 /// what became of them. It writes nothing. If it fails, terminal and tally may hold part of the run, and are to be given up.
@@ -94,4 +93,68 @@ fn append(taken: &mut Vec<Taken>, next: Taken) -> Result<(), AllocError>
 {
     taken.push(next)?;
     Ok(())
+}
+
+/// Takes a partner's interchange under a number, and counts what became of it. If memory is refused, terminal and tally may
+/// hold part of it, and are to be given up.
+pub(crate) fn take_admitted(
+    alloc: Global,
+    setup: &Setup,
+    terminal: &mut Terminal,
+    admitted: &Admitted<'_>,
+    number: u32,
+    tally: &mut Tally,
+) -> Result<Taken, AllocError>
+    ensures taken { IfOk result (λ taken. (text : List ℕ) → IsAdmitted setup.now text admitted.now →
+        IsTaken admitted.now.partner number text (machine_of setup.now terminal.old)
+        (taken_content taken) (machine_of setup.now terminal.new)) }
+    ensures number { IfOk result (λ taken. taken.number ≡ number) }
+{
+    let mut changes = Vec::new(alloc);
+    let reply = take(alloc, setup, terminal, admitted, &mut changes, tally)?;
+    Ok(Taken {
+        number,
+        reply,
+        changes,
+    })
+}
+
+/// Takes the text that is kept under a partner's number. One that is not admitted for that partner changes nothing, and
+/// its reply tells of no message, and nothing is counted. If memory is refused, terminal and tally may hold part of it, and are
+/// to be given up.
+pub(crate) fn take_text(
+    alloc: Global,
+    setup: &Setup,
+    terminal: &mut Terminal,
+    partner: u16,
+    number: u32,
+    text: &[u8],
+    tally: &mut Tally,
+) -> Result<Taken, AllocError>
+    requires { length setup.now.partners.items ≤ most_partners }
+    ensures { IfOk result (λ taken. IsTaken partner number text.now (machine_of setup.now terminal.old)
+        (taken_content taken) (machine_of setup.now terminal.new)) }
+{
+    match admit_for(setup, partner, text) {
+        Some(admitted) => take_admitted(alloc, setup, terminal, &admitted, number, tally),
+        None => {
+            let reply = reply(alloc, "", &[])?;
+            Ok(Taken {
+                number,
+                reply,
+                changes: Vec::new(alloc),
+            })
+        }
+    }
+}
+
+/// An interchange that was taken.
+#[derive(Debug, Drop)]
+pub struct Taken {
+    /// The number of its partner's interchange.
+    pub number: u32,
+    /// What is kept of it as its reply.
+    pub reply: String,
+    /// What it changed of the terminal's rows.
+    pub changes: Vec<Change>,
 }

@@ -10,10 +10,10 @@ use Rattle.edi_syntax.specs.Header.{control_number}
 use Rattle.partner_core.specs.Numbered.{with_number}
 use Rattle.partner_core.proofs.Numbered.{with_number-below}
 use Rattle.office_replies.specs.Contents.{GivesOrNotNow}
-use Rattle.office_replies.specs.declared.fault.Fault.{Fault}
-use Rattle.office_replies.specs.declared.response.Response.{Response}
+use Rattle.office_replies.specs.declared.deliver.Fault.{Fault}
+use Rattle.office_replies.specs.declared.deliver.Response.{Response}
 use Rattle.office_setup.specs.Parties.{Parties, parties_of, partner_codes}
-use Rattle.office_setup.specs.declared.account.Account.{Account}
+use Rattle.office_setup.specs.declared.setup.Account.{Account}
 use Rattle.office_setup.specs.declared.setup.Setup.{Setup}
 use Rattle.office_admission.specs.Admission.{admission, number_in}
 use Rattle.office_admission.specs.Outcomes.{IsRefused, fault_in}

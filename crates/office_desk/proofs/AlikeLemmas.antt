@@ -2,7 +2,7 @@
 use Rattle.std.proofs.Common.{◌≡◌, ℕ, ◌+◌, List, [], ◌∷◌, ◌++◌, Result, Ok, Err, refl, sym, ap, ap₂, subst, ◌∙◌}
 use Rattle.std.specs.Prelude.{nat_le, if◌then◌else◌}
 use Rattle.edi_messages.specs.Codes.{table_texts}
-use Rattle.edi_messages.specs.declared.code_table.CodeTable.{CodeTable}
+use Rattle.edi_messages.specs.declared.code.CodeTable.{CodeTable}
 use Rattle.edi_segments.specs.Interchange.{interchange_of, segments_in}
 use Rattle.edi_syntax.specs.Envelope.{header_of}
 use Rattle.partner_core.specs.Deliveries.{Delivery, delivery, first_text, run}
@@ -12,17 +12,14 @@ use Rattle.terminal_core.specs.Versions.{newest}
 use Rattle.office_admission.specs.Admission.{admission}
 use Rattle.office_admission.specs.Refusals.{refusal_of}
 use Rattle.office_replies.specs.Events.{Event}
-use Rattle.office_replies.specs.declared.fault.Fault.{Fault}
+use Rattle.office_replies.specs.declared.deliver.Fault.{Fault}
 use Rattle.office_setup.specs.Setups.{SetupContent, parties_in}
 use Rattle.office_history.specs.After.{SaysSame, content_after, deliveries_of, machine_after, opening_of, taking_in}
 use Rattle.office_history.specs.Laws.{told_of}
+pub use Rattle.office_history.proofs.Alike.{codes_after}
 use Rattle.office_history.proofs.Alike.{after_with_codes, delivered_with_codes, now_with_codes, opening_like, reply_like, state_like, taking_with_codes, with_codes}
 use Rattle.office_desk.specs.Answers.{code_of, told_answer, answer_at, answer_to}
 use Rattle.office_desk.specs.Alike.{AnswersAlike}
-
--- what is set up at first stays, but for the accounts
-pub codes_after : (es : List Event) (content : SetupContent) → (content_after content es).codes ≡ content.codes
-codes_after es content = ap (λ (k : SetupContent). k.codes) (now_with_codes es content content.codes)
 
 module _ (content : SetupContent) (table : CodeTable) (same : table_texts table ≡ table_texts content.codes) (es : List Event) where
   abbrev now : SetupContent

@@ -7,7 +7,7 @@ use Rattle.partner_core.specs.Answers as told
 use Rattle.partner_core.specs.Deliveries.{delivery}
 use Rattle.office_replies.specs.Bodies.{answer_text, waiting_text, clash_text}
 use Rattle.office_replies.specs.Contents.{content_of}
-use Rattle.office_replies.specs.declared.response.Response.TheVariants as response
+use Rattle.office_replies.specs.declared.deliver.Response.TheVariants as response
 use Rattle.sqlite.specs.State.{State}
 use Rattle.office_rows.specs.Rows.{Rows}
 use Rattle.office_rows.specs.Stored.{HasRows}
@@ -17,7 +17,7 @@ use Rattle.office_history.specs.Cascade.{AreTakenFrom, texts_with, with_run}
 use Rattle.office_delivery.specs.Reading.{IsSame}
 use Rattle.office_delivery.specs.Writing.{Commits}
 use Rattle.office_delivery.specs.Taken.{taken_content, taken_contents}
-use Rattle.office_delivery.specs.declared.taken.Taken.{Taken}
+use Rattle.office_delivery.specs.declared.running.Taken.{Taken}
 use Rattle.office_desk.specs.Answers.{told_answer}
 use Rattle.office_desk.specs.Telling.{TakesNext}
 use Rattle.office_desk.specs.declared.beside.Beside.{Beside}

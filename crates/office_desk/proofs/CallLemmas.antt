@@ -2,10 +2,11 @@
 use Rattle.std.proofs.Common.{ℕ, List, [], ◌∷◌, sym, subst}
 use Rattle.sqlite.specs.Held.{state}
 use Rattle.sqlite_trees.specs.declared.store.Store.{Ghosts}
-use Rattle.office_replies.specs.Delivering.{LeadsOn, with_answered}
+use Rattle.office_replies.specs.Delivering.{Answered, LeadsOn, with_answered}
 use Rattle.office_replies.specs.Events.{Event}
-use Rattle.office_replies.specs.declared.response.Response.{Response}
+use Rattle.office_replies.specs.declared.deliver.Response.{Response}
 use Rattle.office_setup.specs.Setups.{SetupContent}
+use Rattle.office_desk.specs.Answers.{AnswersNext}
 use Rattle.office_desk.specs.Calls.{Leads}
 use Rattle.office_desk.specs.Crashes.{Leaves, LeavesAll, LeavesBehind}
 use Rattle.office_desk.specs.Desks.{IsSound, StandsFor}
@@ -17,6 +18,16 @@ module _ {S : Type 0} (g : Ghosts S) where
   sound_before old new [] (response ∷ responses) none sound = absurd none
   sound_before old new (text ∷ texts) [] none sound = absurd none
   sound_before old new (text ∷ texts) (response ∷ responses) (next, call, rest) sound = call.stays (sound_before next new texts responses rest sound)
+
+  pub answered_all : (old new : Desk S g) (texts : List (List ℕ)) (responses : List Response) → LeadsOn (Leads g) old texts responses new → IsSound g new →
+      (content : SetupContent) (es : List Event) → StandsFor g content es old → Answered (StandsFor g content) (AnswersNext content) es new texts responses
+  answered_all old new [] [] same sound content es stands = record { each = tt; stands_now = subst (StandsFor g content es) (sym same) stands }
+  answered_all old new [] (response ∷ responses) none sound content es stands = absurd none
+  answered_all old new (text ∷ texts) [] none sound content es stands = absurd none
+  answered_all old new (text ∷ texts) (response ∷ responses) (next, call, rest) sound content es stands =
+      let one = call.delivers (sound_before next new texts responses rest sound) content es stands in
+      let others = answered_all next new texts responses rest sound content (with_answered es text response) one.1 in
+      record { each = (one.0, others.each); stands_now = others.stands_now }
 
   leaves_some : (content : SetupContent) (es : List Event) (old new : Desk S g) (text : List ℕ) (texts : List (List ℕ)) (response : Response) (responses : List Response) →
       LeadsOn (Leads g) old (text ∷ texts) (response ∷ responses) new → IsSound g new → StandsFor g content es old →

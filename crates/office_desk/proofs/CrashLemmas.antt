@@ -5,9 +5,9 @@ use Rattle.sqlite.specs.Tree.{Trees}
 use Rattle.edi_segments.specs.Interchange.{interchange_of}
 use Rattle.partner_core.specs.Deliveries.{delivery, run}
 use Rattle.office_replies.specs.Events.{Event, delivered}
-use Rattle.office_replies.specs.declared.fault.Fault.{Fault}
-use Rattle.office_replies.specs.declared.response.Response.{Response}
-use Rattle.office_replies.specs.declared.response.Response.TheVariants as response
+use Rattle.office_replies.specs.declared.deliver.Fault.{Fault}
+use Rattle.office_replies.specs.declared.deliver.Response.{Response}
+use Rattle.office_replies.specs.declared.deliver.Response.TheVariants as response
 use Rattle.office_rows.specs.Rows.{Rows}
 use Rattle.office_rows.specs.Effects.{with_kept}
 use Rattle.office_rows.specs.Stored.{HasRows, StoresRows}
@@ -79,13 +79,8 @@ module _ (content : SetupContent) (es : List Event) (sent : List ℕ) where
 
   -- what is told of what a crash leaves, by the answer
   pub answered_behind : (given : Response) (s : State) → Leaves content (es ++ delivered sent ∷ []) s → LeavesBehind content es sent given s
-  answered_behind (response.Taken body) s leaves = leaves
-  answered_behind (response.Repeat body) s leaves = leaves
-  answered_behind (response.Waiting body) s leaves = leaves
-  answered_behind (response.Clash body) s leaves = leaves
-  answered_behind (response.Refused fault) s leaves = leaves
-  answered_behind (response.RefusedWithContrl fault body) s leaves = leaves
   answered_behind response.NotNow s leaves = λ db left. inr (leaves db left)
+  answered_behind given s leaves = leaves
 
 -- a crash leaves what was committed
 pub committed_leaves : (content : SetupContent) (es : List Event) (s : State) (rows : Rows) → ((db : Trees) → s.may_leave db → db ≡ s.committed.trees) → HasRows rows s.committed → AreAfter content es rows → Leaves content es s

@@ -11,9 +11,9 @@ use Rattle.partner_core.specs.Answers as told
 use Rattle.office_replies.specs.Events.{Event, delivered}
 use Rattle.office_replies.specs.Contents.{GivesOrNotNow, content_of}
 use Rattle.office_replies.specs.Delivering.{with_answered}
-use Rattle.office_replies.specs.declared.response.Response.{Response}
-use Rattle.office_replies.specs.declared.response.Response.TheVariants as response
-use Rattle.office_replies.specs.declared.worst.Worst.TheVariants as worst
+use Rattle.office_replies.specs.declared.deliver.Response.{Response}
+use Rattle.office_replies.specs.declared.deliver.Response.TheVariants as response
+use Rattle.office_replies.specs.declared.deliver.Worst.TheVariants as worst
 use Rattle.office_setup.specs.Parties.{Parties, parties_of}
 use Rattle.office_setup.specs.Setups.{SetupContent, setup_content}
 use Rattle.office_setup.specs.declared.setup.Setup.{Setup}
@@ -23,7 +23,7 @@ use Rattle.office_admission.specs.Refusals.{refusal_of, MayBeNotNow, RefusedSure
 use Rattle.office_admission.specs.declared.refusal.Refusal.{Refusal}
 use Rattle.office_history.specs.After.{content_after, parties_in}
 use Rattle.office_history.specs.Laws.{told_of}
-use Rattle.office_history.proofs.Lawful.{refused_adds}
+use Rattle.office_history.proofs.Lawful.{now_same, refused_adds}
 use Rattle.office_desk.specs.Answers.{AnswersNext, told_answer, answer_at, answer_to, code_of}
 use Rattle.office_desk.proofs.Admitted.{refused_for}
 use Rattle.office_desk.specs.Telling.{Answers, Comes, Holds}
@@ -38,7 +38,7 @@ use Rattle.office_tables.specs.declared.table_fault.TableFault.TheVariants.{Memo
 use Rattle.partner_core.specs.Deliveries.{delivery}
 use Rattle.office_desk.specs.Crashes.{Leaves, LeavesBehind}
 use Rattle.office_desk.proofs.CrashLemmas.{answered_behind, refused_leaves}
-use Rattle.office_desk.proofs.HoldLemmas.{beside_same, now_stays}
+use Rattle.office_desk.proofs.HoldLemmas.{beside_same}
 
 pub parties_same : (setup : Setup) → parties_of setup ≡ parties_in (setup_content setup)
 parties_same setup = ap (λ (codes : List (List ℕ)). record { terminal = string_bytes setup.terminal; partners = codes }) (sym (map-map _ _ setup.partners.items))
@@ -53,40 +53,23 @@ not_refused : worst.NotNow ≡ worst.Refused → ⊥
 not_refused e = absurd cc
 
 never_now : (code : List ℕ) (number : ℕ) (kind : Told) → content_of response.NotNow ≡ told_answer code number kind → ⊥
-never_now code number (told.Taken reply) e = not_fine (ap (λ answer. answer.how_bad) e)
-never_now code number (told.Repeat reply) e = not_fine (ap (λ answer. answer.how_bad) e)
-never_now code number (told.Waiting next) e = not_fine (ap (λ answer. answer.how_bad) e)
 never_now code number told.Clash e = not_refused (ap (λ answer. answer.how_bad) e)
+never_now code number kind e = not_fine (ap (λ answer. answer.how_bad) e)
 
 -- what is told is told now
 pub is_now : (given : Response) (code : List ℕ) (number : ℕ) (kind : Told) → content_of given ≡ told_answer code number kind → IsNow given
-is_now (response.Taken body) code number kind e = tt
-is_now (response.Repeat body) code number kind e = tt
-is_now (response.Waiting body) code number kind e = tt
-is_now (response.Clash body) code number kind e = tt
-is_now (response.Refused fault) code number kind e = tt
-is_now (response.RefusedWithContrl fault body) code number kind e = tt
 is_now response.NotNow code number kind e = absurd (never_now code number kind e)
+is_now given code number kind e = tt
 
 -- behind an answer that is one now the desk has the fault that it had
 pub notes_none : (given : Response) (last : Option TableFault) → IsNow given → NotesFault given last last
-notes_none (response.Taken body) last is = refl
-notes_none (response.Repeat body) last is = refl
-notes_none (response.Waiting body) last is = refl
-notes_none (response.Clash body) last is = refl
-notes_none (response.Refused fault) last is = refl
-notes_none (response.RefusedWithContrl fault body) last is = refl
 notes_none response.NotNow last is = absurd is
+notes_none given last is = refl
 
 -- memory that was refused is a fault
 pub notes_memory : (given : Response) (old new : Option TableFault) → NotesMemory given old new → NotesFault given old new
-notes_memory (response.Taken body) old new is = is
-notes_memory (response.Repeat body) old new is = is
-notes_memory (response.Waiting body) old new is = is
-notes_memory (response.Clash body) old new is = is
-notes_memory (response.Refused fault) old new is = is
-notes_memory (response.RefusedWithContrl fault body) old new is = is
 notes_memory response.NotNow old new is = (Memory, is)
+notes_memory given old new is = is
 
 module _ {S : Type 0} (g : Ghosts S) (content : SetupContent) (es : List Event) where
   -- the answer, and what is held behind it
@@ -110,23 +93,13 @@ module _ {S : Type 0} (g : Ghosts S) (content : SetupContent) (es : List Event) 
 
   answers_or_not : (sent : List ℕ) (given : Response) (now : SetupContent) (db : Database) (there : Option Beside) → GivesOrNotNow (answer_to content es sent) given → RefusedSurely parties (interchange_of sent) given →
       Holds content es now db there → Holds content (es ++ delivered sent ∷ []) now db there → Next sent given now db there
-  answers_or_not sent (response.Taken body) now db there gives surely before after = (gives, after)
-  answers_or_not sent (response.Repeat body) now db there gives surely before after = (gives, after)
-  answers_or_not sent (response.Waiting body) now db there gives surely before after = (gives, after)
-  answers_or_not sent (response.Clash body) now db there gives surely before after = (gives, after)
-  answers_or_not sent (response.Refused fault) now db there gives surely before after = (gives, after)
-  answers_or_not sent (response.RefusedWithContrl fault body) now db there gives surely before after = (gives, after)
   answers_or_not sent response.NotNow now db there gives surely before after = (not_now_surely parties (interchange_of sent) surely, before)
+  answers_or_not sent given now db there gives surely before after = (gives, after)
 
   answers_now : (sent : List ℕ) (given : Response) (now : SetupContent) (db : Database) (there : Option Beside) (code : List ℕ) (number : ℕ) (kind : Told) → content_of given ≡ told_answer code number kind →
       content_of given ≡ answer_to content es sent → Holds content (es ++ delivered sent ∷ []) now db there → Next sent given now db there
-  answers_now sent (response.Taken body) now db there code number kind e is after = (is, after)
-  answers_now sent (response.Repeat body) now db there code number kind e is after = (is, after)
-  answers_now sent (response.Waiting body) now db there code number kind e is after = (is, after)
-  answers_now sent (response.Clash body) now db there code number kind e is after = (is, after)
-  answers_now sent (response.Refused fault) now db there code number kind e is after = (is, after)
-  answers_now sent (response.RefusedWithContrl fault body) now db there code number kind e is after = (is, after)
   answers_now sent response.NotNow now db there code number kind e is after = absurd (never_now code number kind e)
+  answers_now sent given now db there code number kind e is after = (is, after)
 
   pub refusal_delivered : (sent text : List ℕ) (given : Response) (desk : Desk S g) (refusal : Refusal) → text ≡ interchange_of sent → StandsFor g content es desk →
       IsRefused desk.setup text refusal → GivesOrNotNow (refusal_of (parties_of desk.setup) (header_of (segments_in text)) (fault_in refusal)) given → RefusedSurely (parties_of desk.setup) text given →
@@ -139,7 +112,7 @@ module _ {S : Type 0} (g : Ghosts S) (content : SetupContent) (es : List Event) 
       let adds = refused_adds content es stands.rows sent fault stands.after here in
       let after : StandsFor g content (es ++ delivered sent ∷ []) desk = record {
         given = stands.given;
-        now_is = now_stays content es sent ∙ stands.now_is;
+        now_is = now_same content es sent ∙ stands.now_is;
         rows = stands.rows;
         has = stands.has;
         after = adds.rows_are;
@@ -187,13 +160,8 @@ module _ {S : Type 0} (g : Ghosts S) (content : SetupContent) (es : List Event) 
 
 over : {S : Type 0} (g : Ghosts S) (old : Office) (sent : List ℕ) (given : Response) (desk : Desk S g) (code : List ℕ) (number : ℕ) (kind : Told) → content_of given ≡ told_answer code number kind →
     AnswersAt g (admission (parties_of desk.setup) (interchange_of sent)) (interchange_of sent) old given desk → AnswersOver g old sent given desk
-over g old sent (response.Taken body) desk code number kind e by = by
-over g old sent (response.Repeat body) desk code number kind e by = by
-over g old sent (response.Waiting body) desk code number kind e by = by
-over g old sent (response.Clash body) desk code number kind e by = by
-over g old sent (response.Refused fault) desk code number kind e by = by
-over g old sent (response.RefusedWithContrl fault body) desk code number kind e by = by
 over g old sent response.NotNow desk code number kind e by = absurd (never_now code number kind e)
+over g old sent given desk code number kind e by = by
 
 module _ {S : Type 0} (g : Ghosts S) where
   pub refusal_over : (old : Office) (sent text : List ℕ) (given : Response) (desk : Desk S g) (refusal : Refusal) → text ≡ interchange_of sent → DeskHolds g desk old.rows old.terminal →
@@ -210,14 +178,9 @@ module _ {S : Type 0} (g : Ghosts S) where
 
       at : (given : Response) → GivesOrNotNow (refusal_of (parties_of desk.setup) (header_of (segments_in (interchange_of sent))) (fault_in refusal)) given → RefusedSurely (parties_of desk.setup) (interchange_of sent) given →
           admission (parties_of desk.setup) (interchange_of sent) ≡ Err (fault_in refusal) → NotesMemory given was desk.last_fault → AnswersOver g old sent given desk
-      at (response.Taken body) e surely here noted = told (response.Taken body) e here
-      at (response.Repeat body) e surely here noted = told (response.Repeat body) e here
-      at (response.Waiting body) e surely here noted = told (response.Waiting body) e here
-      at (response.Clash body) e surely here noted = told (response.Clash body) e here
-      at (response.Refused fault) e surely here noted = told (response.Refused fault) e here
-      at (response.RefusedWithContrl fault body) e surely here noted = told (response.RefusedWithContrl fault body) e here
       at response.NotNow e surely here noted =
           (not_now_surely (parties_of desk.setup) (interchange_of sent) surely, subst (λ place. NotedFor place old.rows desk.last_fault) (sym here) noted, holds)
+      at given e surely here noted = told given e here
 
   pub answers_over : (old : Office) (sent text : List ℕ) (given : Response) (desk : Desk S g) (partner number : ℕ) (code : List ℕ) → text ≡ interchange_of sent →
       admission (parties_of desk.setup) text ≡ Ok (partner, number) → code ≡ code_of (parties_of desk.setup) partner →

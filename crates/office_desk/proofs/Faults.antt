@@ -11,7 +11,7 @@ use Rattle.partner_core.proofs.Numbered.{with_number-below}
 use Rattle.sqlite.specs.Effect.{Database}
 use Rattle.sqlite_rules.specs.Lists.{Has}
 use Rattle.sqlite_rules.proofs.ListLemmas.{contains_had, has_contained, has_filtered, has_kept}
-use Rattle.edi_messages.specs.declared.partner_kind.PartnerKind.{PartnerKind}
+use Rattle.edi_messages.specs.declared.codes.PartnerKind.{PartnerKind}
 use Rattle.terminal_core.specs.State.{TerminalState}
 use Rattle.office_rows.specs.Rows.{Partner, Interchange, Rows}
 use Rattle.office_rows.specs.Effects.{is_pair}
@@ -25,13 +25,12 @@ use Rattle.office_admission.proofs.Growing.{found_low}
 use Rattle.office_setup.specs.Setups.{SetupContent, parties_in}
 use Rattle.office_history.specs.After.{reply_if_any}
 use Rattle.office_history.specs.Cascade.{text_in}
-use Rattle.office_selecting.specs.Waiting.{is_waiting, waiting_in}
+use Rattle.office_loading.specs.Waiting.{HasHighWaiting, is_waiting, waiting_in}
 use Rattle.office_tables.specs.Answers.{LacksNext}
 use Rattle.office_tables.specs.Faults.{IsOfStore}
 use Rattle.office_tables.specs.declared.table_fault.TableFault.{TableFault}
 use Rattle.office_tables.specs.declared.table_fault.TableFault.TheVariants.{Store, Damaged, Version, Memory}
 use Rattle.office_loading.specs.Tables.{FailsToLoad, HasHighNext, HasVersion, Loads}
-use Rattle.office_loading.specs.Waiting.{HasHighWaiting}
 use Rattle.office_loading.proofs.TableLemmas.{has_mapped}
 use Rattle.office_loading.proofs.VersionLemmas.{full}
 use Rattle.office_delivery.specs.Reading.{HasUnfitBehind}
@@ -41,7 +40,7 @@ use Rattle.office_queries.specs.declared.query.Query.TheVariants as query
 use Rattle.office_desk.specs.Causes.{AsksUnfitReply, AsksUnreadable, HasUnfitReplyOf, LacksReply, LacksSome}
 use Rattle.office_desk.specs.Reports.{partner_called}
 use Rattle.office_desk.specs.Offices.{FailsToOpen}
-use Rattle.office_desk.proofs.KeptNumbers.{own_reply}
+use Rattle.office_history.proofs.KeptNumbers.{own_reply}
 use Rattle.office_desk.proofs.NumberLemmas.{nexts_are}
 use Rattle.office_desk.proofs.OfficeAccounts.{KeepsAccounts, next_follows, next_there}
 

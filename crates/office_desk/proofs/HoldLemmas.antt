@@ -13,25 +13,24 @@ use Rattle.partner_core.specs.Answers.{Told, Waiting, answer_by}
 use Rattle.partner_core.specs.Deliveries.{delivery, run}
 use Rattle.partner_core.specs.Numbered.{with_number}
 use Rattle.partner_core.specs.Standings.{standing_of, is_same_text}
-use Rattle.partner_core.specs.declared.standing.Standing.TheVariants.{Known, Other}
+use Rattle.partner_core.specs.declared.runs.Standing.TheVariants.{Known, Other}
 use Rattle.terminal_core.specs.State.{TerminalState}
 use Rattle.office_replies.specs.Events.{Event, delivered}
 use Rattle.office_replies.specs.Contents.{content_of}
-use Rattle.office_replies.specs.declared.response.Response.{Response}
+use Rattle.office_replies.specs.declared.deliver.Response.{Response}
 use Rattle.office_rows.specs.Rows.{Interchange, Rows}
 use Rattle.office_rows.specs.Effects.{with_kept}
 use Rattle.office_rows.specs.Stored.{HasRows}
 use Rattle.office_setup.specs.Parties.{partner_kinds}
 use Rattle.office_setup.specs.Setups.{SetupContent, setup_content}
 use Rattle.office_setup.specs.declared.setup.Setup.{Setup}
-use Rattle.office_admission.proofs.Adding.{content_on}
 use Rattle.office_tables.specs.Answers.{IsKept, RepliesAs}
-use Rattle.office_tables.specs.declared.kept_interchange.Kept.{Kept}
+use Rattle.office_tables.specs.declared.interchanges.Kept.{Kept}
 use Rattle.office_taking.specs.Taking.{MachineState, machine_of}
 use Rattle.office_history.specs.Cascade.{AreTakenFrom, text_in, texts_with, with_run}
 use Rattle.office_history.specs.After.{AreAfter, AreKeptOnce, content_after, deliveries_of, machine_after, machine_with, parties_in, reply_in, reply_if_any}
 use Rattle.office_history.specs.Laws.{AddsRun, IsFor, AnswersBy, told_of}
-use Rattle.office_history.proofs.Lawful.{used_adds, early_adds, next_adds}
+use Rattle.office_history.proofs.Lawful.{early_adds, next_adds, now_same, used_adds}
 use Rattle.office_history.proofs.Telling.{answers, text_within}
 use Rattle.office_delivery.specs.Taking.{IsNumbered}
 use Rattle.office_delivery.specs.Writing.{Commits}
@@ -93,16 +92,12 @@ abbrev pub held_with : {content : SetupContent} {es : List Event} {now : SetupCo
     HasRows holds.rows db' → IsBeside content es there' → Holds content es now db' there'
 held_with holds db' there' has beside = record { given = holds.given; now_is = holds.now_is; rows = holds.rows; has = has; after = holds.after; beside = beside }
 
--- a delivery adds no account
-pub now_stays : (content : SetupContent) (es : List Event) (sent : List ℕ) → content_after content (es ++ delivered sent ∷ []) ≡ content_after content es
-now_stays content es sent = content_on es (delivered sent ∷ []) content
-
 pub beside_same : (content : SetupContent) (es : List Event) (sent : List ℕ) (there : Option Beside) → machine_after content (es ++ delivered sent ∷ []) ≡ machine_after content es →
     ((partner : ℕ) → run (deliveries_of content (es ++ delivered sent ∷ [])) partner ≡ run (deliveries_of content es) partner) → IsBeside content es there → IsBeside content (es ++ delivered sent ∷ []) there
 beside_same content es sent None same runs beside = tt
 beside_same content es sent (Some there) same runs beside =
     let es' = es ++ delivered sent ∷ [] in
-    let now : content_after content es' ≡ content_after content es = now_stays content es sent in
+    let now : content_after content es' ≡ content_after content es = now_same content es sent in
     record {
       terminal = ap (λ c. machine_with c there.terminal) now ∙ beside.terminal ∙ sym same;
       nexts = beside.nexts
@@ -123,7 +118,7 @@ used_answers content es sent text partner number next code kept response now was
       answers = told ∙ ap (λ t. told_answer code number (answer_by (standing_of next number (Some kept.text.items) t) next (option_map string_bytes kept.reply) None)) comes.text_is ∙ ap (told_answer code number) (sym answer);
       holds = record {
         given = holds.given;
-        now_is = now_stays content es sent ∙ holds.now_is;
+        now_is = now_same content es sent ∙ holds.now_is;
         rows = rows;
         has = subst (HasRows rows) same holds.has;
         after = adds.rows_are;
@@ -144,7 +139,7 @@ early_answers content es sent text partner number next code response now old new
       answers = told ∙ ap (told_answer code number) (ap Waiting is ∙ sym answer);
       holds = record {
         given = holds.given;
-        now_is = now_stays content es sent ∙ holds.now_is;
+        now_is = now_same content es sent ∙ holds.now_is;
         rows = with_kept partner number (interchange_of sent) rows;
         has = subst (λ t. HasRows (with_kept partner number t rows) new.committed) comes.text_is (wrote.rows rows holds.has);
         after = adds.rows_are;
@@ -169,7 +164,7 @@ nexts_raised content es sent nexts partner number count rows machine one is are 
     let last : number + count ≡ f' partner = omega (arith, is, adds.run_is) in
     ap₂ (λ l n. slice_set l (partner - 1) n) are last
     ∙ set_one f f' partner (λ p apart. ap (λ r. r + 1) (adds.other_runs p apart)) (length (content_after content es).partners) one
-    ∙ ap (λ (k : SetupContent). map f' (range_with_len 1 (length k.partners))) (sym (now_stays content es sent))
+    ∙ ap (λ (k : SetupContent). map f' (range_with_len 1 (length k.partners))) (sym (now_same content es sent))
 
 pub next_answers : (setup : Setup) (content : SetupContent) (es : List Event) (sent text : List ℕ) (partner number next : ℕ) (code : List ℕ) (response : Response) (now left : Beside) (was : Database) (end : State) →
     (holds : Holds content es (setup_content setup) was (Some now)) → Comes content es sent (delivery partner number text) → text_in holds.rows partner number ≡ None →
@@ -191,12 +186,12 @@ next_answers setup content es sent text partner number next code response now le
       answers = takes.answers ∙ ap (told_answer code number) (sym answer);
       holds = record {
         given = holds.given;
-        now_is = now_stays content es sent ∙ holds.now_is;
+        now_is = now_same content es sent ∙ holds.now_is;
         rows = with_run partner number own (takes.first ∷ takes.later) rows;
         has = subst (λ t. HasRows (with_run partner number t (takes.first ∷ takes.later) rows) end.committed) comes.text_is takes.has;
         after = adds.rows_are;
         beside = record {
-          terminal = ap (λ c. machine_with c left.terminal) (now_stays content es sent) ∙ adds.machine_is;
+          terminal = ap (λ c. machine_with c left.terminal) (now_same content es sent) ∙ adds.machine_is;
           nexts = takes.raised ∙ nexts_raised content es sent now.nexts.items partner number (length (takes.first ∷ takes.later)) _ _ one number_is holds.beside.nexts adds;
         };
       };

@@ -1,9 +1,9 @@
 -- What a desk answers by what it keeps.
 use Rattle.std.proofs.Common.{◌≡◌, ℕ, ◌+◌, ◌<◌, ◌≤◌, List, ◌∷◌, length, Bool, true, false, cond, Option, None, Some, Result, Ok, Err, IfOk, IfErr, OnOk, OnErr, refl, sym, ap, subst, ◌∙◌, arith, string_bytes}
-use Rattle.std.specs.Prelude.{find, nat_lt}
+use Rattle.std.specs.Prelude.{find}
 use Rattle.std.specs.Option.{option_map}
 use Rattle.std.specs.Result.{IsErrAnd}
-use Rattle.std.proofs.lemmas.Bool.{lt-ltb, ltb-true}
+use Rattle.std.proofs.lemmas.Bool.{le-ltb, lt-ltb}
 use Rattle.std.proofs.lemmas.List.FromFn.{length-map-range_with_len}
 use Rattle.sqlite.specs.Effect.{Database}
 use Rattle.sqlite.specs.State.{State}
@@ -11,9 +11,9 @@ use Rattle.partner_core.specs.Answers.{Taken, Waiting, answer_by}
 use Rattle.partner_core.specs.Deliveries.{Delivery}
 use Rattle.partner_core.specs.Numbered.{with_number}
 use Rattle.partner_core.specs.Standings.{standing_of, is_same_text}
-use Rattle.partner_core.specs.declared.standing.Standing.TheVariants.{Known, Other, Early, Next}
+use Rattle.partner_core.specs.declared.runs.Standing.TheVariants.{Known, Other, Early, Next}
 use Rattle.office_replies.specs.Contents.{content_of}
-use Rattle.office_replies.specs.declared.response.Response.{Response}
+use Rattle.office_replies.specs.declared.deliver.Response.{Response}
 use Rattle.office_rows.specs.Rows.{Interchange, Rows}
 use Rattle.office_rows.specs.Effects.{is_pair, with_kept}
 use Rattle.office_rows.specs.Shown.{AreNexts}
@@ -23,7 +23,7 @@ use Rattle.office_setup.specs.declared.setup.Setup.{Setup}
 use Rattle.office_tables.specs.Answers.{HasUnfitReply, IsKept, IsNextOf}
 use Rattle.office_tables.specs.Faults.{IsOfStore, IsOfStoreOr}
 use Rattle.office_tables.proofs.FaultLemmas.{of_store_or}
-use Rattle.office_tables.specs.declared.kept_interchange.Kept.{Kept}
+use Rattle.office_tables.specs.declared.interchanges.Kept.{Kept}
 use Rattle.office_tables.specs.declared.table_fault.TableFault.{TableFault}
 use Rattle.office_taking.specs.Taking.{machine_of}
 use Rattle.office_history.specs.After.{AreKeptOnce, machine_with, reply_in}
@@ -42,8 +42,8 @@ use Rattle.office_desk.proofs.HoldLemmas.{machine_same, reply_kept}
 use Rattle.office_desk.proofs.NumberLemmas.{nexts_are, number_within}
 use Rattle.office_desk.proofs.OfficeAccounts.{KeepsAccounts, keeps_accounts, next_at, next_follows}
 use Rattle.office_desk.proofs.OfficeLemmas.{office_once, office_with}
-use Rattle.office_desk.proofs.OfficeSteps.{early_loads}
-use Rattle.office_desk.proofs.RunLoads.{has_in_order, in_order, run_loads}
+use Rattle.office_desk.proofs.OfficeSteps.{early_loads, has_in_order, in_order}
+use Rattle.office_desk.proofs.RunLoads.{run_loads}
 use Rattle.office_desk.proofs.RunNexts.{accounts_raised, nexts_raised}
 
 -- ---- what is found
@@ -91,6 +91,7 @@ module _ (content : SetupContent) (old : Office) (db : Database) (before : Optio
       content_of response ≡ told_answer code d.number (Waiting next) → Commits (with_kept d.partner d.number d.text) was end → AnswersByKept content d code old response end.committed (Some there)
   early_by_kept d code response was end there next same beside is_next free later high one most told wrote =
       let has : HasRows (with_kept d.partner d.number d.text old.rows) end.committed = wrote.rows old.rows (subst (HasRows old.rows) (sym same) holds.has) in
+      let in_turn = wrote.rows (in_order old.rows holds.loads.0) (subst (HasRows (in_order old.rows holds.loads.0)) (sym same) (has_in_order old.rows holds.loads.0 db holds.has holds.loads.1)) in
       let follows = next_follows content old.rows accounts d.partner next is_next in
       let new : Office = record old { rows = with_kept d.partner d.number d.text old.rows } in
       let by_none : TakesIn (standing_of next d.number None d.text) content d next (Waiting next) old new =
@@ -104,16 +105,12 @@ module _ (content : SetupContent) (old : Office) (db : Database) (before : Optio
         answers = told;
         holds = record {
           has = has;
-          loads = early_loads content old.rows d.partner d.number d.text old.terminal db end.committed holds.has has holds.loads one most high (omega (arith, follows, later)) free;
+          loads = early_loads content old.rows d.partner d.number d.text old.terminal db end.committed holds.has holds.loads in_turn one most high (omega (arith, follows, later)) free;
           beside = record { terminal_is = beside.terminal_is; nexts = beside.nexts };
         };
       }
 
 -- ---- what is next
-
-not_early : (next k : ℕ) (is : Bool) → nat_lt next k ≡ is → k ≡ next → is ≡ false
-not_early next k true e same = absurd (omega (arith, ltb-true next k e, same))
-not_early next k false e same = refl
 
 pub next_by_kept : (setup : Setup) (old : Office) (d : Delivery) (code : List ℕ) (response : Response) (was : Database) (there now : Beside) (end : State) (next : ℕ) →
     HoldsOffice (setup_content setup) old.rows old.terminal was (Some there) → IsNextOf d.partner old.rows next → text_in old.rows d.partner d.number ≡ None → d.number ≡ next → 1 ≤ d.partner →
@@ -130,7 +127,7 @@ next_by_kept setup old d code response was there now end next holds is_next free
     subst (λ m. AreTakenFrom d.partner texts d.number (machine_with content old.terminal) run m) (machine_same setup now.terminal)
     (subst (λ m. AreTakenFrom d.partner texts d.number m run (machine_of setup now.terminal)) (machine_same setup there.terminal ∙ ap (machine_with content) holds.beside.terminal_is) takes.taken) in
     let by_none : TakesIn (standing_of next d.number None d.text) content d next told old new =
-    subst (λ is. TakesIn (cond is Early Next) content d next told old new) (sym (not_early next d.number (nat_lt next d.number) refl same))
+    subst (λ is. TakesIn (cond is Early Next) content d next told old new) (sym (le-ltb next d.number (omega (arith, same))))
     (same, record { first = takes.first; later = takes.later; taken = taken; rows = refl; is_told = refl }) in
     let partners = accounts_raised d.partner d.number texts d.text _ _ takes.first takes.later old.rows taken in
     record {

@@ -1,5 +1,4 @@
 pub mod AccountLemmas
-pub mod AccountedSteps
 pub mod Admitted
 pub mod AlikeLemmas
 pub mod AnswerLemmas
@@ -8,7 +7,6 @@ pub mod DeliverLemmas
 pub mod Faults
 pub mod HoldLemmas
 pub mod KeptLemmas
-pub mod KeptNumbers
 pub mod NumberLemmas
 pub mod OfficeAccounts
 pub mod OfficeLemmas

@@ -1,5 +1,5 @@
 -- What a report tells.
-use Rattle.std.proofs.Common.{◌≡◌, ℕ, false, List, Option, Some, Result, Ok, Err, IfOk, option_map, string_bytes, refl, sym, ap, subst, ◌∙◌}
+use Rattle.std.proofs.Common.{◌≡◌, false, Option, Some, Result, Ok, Err, IfOk, option_map, string_bytes, refl, sym, ap, subst, ◌∙◌}
 use Rattle.std.specs.Prelude.{IfErr, OnOk, String}
 use Rattle.std.specs.Result.{result_map_both}
 use Rattle.sqlite.specs.Held.{state}
@@ -10,8 +10,7 @@ use Rattle.office_rows.specs.Rows.{Rows}
 use Rattle.office_setup.specs.Given.{IsGiven}
 use Rattle.office_setup.specs.Setups.{setup_content}
 use Rattle.office_queries.specs.declared.query.Query.{Query}
-use Rattle.office_queries.specs.Looking.{Tells}
-use Rattle.office_queries.specs.declared.not_now.NotNow.{NotNow}
+use Rattle.office_queries.specs.declared.query.NotNow.{NotNow}
 use Rattle.office_tables.specs.declared.table_fault.TableFault.{TableFault}
 use Rattle.office_tables.specs.Faults.{IsOfStoreOr}
 use Rattle.office_desk.specs.Calls.{Looks, OnlyLooks}
@@ -21,12 +20,6 @@ use Rattle.office_desk.specs.Noting.{Notes}
 use Rattle.office_desk.specs.Offices.{DeskHolds}
 use Rattle.office_desk.specs.Reports.{DeskTells, IsOpenFor}
 use Rattle.office_desk.specs.declared.desk.Desk.{Desk}
-
--- what was found is told of as bytes
-pub told_if_ok : {A : Type 0} (is_told : Option (List ℕ) → Type 0) (found : Result (Option (String A)) NotNow) → Tells is_told (result_map_both (option_map string_bytes) (λ refusal. refusal) found)
-    → IfOk found (λ text. is_told (option_map string_bytes text))
-told_if_ok is_told (Ok text) told = told
-told_if_ok is_told (Err refusal) told = tt
 
 -- what was handed on is what the call answered
 pub noted_told : {T : Type 0} (met : Result T TableFault) (old : Option TableFault) (given : T) (new : Option TableFault) → Notes met old (Ok given) new → (met ≡ Ok given) × (new ≡ old)

@@ -1,15 +1,17 @@
 -- The partners' next numbers, in the order of their ids.
-use Rattle.std.proofs.Common.{◌≡◌, ℕ, zero, suc, ◌+◌, ◌-◌, ◌<◌, ◌≤◌, List, [], ◌∷◌, length, map, Bool, true, false, cond, Option, Some, refl, sym, ap, ap₂, subst, ◌∙◌, arith}
+use Rattle.std.proofs.Common.{◌≡◌, ℕ, zero, suc, ◌+◌, ◌-◌, ◌<◌, ◌≤◌, inl, inr, List, [], ◌∷◌, length, map, Bool, cond, Option, Some, refl, sym, ap, ap₂, subst, ◌∙◌, arith}
 use Rattle.std.specs.Prelude.{◌==◌, count_by, Contains, IsSorted, slice_get, slice_set, slice_index_or}
 use Rattle.std.specs.List.{range_with_len}
 use Rattle.std.specs.List.Sorted.{IsPermutation, IsNonDecreasing}
 use Rattle.std.specs.Ordering.{nat_cmp}
-use Rattle.std.proofs.lemmas.Bool.{eqb-true, eq-eqb}
-use Rattle.std.proofs.lemmas.List.Sums.{sum_by-cons}
+use Rattle.std.proofs.lemmas.Bool.{cases_order, eqb-true, eq-eqb}
+use Rattle.std.proofs.lemmas.Option.{slice_get_within}
 use Rattle.std.proofs.lemmas.List.Sorted.{Contains-permutation, IsNonDecreasingBy-from_sort, IsPermutation-map, IsPermutation-refl, IsPermutation-sym, IsPermutation-trans, sum_by-IsPermutation}
-use Rattle.edi_messages.specs.declared.partner_kind.PartnerKind.{PartnerKind}
+use Rattle.edi_messages.specs.declared.codes.PartnerKind.{PartnerKind}
 use Rattle.partner_core.specs.Deliveries.{run}
 use Rattle.partner_core.specs.Numbered.{with_number}
+use Rattle.terminal_core.proofs.Counted.{one_place}
+use Rattle.terminal_core.proofs.Numbered.{found_at}
 use Rattle.office_replies.specs.Events.{Event}
 use Rattle.office_rows.specs.Rows.{Partner, Rows}
 use Rattle.office_rows.specs.Shown.{AreNexts}
@@ -17,16 +19,16 @@ use Rattle.office_setup.specs.Setups.{SetupContent}
 use Rattle.office_taking.specs.Taking.{MachineState, interchange_taken}
 use Rattle.office_history.specs.After.{AreAfter, accounts_from, content_after, deliveries_of}
 use Rattle.office_history.specs.Cascade.{AreTakenFrom}
-use Rattle.office_history.proofs.Shown.{Rises, head_in, tail_in, rising_same}
+use Rattle.office_history.proofs.Shown.{Rises, above, fewer, head_in, one_at, rising_same, tail_in}
+use Rattle.office_history.proofs.Telling.{next_in}
 use Rattle.office_delivery.specs.Taken.{taken_contents}
-use Rattle.office_delivery.specs.declared.taken.Taken.{Taken}
+use Rattle.office_delivery.specs.declared.running.Taken.{Taken}
 use Rattle.office_desk.specs.Beside.{nexts_after}
 
 -- ---- numbers by a function, in the order of the ids
 
 pub map_alike : (f f' : ℕ → ℕ) → ((q : ℕ) → f' q ≡ f q) → (xs : List ℕ) → map f' xs ≡ map f xs
-map_alike f f' same [] = refl
-map_alike f f' same (x ∷ xs) = ap₂ ◌∷◌ (same x) (map_alike f f' same xs)
+map_alike f f' same xs i = map (λ q. same q i) xs
 
 module _ (f f' : ℕ → ℕ) (p : ℕ) (same : (q : ℕ) → (q ≡ p → ⊥) → f' q ≡ f q) where
   map_beyond : (a n : ℕ) → p < a → map f' (range_with_len a n) ≡ map f (range_with_len a n)
@@ -53,57 +55,14 @@ pub number_of : (f : ℕ → ℕ) (n p next : ℕ) → with_number (map f (range
 number_of f n zero next e = cc
 number_of f n (suc i) next e = let here : 1 + i ≡ suc i = omega arith in number_from f 1 n i next e ∙ ap f here
 
-got_within : {A : Type 0} (xs : List A) (i : ℕ) (x : A) → slice_get xs i ≡ Some x → i < length xs
-got_within [] i x e = cc
-got_within (y ∷ ys) zero x e = omega arith
-got_within (y ∷ ys) (suc i) x e = let rest = got_within ys i x e in omega (arith, rest)
-
 pub number_within : {A : Type 0} (xs : List A) (p : ℕ) (x : A) → with_number xs p ≡ Some x → p ≤ length xs
 number_within xs zero x e = omega arith
-number_within xs (suc i) x e = let rest = got_within xs i x e in omega (arith, rest)
+number_within xs (suc i) x e = let rest = slice_get_within xs i x e in omega (arith, rest)
 
 -- ---- the ids, from the least up
 
 abbrev is_one : ℕ → ℕ → Bool
 is_one v x = x == v
-
-count_more : (v x : ℕ) (xs : List ℕ) (is : Bool) → (x == v) ≡ is → count_by (is_one v) (x ∷ xs) ≡ cond is 1 0 + count_by (is_one v) xs
-count_more v x xs is e = sum_by-cons (λ y. cond (y == v) 1 0) x xs ∙ ap (λ b. cond b 1 0 + count_by (is_one v) xs) e
-
-none_from : (v a n : ℕ) → v < a → count_by (is_one v) (range_with_len a n) ≡ 0
-none_from v a zero low = refl
-none_from v a (suc n) low = by (a == v) refl (none_from v (a + 1) n (omega (arith, low)))
-  where
-    by : (is : Bool) → (a == v) ≡ is → count_by (is_one v) (range_with_len (a + 1) n) ≡ 0 → count_by (is_one v) (range_with_len a (suc n)) ≡ 0
-    by true e rest = let same : a ≡ v = eqb-true a v e in absurd (omega (arith, same, low))
-    by false e rest = let more : count_by (is_one v) (range_with_len a (suc n)) ≡ 0 + count_by (is_one v) (range_with_len (a + 1) n) = count_more v a (range_with_len (a + 1) n) false e in omega (arith, more, rest)
-
-once_from : (v a n : ℕ) → count_by (is_one v) (range_with_len a n) ≤ 1
-once_from v a zero = omega arith
-once_from v a (suc n) = by (a == v) refl (once_from v (a + 1) n)
-  where
-    by : (is : Bool) → (a == v) ≡ is → count_by (is_one v) (range_with_len (a + 1) n) ≤ 1 → count_by (is_one v) (range_with_len a (suc n)) ≤ 1
-    by true e rest =
-        let same : a ≡ v = eqb-true a v e in
-        let more : count_by (is_one v) (range_with_len a (suc n)) ≡ 1 + count_by (is_one v) (range_with_len (a + 1) n) = count_more v a (range_with_len (a + 1) n) true e in
-        let none = none_from v (a + 1) n (omega (arith, same)) in
-        omega (arith, more, none)
-    by false e rest = let more : count_by (is_one v) (range_with_len a (suc n)) ≡ 0 + count_by (is_one v) (range_with_len (a + 1) n) = count_more v a (range_with_len (a + 1) n) false e in omega (arith, more, rest)
-
-counted : (xs : List ℕ) (v k : ℕ) → k < length xs → slice_index_or xs k v ≡ v → 1 ≤ count_by (is_one v) xs
-counted [] v k low is = absurd (omega (arith, low))
-counted (x ∷ xs) v zero low is =
-    let more : count_by (is_one v) (x ∷ xs) ≡ 1 + count_by (is_one v) xs = count_more v x xs true (eq-eqb x v is) in
-    omega (arith, more)
-counted (x ∷ xs) v (suc k) low is = by (x == v) refl (counted xs v k (omega (arith, low)) is)
-  where
-    by : (same : Bool) → (x == v) ≡ same → 1 ≤ count_by (is_one v) xs → 1 ≤ count_by (is_one v) (x ∷ xs)
-    by true e rest = let more : count_by (is_one v) (x ∷ xs) ≡ 1 + count_by (is_one v) xs = count_more v x xs true e in omega (arith, more)
-    by false e rest = let more : count_by (is_one v) (x ∷ xs) ≡ 0 + count_by (is_one v) xs = count_more v x xs false e in omega (arith, more, rest)
-
-fewer : (v x : ℕ) (xs : List ℕ) (is : Bool) → (x == v) ≡ is → count_by (is_one v) (x ∷ xs) ≤ 1 → count_by (is_one v) xs ≤ 1
-fewer v x xs true e once = let more : count_by (is_one v) (x ∷ xs) ≡ 1 + count_by (is_one v) xs = count_more v x xs true e in omega (arith, more, once)
-fewer v x xs false e once = let more : count_by (is_one v) (x ∷ xs) ≡ 0 + count_by (is_one v) xs = count_more v x xs false e in omega (arith, more, once)
 
 -- numbers in order, none of them twice, rise
 rise : (low : ℕ) (xs : List ℕ) → IsNonDecreasing xs → ((v : ℕ) → count_by (is_one v) xs ≤ 1) → ((x : ℕ) → Contains xs x → low < x) → Rises (λ x. x) low xs
@@ -111,34 +70,21 @@ rise low [] up once above = tt
 rise low (x ∷ xs) up once above = (
   above x (head_in x xs),
   rise x xs (λ i j d before within. up (suc i) (suc j) d (omega (arith, before)) (omega (arith, within)))
-      (λ v. fewer v x xs (x == v) refl (once v))
-      (λ y inside. beyond y inside (up zero (suc inside.0) y (omega arith) (omega (arith, inside.1)))),
+      (λ v. fewer (is_one v) x xs (once v))
+      (λ y inside. beyond y inside (subst (λ z. x ≤ z) inside.2 (up zero (suc inside.0) y (omega arith) (omega (arith, inside.1))))),
 )
   where
-    beyond : (y : ℕ) (inside : Contains xs y) → x ≤ slice_index_or xs inside.0 y → x < y
-    beyond y inside low =
-        let not_less : x ≤ y = subst (λ z. x ≤ z) inside.2 low in
-        by (x == y) refl not_less
-      where
-        by : (same : Bool) → (x == y) ≡ same → x ≤ y → x < y
-        by true e low =
-            let more : count_by (is_one y) (x ∷ xs) ≡ 1 + count_by (is_one y) xs = count_more y x xs true e in
-            let other = counted xs y inside.0 inside.1 inside.2 in
-            let one = once y in
-            absurd (omega (arith, more, other, one))
-        by false e low = omega (arith, low, differ e)
-          where
-            differ : (x == y) ≡ false → (x ≡ y → ⊥)
-            differ e same = let is : (x == y) ≡ true = eq-eqb x y same in absurd cc
+    beyond : (y : ℕ) → Contains xs y → x ≤ y → x < y
+    beyond y inside low = elim (cases_order x y) [
+      | inl same ↦
+          let bad : 0 ≡ suc inside.0 = one_place (is_one y) (x ∷ xs) 0 (suc inside.0) x y (once y) refl (found_at xs y inside) (eq-eqb x y same) (eq-eqb y y refl) in
+          absurd (omega (arith, bad))
+      | inr o ↦ elim o [ inl below ↦ below | inr above ↦ absurd (omega (arith, low, above)) ]
+    ]
 
 rises_from : (low a n : ℕ) → low < a → Rises (λ x. x) low (range_with_len a n)
 rises_from low a zero below = tt
 rises_from low a (suc n) below = (below, rises_from a (a + 1) n (omega arith))
-
-from_low : (a n k x : ℕ) → k < length (range_with_len a n) → slice_index_or (range_with_len a n) k x ≡ x → a ≤ x
-from_low a zero k x low is = absurd (omega (arith, low))
-from_low a (suc n) zero x low is = omega (arith, is)
-from_low a (suc n) (suc k) x low is = let rest = from_low (a + 1) n k x (omega (arith, low)) is in omega (arith, rest)
 
 -- the ids in order are 1, 2 and so on
 pub in_range : (n : ℕ) (xs : List ℕ) → IsPermutation (range_with_len 1 n) xs → IsSorted nat_cmp xs → xs ≡ range_with_len 1 n
@@ -146,8 +92,8 @@ in_range n xs same sorted =
     let all = range_with_len 1 n in
     sym (rising_same (λ x. x) 0 all xs (rises_from 0 1 n (omega arith))
     (rise 0 xs (IsNonDecreasingBy-from_sort (λ x. x) xs sorted)
-    (λ v. subst (λ k. k ≤ 1) (sym (sum_by-IsPermutation (λ x. cond (x == v) 1 0) all xs same)) (once_from v 1 n))
-    (λ x inside. let there = Contains-permutation xs all x (IsPermutation-sym all xs same) inside in let low = from_low 1 n there.0 x there.1 there.2 in omega (arith, low)))
+    (λ v. subst (λ k. k ≤ 1) (sym (sum_by-IsPermutation (λ x. cond (x == v) 1 0) all xs same)) (one_at (λ x. x) (is_one v) v (λ x e. eqb-true x v e) 0 all (rises_from 0 1 n (omega arith))))
+    (λ x inside. above (λ x. x) 0 all x (rises_from 0 1 n (omega arith)) (Contains-permutation xs all x (IsPermutation-sym all xs same) inside)))
     same)
 
 -- ---- the accounts
@@ -163,18 +109,12 @@ nexts_by : (f : ℕ → ℕ) (ps : List Partner) → ((p : Partner) → Contains
 nexts_by f [] all = refl
 nexts_by f (p ∷ ps) all = ap₂ ◌∷◌ (all p (head_in p ps)) (nexts_by f ps (λ q inside. all q (tail_in p q ps inside)))
 
-accounts_next : (id : ℕ) (f : ℕ → ℕ) (accounts : List (List ℕ × PartnerKind)) (account : Partner) (i : ℕ) → i < length (accounts_from id f accounts) → slice_index_or (accounts_from id f accounts) i account ≡ account →
-    account.next ≡ f account.id
-accounts_next id f [] account i low is = absurd (omega (arith, low))
-accounts_next id f (a ∷ accounts) account zero low is = ap (λ (p : Partner). p.next) (sym is) ∙ ap (λ (p : Partner). f p.id) is
-accounts_next id f (a ∷ accounts) account (suc i) low is = accounts_next (id + 1) f accounts account i (omega (arith, low)) is
-
 -- the accounts are those of the set-up, each with the next number that f gives its id
 module _ (f : ℕ → ℕ) (accounts : List (List ℕ × PartnerKind)) (rows : Rows) (placed : IsPermutation rows.partners (accounts_from 1 f accounts)) where
   pub next_by : (account : Partner) → Contains rows.partners account → account.next ≡ f account.id
   next_by account inside =
       let there = Contains-permutation rows.partners (accounts_from 1 f accounts) account placed inside in
-      accounts_next 1 f accounts account there.0 there.1 there.2
+      next_in 1 f accounts account there.0 there.1 there.2
 
   pub ids_are : (by_id : List Partner) → IsPermutation rows.partners by_id → IsSorted nat_cmp (map id_of by_id) → map id_of by_id ≡ range_with_len 1 (length accounts)
   ids_are by_id same sorted =

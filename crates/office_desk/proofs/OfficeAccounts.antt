@@ -1,84 +1,31 @@
 -- The rows of an office: its accounts and what is kept for them, whether or not deliveries led to them.
-use Rattle.std.proofs.Common.{◌≡◌, ℕ, ◌+◌, ◌<◌, ◌≤◌, List, [], ◌∷◌, length, map, inl, inr, Some, refl, sym, ap, ap₂, subst, ◌∙◌, arith}
+use Rattle.std.proofs.Common.{◌≡◌, ℕ, ◌+◌, ◌<◌, ◌≤◌, List, [], ◌∷◌, length, map, inl, inr, Some, refl, sym, ap, subst, ◌∙◌, arith}
 use Rattle.std.specs.Prelude.{Contains}
 use Rattle.std.specs.List.Sorted.{IsPermutation}
 use Rattle.std.proofs.lemmas.Bool.{cases_order, eq-eqb, eqb-true}
 use Rattle.std.proofs.lemmas.List.Sorted.{Contains-permutation, IsPermutation-sym, IsPermutation-trans}
-use Rattle.sqlite.specs.declared.types.Value.{Value}
-use Rattle.sqlite.specs.declared.types.Value.TheVariants.{Text}
-use Rattle.sqlite.specs.Order.{column}
 use Rattle.sqlite.specs.Effect.{Database}
 use Rattle.sqlite_rules.proofs.ListLemmas.{contains_had, has_contained, has_filtered, has_kept}
-use Rattle.edi_messages.specs.declared.partner_kind.PartnerKind.{PartnerKind}
-use Rattle.edi_messages.specs.declared.partner_kind.PartnerKind.TheVariants.{Gate, Line, Quay, Yard}
+use Rattle.edi_messages.specs.declared.codes.PartnerKind.{PartnerKind}
 use Rattle.partner_core.specs.Numbered.{with_number}
 use Rattle.terminal_core.specs.State.{TerminalState}
-use Rattle.office_rows.specs.Rows.{Partner, Interchange, Rows}
-use Rattle.office_rows.specs.Values.{number, kind_code, interchange_values, partner_values}
+use Rattle.office_rows.specs.Rows.{Partner, Rows}
+use Rattle.office_rows.specs.Values.{number, interchange_values, partner_values}
 use Rattle.office_rows.specs.Stored.{HasRows}
 use Rattle.office_rows.specs.Shown.{AreNexts, columns_at}
-use Rattle.office_rows.specs.Opened.{numbered, reply_values}
+use Rattle.office_rows.specs.Opened.{numbered}
 use Rattle.office_rows.specs.Office.{AreKept}
 use Rattle.office_rows.specs.Tables.{partner as partners_table}
 use Rattle.office_rows.proofs.Listed.{unmapped}
 use Rattle.office_setup.specs.Setups.{SetupContent}
 use Rattle.office_tables.specs.Answers.{IsNextOf, has_id}
 use Rattle.office_history.specs.After.{accounts_from}
-use Rattle.office_history.proofs.Once.{kept_once}
+use Rattle.office_history.proofs.Loads.{partner_one}
+use Rattle.office_history.proofs.Once.{kept_once, numbers_same}
 use Rattle.office_history.proofs.Shown.{head_in, tail_in, same_records, shown_in}
 use Rattle.office_loading.specs.Tables.{Loads}
-use Rattle.office_desk.proofs.KeptNumbers.{KeepsNumbers, have_runs, kept_numbers}
+use Rattle.office_history.proofs.KeptNumbers.{KeepsNumbers, have_runs, kept_numbers}
 use Rattle.office_desk.proofs.NumberLemmas.{next_by, nexts_are, number_of}
-
--- ---- what the tables show, as records
-
-number_one : (m n : ℕ) → number m ≡ number n → m ≡ n
-number_one m n e = cc
-
-text_one : (s t : List ℕ) → ◌≡◌ {A = Value} (Text s) (Text t) → s ≡ t
-text_one s t e = cc
-
-kind_one : (a b : PartnerKind) → kind_code a ≡ kind_code b → a ≡ b
-kind_one Gate Gate e = refl
-kind_one Gate Line e = absurd (omega (arith, e))
-kind_one Gate Quay e = absurd (omega (arith, e))
-kind_one Gate Yard e = absurd (omega (arith, e))
-kind_one Line Gate e = absurd (omega (arith, e))
-kind_one Line Line e = refl
-kind_one Line Quay e = absurd (omega (arith, e))
-kind_one Line Yard e = absurd (omega (arith, e))
-kind_one Quay Gate e = absurd (omega (arith, e))
-kind_one Quay Line e = absurd (omega (arith, e))
-kind_one Quay Quay e = refl
-kind_one Quay Yard e = absurd (omega (arith, e))
-kind_one Yard Gate e = absurd (omega (arith, e))
-kind_one Yard Line e = absurd (omega (arith, e))
-kind_one Yard Quay e = absurd (omega (arith, e))
-kind_one Yard Yard e = refl
-
-partner_one : (a b : Partner) → Unit {0} → Unit {0} → partner_values a ≡ partner_values b → a ≡ b
-partner_one a b _ _ e =
-    let id = number_one a.id b.id (ap (λ r. column r 0) e) in
-    let code = text_one a.code b.code (ap (λ r. column r 1) e) in
-    let kind = kind_one a.kind b.kind (number_one _ _ (ap (λ r. column r 2) e)) in
-    let next = number_one a.next b.next (ap (λ r. column r 3) e) in
-    λ i. record { id = id i; code = code i; kind = kind i; next = next i }
-
-numbered_one : (i j : Interchange) → reply_values i ≡ columns_at (0 ∷ 1 ∷ 3 ∷ []) (interchange_values j) → numbered i ≡ numbered j
-numbered_one i j e =
-    let partner : i.partner ≡ j.partner = number_one i.partner j.partner (ap (λ r. column r 0) e) in
-    let own : i.number ≡ j.number = number_one i.number j.number (ap (λ r. column r 1) e) in
-    let reply : i.reply ≡ j.reply = text_one i.reply j.reply (ap (λ r. column r 2) e) in
-    λ k. numbered (record { partner = partner k; number = own k; body = i.body; reply = reply k })
-
-numbers_same : (xs ys : List Interchange) → map reply_values xs ≡ map (columns_at (0 ∷ 1 ∷ 3 ∷ [])) (map interchange_values ys) → map numbered xs ≡ map numbered ys
-numbers_same [] [] e = refl
-numbers_same [] (y ∷ ys) e = cc
-numbers_same (x ∷ xs) [] e = cc
-numbers_same (x ∷ xs) (y ∷ ys) e =
-    let first : reply_values x ≡ columns_at (0 ∷ 1 ∷ 3 ∷ []) (interchange_values y) = cc in
-    let rest : map reply_values xs ≡ map (columns_at (0 ∷ 1 ∷ 3 ∷ [])) (map interchange_values ys) = cc in
-    ap₂ ◌∷◌ (numbered_one x y first) (numbers_same xs ys rest)
 
 -- ---- the accounts
 

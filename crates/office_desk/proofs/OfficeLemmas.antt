@@ -1,5 +1,5 @@
 -- What holds of the rows of an office, whether or not deliveries led to them.
-use Rattle.std.proofs.Common.{◌≡◌, Option, None, sym, subst, ◌∙◌}
+use Rattle.std.proofs.Common.{◌≡◌, Option, None, sym, subst}
 use Rattle.sqlite.specs.Effect.{Database}
 use Rattle.terminal_core.specs.State.{TerminalState}
 use Rattle.office_rows.specs.Rows.{Rows}

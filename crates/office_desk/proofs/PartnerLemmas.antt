@@ -2,13 +2,13 @@
 use Rattle.std.proofs.Common.{◌≡◌, ℕ, ◌+◌, ◌-◌, ◌<◌, ◌≤◌, List, [], ◌∷◌, ◌++◌, length, map, take, get_or, slice_get, Option, None, Some, option_map, string_bytes, refl, sym, ap, subst, ◌∙◌, arith}
 use Rattle.std.proofs.lemmas.Option.{slice_get-map, slice_get_read}
 use Rattle.std.proofs.lemmas.List.{take_more, map-append, length-map, length-take}
-use Rattle.edi_messages.specs.declared.partner_kind.PartnerKind.{PartnerKind}
+use Rattle.edi_messages.specs.declared.codes.PartnerKind.{PartnerKind}
 use Rattle.office_rows.specs.Rows.{Rows}
 use Rattle.office_setup.specs.Parties.{partner_codes, partner_from}
 use Rattle.office_setup.specs.Setups.{account_contents}
-use Rattle.office_setup.specs.declared.account.Account.{Account}
+use Rattle.office_setup.specs.declared.setup.Account.{Account}
 use Rattle.office_lookups.specs.Partners.{PartnerContent, partner_content, partner_line}
-use Rattle.office_lookups.specs.declared.partner.Partner.{Partner}
+use Rattle.office_lookups.specs.declared.partners.Partner.{Partner}
 use Rattle.office_desk.specs.Causes.{LacksNumbers, LacksSome}
 use Rattle.office_desk.specs.Reports.{AreLookedUp, IsLookedUp, TellsPartner}
 use Rattle.office_desk.proofs.AccountLemmas.{found_by_code}

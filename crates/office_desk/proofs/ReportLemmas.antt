@@ -1,11 +1,12 @@
 -- What the tables tell of an interchange, as reports tell it.
 use Rattle.std.proofs.Common.{◌≡◌, ℕ, true, false, List, Option, None, Some, string_bytes, option_map, is_some, refl, sym, ap, subst, ◌∙◌}
 use Rattle.std.specs.Option.{option_and_then}
+use Rattle.partner_core.proofs.Firsts.{none_of, some_of}
 use Rattle.terminal_core.specs.Rows.{VisitContent}
 use Rattle.office_reports.specs.Tickets.{ticket_text}
 use Rattle.office_rows.specs.Rows.{Interchange, Rows}
 use Rattle.office_tables.specs.Answers.{IsKept, IsNextOf}
-use Rattle.office_tables.specs.declared.kept_interchange.Kept.{Kept}
+use Rattle.office_tables.specs.declared.interchanges.Kept.{Kept}
 use Rattle.office_history.specs.After.{AreKeptOnce, reply_in, reply_if_any}
 use Rattle.office_history.specs.Cascade.{text_in}
 use Rattle.office_delivery.proofs.ReadLemmas.{none_kept, no_text, text_kept}
@@ -19,14 +20,6 @@ use Rattle.office_desk.proofs.HoldLemmas.{reply_kept}
 
 pub no_reply : (partner number : ℕ) (rows : Rows) → IsKept partner number rows None → reply_in rows partner number ≡ None
 no_reply partner number rows none = ap (option_and_then (λ (i : Interchange). reply_if_any i.reply)) (none_kept partner number rows none)
-
-some_if : {A : Type 0} (found : Option A) → is_some found ≡ true → (x : A) × (found ≡ Some x)
-some_if None is = absurd cc
-some_if (Some x) is = (x, refl)
-
-none_if : {A : Type 0} (found : Option A) → is_some found ≡ false → found ≡ None
-none_if None is = refl
-none_if (Some x) is = absurd cc
 
 module _ (rows : Rows) (partner number : ℕ) (once : AreKeptOnce rows.interchanges) where
   -- the reply that is kept
@@ -47,13 +40,13 @@ module _ (rows : Rows) (partner number : ℕ) (once : AreKeptOnce rows.interchan
   pub ticket_there : (code : List ℕ) (visits : List VisitContent) (kept : Option Kept) (text : List ℕ) → IsKept partner number rows kept → is_some (option_and_then (λ (k : Kept). k.reply) kept) ≡ true →
       text ≡ ticket_text code (record { partner = partner; number = number }) visits → Some text ≡ ticket_told visits code partner number (reply_in rows partner number)
   ticket_there code visits kept text is there told =
-      let found = some_if (option_and_then (λ (k : Kept). k.reply) kept) there in
+      let found = some_of (option_and_then (λ (k : Kept). k.reply) kept) there in
       ap Some told ∙ sym (ap (ticket_told visits code partner number) (reply_of_kept kept is ∙ ap (option_map string_bytes) found.1))
 
   pub no_ticket : (code : List ℕ) (visits : List VisitContent) (kept : Option Kept) → IsKept partner number rows kept → is_some (option_and_then (λ (k : Kept). k.reply) kept) ≡ false →
       None ≡ ticket_told visits code partner number (reply_in rows partner number)
   no_ticket code visits kept is none =
-      sym (ap (ticket_told visits code partner number) (reply_of_kept kept is ∙ ap (option_map string_bytes) (none_if (option_and_then (λ (k : Kept). k.reply) kept) none)))
+      sym (ap (ticket_told visits code partner number) (reply_of_kept kept is ∙ ap (option_map string_bytes) (none_of (option_and_then (λ (k : Kept). k.reply) kept) none)))
 
   -- the CONTRL of the reply that is kept
   pub contrl_kept : (kept : Option Kept) (reply : Option (List ℕ)) → IsKept partner number rows kept → reply ≡ option_map string_bytes (option_and_then (λ (k : Kept). k.reply) kept) →

@@ -6,14 +6,14 @@ use Rattle.std.specs.List.Sorted.{IsPermutation}
 use Rattle.std.specs.Ordering.{nat_cmp}
 use Rattle.std.proofs.lemmas.Bool.{cond-true, cond-false, eq-eqb, ne_eqb}
 use Rattle.std.proofs.lemmas.List.Sorted.{Contains-permutation, IsPermutation-map, IsPermutation-sym}
-use Rattle.edi_messages.specs.declared.partner_kind.PartnerKind.{PartnerKind}
-use Rattle.terminal_core.specs.Rows.{ChangeContent, visit_opened, visit_closed, placed_at, moved_to, removed_from, listed_on, line_done, unlisted}
+use Rattle.edi_messages.specs.declared.codes.PartnerKind.{PartnerKind}
 use Rattle.office_rows.specs.Rows.{Partner, Rows}
-use Rattle.office_rows.specs.Effects.{with_change, with_kept}
+use Rattle.office_rows.specs.Effects.{with_kept}
 use Rattle.office_rows.specs.Shown.{AreNexts}
 use Rattle.office_taking.specs.Taking.{MachineState, interchange_taken}
 use Rattle.office_history.specs.After.{accounts_from}
-use Rattle.office_history.specs.Cascade.{TakenContent, AreTakenFrom, with_changes, with_interchange, with_interchanges, with_run}
+use Rattle.office_history.specs.Cascade.{TakenContent, AreTakenFrom, with_interchange, with_interchanges, with_run}
+use Rattle.office_history.proofs.Runs.{changes_beside}
 use Rattle.office_history.proofs.Shown.{head_in, tail_in}
 use Rattle.office_desk.proofs.NumberLemmas.{id_of, ids_are, next_by, nexts_are, set_one}
 
@@ -22,20 +22,6 @@ use Rattle.office_desk.proofs.NumberLemmas.{id_of, ids_are, next_by, nexts_are, 
 -- an account with that next number, if it is the partner's
 abbrev pub raised : ℕ → ℕ → Partner → Partner
 raised p next account = cond (account.id == p) (record account { next = next }) account
-
-one_change : (change : ChangeContent) (rows : Rows) → (with_change change rows).partners ≡ rows.partners
-one_change (visit_opened visit) rows = refl
-one_change (visit_closed number departure) rows = refl
-one_change (placed_at container visit slot) rows = refl
-one_change (moved_to container slot) rows = refl
-one_change (removed_from container) rows = refl
-one_change (listed_on call side container port) rows = refl
-one_change (line_done call side container) rows = refl
-one_change (unlisted call side container) rows = refl
-
-all_changes : (changes : List ChangeContent) (rows : Rows) → (with_changes changes rows).partners ≡ rows.partners
-all_changes [] rows = refl
-all_changes (change ∷ changes) rows = all_changes changes (with_change change rows) ∙ one_change change rows
 
 raised_twice : (p high low : ℕ) (account : Partner) → raised p high (raised p low account) ≡ raised p high account
 raised_twice p high low account = at (account.id == p) refl
@@ -50,7 +36,7 @@ raised_all p high low (account ∷ accounts) = ap₂ ◌∷◌ (raised_twice p h
 
 module _ (p : ℕ) (texts : ℕ → Option (List ℕ)) where
   one_raised : (t : TakenContent) (number : ℕ) (rows : Rows) → t.number ≡ number → (with_interchange p t rows).partners ≡ map (raised p (number + 1)) rows.partners
-  one_raised t number rows is = ap (map (raised p (t.number + 1))) (all_changes t.changes rows) ∙ ap (λ n. map (raised p (n + 1)) rows.partners) is
+  one_raised t number rows is = ap (map (raised p (t.number + 1))) (changes_beside t.changes rows).partners ∙ ap (λ n. map (raised p (n + 1)) rows.partners) is
 
   run_raised : (number : ℕ) (old new : MachineState) (first : TakenContent) (later : List TakenContent) (rows : Rows) → AreTakenFrom p texts number old (first ∷ later) new →
       (with_interchanges p (first ∷ later) rows).partners ≡ map (raised p (number + length (first ∷ later))) rows.partners

@@ -1,81 +1,22 @@
 -- What a run leaves of an office's terminal.
-use Rattle.std.proofs.Common.{◌≡◌, ℕ, zero, suc, ◌+◌, ◌-◌, ◌<◌, ◌≤◌, inl, inr, List, [], ◌∷◌, length, true, cond, Option, None, Some, is_some, refl, sym, ap, subst, ◌∙◌, arith}
-use Rattle.std.specs.Prelude.{◌==◌, ◌&&◌, if◌then◌else◌}
+use Rattle.std.proofs.Common.{◌≡◌, ℕ, zero, suc, ◌+◌, ◌-◌, ◌<◌, ◌≤◌, inl, inr, List, [], ◌∷◌, length, true, Option, None, Some, is_some, refl, sym, ap, subst, ◌∙◌, arith}
+use Rattle.std.specs.Prelude.{◌==◌, ◌&&◌}
 use Rattle.std.specs.Option.{option_or}
 use Rattle.std.proofs.lemmas.Bool.{cases_order, cond-true, cond-false, eq-eqb, ne_eqb}
 use Rattle.partner_core.specs.Cascade.{TakesTexts, for_each_partner}
-use Rattle.partner_core.specs.Deliveries.{delivery, run}
-use Rattle.partner_core.specs.Keeping.{Holdings, Keeps, TakesRun}
+use Rattle.partner_core.specs.Deliveries.{run}
 use Rattle.partner_core.specs.Machine.{Taking}
-use Rattle.partner_core.specs.Order.{numbers_above, order, reply_among, reply_of, state}
-use Rattle.partner_core.proofs.Cascades.{takes_none, takes_one_more}
-use Rattle.partner_core.proofs.Keepings.{keeps_run}
-use Rattle.partner_core.proofs.OnePartner.{run_of_none}
+use Rattle.partner_core.specs.Order.{numbers_above, reply_among}
 use Rattle.terminal_core.specs.Versions.{newest}
 use Rattle.terminal_core.specs.Forms.{IsWellFormed}
 use Rattle.terminal_core.specs.State.{IsWhole}
 use Rattle.office_taking.specs.Taking.{MachineState, interchange_taken}
 use Rattle.office_taking.proofs.Forming.{interchange_formed}
+use Rattle.office_taking.proofs.Reaching.{terminal_alone}
 use Rattle.office_taking.proofs.Turning.{interchange_leads}
 use Rattle.office_history.specs.Cascade.{TakenContent, AreTakenFrom}
-use Rattle.office_setup.specs.Setups.{SetupContent}
-use Rattle.office_history.proofs.Ground.{OnGround, state_on_ground}
-use Rattle.office_history.proofs.Places.{no_rules_before}
-use Rattle.office_desk.proofs.AccountedSteps.{IsAccounted, interchange_keeps}
-use Rattle.office_desk.proofs.PartLemmas.{set_taken}
-
--- ---- one interchange, as the one delivery to a machine
-
-module _ (machine : MachineState) (p : ℕ) (text : List ℕ) where
-  abbrev next : MachineState
-  next = (interchange_taken machine p text).0
-
-  abbrev none_held : Holdings MachineState
-  none_held = record { texts = λ q j. None; counts = run []; replies = λ q j. None; state_now = machine }
-
-  none_keeps : Keeps interchange_taken machine [] none_held
-  unfolding state reply_of order
-  none_keeps = record { firsts = λ q j. refl; runs = λ q. refl; replies_are = λ q j. refl; state_is = refl }
-
-  abbrev one_held : Holdings MachineState
-  one_held = record {
-    texts = λ q j. if (p == q) && (1 == j) then Some text else None;
-    counts = λ q. if q == p then 1 else run [] q;
-    replies = λ q j. if q == p then (if 1 == j then Some (interchange_taken machine p text).1 else None) else None;
-    state_now = next;
-  }
-
-  itself : (p == p) ≡ true
-  itself = eq-eqb p p refl
-
-  none_sent : run [] p ≡ 0
-  none_sent = run_of_none p
-
-  one_takes : TakesTexts interchange_taken p (one_held.texts p) 0 1 (λ j. None) (one_held.replies p) machine next
-  one_takes =
-      takes_one_more interchange_taken p (one_held.texts p) 0 0 (λ j. None) (λ j. None) (one_held.replies p) machine machine text (takes_none interchange_taken p (one_held.texts p) 0 (λ j. None) machine)
-      (ap (λ b. cond (b && (1 == 1)) (Some text) None) itself) refl
-      (λ j. ap (λ b. cond b (if 1 == j then Some (interchange_taken machine p text).1 else None) None) itself)
-
-  one_run : TakesRun interchange_taken none_held one_held (delivery p 1 text)
-  one_run = record {
-    texts = λ q j. refl;
-    is_next = ap (λ n. n + 1) (sym none_sent);
-    takes = subst (λ n. TakesTexts interchange_taken p (one_held.texts p) n (one_held.counts p) (λ j. None) (one_held.replies p) machine next) (sym none_sent)
-        (subst (λ n. TakesTexts interchange_taken p (one_held.texts p) 0 n (λ j. None) (one_held.replies p) machine next) (sym (cond-true (p == p) 1 (run [] p) itself)) one_takes);
-    ends = ap (λ n. one_held.texts p (n + 1)) (cond-true (p == p) 1 (run [] p) itself) ∙ ap (λ b. cond (b && (1 == 2)) (Some text) None) itself;
-    other_counts = λ q apart. cond-false (q == p) 1 (run [] q) (ne_eqb q p apart);
-    other_replies = λ q j apart. cond-false (q == p) (if 1 == j then Some (interchange_taken machine p text).1 else None) None (ne_eqb q p apart);
-  }
-
-  -- it leaves the plan and the limit
-  pub interchange_stays : OnGround machine.terminal next.terminal
-  interchange_stays =
-      let keeps = keeps_run interchange_taken machine [] (delivery p 1 text) none_held one_held none_keeps one_run in
-      let content : SetupContent = record { terminal = machine.parties.terminal; codes = machine.codes; partners = []; blocks = machine.blocks; visit_limit = machine.visit_limit } in
-      subst (λ (m : MachineState). OnGround machine.terminal m.terminal) (sym keeps.state_is)
-      (subst (λ (taking : Taking MachineState). OnGround machine.terminal (state taking machine (delivery p 1 text ∷ [])).terminal) (no_rules_before newest content)
-      (state_on_ground newest content [] machine (delivery p 1 text ∷ [])))
+use Rattle.office_history.proofs.Accounted.{IsAccounted, interchange_keeps}
+use Rattle.office_history.proofs.Ground.{OnGround, interchange_stays}
 
 -- ---- interchanges, one after the other
 
@@ -89,14 +30,14 @@ pub record StandsOn (first machine : MachineState) : Type 0 where
 
 stands_next : (first machine : MachineState) (p : ℕ) (text : List ℕ) → StandsOn first machine → StandsOn first (interchange_taken machine p text).0
 stands_next first machine p text stands =
-    let stays = interchange_stays machine p text in
-    let kinds = ap (λ (m : MachineState). length m.kinds) (set_taken machine p text) in
+    let stays = interchange_stays newest machine p text in
+    let kinds = ap (λ (m : MachineState). length m.kinds) (terminal_alone newest machine p text) in
     record {
       ground = record { plan = stays.plan ∙ stands.ground.plan; limit = stays.limit ∙ stands.ground.limit };
       few = subst (λ n. n ≤ 999) (sym kinds) stands.few;
       whole = (interchange_leads machine p text stands.whole).whole;
       formed = interchange_formed machine p text stands.few stands.whole stands.formed;
-      accounted = interchange_keeps first.parties machine p text stands.accounted;
+      accounted = interchange_keeps newest first.parties machine p text stands.accounted;
     }
 
 pub run_stands : (first : MachineState) (p : ℕ) (texts : ℕ → Option (List ℕ)) (number : ℕ) (old : MachineState) (taken : List TakenContent) (new : MachineState) → AreTakenFrom p texts number old taken new → StandsOn first old →

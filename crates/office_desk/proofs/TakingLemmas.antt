@@ -8,7 +8,7 @@ use Rattle.partner_core.specs.Answers.{Waiting}
 use Rattle.partner_core.specs.Deliveries.{Delivery, run}
 use Rattle.office_replies.specs.Contents.{content_of}
 use Rattle.office_replies.specs.Events.{Event, delivered}
-use Rattle.office_replies.specs.declared.response.Response.{Response}
+use Rattle.office_replies.specs.declared.deliver.Response.{Response}
 use Rattle.office_rows.specs.Effects.{with_kept}
 use Rattle.office_rows.specs.Stored.{HasRows}
 use Rattle.office_setup.specs.Setups.{SetupContent}

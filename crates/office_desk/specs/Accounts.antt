@@ -4,20 +4,20 @@ use Rattle.sqlite.specs.Held.{state}
 use Rattle.sqlite.specs.State.{State}
 use Rattle.sqlite.specs.Tree.{Trees}
 use Rattle.sqlite_trees.specs.declared.store.Store.{Ghosts}
-use Rattle.edi_messages.specs.declared.partner_kind.PartnerKind.{PartnerKind}
+use Rattle.edi_messages.specs.declared.codes.PartnerKind.{PartnerKind}
 use Rattle.office_admission.specs.Accounts.{AccountContent, added_as, known_as, refused_for, account_answer, content_after}
 use Rattle.office_replies.specs.AccountAnswers.{account_added_text, account_known_text}
 use Rattle.office_replies.specs.Events.{Event, added}
-use Rattle.office_replies.specs.declared.account_answer.AccountAnswer.{AccountAnswer}
-use Rattle.office_replies.specs.declared.account_answer.AccountAnswer.TheVariants.{Added, Known, Refused, NotNow}
+use Rattle.office_replies.specs.declared.accounts.AccountAnswer.{AccountAnswer}
+use Rattle.office_replies.specs.declared.accounts.AccountAnswer.TheVariants.{Added, Known, Refused, NotNow}
 use Rattle.office_rows.specs.Effects.{with_partner}
 use Rattle.office_rows.specs.Rows.{Rows}
 use Rattle.office_rows.specs.Stored.{HasRows}
 use Rattle.office_setup.specs.Kinds.{kind_named}
 use Rattle.office_setup.specs.Setups.{SetupContent, setup_content, setup_with_account}
 use Rattle.office_desk.specs.Crashes.{IsAfter, Leaves}
-use Rattle.office_desk.specs.declared.account_standing.AccountStanding.{AccountStanding}
-use Rattle.office_desk.specs.declared.account_standing.AccountStanding.TheVariants as standing
+use Rattle.office_desk.specs.declared.accounts.AccountStanding.{AccountStanding}
+use Rattle.office_desk.specs.declared.accounts.AccountStanding.TheVariants as standing
 use Rattle.office_desk.specs.declared.beside.Beside.{Beside}
 use Rattle.office_desk.specs.declared.desk.Desk.{Desk}
 

@@ -10,10 +10,10 @@ use Rattle.office_replies.specs.Events.{Event}
 use Rattle.office_replies.specs.Bodies.{answer_text, waiting_text, clash_text}
 use Rattle.office_replies.specs.Contents.{AnswerContent, answer_with, content_of}
 use Rattle.office_replies.specs.Kinds as kinds
-use Rattle.office_replies.specs.declared.fault.Fault.{Fault}
-use Rattle.office_replies.specs.declared.response.Response.{Response}
-use Rattle.office_replies.specs.declared.response.Response.TheVariants as response
-use Rattle.office_replies.specs.declared.worst.Worst.TheVariants as worst
+use Rattle.office_replies.specs.declared.deliver.Fault.{Fault}
+use Rattle.office_replies.specs.declared.deliver.Response.{Response}
+use Rattle.office_replies.specs.declared.deliver.Response.TheVariants as response
+use Rattle.office_replies.specs.declared.deliver.Worst.TheVariants as worst
 use Rattle.office_setup.specs.Parties.{Parties}
 use Rattle.office_setup.specs.Setups.{SetupContent, parties_in}
 use Rattle.office_admission.specs.Admission.{admission}

@@ -7,12 +7,12 @@ use Rattle.sqlite_trees.specs.declared.store.Store.{Ghosts}
 use Rattle.edi_segments.specs.Interchange.{interchange_of}
 use Rattle.terminal_core.specs.State.{TerminalState}
 use Rattle.office_replies.specs.Adding.{Adds}
-use Rattle.office_replies.specs.Delivering.{Delivers, LeadsOn}
+use Rattle.office_replies.specs.Delivering.{Answered, Delivers, LeadsOn}
 use Rattle.office_replies.specs.Events.{Event}
-use Rattle.office_replies.specs.declared.account_answer.AccountAnswer.{AccountAnswer}
-use Rattle.office_replies.specs.declared.response.Response.{Response}
+use Rattle.office_replies.specs.declared.accounts.AccountAnswer.{AccountAnswer}
+use Rattle.office_replies.specs.declared.deliver.Response.{Response}
 use Rattle.office_queries.specs.Looking.{Tells}
-use Rattle.office_queries.specs.declared.not_now.NotNow.{NotNow}
+use Rattle.office_queries.specs.declared.query.NotNow.{NotNow}
 use Rattle.office_queries.specs.declared.query.Query.{Query}
 use Rattle.office_setup.specs.Parties.{parties_of}
 use Rattle.office_setup.specs.Setups.{SetupContent, setup_content}
@@ -88,6 +88,13 @@ pub record Looks {S : Type 0} (g : Ghosts S) (old : Desk S g) (query : Query) (f
   pub is_open : HasCleanDisk (state g new.conn) → OnOk found (IsOpenFor query (state g new.conn))
 
 -- ---- what follows of deliveries, one behind the other
+
+-- each is answered at its place, by a desk that stands after some events
+abbrev pub DeliveriesAreAnswered : {S : Type 0} → Ghosts S → Type 0
+DeliveriesAreAnswered {S} g =
+    (old new : Desk S g) (texts : List (List ℕ)) (responses : List Response) →
+    LeadsOn (Leads g) old texts responses new → IsSound g new → (content : SetupContent) (es : List Event) →
+    StandsFor g content es old → Answered (StandsFor g content) (AnswersNext content) es new texts responses
 
 -- what a crash leaves behind them, of a desk that stands after some events
 abbrev pub DeliveriesOutlastCrashes : {S : Type 0} → Ghosts S → Type 0

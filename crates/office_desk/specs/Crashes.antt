@@ -4,8 +4,8 @@ use Rattle.sqlite.specs.State.{State}
 use Rattle.sqlite.specs.Tree.{Trees}
 use Rattle.office_replies.specs.Delivering.{with_answered}
 use Rattle.office_replies.specs.Events.{Event, delivered}
-use Rattle.office_replies.specs.declared.response.Response.{Response}
-use Rattle.office_replies.specs.declared.response.Response.TheVariants as response
+use Rattle.office_replies.specs.declared.deliver.Response.{Response}
+use Rattle.office_replies.specs.declared.deliver.Response.TheVariants as response
 use Rattle.office_rows.specs.Rows.{Rows}
 use Rattle.office_rows.specs.Stored.{StoresRows}
 use Rattle.office_setup.specs.Setups.{SetupContent}

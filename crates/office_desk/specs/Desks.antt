@@ -7,8 +7,8 @@ use Rattle.edi_segments.specs.Interchange.{interchange_of, segments_in}
 use Rattle.edi_syntax.specs.Envelope.{header_of}
 use Rattle.office_replies.specs.Events.{Event}
 use Rattle.office_replies.specs.Contents.{GivesOrNotNow}
-use Rattle.office_replies.specs.declared.fault.Fault.{Fault}
-use Rattle.office_replies.specs.declared.response.Response.{Response}
+use Rattle.office_replies.specs.declared.deliver.Fault.{Fault}
+use Rattle.office_replies.specs.declared.deliver.Response.{Response}
 use Rattle.office_setup.specs.Parties.{parties_of}
 use Rattle.office_setup.specs.Setups.{SetupContent, setup_content}
 use Rattle.office_admission.specs.Admission.{admission}

@@ -14,7 +14,7 @@ use Rattle.office_history.specs.After.{AreAfter}
 use Rattle.office_desk.specs.Beside.{IsBeside, IsOrNone}
 use Rattle.office_desk.specs.Offices.{HoldsOffice}
 use Rattle.office_desk.specs.declared.beside.Beside.{Beside}
-use Rattle.office_desk.specs.declared.found.Found.{Found}
+use Rattle.office_desk.specs.declared.taking.Found.{Found}
 
 -- whatever rows the database has, what stands beside them in the end is theirs if what stood there before was: of those
 -- after some events, and of those of an office

@@ -8,13 +8,13 @@ use Rattle.edi_syntax.specs.Envelope.{header_of}
 use Rattle.partner_core.specs.Answers.{Told, Taken, Waiting, Clash, answer_by}
 use Rattle.partner_core.specs.Deliveries.{Delivery, delivery}
 use Rattle.partner_core.specs.Standings.{standing_of}
-use Rattle.partner_core.specs.declared.standing.Standing.{Standing}
-use Rattle.partner_core.specs.declared.standing.Standing.TheVariants.{Known, Other, Early, Next}
+use Rattle.partner_core.specs.declared.runs.Standing.{Standing}
+use Rattle.partner_core.specs.declared.runs.Standing.TheVariants.{Known, Other, Early, Next}
 use Rattle.terminal_core.specs.State.{TerminalState}
 use Rattle.office_replies.specs.Contents.{content_of}
-use Rattle.office_replies.specs.declared.fault.Fault.{Fault}
-use Rattle.office_replies.specs.declared.response.Response.{Response}
-use Rattle.office_replies.specs.declared.response.Response.TheVariants as response
+use Rattle.office_replies.specs.declared.deliver.Fault.{Fault}
+use Rattle.office_replies.specs.declared.deliver.Response.{Response}
+use Rattle.office_replies.specs.declared.deliver.Response.TheVariants as response
 use Rattle.office_rows.specs.Rows.{Rows}
 use Rattle.office_rows.specs.Effects.{with_kept}
 use Rattle.office_setup.specs.Parties.{parties_of}

@@ -1,10 +1,10 @@
 -- Why a desk answered NotNow.
 use Rattle.std.specs.Prelude.{◌≡◌, ℕ, List, Option, Some, Result, Ok, Err}
-use Rattle.office_replies.specs.declared.account_answer.AccountAnswer.{AccountAnswer}
-use Rattle.office_replies.specs.declared.account_answer.AccountAnswer.TheVariants as account
-use Rattle.office_replies.specs.declared.response.Response.{Response}
-use Rattle.office_replies.specs.declared.response.Response.TheVariants as response
-use Rattle.office_queries.specs.declared.not_now.NotNow.{NotNow as Unreported}
+use Rattle.office_replies.specs.declared.accounts.AccountAnswer.{AccountAnswer}
+use Rattle.office_replies.specs.declared.accounts.AccountAnswer.TheVariants as account
+use Rattle.office_replies.specs.declared.deliver.Response.{Response}
+use Rattle.office_replies.specs.declared.deliver.Response.TheVariants as response
+use Rattle.office_queries.specs.declared.query.NotNow.{NotNow as Unreported}
 use Rattle.office_tables.specs.Faults.{IsOfStore, IsOfStoreOr}
 use Rattle.office_tables.specs.declared.table_fault.TableFault.{TableFault}
 use Rattle.office_tables.specs.declared.table_fault.TableFault.TheVariants.{Memory}

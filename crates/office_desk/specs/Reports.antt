@@ -4,7 +4,7 @@ use Rattle.std.specs.List.Sorted.{IsPermutation}
 use Rattle.sqlite.specs.Held.{state}
 use Rattle.sqlite.specs.State.{State}
 use Rattle.sqlite_trees.specs.declared.store.Store.{Ghosts}
-use Rattle.edi_messages.specs.declared.partner_kind.PartnerKind.{PartnerKind}
+use Rattle.edi_messages.specs.declared.codes.PartnerKind.{PartnerKind}
 use Rattle.edi_messages.specs.Owned.{call_content}
 use Rattle.terminal_core.specs.Rows.{VisitContent}
 use Rattle.terminal_core.specs.State.{TerminalState}
@@ -15,13 +15,14 @@ use Rattle.office_rows.specs.Rows.{Rows}
 use Rattle.office_setup.specs.Parties.{partner_from}
 use Rattle.office_setup.specs.Setups.{SetupContent, setup_content}
 use Rattle.office_tables.specs.Answers.{IsNextOf}
-use Rattle.office_selecting.specs.Waiting.{waiting_numbers}
+use Rattle.office_loading.specs.Waiting.{waiting_numbers}
 use Rattle.office_history.specs.After.{AreAfter, content_after, machine_after, parties_in, reply_in}
 use Rattle.office_history.specs.Cascade.{text_in}
 use Rattle.office_queries.specs.Program.{program_version}
 use Rattle.office_queries.specs.declared.query.Query.{Query}
 use Rattle.office_queries.specs.declared.query.Query.TheVariants as query
 use Rattle.office_lookups.specs.Blocks.{IsBlocksReport}
+use Rattle.office_lookups.specs.Calls.{calls_text}
 use Rattle.office_lookups.specs.Containers.{container_report}
 use Rattle.office_lookups.specs.Contrls.{contrl_in}
 use Rattle.office_lookups.specs.Metrics.{metrics_text, ready_text}
@@ -138,6 +139,7 @@ TellsOf content state rows query.Picture found =
 TellsOf content state rows (query.Container container) found = found ≡ container_report content state container
 TellsOf content state rows query.Partners found = TellsPartners rows content.partners found
 TellsOf content state rows query.Blocks found = (text : List ℕ) × (found ≡ Some text) × IsBlocksReport state text
+TellsOf content state rows query.Calls found = found ≡ Some (calls_text state.lines)
 TellsOf content state rows (query.Contrl partner number) found =
     found ≡ contrl_told rows number (partner_called content (string_bytes partner))
 TellsOf content state rows (query.Partner code) found =

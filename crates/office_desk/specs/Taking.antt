@@ -6,7 +6,7 @@ use Rattle.sqlite.specs.Tree.{Trees}
 use Rattle.edi_syntax.specs.Numbers.{last_number}
 use Rattle.partner_core.specs.Deliveries.{Delivery}
 use Rattle.office_replies.specs.Events.{Event, delivered}
-use Rattle.office_replies.specs.declared.response.Response.{Response}
+use Rattle.office_replies.specs.declared.deliver.Response.{Response}
 use Rattle.office_rows.specs.Rows.{Rows}
 use Rattle.office_rows.specs.Stored.{HasRows}
 use Rattle.office_setup.specs.Setups.{SetupContent}
@@ -23,7 +23,7 @@ use Rattle.office_desk.specs.Kept.{AnswersOrStays, Office}
 use Rattle.office_desk.specs.Offices.{HoldsOffice}
 use Rattle.office_desk.specs.Telling.{Answers, Comes, Holds, IsRunDone, TakesNext}
 use Rattle.office_desk.specs.declared.beside.Beside.{Beside}
-use Rattle.office_desk.specs.declared.delivery.Delivery.{Delivery as Delivered}
+use Rattle.office_desk.specs.declared.taking.Delivery.{Delivery as Delivered}
 
 -- ---- what comes
 

@@ -8,7 +8,7 @@ use Rattle.partner_core.specs.Answers.{Taken}
 use Rattle.partner_core.specs.Deliveries.{Delivery, delivery}
 use Rattle.office_replies.specs.Events.{Event, delivered}
 use Rattle.office_replies.specs.Contents.{content_of}
-use Rattle.office_replies.specs.declared.response.Response.{Response}
+use Rattle.office_replies.specs.declared.deliver.Response.{Response}
 use Rattle.office_rows.specs.Rows.{Rows}
 use Rattle.office_rows.specs.Stored.{HasRows, StoresRows}
 use Rattle.office_setup.specs.Given.{IsGiven}
@@ -21,7 +21,7 @@ use Rattle.office_history.specs.Laws.{IsFor, told_of}
 use Rattle.office_desk.specs.Answers.{told_answer}
 use Rattle.office_desk.specs.Beside.{IsBeside}
 use Rattle.office_desk.specs.declared.beside.Beside.{Beside}
-use Rattle.office_desk.specs.declared.delivery.Delivery.{Delivery as Delivered}
+use Rattle.office_desk.specs.declared.taking.Delivery.{Delivery as Delivered}
 
 -- the text is taken, and those that become next by it, and the partner's number is raised by the length of this run;
 -- the response has the reply of the first, and the rows are committed, so that a crash leaves these alone

@@ -1,6 +1,34 @@
-ghost use Rattle.std.specs.Prelude.{◌≡◌, ◌≤◌, ◌-◌, length, slice_set};
+ghost use Rattle.std.specs.Prelude.{◌≡◌, ◌≤◌, ◌-◌, length, slice_set, Some, IfOk, IfErr, option_map, string_bytes};
+ghost use Rattle.office_delivery.specs.Reading.{OnlyReads};
+ghost use Rattle.office_desk.specs.Causes.{LacksSome};
+ghost use Rattle.office_desk.specs.Finding.{StaysBeside};
+ghost use Rattle.office_desk.specs.Offices.{FailsToOpen, HoldsOffice};
+ghost use Rattle.office_desk.specs.Reports.{TellsMetrics};
+ghost use Rattle.office_loading.specs.Tables.{Loads};
+ghost use Rattle.office_lookups.specs.Metrics.{ready_text};
+ghost use Rattle.office_rows.specs.Rows.{Rows};
+ghost use Rattle.office_rows.specs.Shown.{AreNexts};
+ghost use Rattle.office_rows.specs.Stored.{HasRows};
+ghost use Rattle.office_rows.specs.Tables.{office_schema};
+ghost use Rattle.office_setup.specs.Given.{IsGiven};
+ghost use Rattle.office_setup.specs.Limits.{most_partners};
+ghost use Rattle.office_setup.specs.Setups.{SetupContent, setup_content};
+ghost use Rattle.office_tables.specs.Answers.{LacksNext};
+ghost use Rattle.office_tables.specs.Faults.{IsOfStore, IsOfStoreOr};
+ghost use Rattle.office_tables.specs.Reading.{Reads};
 ghost use Rattle.partner_core.specs.Numbered.{with_number};
+ghost use Rattle.sqlite.specs.Held.{state};
+ghost use Rattle.sqlite.specs.State.{HasCleanDisk};
+ghost use Rattle.terminal_core.specs.State.{TerminalState};
 
+use crate::accounts::look_all_up;
+use office_loading::{load, nexts};
+use office_lookups::{Versions, metrics_report, ready};
+use office_queries::program_version;
+use office_setup::Setup;
+use office_tables::{TableFault, next_of};
+use sqlite::{Alter, Connection};
+use std::alloc::Global;
 use terminal_core::Terminal;
 
 /// What stands in memory beside the tables, so that a delivery reads no more of them than the interchanges that it
@@ -31,4 +59,93 @@ impl Beside {
     {
         self.nexts[usize::from(partner) - 1] = next;
     }
+}
+
+/// The set-up that the tables hold, and what stands beside them: all that opening a desk does with its connection. It
+/// changes nothing.
+///
+/// Version if no setting names this version; Damaged if the rows are those of no office; Store and Memory say
+/// nothing of the rows.
+pub fn load_beside<S: Alter>(
+    alloc: Global,
+    conn: &mut Connection<S>,
+) -> Result<(Setup, Beside), TableFault>
+    ensures loaded { HasCleanDisk (state S.Store conn.new) → (state S.Store conn.old).now.schema ≡ office_schema →
+        IfOk result (λ p. Loads (state S.Store conn.old).now (setup_content p.0) p.1.terminal) }
+    ensures nexts { HasCleanDisk (state S.Store conn.new) → IfOk result (λ p. (rows : Rows) →
+        HasRows rows (state S.Store conn.old).now → AreNexts rows p.1.nexts.items) }
+    ensures given { IfOk result (λ p. IsGiven (setup_content p.0)) }
+    ensures refused { HasCleanDisk (state S.Store conn.new) → (state S.Store conn.old).now.schema ≡ office_schema →
+        IfErr result (FailsToOpen (state S.Store conn.old).now) }
+    ensures reads { Reads (state S.Store conn.old) (state S.Store conn.new) result }
+{
+    let (setup, terminal) = load(alloc, conn)?;
+    let nexts = nexts(alloc, conn)?;
+    Ok((setup, Beside { terminal, nexts }))
+}
+
+/// What stands beside the rows: what is there, or else loaded from them.
+pub(crate) fn beside_of<S: Alter>(
+    alloc: Global,
+    conn: &mut Connection<S>,
+    beside: Option<Beside>,
+) -> Result<Beside, TableFault>
+    ensures beside { HasCleanDisk (state S.Store conn.new) →
+        IfOk result (λ now. StaysBeside (state S.Store conn.old).now beside (Some now)) }
+    ensures fault { HasCleanDisk (state S.Store conn.new) →
+        IfErr result (λ fault. (content : SetupContent) (rows : Rows) (terminal : TerminalState) →
+        HoldsOffice content rows terminal (state S.Store conn.old).now beside → IsOfStore fault) }
+    ensures reads { OnlyReads (state S.Store conn.old) (state S.Store conn.new) result }
+{
+    match beside {
+        Some(there) => Ok(there),
+        None => {
+            let (_, there) = load_beside(alloc, conn)?;
+            Ok(there)
+        }
+    }
+}
+
+/// The version of the tables.
+const STORE_VERSION: &str = "3";
+
+/// The id of the first account, which there always is.
+const FIRST_PARTNER: u16 = 1;
+
+/// That the office can be asked: a row of its store was read.
+pub(crate) fn tell_health<S: Alter>(
+    alloc: Global,
+    conn: &mut Connection<S>,
+) -> Result<Option<String>, TableFault>
+    ensures told { IfOk result (λ found. option_map string_bytes found ≡ Some ready_text) }
+    ensures fault { HasCleanDisk (state S.Store conn.new) → IfErr result (λ fault. (rows : Rows) →
+        HasRows rows (state S.Store conn.old).now → IsOfStoreOr (LacksNext 1 rows) fault) }
+    ensures reads { Reads (state S.Store conn.old) (state S.Store conn.new) result }
+{
+    next_of(conn, FIRST_PARTNER)?;
+    Ok(Some(ready(alloc)?))
+}
+
+/// How much there is of what. It changes nothing.
+pub(crate) fn tell_metrics<S: Alter>(
+    alloc: Global,
+    conn: &mut Connection<S>,
+    setup: &Setup,
+    terminal: &Terminal,
+) -> Result<Option<String>, TableFault>
+    requires few { length setup.now.partners.items ≤ most_partners }
+    ensures told { HasCleanDisk (state S.Store conn.new) → IfOk result (λ found. (rows : Rows) →
+        HasRows rows (state S.Store conn.old).now →
+        TellsMetrics (setup_content setup.now) terminal.now rows (option_map string_bytes found)) }
+    ensures fault { HasCleanDisk (state S.Store conn.new) → IfErr result (λ fault. (rows : Rows) →
+        HasRows rows (state S.Store conn.old).now →
+        IsOfStoreOr (LacksSome rows (length (setup_content setup.now).partners)) fault) }
+    ensures reads { OnlyReads (state S.Store conn.old) (state S.Store conn.new) result }
+{
+    let versions = Versions {
+        program: program_version(),
+        store: STORE_VERSION,
+    };
+    let partners = look_all_up(alloc, conn, setup.partners.as_slice())?;
+    Ok(Some(metrics_report(alloc, versions, terminal, setup.visit_limit, &partners)?))
 }

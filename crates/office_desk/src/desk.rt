@@ -3,15 +3,10 @@ ghost use Rattle.office_replies.specs.Events.{Event};
 ghost use Rattle.office_setup.specs.Given.{IsGiven};
 ghost use Rattle.office_setup.specs.Setups.{SetupContent, setup_content};
 
-use crate::account_standing::AccountStanding;
-use crate::adding::add_new;
-use crate::beside::Beside;
-use crate::delivery::Delivery;
-use crate::judging::{asked, judge_account};
-use crate::noting::{note_memory, noted};
-use crate::reloading::{beside_of, load_beside};
-use crate::taking::take_in;
-use crate::telling::tell;
+use crate::accounts::{AccountStanding, add_new};
+use crate::answers::{note_memory, noted, tell};
+use crate::beside::{Beside, beside_of, load_beside};
+use crate::taking::{Delivery, asked, judge_account, take_in};
 use edi_segments::interchange_text;
 use office_admission::admit;
 use office_queries::{NotNow, Query, Report};
@@ -235,20 +230,7 @@ impl<S: Alter + Drop> Desk<S> {
 }
 
 impl<S: Alter + Drop> Deliver for Desk<S> {
-    ghost use Rattle.office_desk.specs.Accounts.{AnswersAccount};
-    ghost use Rattle.office_desk.specs.Answers.{AnswersNext};
     ghost use Rattle.office_desk.specs.Calls.{Leads};
-    ghost use Rattle.office_desk.specs.Desks.{IsSound, StandsFor};
-
-    ghost is_sound = { IsSound S.Store };
-
-    ghost Opening = { SetupContent };
-
-    ghost stands = { StandsFor S.Store };
-
-    ghost answers = { AnswersNext };
-
-    ghost added = { AnswersAccount };
 
     ghost leads = { Leads S.Store };
 
@@ -269,9 +251,6 @@ impl<S: Alter + Drop> AddAccount for Desk<S> {
 
 impl<S: Alter + Drop> Report for Desk<S> {
     ghost use Rattle.office_desk.specs.Calls.{Looks};
-    ghost use Rattle.office_desk.specs.Reports.{DeskTells};
-
-    ghost tells = { DeskTells S.Store };
 
     ghost looks = { Looks S.Store };
 

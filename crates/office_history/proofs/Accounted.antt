@@ -1,5 +1,5 @@
 -- The partners by whose interchanges visits were opened and closed have accounts.
-use Rattle.std.proofs.Common.{◌≡◌, ℕ, ◌<◌, ◌≤◌, inl, inr, List, [], ◌∷◌, length, map, Bool, true, false, cond, Option, None, Some, Result, Ok, Err, refl, subst, ◌∙◌, arith}
+use Rattle.std.proofs.Common.{ap, ◌≡◌, ℕ, ◌<◌, ◌≤◌, inl, inr, List, [], ◌∷◌, length, map, Bool, true, false, cond, Option, None, Some, Result, Ok, Err, refl, subst, ◌∙◌, arith}
 use Rattle.std.specs.Prelude.{Contains}
 use Rattle.std.proofs.lemmas.Bool.{eqb-true}
 use Rattle.std.proofs.lemmas.List.Elements.{Contains-push_cases}
@@ -8,8 +8,8 @@ use Rattle.box6346.specs.declared.box_number.BoxNumber.{BoxNumber}
 use Rattle.box6346.specs.declared.slot.Slot.{Slot}
 use Rattle.edi_moments.specs.Moments.{CivilMoment}
 use Rattle.edi_messages.specs.declared.codes.Codes.{Codes}
-use Rattle.edi_messages.specs.declared.message_fault.MessageFault.{MessageFault}
-use Rattle.edi_messages.specs.declared.partner_kind.PartnerKind.{PartnerKind}
+use Rattle.edi_messages.specs.declared.message.MessageFault.{MessageFault}
+use Rattle.edi_messages.specs.declared.codes.PartnerKind.{PartnerKind}
 use Rattle.edi_messages.specs.Message.{LineContent as ReadLine, ordered, refused as refused_line, MessageContent}
 use Rattle.edi_messages.specs.Orders.{EntryContent, OrderContent, gate_in, gate_out, move, list_discharge, list_load, discharge, load}
 use Rattle.edi_messages.specs.Purposes.{CallContent}
@@ -21,23 +21,23 @@ use Rattle.edi_syntax.specs.Messages.{Message}
 use Rattle.partner_core.specs.Deliveries.{Delivery}
 use Rattle.partner_core.specs.Numbered.{with_number}
 use Rattle.partner_core.specs.Machine.{Taking}
-use Rattle.partner_core.specs.Order.{state, state_after, order, text_under}
-use Rattle.yard_core.specs.declared.placement.Placement.{Placement}
+use Rattle.partner_core.specs.Order.{state, order}
+use Rattle.yard_core.specs.declared.placements.Placement.{Placement}
 use Rattle.yard_core.specs.Decisions.{Refusal, yard_without, yard_with_move}
 use Rattle.yard_core.specs.YardMap.{YardMap}
 use Rattle.terminal_core.specs.Versions.{spares}
-use Rattle.terminal_core.specs.declared.version.Version.{Version}
-use Rattle.terminal_core.specs.declared.departure.Departure.{Departure}
-use Rattle.terminal_core.specs.declared.line_state.LineState.{LineState}
-use Rattle.terminal_core.specs.declared.line_state.LineState.TheVariants.{Pending, Done as LineIsDone}
-use Rattle.terminal_core.specs.declared.outcome.Outcome.{Outcome}
-use Rattle.terminal_core.specs.declared.outcome.Outcome.TheVariants.{Done, Gone, Listed, Refused}
-use Rattle.terminal_core.specs.declared.reason.Reason.TheVariants.{AlreadyIn, NotIn, VisitLimit}
-use Rattle.terminal_core.specs.declared.side.Side.{Side}
-use Rattle.terminal_core.specs.declared.side.Side.TheVariants.{Load, Discharge}
-use Rattle.terminal_core.specs.declared.source.Source.{Source}
-use Rattle.terminal_core.specs.declared.way.Way.{Way}
-use Rattle.terminal_core.specs.declared.way.Way.TheVariants.{Gate, Ship}
+use Rattle.terminal_core.specs.declared.change.Version.{Version}
+use Rattle.terminal_core.specs.declared.visits.Departure.{Departure}
+use Rattle.terminal_core.specs.declared.lines.LineState.{LineState}
+use Rattle.terminal_core.specs.declared.lines.LineState.TheVariants.{Pending, Done as LineIsDone}
+use Rattle.terminal_core.specs.declared.change.Outcome.{Outcome}
+use Rattle.terminal_core.specs.declared.change.Outcome.TheVariants.{Refused}
+use Rattle.terminal_core.specs.declared.change.Reason.TheVariants.{AlreadyIn, NotIn, VisitLimit}
+use Rattle.terminal_core.specs.declared.lines.Side.{Side}
+use Rattle.terminal_core.specs.declared.lines.Side.TheVariants.{Load, Discharge}
+use Rattle.terminal_core.specs.declared.change.Source.{Source}
+use Rattle.terminal_core.specs.declared.visits.Way.{Way}
+use Rattle.terminal_core.specs.declared.visits.Way.TheVariants.{Gate, Ship}
 use Rattle.terminal_core.specs.Rows.{VisitContent}
 use Rattle.terminal_core.specs.State.{TerminalState, LineContent, line_of, is_in, is_open_visit}
 use Rattle.terminal_core.specs.Step.{Stepped, with_refusal, step_by, yard_with_entry, is_full, visit_of, after_entry, entered_at, closed_visit, after_departure, departed_at, departure_by, moved_at, listed_at, then_line_done_at, by_line, by_state}
@@ -45,20 +45,22 @@ use Rattle.terminal_core.proofs.Changing.{either}
 use Rattle.terminal_core.proofs.Indexed.{mapped_at}
 use Rattle.terminal_core.proofs.Numbered.{contained, found_at}
 use Rattle.office_admission.specs.Admission.{admission, is_for}
-use Rattle.office_replies.specs.declared.fault.Fault.{Fault}
+use Rattle.office_replies.specs.declared.deliver.Fault.{Fault}
 use Rattle.office_setup.specs.Parties.{Parties}
 use Rattle.office_setup.specs.Setups.{SetupContent, parties_in}
 use Rattle.office_rows.specs.Office.{HasAccounts}
 use Rattle.office_taking.specs.Taking.{MachineState, cleared, cleared_for, list_replaced, line_taken_by, lines_taken_by, verdict_on_by, messages_taken_by, codes_for, source_in, nothing_taken, taken_at_by, taken_of_by, interchange_taken_by}
 use Rattle.office_taking.specs.Readings.{reading_by}
+use Rattle.office_taking.proofs.Reaching.{terminal_alone}
 use Rattle.office_replies.specs.Events.{Event}
 use Rattle.office_history.specs.After.{opening_of, taking_in}
+use Rattle.office_history.proofs.Likeness.{kept_over}
 use Rattle.office_history.proofs.Places.{placed, in_force}
 use Rattle.office_history.proofs.Telling.{within}
 
 -- ---- an order
 
-abbrev AreAccounted : ℕ → TerminalState → Type 0
+abbrev pub AreAccounted : ℕ → TerminalState → Type 0
 AreAccounted count state = (visit : VisitContent) → Contains state.visits visit → HasAccounts count visit
 
 module _ (version : Version) (count : ℕ) where
@@ -99,9 +101,7 @@ module _ (version : Version) (count : ℕ) where
 
   then_keeps : (call : CallContent) (side : Side) (b : BoxNumber) (line : LineContent) (after : Stepped) (o : Outcome) → Keeps after → Keeps (then_line_done_at call side b line after o)
   then_keeps call side b line after (Refused reason) are = are
-  then_keeps call side b line after (Done slot) are = are
-  then_keeps call side b line after Gone are = are
-  then_keeps call side b line after Listed are = are
+  then_keeps call side b line after o are = are
 
   state_keeps : (state : TerminalState) (call : CallContent) (side : Side) (b : BoxNumber) (line : LineContent) (after : Stepped) (s : LineState) → AreAccounted count state → Keeps after → Keeps (by_state state call side b line after s)
   state_keeps state call side b line after LineIsDone are then = are
@@ -158,9 +158,9 @@ module _ (version : Version) (count : ℕ) where
 -- ---- a machine
 
 -- the same parties, whose accounts the visits have
-record IsAccounted (parties : Parties) (machine : MachineState) : Type 0 where
-  own : machine.parties ≡ parties
-  visits : AreAccounted (length parties.partners) machine.terminal
+pub record IsAccounted (parties : Parties) (machine : MachineState) : Type 0 where
+  pub own : machine.parties ≡ parties
+  pub visits : AreAccounted (length parties.partners) machine.terminal
 
 admitted_partner : (parties : Parties) (text : List ℕ) (partner : ℕ) (found : Result (ℕ × ℕ) Fault) → admission parties text ≡ found → is_for partner found ≡ true → partner ≤ length parties.partners
 admitted_partner parties text partner (Ok place) e is =
@@ -169,44 +169,26 @@ admitted_partner parties text partner (Ok place) e is =
     omega (arith, own, range.1)
 admitted_partner parties text partner (Err fault) e is = absurd cc
 
-parties_at : (version : Version) (machine : MachineState) (partner : ℕ) (kind : PartnerKind) (segments : List Content) (opened : Option CivilMoment) → (taken_at_by version machine partner kind segments opened).0.parties ≡ machine.parties
-parties_at version machine partner kind segments None = refl
-parties_at version machine partner kind segments (Some opened) = refl
+if_keeps : (count : ℕ) (machine : MachineState) (is : Bool) (taken : MachineState × List ℕ) → AreAccounted count machine.terminal → (is ≡ true → AreAccounted count taken.0.terminal) → AreAccounted count (cond is taken (nothing_taken machine)).0.terminal
+if_keeps count machine true taken are then = then refl
+if_keeps count machine false taken are then = are
 
-parties_of : (version : Version) (machine : MachineState) (partner : ℕ) (segments : List Content) (kind : Option PartnerKind) → (taken_of_by version machine partner segments kind).0.parties ≡ machine.parties
-parties_of version machine partner segments None = refl
-parties_of version machine partner segments (Some kind) = parties_at version machine partner kind segments (preparation (header_of segments))
-
-if_keeps : (parties : Parties) (machine : MachineState) (is : Bool) (taken : MachineState × List ℕ) → IsAccounted parties machine → (is ≡ true → IsAccounted parties taken.0) → IsAccounted parties (cond is taken (nothing_taken machine)).0
-if_keeps parties machine true taken are then = then refl
-if_keeps parties machine false taken are then = are
-
-interchange_keeps : (version : Version) (parties : Parties) (machine : MachineState) (partner : ℕ) (text : List ℕ) → IsAccounted parties machine → IsAccounted parties (interchange_taken_by version machine partner text).0
-interchange_keeps version parties machine partner text are =
-    if_keeps parties machine (is_for partner (admission machine.parties text)) (taken_of_by version machine partner (segments_in text) (with_number machine.kinds partner)) are
-    (λ is.
-    let has : partner ≤ length machine.parties.partners = admitted_partner machine.parties text partner (admission machine.parties text) refl is in
-    let here : partner ≤ length parties.partners = subst (λ (p : Parties). partner ≤ length p.partners) are.own has in
-    record {
-      own = parties_of version machine partner (segments_in text) (with_number machine.kinds partner) ∙ are.own;
-      visits = of_keeps version (length parties.partners) machine partner (segments_in text) (with_number machine.kinds partner) here are.visits;
-    })
+pub interchange_keeps : (version : Version) (parties : Parties) (machine : MachineState) (partner : ℕ) (text : List ℕ) → IsAccounted parties machine → IsAccounted parties (interchange_taken_by version machine partner text).0
+interchange_keeps version parties machine partner text are = record {
+  own = ap (λ (m : MachineState). m.parties) (terminal_alone version machine partner text) ∙ are.own;
+  visits = if_keeps (length parties.partners) machine (is_for partner (admission machine.parties text)) (taken_of_by version machine partner (segments_in text) (with_number machine.kinds partner)) are.visits
+      (λ is.
+      let has : partner ≤ length machine.parties.partners = admitted_partner machine.parties text partner (admission machine.parties text) refl is in
+      of_keeps version (length parties.partners) machine partner (segments_in text) (with_number machine.kinds partner) (subst (λ (p : Parties). partner ≤ length p.partners) are.own has) are.visits);
+}
 
 -- ---- a run
 
 abbrev KeepsAccounts : Taking MachineState → Type 0
 KeepsAccounts taken = (parties : Parties) (machine : MachineState) (partner : ℕ) (text : List ℕ) → IsAccounted parties machine → IsAccounted parties (taken machine partner text).0
 
-run_keeps : (taken : Taking MachineState) → KeepsAccounts taken → (parties : Parties) (texts : ℕ → ℕ → List ℕ) (numbers : List (ℕ × ℕ)) (machine : MachineState) → IsAccounted parties machine → IsAccounted parties (state_after taken texts numbers machine)
-run_keeps taken each parties texts [] machine are = are
-run_keeps taken each parties texts (e ∷ numbers) machine are = run_keeps taken each parties texts numbers (taken machine e.0 (texts e.0 e.1)).0 (each parties machine e.0 (texts e.0 e.1) are)
-
 opening_accounted : (content : SetupContent) → IsAccounted (parties_in content) (opening_of content)
 opening_accounted content = record { own = refl; visits = λ visit inside. (let bad : inside.0 < 0 = inside.1 in absurd (omega arith)) }
-
-after_accounted : (taken : Taking MachineState) → KeepsAccounts taken → (now : SetupContent) (D : List Delivery) → IsAccounted (parties_in now) (state taken (opening_of now) D)
-unfolding state
-after_accounted taken each now D = run_keeps taken each (parties_in now) (text_under D) (order D) (opening_of now) (opening_accounted now)
 
 -- whatever was delivered, each partner by whose interchanges a visit was opened and closed has an account
 pub state_accounted : (version : Version) (content : SetupContent) (es : List Event) (now : SetupContent) (D : List Delivery) (visit : VisitContent) → Contains (state (taking_in version content es) (opening_of now) D).terminal.visits visit
@@ -215,4 +197,4 @@ state_accounted version content es now D visit inside =
     let each : KeepsAccounts (taking_in version content es) =
     in_force KeepsAccounts interchange_keeps
     (λ before old new one two parties machine p text are. placed (λ taken. IsAccounted parties taken.0) before old new machine p text (one parties machine p text are) (two parties machine p text are)) version content es in
-    subst (λ n. HasAccounts n visit) (length-map now.partners _) ((after_accounted (taking_in version content es) each now D).visits visit inside)
+    subst (λ n. HasAccounts n visit) (length-map now.partners _) ((kept_over (taking_in version content es) (IsAccounted (parties_in now)) (each (parties_in now)) (opening_of now) D (opening_accounted now)).visits visit inside)

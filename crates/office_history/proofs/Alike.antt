@@ -1,6 +1,6 @@
 -- Set-ups that say the same take interchanges alike, whatever memory holds their codes.
 use Rattle.std.proofs.Common.{◌≡◌, ℕ, List, [], ◌∷◌, map, Bool, true, false, cond, Option, None, Some, is_none, Ok, Err, refl, sym, ap, subst, ◌∙◌}
-use Rattle.std.specs.Prelude.{◌==◌, ◌&&◌, ◌||◌, not, nat_le, if◌then◌else◌}
+use Rattle.std.specs.Prelude.{◌&&◌, ◌||◌, not, nat_le, if◌then◌else◌}
 use Rattle.std.specs.Option.{option_map, option_and_then, option_map_or}
 use Rattle.std.specs.List.{find}
 use Rattle.std.specs.Str.{bytes_eq}
@@ -17,28 +17,27 @@ use Rattle.edi_messages.specs.Faults.{beginning, is_original, is_replacement, is
 use Rattle.edi_messages.specs.Types.{message_type_of}
 use Rattle.edi_messages.specs.Purposes.{purpose_with}
 use Rattle.edi_messages.specs.Message.{message_of, judged_message, reading}
-use Rattle.edi_messages.specs.declared.code_table.CodeTable.{CodeTable}
+use Rattle.edi_messages.specs.declared.code.CodeTable.{CodeTable}
 use Rattle.edi_messages.specs.declared.codes.Codes.{Codes}
-use Rattle.edi_messages.specs.declared.message_fault.MessageFault.{MessageFault}
-use Rattle.edi_messages.specs.declared.message_fault.MessageFault.TheVariants as fault
-use Rattle.edi_messages.specs.declared.message_type.MessageType.{MessageType}
-use Rattle.edi_messages.specs.declared.message_type.MessageType.TheVariants.{Codeco, Coprar, Coarri}
-use Rattle.edi_messages.specs.declared.order_kind.OrderKind.{OrderKind}
-use Rattle.edi_messages.specs.declared.order_kind.OrderKind.TheVariants as order
-use Rattle.edi_messages.specs.declared.partner_kind.PartnerKind.{PartnerKind}
-use Rattle.edi_messages.specs.declared.partner_kind.PartnerKind.TheVariants.{Gate, Line, Quay, Yard}
+use Rattle.edi_messages.specs.declared.message.MessageFault.{MessageFault}
+use Rattle.edi_messages.specs.declared.message.MessageFault.TheVariants as fault
+use Rattle.edi_messages.specs.declared.message.MessageType.{MessageType}
+use Rattle.edi_messages.specs.declared.message.MessageType.TheVariants.{Codeco, Coprar, Coarri}
+use Rattle.edi_messages.specs.declared.order.OrderKind.{OrderKind}
+use Rattle.edi_messages.specs.declared.order.OrderKind.TheVariants as order
+use Rattle.edi_messages.specs.declared.codes.PartnerKind.{PartnerKind}
+use Rattle.edi_messages.specs.declared.codes.PartnerKind.TheVariants.{Gate, Line, Quay, Yard}
 use Rattle.partner_core.specs.ByPlace.{taken_by_place}
 use Rattle.partner_core.specs.Deliveries.{Delivery, run}
 use Rattle.partner_core.specs.Machine.{Taking}
 use Rattle.partner_core.specs.Numbered.{with_number}
-use Rattle.partner_core.specs.Order.{state, state_after, reply_of, reply_among, text_under}
-use Rattle.partner_core.specs.Order as orders
-use Rattle.terminal_core.specs.declared.source.Source.{Source}
+use Rattle.partner_core.specs.Order.{state, reply_of}
+use Rattle.terminal_core.specs.declared.change.Source.{Source}
 use Rattle.terminal_core.specs.State.{TerminalState}
 use Rattle.terminal_core.specs.Changes.{rows_of}
 use Rattle.terminal_core.specs.Versions.{newest}
-use Rattle.terminal_core.specs.declared.version.Version.{Version}
-use Rattle.terminal_core.specs.declared.version.Version.TheVariants.{First, Second, Third}
+use Rattle.terminal_core.specs.declared.change.Version.{Version}
+use Rattle.terminal_core.specs.declared.change.Version.TheVariants.{First, Second, Third}
 use Rattle.office_admission.specs.Accounts.{content_with, content_after}
 use Rattle.office_admission.specs.Deliveries.{with_delivery, deliveries_of}
 use Rattle.std.specs.FinMap as finite_map
@@ -47,6 +46,7 @@ use Rattle.office_replies.specs.Events.{Event, delivered, migrated, added}
 use Rattle.office_replies.specs.Messages.{ReportContent}
 use Rattle.office_setup.specs.Given.{IsGiven}
 use Rattle.office_setup.specs.Setups.{SetupContent, parties_in}
+use Rattle.office_taking.specs.Laws.{ChangesTerminalAlone}
 use Rattle.office_taking.specs.Taking.{MachineState, verdict_on_by, report_on, before_message, messages_taken_by, codes_for, source_in, nothing_taken, reply_to, taken_at_by, taken_of_by, interchange_taken_by}
 use Rattle.office_taking.specs.Readings.{unweighed, reading_by}
 use Rattle.office_rows.specs.Rows.{Rows}
@@ -57,8 +57,9 @@ use Rattle.office_rows.specs.Opening.{setting, settings_in, version_text, code_n
 use Rattle.std.specs.Prelude.{codes, decimal}
 use Rattle.office_history.specs.After.{SaysSame, migration_in, taking_by, taking_in, opening_of, AreRowsOf, AreAfterBy, AreAfter}
 use Rattle.office_history.specs.Laws.{Reopens}
-use Rattle.office_history.proofs.Loads.{says_same}
-use Rattle.office_history.proofs.Places.{in_force, moved}
+use Rattle.office_history.proofs.Offices.{says_same}
+use Rattle.office_history.proofs.Likeness.{TakesAlike as RunsAlike, reply_alike, state_alike}
+use Rattle.office_history.proofs.Places.{alone_in, in_force, moved}
 
 -- ---- codes
 
@@ -79,14 +80,7 @@ meant_by t u e Quay Coarri =
     let one : code_text t.discharge_report ≡ code_text u.discharge_report = cc in
     let two : code_text t.load_report ≡ code_text u.load_report = cc in
     λ i. (one i, order.Discharge) ∷ (two i, order.Load) ∷ []
-meant_by t u e Gate Coprar = refl
-meant_by t u e Gate Coarri = refl
-meant_by t u e Line Codeco = refl
-meant_by t u e Line Coarri = refl
-meant_by t u e Quay Codeco = refl
-meant_by t u e Quay Coprar = refl
-meant_by t u e Yard Coprar = refl
-meant_by t u e Yard Coarri = refl
+meant_by t u e kind type = refl
 
 module _ (t u : CodeTable) (same : SameTexts t u) (kind : PartnerKind) where
   abbrev one : Codes
@@ -103,16 +97,10 @@ module _ (t u : CodeTable) (same : SameTexts t u) (kind : PartnerKind) where
   kind_same message i = option_and_then (λ type. option_and_then (λ segment. order_same type (document_name segment) i) (beginning message)) (message_type_of message.header)
 
   applies_same : (message : Message) (f : MessageFault) → applies one message f ≡ applies two message f
-  applies_same message fault.OtherType = refl
-  applies_same message fault.NoBgm = refl
   applies_same message fault.Code = ap is_none (kind_same message)
   applies_same message fault.Function = λ i.
       not (option_map_or (λ segment. is_original segment || (is_replacement segment && option_map_or is_list (kind_same message i) false)) (beginning message) true)
-  applies_same message fault.NoTransport = refl
-  applies_same message fault.NoEquipment = refl
-  applies_same message fault.EquipmentCount = refl
-  applies_same message fault.TooMany = refl
-  applies_same message fault.Memory = refl
+  applies_same message f = refl
 
   reading_same : (opened : CivilMoment) (message : Message) → reading one opened message ≡ reading two opened message
   reading_same opened message i =
@@ -140,21 +128,15 @@ pub record IsLike (a b : MachineState) : Type 0 where
   pub kinds : a.kinds ≡ b.kinds
   pub terminal : a.terminal ≡ b.terminal
 
--- the same is taken, and like machines are left
-record TakesLike (a b : MachineState) (x y : MachineState × List ℕ) : Type 0 where
+-- the same is taken, and leaves the same terminal
+record TakesLike (x y : MachineState × List ℕ) : Type 0 where
   left : x.0.terminal ≡ y.0.terminal
   reply : x.1 ≡ y.1
-  own_parties : x.0.parties ≡ a.parties
-  own_codes : x.0.codes ≡ a.codes
-  own_kinds : x.0.kinds ≡ a.kinds
-  other_parties : y.0.parties ≡ b.parties
-  other_codes : y.0.codes ≡ b.codes
-  other_kinds : y.0.kinds ≡ b.kinds
 
-nothing_like : (a b : MachineState) → a.terminal ≡ b.terminal → TakesLike a b (nothing_taken a) (nothing_taken b)
-nothing_like a b e = record { left = e; reply = refl; own_parties = refl; own_codes = refl; own_kinds = refl; other_parties = refl; other_codes = refl; other_kinds = refl }
+nothing_like : (a b : MachineState) → a.terminal ≡ b.terminal → TakesLike (nothing_taken a) (nothing_taken b)
+nothing_like a b e = record { left = e; reply = refl }
 
-like_at : (version : Version) (a b : MachineState) → IsLike a b → (partner : ℕ) (kind : PartnerKind) (segments : List Content) (opened : Option CivilMoment) → TakesLike a b (taken_at_by version a partner kind segments opened) (taken_at_by version b partner kind segments opened)
+like_at : (version : Version) (a b : MachineState) → IsLike a b → (partner : ℕ) (kind : PartnerKind) (segments : List Content) (opened : Option CivilMoment) → TakesLike (taken_at_by version a partner kind segments opened) (taken_at_by version b partner kind segments opened)
 like_at version a b like partner kind segments None = nothing_like a b like.terminal
 like_at version a b like partner kind segments (Some opened) =
     let same : messages_taken_by version a.terminal (codes_for a kind) (source_in partner (header_of segments)) opened (messages_of segments)
@@ -164,37 +146,31 @@ like_at version a b like partner kind segments (Some opened) =
     record {
       left = ap (λ (m : TerminalState × List ReportContent). m.0) same;
       reply = ap (λ (m : TerminalState × List ReportContent). reply_to segments m.1) same;
-      own_parties = refl;
-      own_codes = refl;
-      own_kinds = refl;
-      other_parties = refl;
-      other_codes = refl;
-      other_kinds = refl;
     }
 
-like_of : (version : Version) (a b : MachineState) → IsLike a b → (partner : ℕ) (segments : List Content) (kind : Option PartnerKind) → TakesLike a b (taken_of_by version a partner segments kind) (taken_of_by version b partner segments kind)
+like_of : (version : Version) (a b : MachineState) → IsLike a b → (partner : ℕ) (segments : List Content) (kind : Option PartnerKind) → TakesLike (taken_of_by version a partner segments kind) (taken_of_by version b partner segments kind)
 like_of version a b like partner segments None = nothing_like a b like.terminal
 like_of version a b like partner segments (Some kind) = like_at version a b like partner kind segments (preparation (header_of segments))
 
-like_if : (a b : MachineState) (is : Bool) (x y : MachineState × List ℕ) → a.terminal ≡ b.terminal → TakesLike a b x y → TakesLike a b (cond is x (nothing_taken a)) (cond is y (nothing_taken b))
+like_if : (a b : MachineState) (is : Bool) (x y : MachineState × List ℕ) → a.terminal ≡ b.terminal → TakesLike x y → TakesLike (cond is x (nothing_taken a)) (cond is y (nothing_taken b))
 like_if a b true x y e h = h
 like_if a b false x y e h = nothing_like a b e
 
-takes_like : (version : Version) (a b : MachineState) → IsLike a b → (partner : ℕ) (text : List ℕ) → TakesLike a b (interchange_taken_by version a partner text) (interchange_taken_by version b partner text)
+takes_like : (version : Version) (a b : MachineState) → IsLike a b → (partner : ℕ) (text : List ℕ) → TakesLike (interchange_taken_by version a partner text) (interchange_taken_by version b partner text)
 takes_like version a b like partner text =
     let taken = like_of version a b like partner (segments_in text) (with_number a.kinds partner) in
-    let same : TakesLike a b (taken_of_by version a partner (segments_in text) (with_number a.kinds partner)) (taken_of_by version b partner (segments_in text) (with_number b.kinds partner)) =
-    subst (λ kinds. TakesLike a b (taken_of_by version a partner (segments_in text) (with_number a.kinds partner)) (taken_of_by version b partner (segments_in text) (with_number kinds partner))) like.kinds taken in
-    subst (λ parties. TakesLike a b (interchange_taken_by version a partner text) (cond (is_for partner (admission parties text)) (taken_of_by version b partner (segments_in text) (with_number b.kinds partner)) (nothing_taken b))) like.parties
+    let same : TakesLike (taken_of_by version a partner (segments_in text) (with_number a.kinds partner)) (taken_of_by version b partner (segments_in text) (with_number b.kinds partner)) =
+    subst (λ kinds. TakesLike (taken_of_by version a partner (segments_in text) (with_number a.kinds partner)) (taken_of_by version b partner (segments_in text) (with_number kinds partner))) like.kinds taken in
+    subst (λ parties. TakesLike (interchange_taken_by version a partner text) (cond (is_for partner (admission parties text)) (taken_of_by version b partner (segments_in text) (with_number b.kinds partner)) (nothing_taken b))) like.parties
     (like_if a b (is_for partner (admission a.parties text)) _ _ like.terminal same)
 
 abbrev TakesAlike : Taking MachineState → Type 0
-TakesAlike taking = (a b : MachineState) → IsLike a b → (partner : ℕ) (text : List ℕ) → TakesLike a b (taking a partner text) (taking b partner text)
+TakesAlike taking = (a b : MachineState) → IsLike a b → (partner : ℕ) (text : List ℕ) → TakesLike (taking a partner text) (taking b partner text)
 
 either_alike : (before : List Delivery) (old new : Taking MachineState) → TakesAlike old → TakesAlike new → TakesAlike (taken_by_place number_said before old new)
 either_alike before old new one two a b like partner text = by (nat_le (number_said text) (run before partner))
   where
-    by : (is_old : Bool) → TakesLike a b (cond is_old (old a partner text) (new a partner text)) (cond is_old (old b partner text) (new b partner text))
+    by : (is_old : Bool) → TakesLike (cond is_old (old a partner text) (new a partner text)) (cond is_old (old b partner text) (new b partner text))
     by true = one a b like partner text
     by false = two a b like partner text
 
@@ -203,41 +179,24 @@ takes_alike version content es = in_force TakesAlike takes_like either_alike ver
 
 -- ---- a run
 
-module _ (taking : Taking MachineState) (alike : TakesAlike taking) where
-  like_after : (a b : MachineState) → IsLike a b → (partner : ℕ) (text : List ℕ) → IsLike (taking a partner text).0 (taking b partner text).0
-  like_after a b like partner text =
-      let taken = alike a b like partner text in
-      record {
-        parties = taken.own_parties ∙ like.parties ∙ sym taken.other_parties;
-        codes = ap table_texts taken.own_codes ∙ like.codes ∙ sym (ap table_texts taken.other_codes);
-        kinds = taken.own_kinds ∙ like.kinds ∙ sym taken.other_kinds;
-        terminal = taken.left;
-      }
+-- what both take leaves them alike
+like_after : (taking : Taking MachineState) → TakesAlike taking → ChangesTerminalAlone taking → (a b : MachineState) → IsLike a b → (partner : ℕ) (text : List ℕ) → IsLike (taking a partner text).0 (taking b partner text).0
+like_after taking alike alone a b like partner text = record {
+  parties = ap (λ (m : MachineState). m.parties) (alone a partner text) ∙ like.parties ∙ sym (ap (λ (m : MachineState). m.parties) (alone b partner text));
+  codes = ap (λ (m : MachineState). table_texts m.codes) (alone a partner text) ∙ like.codes ∙ sym (ap (λ (m : MachineState). table_texts m.codes) (alone b partner text));
+  kinds = ap (λ (m : MachineState). m.kinds) (alone a partner text) ∙ like.kinds ∙ sym (ap (λ (m : MachineState). m.kinds) (alone b partner text));
+  terminal = (alike a b like partner text).left;
+}
 
-  run_like : (texts : ℕ → ℕ → List ℕ) (numbers : List (ℕ × ℕ)) (a b : MachineState) → IsLike a b → IsLike (state_after taking texts numbers a) (state_after taking texts numbers b)
-  run_like texts [] a b like = like
-  run_like texts (e ∷ numbers) a b like = run_like texts numbers (taking a e.0 (texts e.0 e.1)).0 (taking b e.0 (texts e.0 e.1)).0 (like_after a b like e.0 (texts e.0 e.1))
-
-  replies_like : (texts : ℕ → ℕ → List ℕ) (numbers : List (ℕ × ℕ)) (a b : MachineState) (p k : ℕ) → IsLike a b → reply_among taking texts numbers a p k ≡ reply_among taking texts numbers b p k
-  replies_like texts [] a b p k like = refl
-  replies_like texts (e ∷ numbers) a b p k like =
-      ap (λ r. if (e.0 == p) && (e.1 == k) then Some r else reply_among taking texts numbers (taking a e.0 (texts e.0 e.1)).0 p k) (alike a b like e.0 (texts e.0 e.1)).reply
-      ∙ ap (λ o. if (e.0 == p) && (e.1 == k) then Some (taking b e.0 (texts e.0 e.1)).1 else o)
-      (replies_like texts numbers (taking a e.0 (texts e.0 e.1)).0 (taking b e.0 (texts e.0 e.1)).0 p k (like_after a b like e.0 (texts e.0 e.1)))
-
-  state_like_by : (a b : MachineState) (D : List Delivery) → IsLike a b → (state taking a D).terminal ≡ (state taking b D).terminal
-  unfolding state
-  state_like_by a b D like = (run_like (text_under D) (orders.order D) a b like).terminal
-
-  reply_like_by : (a b : MachineState) (D : List Delivery) (p k : ℕ) → IsLike a b → reply_of taking a D p k ≡ reply_of taking b D p k
-  unfolding reply_of
-  reply_like_by a b D p k like = replies_like (text_under D) (orders.order D) a b p k like
+run_alike : (version : Version) (content : SetupContent) (es : List Event) (D : List Delivery) → RunsAlike (taking_in version content es) IsLike D
+run_alike version content es D a b p k text like first =
+    (like_after (taking_in version content es) (takes_alike version content es) (alone_in version content es) a b like p text, (takes_alike version content es a b like p text).reply)
 
 pub state_like : (version : Version) (content : SetupContent) (es : List Event) (a b : MachineState) (D : List Delivery) → IsLike a b → (state (taking_in version content es) a D).terminal ≡ (state (taking_in version content es) b D).terminal
-state_like version content es a b D like = state_like_by (taking_in version content es) (takes_alike version content es) a b D like
+state_like version content es a b D like = (state_alike (taking_in version content es) IsLike D (run_alike version content es D) a b like).terminal
 
 pub reply_like : (version : Version) (content : SetupContent) (es : List Event) (a b : MachineState) (D : List Delivery) (p k : ℕ) → IsLike a b → reply_of (taking_in version content es) a D p k ≡ reply_of (taking_in version content es) b D p k
-reply_like version content es a b D p k like = reply_like_by (taking_in version content es) (takes_alike version content es) a b D p k like
+reply_like version content es a b D p k like = reply_alike (taking_in version content es) IsLike D (run_alike version content es D) a b p k like
 
 -- ---- set-ups that say the same
 
@@ -284,19 +243,8 @@ unfolding taking_in
 taking_with_codes version content es table = by_with_codes version content table (migration_in es)
 
 -- what is set up at first stays, but for the accounts
-record StaysSetUp (now content : SetupContent) : Type 0 where
-  terminal : now.terminal ≡ content.terminal
-  codes : now.codes ≡ content.codes
-  blocks : now.blocks ≡ content.blocks
-  limit : now.visit_limit ≡ content.visit_limit
-
-stays_set_up : (es : List Event) (content : SetupContent) → StaysSetUp (content_after content es) content
-stays_set_up [] content = record { terminal = refl; codes = refl; blocks = refl; limit = refl }
-stays_set_up (delivered text ∷ es) content = stays_set_up es content
-stays_set_up (migrated version ∷ es) content = stays_set_up es content
-stays_set_up (added code kind ∷ es) content =
-    let rest = stays_set_up es (content_with content (added code kind)) in
-    record { terminal = rest.terminal; codes = rest.codes; blocks = rest.blocks; limit = rest.limit }
+pub codes_after : (es : List Event) (content : SetupContent) → (content_after content es).codes ≡ content.codes
+codes_after es content = ap (λ (k : SetupContent). k.codes) (now_with_codes es content content.codes)
 
 module _ (version : Version) (content : SetupContent) (es : List Event) (rows : Rows) (table : CodeTable) (same : table_texts table ≡ table_texts (content_after content es).codes) where
   abbrev now : SetupContent
@@ -345,10 +293,9 @@ pub reopens : (content : SetupContent) (es : List Event) (rows : Rows) (db : Dat
     → AreAfter content es rows → IsGiven content → HasRows rows db → Shows db shown → IsOffice shown other terminal → Reopens content es rows other
 reopens content es rows db shown other terminal are given has shows office =
     let says = says_same content es rows db shown other terminal given are has shows office in
-    let first = stays_set_up es content in
     record {
       says = says;
-      given = given_with_codes content other.codes (says.codes ∙ ap table_texts first.codes) given;
+      given = given_with_codes content other.codes (says.codes ∙ ap table_texts (codes_after es content)) given;
       now = now_with_codes es content other.codes
           ∙ sym (λ i. record { terminal = says.terminal i; codes = other.codes; partners = says.partners i; blocks = says.blocks i; visit_limit = says.limit i });
       rows_are = after_with_codes newest content es rows other.codes says.codes are;

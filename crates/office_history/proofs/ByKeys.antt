@@ -1,5 +1,5 @@
 -- The tables' rows by their keys, as changes go over them.
-use Rattle.std.proofs.Common.{◌≡◌, ℕ, ◌+◌, ◌≤◌, List, [], ◌∷◌, ◌++◌, length, map, Bool, true, false, cond, Option, None, Some, refl, sym, ap, subst, ◌∙◌, arith}
+use Rattle.std.proofs.Common.{◌≡◌, ℕ, ◌+◌, ◌≤◌, List, [], ◌∷◌, ◌++◌, map, Bool, true, false, cond, Option, None, Some, is_some, refl, sym, ap, subst, ◌∙◌, arith}
 use Rattle.std.specs.Prelude.{find, filter, ◌&&◌, not, ◌==◌, count_by}
 use Rattle.std.specs.Option.{option_map}
 use Rattle.std.specs.Str.{bytes_eq}
@@ -8,27 +8,30 @@ use Rattle.std.specs.FinMap as finite_map
 use Rattle.std.specs.Ordering.{nat_cmp, eq_by_cmp, is_eq, ordering_then}
 use Rattle.std.specs.declared.cmp.Ordering.{Ordering}
 use Rattle.std.specs.declared.cmp.Ordering.TheVariants.{Less, Equal, Greater}
-use Rattle.std.specs.Cmp.{IsTotalOrder, eq_by_cmp_equiv}
+use Rattle.std.specs.Cmp.{eq_by_cmp_equiv}
 use Rattle.std.specs.Cmp.Lexicographic.{slice_cmp, nat_list_cmp_total, texts_ties}
-use Rattle.std.proofs.lemmas.Cmp.{lists_total}
-use Rattle.std.proofs.lemmas.List.{map-append, length-append}
-use Rattle.std.proofs.lemmas.List.Elements.{filter-append}
+use Rattle.std.proofs.Math.Bool.{and-true}
+use Rattle.std.proofs.lemmas.List.{map-append}
 use Rattle.std.proofs.lemmas.List.Sums.{length-filter}
 use Rattle.box6346.specs.declared.box_number.BoxNumber.{BoxNumber}
 use Rattle.box6346.specs.declared.slot.Slot.{Slot}
 use Rattle.edi_messages.specs.Purposes.{CallContent}
-use Rattle.terminal_core.specs.declared.line_state.LineState.TheVariants.{Pending, Done}
-use Rattle.terminal_core.specs.declared.side.Side.{Side}
-use Rattle.terminal_core.specs.declared.side.Side.TheVariants.{Load, Discharge}
+use Rattle.terminal_core.specs.declared.lines.LineState.TheVariants.{Pending, Done}
+use Rattle.terminal_core.specs.declared.lines.Side.{Side}
+use Rattle.terminal_core.specs.declared.lines.Side.TheVariants.{Load, Discharge}
 use Rattle.terminal_core.specs.Rows.{ChangeContent, visit_opened, visit_closed, placed_at, moved_to, removed_from, listed_on, line_done, unlisted}
 use Rattle.terminal_core.specs.State.{LineContent, LineKey, Lines, line_key, side_code}
 use Rattle.terminal_core.specs.Changes.{Standing, standing_in, standing_elsewhere, TerminalRows, with_line_done, rows_with, all_changed, IsApplicable, AreApplicable}
 use Rattle.terminal_core.proofs.Boxes.{same_bytes}
+use Rattle.terminal_core.proofs.Counted.{counted_more, none_if, one_if}
+use Rattle.terminal_core.proofs.Open.{none_counted}
+use Rattle.terminal_core.proofs.Lined.{order, keys_total, keys_apart, same_key}
 use Rattle.office_rows.specs.Rows.{PlaceContent, ListingContent, Rows}
 use Rattle.office_rows.specs.Effects.{stands_for, is_line, with_change}
 use Rattle.office_rows.specs.ByKey.{standing_by, line_entry, lines_by, terminal_rows, ArePlacedOnce, AreListedOnce}
 use Rattle.office_history.specs.Cascade.{with_changes}
 use Rattle.office_history.specs.Laws.{AreRowsByKey}
+use Rattle.office_history.proofs.Shown.{count_more}
 
 -- ---- places
 
@@ -86,25 +89,20 @@ own_shown : (own : Bool) (slot : Slot) (p : PlaceContent) → shown (cond own (r
 own_shown true slot p = refl
 own_shown false slot p = refl
 
-moves : (own here is : Bool) (slot : Slot) (x : Standing) (c o : Option Standing) → (is ≡ true → own ≡ here) → (is ≡ true → c ≡ o) → (own ≡ true → here ≡ is)
-    → cond here (Some (cond own (standing_elsewhere slot x) x)) (cond is (option_map (standing_elsewhere slot) c) o)
-    ≡ cond is (option_map (standing_elsewhere slot) (cond own (Some x) c)) (cond here (Some x) o)
-moves true true true slot x c o h k m = refl
-moves true true false slot x c o h k m = let bad : true ≡ false = m refl in cc
-moves true false true slot x c o h k m = let bad : true ≡ false = h refl in cc
-moves true false false slot x c o h k m = refl
-moves false true true slot x c o h k m = let bad : false ≡ true = h refl in cc
-moves false true false slot x c o h k m = refl
-moves false false true slot x c o h k m = refl
-moves false false false slot x c o h k m = refl
+changed : {A : Type 0} (change : A → A) (own here is : Bool) (x : A) (c o : Option A) → (is ≡ true → own ≡ here) → (is ≡ true → c ≡ o) → (own ≡ true → here ≡ is)
+    → cond here (Some (cond own (change x) x)) (cond is (option_map change c) o) ≡ cond is (option_map change (cond own (Some x) c)) (cond here (Some x) o)
+changed change true true false x c o h k m = let bad : true ≡ false = m refl in cc
+changed change true false true x c o h k m = let bad : true ≡ false = h refl in cc
+changed change false true true x c o h k m = let bad : false ≡ true = h refl in cc
+changed change own here is x c o h k m = refl
 
-none_moved : (b : Bool) (slot : Slot) → ◌≡◌ {A = Option Standing} None (cond b (option_map (standing_elsewhere slot) None) None)
-none_moved true slot = refl
-none_moved false slot = refl
+none_changed : {A : Type 0} (change : A → A) (b : Bool) → ◌≡◌ {A = Option A} None (cond b (option_map change None) None)
+none_changed change true = refl
+none_changed change false = refl
 
 moved_at : (container q : BoxNumber) (slot : Slot) (places : List PlaceContent)
     → standing_by (map (elsewhere container slot) places) q ≡ cond (bytes_eq container q) (option_map (standing_elsewhere slot) (standing_by places container)) (standing_by places q)
-moved_at container q slot [] = none_moved (bytes_eq container q) slot
+moved_at container q slot [] = none_changed (standing_elsewhere slot) (bytes_eq container q)
 moved_at container q slot (p ∷ places) =
     let own = bytes_eq p.container container in
     let here = bytes_eq p.container q in
@@ -112,7 +110,7 @@ moved_at container q slot (p ∷ places) =
     head q (elsewhere container slot p) (map (elsewhere container slot) places) here (own_container own slot p q)
     ∙ ap (λ s. cond here (Some s) (standing_by (map (elsewhere container slot) places) q)) (own_shown own slot p)
     ∙ ap (cond here (Some (cond own (standing_elsewhere slot (shown p)) (shown p)))) (moved_at container q slot places)
-    ∙ moves own here is slot (shown p) (standing_by places container) (standing_by places q) (λ e. same_answer p.container container q e) (λ e. ap (standing_by places) (sym (same_bytes container q e))) (λ e. alike p.container q container e)
+    ∙ changed (standing_elsewhere slot) own here is (shown p) (standing_by places container) (standing_by places q) (λ e. same_answer p.container container q e) (λ e. ap (standing_by places) (sym (same_bytes container q e))) (λ e. alike p.container q container e)
     ∙ ap (λ o. cond is (option_map (standing_elsewhere slot) o) (cond here (Some (shown p)) (standing_by places q))) (sym (head container p places own refl))
     ∙ ap (cond is (option_map (standing_elsewhere slot) (standing_by (p ∷ places) container))) (sym (head q p places here refl))
 
@@ -131,14 +129,11 @@ left_out true here q p rest e = refl
 left_out false here q p rest e = head q p rest here e
 
 leaves : {A : Type 0} (own here is : Bool) (x f o : Option A) → f ≡ cond is None o → (own ≡ true → here ≡ is) → (is ≡ true → own ≡ here) → cond own f (cond here x f) ≡ cond is None (cond here x o)
-leaves true true true x f o e h k = e
 leaves true true false x f o e h k = let bad : true ≡ false = h refl in cc
 leaves true false true x f o e h k = let bad : false ≡ true = h refl in cc
-leaves true false false x f o e h k = e
 leaves false true true x f o e h k = let bad : false ≡ true = k refl in cc
 leaves false true false x f o e h k = refl
-leaves false false true x f o e h k = e
-leaves false false false x f o e h k = e
+leaves own here is x f o e h k = e
 
 none_left : {A : Type 0} (b : Bool) → ◌≡◌ {A = Option A} None (cond b None None)
 none_left true = refl
@@ -159,15 +154,6 @@ removed_by container places i q = removed_at container q places i
 
 -- ---- lines
 
-abbrev pub order : LineKey → LineKey → Ordering
-order = slice_cmp (slice_cmp nat_cmp)
-
-pub keys_total : IsTotalOrder order
-keys_total = lists_total nat_list_cmp_total
-
-pub keys_apart : finite_map.IsAntisymmetric order
-keys_apart = finite_map.slice_cmp-IsAntisymmetric (finite_map.slice_cmp-IsAntisymmetric finite_map.nat_cmp-IsAntisymmetric)
-
 abbrev pub key_of : ListingContent → LineKey
 key_of line = line_key line.call line.side line.container
 
@@ -177,22 +163,10 @@ said line = record { port = line.port; state = line.state }
 abbrev pub finds : LineKey → List ListingContent → Option LineContent
 finds q lines = finite_map.find order q (map line_entry lines)
 
-is_equal : (r : Ordering) → is_eq r ≡ true → r ≡ Equal
-is_equal Less e = cc
-is_equal Equal e = refl
-is_equal Greater e = cc
-
-pub same_key : (j k : LineKey) → eq_by_cmp order j k ≡ true → j ≡ k
-same_key j k e = keys_apart j k (is_equal (order j k) e)
-
 both : (a b : Ordering) → is_eq (ordering_then a b) ≡ (is_eq a && is_eq b)
 both Less b = refl
 both Equal b = refl
 both Greater b = refl
-
-and_true : (b : Bool) → (b && true) ≡ b
-and_true true = refl
-and_true false = refl
 
 sides : (a b : Side) → is_eq (slice_cmp nat_cmp (side_code a ∷ []) (side_code b ∷ [])) ≡ (side_code b == side_code a)
 sides Load Load = refl
@@ -211,7 +185,7 @@ line_tied call side container line =
     let part : Ordering = slice_cmp nat_cmp (side_code side ∷ []) (side_code line.side ∷ []) in
     let box_ : Ordering = slice_cmp nat_cmp container line.container in
     both vessel (ordering_then voyage (ordering_then part (ordering_then box_ Equal)))
-    ∙ ap (λ v. is_eq vessel && v) (both voyage (ordering_then part (ordering_then box_ Equal)) ∙ ap (λ v. is_eq voyage && v) (both part (ordering_then box_ Equal) ∙ ap (λ v. is_eq part && v) (both box_ Equal ∙ and_true (is_eq box_))))
+    ∙ ap (λ v. is_eq vessel && v) (both voyage (ordering_then part (ordering_then box_ Equal)) ∙ ap (λ v. is_eq voyage && v) (both part (ordering_then box_ Equal) ∙ ap (λ v. is_eq part && v) (both box_ Equal ∙ and-true (is_eq box_))))
     ∙ ap (λ v. v && (is_eq voyage && (is_eq part && is_eq box_))) (turned call.vessel line.call.vessel)
     ∙ ap (λ v. bytes_eq line.call.vessel call.vessel && (v && (is_eq part && is_eq box_))) (turned call.voyage line.call.voyage)
     ∙ ap (λ v. bytes_eq line.call.vessel call.vessel && (bytes_eq line.call.voyage call.voyage && (v && is_eq box_))) (sides side line.side)
@@ -239,27 +213,12 @@ done_said : (b : Bool) (line : ListingContent) → said (cond b (record line { s
 done_said true line = refl
 done_said false line = refl
 
-ends : (own here is : Bool) (x : LineContent) (c o : Option LineContent) → (is ≡ true → own ≡ here) → (is ≡ true → c ≡ o) → (own ≡ true → here ≡ is)
-    → cond here (Some (cond own (as_done x) x)) (cond is (option_map as_done c) o) ≡ cond is (option_map as_done (cond own (Some x) c)) (cond here (Some x) o)
-ends true true true x c o h k m = refl
-ends true true false x c o h k m = let bad : true ≡ false = m refl in cc
-ends true false true x c o h k m = let bad : true ≡ false = h refl in cc
-ends true false false x c o h k m = refl
-ends false true true x c o h k m = let bad : false ≡ true = h refl in cc
-ends false true false x c o h k m = refl
-ends false false true x c o h k m = refl
-ends false false false x c o h k m = refl
-
-none_done : (b : Bool) → ◌≡◌ {A = Option LineContent} None (cond b (option_map as_done None) None)
-none_done true = refl
-none_done false = refl
-
 module _ (call : CallContent) (side : Side) (container : BoxNumber) where
   abbrev key : LineKey
   key = line_key call side container
 
   done_at : (q : LineKey) (lines : List ListingContent) → finds q (map (done_line call side container) lines) ≡ cond (eq_by_cmp order q key) (option_map as_done (finds key lines)) (finds q lines)
-  done_at q [] = none_done (eq_by_cmp order q key)
+  done_at q [] = none_changed as_done (eq_by_cmp order q key)
   done_at q (line ∷ lines) =
       let own = is_line call side container line in
       let here = eq_by_cmp order q (key_of line) in
@@ -267,7 +226,7 @@ module _ (call : CallContent) (side : Side) (container : BoxNumber) where
       ap (λ k. cond (eq_by_cmp order q k) (Some (said (done_line call side container line))) (finds q (map (done_line call side container) lines))) (done_key own line)
       ∙ ap (λ s. cond here (Some s) (finds q (map (done_line call side container) lines))) (done_said own line)
       ∙ ap (cond here (Some (cond own (as_done (said line)) (said line)))) (done_at q lines)
-      ∙ ends own here is (said line) (finds key lines) (finds q lines)
+      ∙ changed as_done own here is (said line) (finds key lines) (finds q lines)
       (λ e. sym (line_tied call side container line) ∙ ap (λ k. eq_by_cmp order k (key_of line)) (sym (same_key q key e)))
       (λ e. ap (λ k. finds k lines) (sym (same_key q key e)))
       (λ e. ap (eq_by_cmp order q) (sym (same_key key (key_of line) (line_tied call side container line ∙ e))))
@@ -308,90 +267,43 @@ module _ (call : CallContent) (side : Side) (container : BoxNumber) where
 
 -- ---- no key twice
 
-abbrev many : {A : Type 0} → (A → Bool) → List A → ℕ
-many p xs = length (filter p xs)
-
-many_one : {A : Type 0} (p : A → Bool) (xs : List A) (x : A) → many p (xs ++ x ∷ []) ≡ many p xs + many p (x ∷ [])
-many_one p xs x = ap length (filter-append p xs (x ∷ [])) ∙ length-append (filter p xs) (filter p (x ∷ []))
-
-many_first : {A : Type 0} (p : A → Bool) (x : A) (xs : List A) (is : Bool) → p x ≡ is → many p (x ∷ xs) ≡ cond is 1 0 + many p xs
-many_first p x xs true e = ap (λ b. length (cond b (x ∷ filter p xs) (filter p xs))) e ∙ omega arith
-many_first p x xs false e = ap (λ b. length (cond b (x ∷ filter p xs) (filter p xs))) e ∙ omega arith
-
-pub once_more : {A : Type 0} (p : A → Bool) (xs : List A) (x : A) (is : Bool) → p x ≡ is → count_by p xs ≤ 1 → (is ≡ true → many p xs ≡ 0) → count_by p (xs ++ x ∷ []) ≤ 1
-once_more p xs x true e few none =
-    let zero_ : many p xs ≡ 0 = none refl in
-    let one : many p (x ∷ []) ≡ 1 = many_first p x [] true e in
-    let more : count_by p (xs ++ x ∷ []) ≡ many p xs + many p (x ∷ []) = sym (length-filter p (xs ++ x ∷ [])) ∙ many_one p xs x in
-    omega arith
-once_more p xs x false e few none =
-    let none_more : many p (x ∷ []) ≡ 0 = many_first p x [] false e in
-    let same : many p xs ≡ count_by p xs = length-filter p xs in
-    let more : count_by p (xs ++ x ∷ []) ≡ many p xs + many p (x ∷ []) = sym (length-filter p (xs ++ x ∷ [])) ∙ many_one p xs x in
-    omega arith
-
-many_mapped : {A : Type 0} (p : A → Bool) (f : A → A) → ((x : A) → p (f x) ≡ p x) → (xs : List A) → many p (map f xs) ≡ many p xs
-many_mapped p f same [] = refl
-many_mapped p f same (x ∷ xs) =
-    many_first p (f x) (map f xs) (p x) (same x) ∙ ap (λ n. cond (p x) 1 0 + n) (many_mapped p f same xs) ∙ sym (many_first p x xs (p x) refl)
+pub once_more : {A : Type 0} (p : A → Bool) (xs : List A) (x : A) (is : Bool) → p x ≡ is → count_by p xs ≤ 1 → (is ≡ true → count_by p xs ≡ 0) → count_by p (xs ++ x ∷ []) ≤ 1
+once_more p xs x true e few none = omega (arith, counted_more p xs x, one_if (p x) e, none refl)
+once_more p xs x false e few none = omega (arith, counted_more p xs x, none_if (p x) e)
 
 pub count_mapped : {A : Type 0} (p : A → Bool) (f : A → A) → ((x : A) → p (f x) ≡ p x) → (xs : List A) → count_by p (map f xs) ≡ count_by p xs
-count_mapped p f same xs = sym (length-filter p (map f xs)) ∙ many_mapped p f same xs ∙ length-filter p xs
+count_mapped p f same [] = refl
+count_mapped p f same (x ∷ xs) =
+    count_more p (f x) (map f xs) (p x) (same x) ∙ ap (λ n. cond (p x) 1 0 + n) (count_mapped p f same xs) ∙ sym (count_more p x xs (p x) refl)
 
-left_one : {A : Type 0} (p : A → Bool) (x : A) (xs all : List A) (b : Bool) → many p xs ≤ many p all → many p (cond b (x ∷ xs) xs) ≤ cond (p x) 1 0 + many p all
-left_one p x xs all true h = let more : many p (x ∷ xs) ≡ cond (p x) 1 0 + many p xs = many_first p x xs (p x) refl in omega arith
+left_one : {A : Type 0} (p : A → Bool) (x : A) (xs all : List A) (b : Bool) → count_by p xs ≤ count_by p all → count_by p (cond b (x ∷ xs) xs) ≤ cond (p x) 1 0 + count_by p all
+left_one p x xs all true h = omega (arith, count_more p x xs (p x) refl)
 left_one p x xs all false h = omega arith
 
-many_left : {A : Type 0} (p q : A → Bool) (xs : List A) → many p (filter q xs) ≤ many p xs
-many_left p q [] = omega arith
-many_left p q (x ∷ xs) =
-    let more : many p (x ∷ xs) ≡ cond (p x) 1 0 + many p xs = many_first p x xs (p x) refl in
-    let less = left_one p x (filter q xs) xs (q x) (many_left p q xs) in
-    omega arith
-
 count_left : {A : Type 0} (p q : A → Bool) (xs : List A) → count_by p (filter q xs) ≤ count_by p xs
-count_left p q xs =
-    let a : many p (filter q xs) ≡ count_by p (filter q xs) = length-filter p (filter q xs) in
-    let b : many p xs ≡ count_by p xs = length-filter p xs in
-    let less = many_left p q xs in
-    omega arith
+count_left p q [] = omega arith
+count_left p q (x ∷ xs) = omega (arith, count_more p x xs (p x) refl, left_one p x (filter q xs) xs (q x) (count_left p q xs))
 
-stood : (here : Bool) (q : BoxNumber) (p : PlaceContent) (places : List PlaceContent) → bytes_eq p.container q ≡ here → standing_by (p ∷ places) q ≡ None → (here ≡ false) × (standing_by places q ≡ None)
-stood true q p places at e = let bad : Some (shown p) ≡ None = sym (head q p places true at) ∙ e in cc
-stood false q p places at e = (refl, sym (head q p places false at) ∙ e)
+pub none_found : {A : Type 0} (p : A → Bool) (xs : List A) → find p xs ≡ None → count_by p xs ≡ 0
+none_found p xs e = sym (length-filter p xs) ∙ none_counted p xs (ap is_some e)
 
-no_standing : (q : BoxNumber) (places : List PlaceContent) → standing_by places q ≡ None → many (stands_for q) places ≡ 0
-no_standing q [] e = refl
-no_standing q (p ∷ places) e =
-    let is = stood (bytes_eq p.container q) q p places refl e in
-    let first : many (stands_for q) (p ∷ places) ≡ 0 + many (stands_for q) places = many_first (stands_for q) p places false is.0 in
-    let rest = no_standing q places is.1 in
-    omega arith
+pub none_mapped : {A B : Type 0} (f : A → B) (o : Option A) → option_map f o ≡ None → o ≡ None
+none_mapped f None e = refl
+none_mapped f (Some x) e = cc
+
+no_standing : (q : BoxNumber) (places : List PlaceContent) → standing_by places q ≡ None → count_by (stands_for q) places ≡ 0
+no_standing q places e = none_found (stands_for q) places (none_mapped shown (find (stands_for q) places) e)
 
 lined : (here : Bool) (x : LineContent) (o : Option LineContent) → cond here (Some x) o ≡ None → (here ≡ false) × (o ≡ None)
 lined true x o e = cc
 lined false x o e = (refl, e)
 
-no_line : (call : CallContent) (side : Side) (container : BoxNumber) (lines : List ListingContent) → finds (line_key call side container) lines ≡ None → many (is_line call side container) lines ≡ 0
+no_line : (call : CallContent) (side : Side) (container : BoxNumber) (lines : List ListingContent) → finds (line_key call side container) lines ≡ None → count_by (is_line call side container) lines ≡ 0
 no_line call side container [] e = refl
 no_line call side container (line ∷ lines) e =
     let is = lined (is_line call side container line) (said line) (finds (line_key call side container) lines)
     (sym (ap (λ b. cond b (Some (said line)) (finds (line_key call side container) lines)) (line_tied call side container line)) ∙ e) in
-    let first : many (is_line call side container) (line ∷ lines) ≡ 0 + many (is_line call side container) lines = many_first (is_line call side container) line lines false is.0 in
-    let rest = no_line call side container lines is.1 in
-    omega arith
-
-pub none_found : {A : Type 0} (p : A → Bool) (xs : List A) → find p xs ≡ None → length (filter p xs) ≡ 0
-none_found p [] e = refl
-none_found p (x ∷ xs) e =
-    let is = unfound (p x) x (find p xs) e in
-    let first : many p (x ∷ xs) ≡ 0 + many p xs = many_first p x xs false is.0 in
-    let rest = none_found p xs is.1 in
-    omega arith
-  where
-    unfound : {A : Type 0} (b : Bool) (x : A) (o : Option A) → cond b (Some x) o ≡ None → (b ≡ false) × (o ≡ None)
-    unfound true x o e = cc
-    unfound false x o e = (refl, e)
+    omega (arith, count_more (is_line call side container) line lines false is.0, no_line call side container lines is.1)
 
 pub find_mapped : {A : Type 0} (p : A → Bool) (f : A → A) → ((x : A) → p (f x) ≡ p x) → (xs : List A) → find p (map f xs) ≡ option_map f (find p xs)
 find_mapped p f same [] = refl

@@ -3,12 +3,12 @@ use Rattle.std.proofs.Common.{◌≡◌, ◌&&◌, not, Bool, ℕ, List, [], ◌
 use Rattle.std.specs.FinMap as finite_map
 use Rattle.box6346.specs.SizeCode.{length_of}
 use Rattle.box6346.specs.declared.box_number.BoxNumber.{BoxNumber}
-use Rattle.box6346.specs.declared.length.Length.{Length}
+use Rattle.box6346.specs.declared.size_type.Length.{Length}
 use Rattle.box6346.specs.declared.slot.Slot.{Slot}
 use Rattle.edi_moments.specs.Moments.{CivilMoment}
 use Rattle.edi_messages.specs.declared.codes.Codes.{Codes}
-use Rattle.edi_messages.specs.declared.message_fault.MessageFault.{MessageFault}
-use Rattle.edi_messages.specs.declared.partner_kind.PartnerKind.{PartnerKind}
+use Rattle.edi_messages.specs.declared.message.MessageFault.{MessageFault}
+use Rattle.edi_messages.specs.declared.codes.PartnerKind.{PartnerKind}
 use Rattle.edi_messages.specs.Message.{LineContent as ReadLine, ordered, refused as refused_line, MessageContent}
 use Rattle.edi_messages.specs.Orders.{EntryContent, OrderContent, gate_in, gate_out, move, list_discharge, list_load, discharge, load}
 use Rattle.edi_messages.specs.Purposes.{CallContent}
@@ -20,31 +20,32 @@ use Rattle.edi_syntax.specs.Messages.{Message}
 use Rattle.partner_core.specs.Deliveries.{Delivery}
 use Rattle.partner_core.specs.Numbered.{with_number}
 use Rattle.partner_core.specs.Machine.{Taking}
-use Rattle.partner_core.specs.Order.{state, state_after, order, text_under}
-use Rattle.yard_core.specs.declared.placement.Placement.{Placement}
-use Rattle.yard_core.specs.declared.stowed.Stowed.{Stowed}
+use Rattle.partner_core.specs.Order.{state, order}
+use Rattle.yard_core.specs.declared.placements.Placement.{Placement}
+use Rattle.yard_core.specs.declared.placements.Stowed.{Stowed}
 use Rattle.yard_core.specs.Decisions.{Refusal, present, is_same_slot, misfit_of, first_fit, blocker_of, unless_buried, with_misfit, with_slot as with_first_slot, yard_with, yard_without, removed_at, yard_with_move, shifted_at}
 use Rattle.yard_core.specs.YardMap.{Boxes, YardMap, yard_map, placement, placement_of, stowed}
-use Rattle.terminal_core.specs.declared.departure.Departure.{Departure}
-use Rattle.terminal_core.specs.declared.line_state.LineState.{LineState}
-use Rattle.terminal_core.specs.declared.line_state.LineState.TheVariants.{Pending, Done as LineIsDone}
-use Rattle.terminal_core.specs.declared.outcome.Outcome.{Outcome}
-use Rattle.terminal_core.specs.declared.outcome.Outcome.TheVariants.{Done, Gone, Listed, Refused}
-use Rattle.terminal_core.specs.declared.reason.Reason.TheVariants.{AlreadyIn, NotIn, VisitLimit}
-use Rattle.terminal_core.specs.declared.side.Side.{Side}
-use Rattle.terminal_core.specs.declared.side.Side.TheVariants.{Load, Discharge}
-use Rattle.terminal_core.specs.declared.source.Source.{Source}
-use Rattle.terminal_core.specs.declared.way.Way.{Way}
-use Rattle.terminal_core.specs.declared.way.Way.TheVariants.{Gate, Ship}
+use Rattle.terminal_core.specs.declared.visits.Departure.{Departure}
+use Rattle.terminal_core.specs.declared.lines.LineState.{LineState}
+use Rattle.terminal_core.specs.declared.lines.LineState.TheVariants.{Pending, Done as LineIsDone}
+use Rattle.terminal_core.specs.declared.change.Outcome.{Outcome}
+use Rattle.terminal_core.specs.declared.change.Outcome.TheVariants.{Refused}
+use Rattle.terminal_core.specs.declared.change.Reason.TheVariants.{AlreadyIn, NotIn, VisitLimit}
+use Rattle.terminal_core.specs.declared.lines.Side.{Side}
+use Rattle.terminal_core.specs.declared.lines.Side.TheVariants.{Load, Discharge}
+use Rattle.terminal_core.specs.declared.change.Source.{Source}
+use Rattle.terminal_core.specs.declared.visits.Way.{Way}
+use Rattle.terminal_core.specs.declared.visits.Way.TheVariants.{Gate, Ship}
 use Rattle.terminal_core.specs.State.{TerminalState, LineContent, line_of, is_in}
 use Rattle.terminal_core.specs.Step.{Stepped, with_refusal, step_by, yard_with_entry, settled_in, with_slot, is_full, after_entry, entered_at, after_departure, departed_at, departure_by, moved_at, listed_at, then_line_done_at, by_line, by_state}
 use Rattle.terminal_core.specs.Versions.{spares}
-use Rattle.terminal_core.specs.declared.version.Version.{Version}
+use Rattle.terminal_core.specs.declared.change.Version.{Version}
 use Rattle.terminal_core.proofs.Changing.{either}
 use Rattle.office_admission.specs.Admission.{admission, is_for}
 use Rattle.office_replies.specs.Events.{Event}
 use Rattle.office_setup.specs.Setups.{SetupContent}
 use Rattle.office_history.specs.After.{taking_in}
+use Rattle.office_history.proofs.Likeness.{kept_over}
 use Rattle.office_history.proofs.Places.{placed, in_force}
 use Rattle.office_taking.specs.Taking.{MachineState, cleared, cleared_for, list_replaced, line_taken_by, lines_taken_by, verdict_on_by, messages_taken_by, codes_for, source_in, nothing_taken, taken_at_by, taken_of_by, interchange_taken_by}
 use Rattle.office_taking.specs.Readings.{reading_by}
@@ -152,9 +153,7 @@ module _ (version : Version) where
 
   then_stays : (state : TerminalState) (call : CallContent) (side : Side) (b : BoxNumber) (line : LineContent) (after : Stepped) (o : Outcome) → Stays state after → Stays state (then_line_done_at call side b line after o)
   then_stays state call side b line after (Refused reason) h = h
-  then_stays state call side b line after (Done slot) h = record { plan = h.plan; limit = h.limit }
-  then_stays state call side b line after Gone h = record { plan = h.plan; limit = h.limit }
-  then_stays state call side b line after Listed h = record { plan = h.plan; limit = h.limit }
+  then_stays state call side b line after o h = record { plan = h.plan; limit = h.limit }
 
   state_stays : (state : TerminalState) (call : CallContent) (side : Side) (b : BoxNumber) (line : LineContent) (after : Stepped) (s : LineState) → Stays state after → Stays state (by_state state call side b line after s)
   state_stays state call side b line after LineIsDone h = still state
@@ -213,7 +212,7 @@ module _ (version : Version) where
   of_stays machine partner segments None = still machine.terminal
   of_stays machine partner segments (Some kind) = at_stays machine partner kind segments (preparation (header_of segments))
 
-  interchange_stays : (machine : MachineState) (partner : ℕ) (text : List ℕ) → OnGround machine.terminal (interchange_taken_by version machine partner text).0.terminal
+  pub interchange_stays : (machine : MachineState) (partner : ℕ) (text : List ℕ) → OnGround machine.terminal (interchange_taken_by version machine partner text).0.terminal
   interchange_stays machine partner text =
       either (λ (taken : MachineState × List ℕ). OnGround machine.terminal taken.0.terminal) (is_for partner (admission machine.parties text)) (taken_of_by version machine partner (segments_in text) (with_number machine.kinds partner)) (nothing_taken machine)
       (of_stays machine partner (segments_in text) (with_number machine.kinds partner)) (still machine.terminal)
@@ -223,20 +222,10 @@ module _ (version : Version) where
 abbrev StaysOnGround : Taking MachineState → Type 0
 StaysOnGround taken = (machine : MachineState) (partner : ℕ) (text : List ℕ) → OnGround machine.terminal (taken machine partner text).0.terminal
 
-module _ (taken : Taking MachineState) (each : StaysOnGround taken) where
-  run_stays : (texts : ℕ → ℕ → List ℕ) (numbers : List (ℕ × ℕ)) (machine : MachineState) → OnGround machine.terminal (state_after taken texts numbers machine).terminal
-  run_stays texts [] machine = still machine.terminal
-  run_stays texts (e ∷ numbers) machine =
-      let next : MachineState = (taken machine e.0 (texts e.0 e.1)).0 in
-      on machine.terminal next.terminal (state_after taken texts numbers next).terminal (each machine e.0 (texts e.0 e.1)) (run_stays texts numbers next)
-
-  state_stays_on : (opening : MachineState) (ds : List Delivery) → OnGround opening.terminal (state taken opening ds).terminal
-  unfolding state
-  state_stays_on opening ds = run_stays (text_under ds) (order ds) opening
-
 pub state_on_ground : (version : Version) (content : SetupContent) (es : List Event) (opening : MachineState) (ds : List Delivery) → OnGround opening.terminal (state (taking_in version content es) opening ds).terminal
 state_on_ground version content es opening ds =
-    state_stays_on (taking_in version content es)
-    (in_force StaysOnGround interchange_stays
-    (λ before old new one two machine p text. placed (λ taken. OnGround machine.terminal taken.0.terminal) before old new machine p text (one machine p text) (two machine p text)) version content es)
-    opening ds
+    let each : StaysOnGround (taking_in version content es) =
+    in_force StaysOnGround interchange_stays
+    (λ before old new one two machine p text. placed (λ taken. OnGround machine.terminal taken.0.terminal) before old new machine p text (one machine p text) (two machine p text)) version content es in
+    kept_over (taking_in version content es) (λ machine. OnGround opening.terminal machine.terminal)
+    (λ machine p text is. on opening.terminal machine.terminal (taking_in version content es machine p text).0.terminal is (each machine p text)) opening ds (still opening.terminal)

@@ -2,14 +2,14 @@
 use Rattle.std.proofs.Common.{◌≡◌, ℕ, ◌+◌, List, [], ◌∷◌, ◌++◌, length, Bool, true, false, cond, Some, Ok, refl, sym, ap, subst, ◌∙◌, arith}
 use Rattle.std.specs.Prelude.{nat_le}
 use Rattle.std.proofs.lemmas.List.{map-append, length-map}
-use Rattle.edi_messages.specs.declared.partner_kind.PartnerKind.{PartnerKind}
+use Rattle.edi_messages.specs.declared.codes.PartnerKind.{PartnerKind}
 use Rattle.partner_core.specs.ByPlace.{taken_by_place}
 use Rattle.partner_core.specs.Deliveries.{Delivery, first_text, run}
 use Rattle.partner_core.specs.Machine.{Taking}
 use Rattle.partner_core.specs.Order.{state}
 use Rattle.terminal_core.specs.Changes.{rows_of}
 use Rattle.terminal_core.specs.Versions.{newest}
-use Rattle.terminal_core.specs.declared.version.Version.{Version}
+use Rattle.terminal_core.specs.declared.change.Version.{Version}
 use Rattle.office_replies.specs.Events.{Event, added}
 use Rattle.office_setup.specs.Kinds.{kind_named}
 use Rattle.office_setup.specs.Setups.{SetupContent, parties_in, setup_with_account}
@@ -21,13 +21,12 @@ use Rattle.office_taking.specs.Growth.{with_account}
 use Rattle.office_taking.specs.Laws.{ChangesTerminalAlone}
 use Rattle.office_taking.specs.Taking.{MachineState, interchange_taken_by}
 use Rattle.office_taking.proofs.Growing.{taken_with_account}
-use Rattle.office_taking.proofs.Reaching.{terminal_alone, by_place_alone}
 use Rattle.office_rows.specs.Rows.{Rows}
 use Rattle.office_rows.specs.Effects.{with_partner}
 use Rattle.office_history.specs.After.{opening_of, taking_in, accounts_from, AreRowsOf, AreAfter}
 use Rattle.office_history.specs.Laws.{AddsAccount, AccountAddsRow}
 use Rattle.office_history.proofs.Likeness.{TakesAlike, state_alike, reply_alike}
-use Rattle.office_history.proofs.Places.{in_force, taking_added, moved}
+use Rattle.office_history.proofs.Places.{alone_in, in_force, taking_added, moved}
 
 -- ---- accounts
 
@@ -104,7 +103,7 @@ module _ (content : SetupContent) (es : List Event) (rows : Rows) (code kind : L
   takes : TakesAlike taking (Like now code own) D
   takes = grown_alike now code own taking D
       (in_force (TakesGrown now code own) (each_grown now code own) (either_grown now code own) newest content es)
-      (in_force ChangesTerminalAlone terminal_alone (λ before old new one two. by_place_alone number_said before old new one two) newest content es)
+      (alone_in newest content es)
       (λ p k text first. first_admitted es content p k text first)
 
   now_more : content_after content more ≡ setup_with_account now code own

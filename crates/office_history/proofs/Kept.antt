@@ -2,7 +2,7 @@
 use Rattle.std.proofs.Common.{◌≡◌, ◌⊎◌, ℕ, zero, suc, ◌+◌, ◌-◌, ◌<◌, ◌≤◌, inl, inr, List, [], ◌∷◌, ◌++◌, length, map, true, false, refl, sym, ap, ap₂, subst, ◌∙◌, arith}
 use Rattle.std.specs.List.{range_with_len, AllByRecursion}
 use Rattle.std.proofs.lemmas.Bool.{cases_order}
-use Rattle.edi_messages.specs.declared.partner_kind.PartnerKind.{PartnerKind}
+use Rattle.edi_messages.specs.declared.codes.PartnerKind.{PartnerKind}
 use Rattle.office_rows.specs.Rows.{Partner}
 use Rattle.office_rows.specs.Opened.{Numbered}
 use Rattle.office_rows.specs.Office.{AreAccounts, AreWaiting, AreKept, taken_numbers}
@@ -48,6 +48,9 @@ has_after q m (n ∷ ns) p k starts rise (inr later) = elim (has_after n.partner
   | inr own ↦ elim starts [ inl far ↦ inl (omega (arith, own.0, far)) | inr near ↦ inr (own.0 ∙ near.0, omega (arith, own.1, near.1)) ]
 ]
 
+abbrev pub taken_by : ℕ → ℕ → Numbered
+taken_by partner number = record { partner = partner; number = number; is_taken = true }
+
 module _ (count : ℕ) (runs : ℕ → ℕ) where
   abbrev next : ℕ → ℕ
   next p = runs p + 1
@@ -91,9 +94,6 @@ module _ (count : ℕ) (runs : ℕ → ℕ) where
         all = rest.all;
         there = rest.there;
       }
-
-  abbrev taken_by : ℕ → ℕ → Numbered
-  taken_by p number = record { partner = p; number = number; is_taken = true }
 
   -- those that were taken of a partner, from a number on, those that wait, and those of the partners behind it
   record Own (p above many : ℕ) (ns : List Numbered) : Type 0 where

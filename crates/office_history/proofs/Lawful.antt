@@ -5,17 +5,17 @@ use Rattle.std.specs.Cmp.Lexicographic.{slice_cmp}
 use Rattle.std.specs.Ordering.{nat_cmp}
 use Rattle.std.specs.FinMap as finite_map
 use Rattle.std.specs.Option.{option_map}
-use Rattle.edi_messages.specs.declared.partner_kind.PartnerKind.{PartnerKind}
+use Rattle.edi_messages.specs.declared.codes.PartnerKind.{PartnerKind}
 use Rattle.edi_segments.specs.Interchange.{interchange_of}
 use Rattle.partner_core.specs.Deliveries.{Delivery, delivery, run}
 use Rattle.partner_core.specs.Machine.{Taking}
 use Rattle.partner_core.specs.Order.{state, order, reply_of}
 use Rattle.partner_core.proofs.Growths.{adds_nothing, adds_text, other_run-stays}
 use Rattle.partner_core.proofs.OnePartner.{run_of_none}
-use Rattle.yard_core.specs.declared.stowed.Stowed.{Stowed}
+use Rattle.yard_core.specs.declared.placements.Stowed.{Stowed}
 use Rattle.yard_core.specs.YardMap.{placed}
 use Rattle.terminal_core.specs.Changes.{standing_in, rows_of}
-use Rattle.yard_core.specs.declared.placement.Placement.{Placement}
+use Rattle.yard_core.specs.declared.placements.Placement.{Placement}
 use Rattle.terminal_core.specs.Step.{number_of_visit}
 use Rattle.terminal_core.specs.State.{open_visit}
 use Rattle.terminal_core.specs.Versions.{newest}
@@ -24,7 +24,7 @@ use Rattle.office_admission.specs.Admission.{admission}
 use Rattle.office_admission.specs.Deliveries.{deliveries_of}
 use Rattle.office_admission.proofs.Adding.{content_on, given_after}
 use Rattle.office_replies.specs.Events.{Event, delivered}
-use Rattle.office_replies.specs.declared.fault.Fault.{Fault}
+use Rattle.office_replies.specs.declared.deliver.Fault.{Fault}
 use Rattle.office_rows.specs.Rows.{Rows}
 use Rattle.office_rows.specs.Effects.{with_kept}
 use Rattle.office_rows.specs.Opening.{partners_from, opening_rows}
@@ -71,7 +71,7 @@ opening_after content = record {
 -- ---- one delivery more
 
 -- what was delivered adds nothing to the accounts, and leaves the rules in force
-now_same : (content : SetupContent) (es : List Event) (sent : List ℕ) → content_after content (es ++ delivered sent ∷ []) ≡ content_after content es
+pub now_same : (content : SetupContent) (es : List Event) (sent : List ℕ) → content_after content (es ++ delivered sent ∷ []) ≡ content_after content es
 now_same content es sent = content_on es (delivered sent ∷ []) content
 
 module _ (content : SetupContent) (es : List Event) (sent : List ℕ) where

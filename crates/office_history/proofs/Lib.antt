@@ -13,6 +13,7 @@ pub mod Loads
 pub mod Alike
 pub mod Sorting
 pub mod Kept
+pub mod KeptNumbers
 pub mod Accounted
 pub mod Offices
 pub mod Once

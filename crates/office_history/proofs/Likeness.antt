@@ -40,3 +40,9 @@ module _ {S : Type 0} (taken : Taking S) (Like : S → S → Type 0) (ds : List 
     pub reply_alike : (one other : S) (p k : ℕ) → Like one other → reply_of taken one ds p k ≡ reply_of taken other ds p k
     unfolding reply_of
     reply_alike one other p k like = replies_alike (order ds) one other p k (AllUsed-order ds) like
+
+-- what each step keeps holds in the end
+pub kept_over : {S : Type 0} (taken : Taking S) (P : S → Type 0) → ((s : S) (p : ℕ) (text : List ℕ) → P s → P (taken s p text).0) → (opening : S) (ds : List Delivery) → P opening → P (state taken opening ds)
+kept_over taken P each opening ds is =
+    (state_alike taken (λ one other. P one × (one ≡ other)) ds
+    (λ one other p k text like first. ((each one p text like.0, ap (λ s. (taken s p text).0) like.1), ap (λ s. (taken s p text).1) like.1)) opening opening (is, refl)).0

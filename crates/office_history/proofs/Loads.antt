@@ -1,13 +1,12 @@
--- The state that the rows of an office give, of rows after deliveries.
-use Rattle.std.proofs.Common.{◌≡◌, ℕ, suc, ◌+◌, ◌<◌, ◌≤◌, inl, inr, List, [], ◌∷◌, length, map, Bool, true, false, cond, Option, None, Some, refl, sym, ap, ap₂, subst, ◌∙◌, arith}
-use Rattle.std.specs.Prelude.{find, filter, count_by, Contains, IsTrue, codes, decimal}
+-- Whatever one database shows is of one office: one state, and one set-up.
+use Rattle.std.proofs.Common.{◌≡◌, ℕ, suc, ◌+◌, ◌<◌, ◌≤◌, inl, inr, List, [], ◌∷◌, map, Bool, true, false, cond, Option, None, Some, refl, sym, ap, ap₂, subst, ◌∙◌, arith}
+use Rattle.std.specs.Prelude.{find, count_by, Contains, IsTrue, codes, decimal}
 use Rattle.std.specs.Option.{option_map}
 use Rattle.std.specs.List.Sorted.{IsPermutation, IsNonDecreasingBy}
 use Rattle.std.specs.FinMap as finite_map
 use Rattle.std.specs.Ordering.{eq_by_cmp}
 use Rattle.std.proofs.lemmas.Bool.{cases_order}
 use Rattle.std.proofs.lemmas.Fmt.{decimal_injective}
-use Rattle.std.proofs.lemmas.List.Sums.{length-filter}
 use Rattle.std.proofs.lemmas.List.Sorted.{IsPermutation-map, IsPermutation-sym, IsPermutation-trans, Contains-permutation}
 use Rattle.sqlite.specs.declared.types.Value.{Value}
 use Rattle.sqlite.specs.declared.types.Value.TheVariants.{Text}
@@ -19,63 +18,51 @@ use Rattle.box6346.specs.SlotName.{IsNamed, slot_of, slot_text}
 use Rattle.box6346.proofs.SlotNames.{names_are_read_again_lem}
 use Rattle.edi_moments.specs.Moments.{CivilMoment, is_moment, moment_of, moment_digits}
 use Rattle.edi_moments.proofs.DigitLemmas.{read_back}
-use Rattle.edi_messages.specs.declared.partner_kind.PartnerKind.{PartnerKind}
-use Rattle.edi_messages.specs.declared.partner_kind.PartnerKind.TheVariants.{Gate, Line, Quay, Yard}
+use Rattle.edi_messages.specs.declared.codes.PartnerKind.{PartnerKind}
+use Rattle.edi_messages.specs.declared.codes.PartnerKind.TheVariants.{Gate, Line, Quay, Yard}
 use Rattle.edi_messages.specs.Codes.{table_texts}
-use Rattle.yard_core.specs.declared.block.Block.{Block}
-use Rattle.yard_core.specs.declared.placement.Placement.{Placement}
+use Rattle.yard_core.specs.declared.plan.Block.{Block}
+use Rattle.yard_core.specs.declared.placements.Placement.{Placement}
 use Rattle.yard_core.specs.Plan.{AreApart}
 use Rattle.yard_core.specs.YardMap.{placement_of}
-use Rattle.terminal_core.specs.declared.departure.Departure.{Departure}
-use Rattle.terminal_core.specs.declared.line_state.LineState.{LineState}
-use Rattle.terminal_core.specs.declared.line_state.LineState.TheVariants.{Pending, Done}
-use Rattle.terminal_core.specs.declared.side.Side.{Side}
-use Rattle.terminal_core.specs.declared.side.Side.TheVariants.{Load, Discharge}
-use Rattle.terminal_core.specs.declared.way.Way.{Way}
-use Rattle.terminal_core.specs.declared.way.Way.TheVariants as way
+use Rattle.terminal_core.specs.declared.visits.Departure.{Departure}
+use Rattle.terminal_core.specs.declared.lines.LineState.{LineState}
+use Rattle.terminal_core.specs.declared.lines.LineState.TheVariants.{Pending, Done}
+use Rattle.terminal_core.specs.declared.lines.Side.{Side}
+use Rattle.terminal_core.specs.declared.lines.Side.TheVariants.{Load, Discharge}
+use Rattle.terminal_core.specs.declared.visits.Way.{Way}
+use Rattle.terminal_core.specs.declared.visits.Way.TheVariants as way
 use Rattle.terminal_core.specs.Changes.{Standing, standing_in, standing_of, TerminalRows}
 use Rattle.terminal_core.specs.Forms.{IsFormedVisit, IsFormedExit, IsWellFormed}
 use Rattle.terminal_core.specs.Rows.{VisitContent}
-use Rattle.terminal_core.specs.State.{TerminalState, LineKey, AreNumbered, IsWhole, side_code, open_visit}
+use Rattle.terminal_core.specs.State.{TerminalState, LineKey, AreNumbered, side_code, open_visit}
 use Rattle.terminal_core.specs.Step.{number_of_visit}
 use Rattle.terminal_core.proofs.Boxes.{same_self}
 use Rattle.terminal_core.proofs.Counted.{found_is}
 use Rattle.terminal_core.proofs.Formed.{state_of_rows}
-use Rattle.office_replies.specs.Events.{Event}
-use Rattle.office_setup.specs.Given.{IsGiven}
+use Rattle.terminal_core.proofs.Lined.{order, keys_total, keys_apart, same_key}
 use Rattle.office_setup.specs.Setups.{SetupContent}
-use Rattle.partner_core.specs.Deliveries.{Delivery, run}
 use Rattle.std.specs.Str.{bytes_eq}
-use Rattle.office_rows.specs.Rows.{Partner, PlaceContent, ListingContent, Setting, Rows}
+use Rattle.office_rows.specs.Rows.{Partner, PlaceContent, ListingContent, Setting}
 use Rattle.office_rows.specs.Values.{number, kind_code, partner_values, way_code, laden_code, state_code, out_by, out_partner, out_number, out_at, visit_values, place_values, line_values, setting_values, block_values}
-use Rattle.office_rows.specs.Stored.{HasRows}
 use Rattle.office_rows.specs.Effects.{stands_for, is_line}
 use Rattle.office_rows.specs.ByKey.{standing_by, lines_by, line_entry, ArePlacedOnce, AreListedOnce}
-use Rattle.office_rows.specs.Opening.{setting, settings_of}
+use Rattle.office_rows.specs.Opening.{setting}
 use Rattle.office_rows.specs.Opened.{OpenedRows, Shows}
 use Rattle.office_rows.specs.Shown.{columns_at, ShowsTable}
 use Rattle.office_rows.proofs.Listed.{unmapped}
 use Rattle.office_rows.specs.Office.{settings_by_name, AreAccounts, IsOffice}
 use Rattle.office_rows.specs.Tables.{partner, visit, place, listed, block, setting as settings_table}
-use Rattle.partner_core.specs.Machine.{Taking}
-use Rattle.terminal_core.specs.Versions.{newest}
-use Rattle.office_admission.specs.Accounts.{content_after}
-use Rattle.office_admission.specs.Deliveries.{deliveries_of}
-use Rattle.office_admission.proofs.Adding.{given_after}
-use Rattle.office_taking.specs.Taking.{MachineState}
-use Rattle.office_history.proofs.Places.{sound_in}
-use Rattle.office_history.specs.After.{SaysSame, AreAfter, accounts_from, machine_after, taking_in, opening_of}
-use Rattle.office_history.proofs.Afters.{state_sound}
-use Rattle.office_history.proofs.ByKeys.{order, keys_total, keys_apart, key_of, said, finds, same_key, line_tied, none_found}
-use Rattle.office_history.proofs.Ground.{state_on_ground}
-use Rattle.office_history.proofs.Shown.{found_same, found_only, Rises, rising_same, same_records, shown_in}
+use Rattle.office_history.specs.After.{SaysSame, accounts_from}
+use Rattle.office_history.proofs.ByKeys.{key_of, said, finds, line_tied, none_found}
+use Rattle.office_history.proofs.Shown.{found_same, found_only, Rises, rising_same, same_records}
 
 -- ---- columns
 
-number_one : (m n : ℕ) → number m ≡ number n → m ≡ n
+pub number_one : (m n : ℕ) → number m ≡ number n → m ≡ n
 number_one m n e = cc
 
-text_one : (s t : List ℕ) → ◌≡◌ {A = Value} (Text s) (Text t) → s ≡ t
+pub text_one : (s t : List ℕ) → ◌≡◌ {A = Value} (Text s) (Text t) → s ≡ t
 text_one s t e = cc
 
 at : (k : ℕ) (a b : Row) → a ≡ b → column a k ≡ column b k
@@ -89,27 +76,23 @@ slot_one s t a b e = let both : Some s ≡ Some t = sym (names_are_read_again_le
 
 way_one : (a b : Way) → way_code a ≡ way_code b → a ≡ b
 way_one way.Gate way.Gate e = refl
-way_one way.Gate way.Ship e = absurd (omega (arith, e))
-way_one way.Ship way.Gate e = absurd (omega (arith, e))
 way_one way.Ship way.Ship e = refl
+way_one a b e = absurd (omega (arith, e))
 
 laden_one : (a b : Bool) → laden_code a ≡ laden_code b → a ≡ b
 laden_one true true e = refl
-laden_one true false e = absurd (omega (arith, e))
-laden_one false true e = absurd (omega (arith, e))
 laden_one false false e = refl
+laden_one a b e = absurd (omega (arith, e))
 
 side_one : (a b : Side) → side_code a ≡ side_code b → a ≡ b
 side_one Load Load e = refl
-side_one Load Discharge e = absurd (omega (arith, e))
-side_one Discharge Load e = absurd (omega (arith, e))
 side_one Discharge Discharge e = refl
+side_one a b e = absurd (omega (arith, e))
 
 done_one : (a b : LineState) → state_code a ≡ state_code b → a ≡ b
 done_one Pending Pending e = refl
-done_one Pending Done e = absurd (omega (arith, e))
-done_one Done Pending e = absurd (omega (arith, e))
 done_one Done Done e = refl
+done_one a b e = absurd (omega (arith, e))
 
 by_way : (w : Way) → way_code w ≡ 0 → ⊥
 by_way way.Gate e = absurd (omega (arith, e))
@@ -189,23 +172,12 @@ block_one a b fa fb e =
 
 kind_one : (a b : PartnerKind) → kind_code a ≡ kind_code b → a ≡ b
 kind_one Gate Gate e = refl
-kind_one Gate Line e = absurd (omega (arith, e))
-kind_one Gate Quay e = absurd (omega (arith, e))
-kind_one Gate Yard e = absurd (omega (arith, e))
-kind_one Line Gate e = absurd (omega (arith, e))
 kind_one Line Line e = refl
-kind_one Line Quay e = absurd (omega (arith, e))
-kind_one Line Yard e = absurd (omega (arith, e))
-kind_one Quay Gate e = absurd (omega (arith, e))
-kind_one Quay Line e = absurd (omega (arith, e))
 kind_one Quay Quay e = refl
-kind_one Quay Yard e = absurd (omega (arith, e))
-kind_one Yard Gate e = absurd (omega (arith, e))
-kind_one Yard Line e = absurd (omega (arith, e))
-kind_one Yard Quay e = absurd (omega (arith, e))
 kind_one Yard Yard e = refl
+kind_one a b e = absurd (omega (arith, e))
 
-partner_one : (a b : Partner) → Unit {0} → Unit {0} → partner_values a ≡ partner_values b → a ≡ b
+pub partner_one : (a b : Partner) → Unit {0} → Unit {0} → partner_values a ≡ partner_values b → a ≡ b
 partner_one a b fa fb e =
     let ra = partner_values a in
     let rb = partner_values b in
@@ -226,12 +198,16 @@ given_rise id low [] accounts e are = tt
 given_rise id low (p ∷ partners) [] e are = absurd are
 given_rise id low (p ∷ partners) (a ∷ accounts) e are = let own : p.id ≡ id = are.0 in (omega arith, given_rise (id + 1) p.id partners accounts (ap (λ n. n + 1) own) are.5)
 
-accounts_same : (id : ℕ) (next : ℕ → ℕ) (mine theirs : List (List ℕ × PartnerKind)) → AreAccounts id (accounts_from id next mine) theirs → theirs ≡ mine
-accounts_same id next [] [] are = refl
-accounts_same id next [] (b ∷ theirs) are = absurd are
-accounts_same id next (a ∷ mine) [] are = absurd are
-accounts_same id next (a ∷ mine) (b ∷ theirs) are =
-    ap₂ ◌∷◌ (λ i. (sym are.1 i, sym are.2 i)) (accounts_same (id + 1) next mine theirs are.5)
+accounts_same : (id : ℕ) (partners : List Partner) (mine theirs : List (List ℕ × PartnerKind)) → AreAccounts id partners mine → AreAccounts id partners theirs → mine ≡ theirs
+accounts_same id [] [] [] own are = refl
+accounts_same id [] [] (b ∷ theirs) own are = absurd are
+accounts_same id [] (a ∷ mine) theirs own are = absurd own
+accounts_same id (p ∷ partners) [] theirs own are = absurd own
+accounts_same id (p ∷ partners) (a ∷ mine) [] own are = absurd are
+accounts_same id (p ∷ partners) (a ∷ mine) (b ∷ theirs) own are =
+    let code : a.0 ≡ b.0 = sym own.1 ∙ are.1 in
+    let kind : a.1 ≡ b.1 = sym own.2 ∙ are.2 in
+    ap₂ ◌∷◌ (λ i. (code i, kind i)) (accounts_same (id + 1) partners mine theirs own.5 are.5)
 
 pub numbered_rise : (next low : ℕ) (visits : List VisitContent) → low + 1 ≡ next → AreNumbered next visits → Rises (λ (v : VisitContent). v.number) low visits
 numbered_rise next low [] e are = tt
@@ -297,10 +273,7 @@ finds_list q (l ∷ lines) = first (eq_by_cmp order q (key_of l)) (finds_list q 
 
 once_by : (q : LineKey) (lines : List ListingContent) (o : Option ListingContent) → AreListedOnce lines → find (λ (l : ListingContent). eq_by_cmp order q (key_of l)) lines ≡ o
     → count_by (λ (l : ListingContent). eq_by_cmp order q (key_of l)) lines ≤ 1
-once_by q lines None once e =
-    let none : length (filter (λ (l : ListingContent). eq_by_cmp order q (key_of l)) lines) ≡ 0 = none_found (λ (l : ListingContent). eq_by_cmp order q (key_of l)) lines e in
-    let same = length-filter (λ (l : ListingContent). eq_by_cmp order q (key_of l)) lines in
-    omega arith
+once_by q lines None once e = omega (arith, none_found (λ (l : ListingContent). eq_by_cmp order q (key_of l)) lines e)
 once_by q lines (Some l) once e =
     let here = found_is (λ (l : ListingContent). eq_by_cmp order q (key_of l)) lines l e in
     let key : q ≡ key_of l = same_key q (key_of l) here.2 in
@@ -317,134 +290,13 @@ lines_same xs ys once same =
     ∙ ap (option_map said) (found_same (λ (l : ListingContent). eq_by_cmp order q (key_of l)) xs ys (key_once q xs once) same)
     ∙ sym (finds_list q xs) ∙ sym (finite_map.get-from_entries keys_total (map line_entry xs) q))
 
--- ---- the limit
+-- ---- settings
 
 abbrev is_named : List ℕ → Setting → Bool
 is_named name s = bytes_eq s.name name
 
--- the setting of a name is the same in whatever order
-named_same : (content other : SetupContent) (name : List ℕ) → IsPermutation (settings_of content) (settings_by_name other) → count_by (is_named name) (settings_of content) ≤ 1
-    → find (is_named name) (settings_by_name other) ≡ find (is_named name) (settings_of content)
-named_same content other name shuffled once = found_same (is_named name) (settings_of content) (settings_by_name other) once shuffled
-
 value_one : (name v w : List ℕ) → ◌≡◌ {A = Option Setting} (Some (setting name v)) (Some (setting name w)) → v ≡ w
 value_one name v w e = let same : setting name v ≡ setting name w = cc in ap (λ (s : Setting). s.value) same
-
--- ---- all
-
-module _ (content : SetupContent) (es : List Event) (rows : Rows) (db : Database) (shown : OpenedRows) (other : SetupContent) (state : TerminalState)
-    (given : IsGiven content) (are : AreAfter content es rows) (has : HasRows rows db) (shows : Shows db shown) (office : IsOffice shown other state) where
-  abbrev now : SetupContent
-  now = content_after content es
-
-  abbrev D : List Delivery
-  D = deliveries_of content es
-
-  abbrev taking : Taking MachineState
-  taking = taking_in newest content es
-
-  given_now : IsGiven now
-  given_now = given_after es content given
-
-  abbrev own : TerminalState
-  own = (machine_after content es).terminal
-
-  sound_whole : IsWhole own
-  sound_whole = (state_sound taking now D (sound_in newest content es) given_now).whole
-
-  sound_formed : IsWellFormed own
-  sound_formed = (state_sound taking now D (sound_in newest content es) given_now).formed
-
-  visits_are : rows.visits ≡ own.visits
-  visits_are = ap (λ (r : TerminalRows). r.visits) are.terminal
-
-  shown_visits_are : shown.visits ≡ state.visits
-  shown_visits_are = ap (λ (r : TerminalRows). r.visits) office.terminal
-
-  visits_same : shown.visits ≡ rows.visits
-  visits_same =
-      let in_order = shown_in visit (0 ∷ 1 ∷ 2 ∷ 3 ∷ 4 ∷ 5 ∷ 6 ∷ 7 ∷ 8 ∷ 9 ∷ 10 ∷ 11 ∷ 12 ∷ 13 ∷ 14 ∷ []) (0 ∷ []) visit_values rows.visits db (map visit_values shown.visits) (λ v. refl) has.rows_are.visits shows.visits in
-      let same : shown.visits ≡ in_order.0 = same_records IsFormedVisit visit_values visit_one shown.visits in_order.0
-      (λ v inside. office.formed.visits v (subst (λ l. Contains l v) shown_visits_are inside))
-      (λ v inside. sound_formed.visits v (subst (λ l. Contains l v) visits_are (Contains-permutation in_order.0 rows.visits v (IsPermutation-sym rows.visits in_order.0 in_order.1) inside)))
-      in_order.2 in
-      let mine : Rises (λ (v : VisitContent). v.number) 0 rows.visits = subst (Rises (λ (v : VisitContent). v.number) 0) (sym visits_are) (numbered_rise 1 0 own.visits refl sound_whole.numbered) in
-      let theirs : Rises (λ (v : VisitContent). v.number) 0 shown.visits = subst (Rises (λ (v : VisitContent). v.number) 0) (sym shown_visits_are) (numbered_rise 1 0 state.visits refl office.whole.numbered) in
-      sym (rising_same (λ (v : VisitContent). v.number) 0 rows.visits shown.visits mine theirs (subst (IsPermutation rows.visits) (sym same) in_order.1))
-
-  places_are : standing_by rows.places ≡ standing_of own
-  places_are = ap (λ (r : TerminalRows). r.places) are.terminal
-
-  shown_places_are : standing_by shown.places ≡ standing_of state
-  shown_places_are = ap (λ (r : TerminalRows). r.places) office.terminal
-
-  standing_same : standing_by shown.places ≡ standing_by rows.places
-  standing_same =
-      let in_order = shown_in place (0 ∷ 1 ∷ 2 ∷ []) (0 ∷ []) place_values rows.places db (map place_values shown.places) (λ p. refl) has.rows_are.places shows.places in
-      let same : shown.places ≡ in_order.0 = same_records (λ (p : PlaceContent). IsNamed p.slot) place_values place_one shown.places in_order.0
-      (named_place shown.places state office.placed_once shown_places_are office.formed)
-      (λ p inside. named_place rows.places own are.placed_once places_are sound_formed p (Contains-permutation in_order.0 rows.places p (IsPermutation-sym rows.places in_order.0 in_order.1) inside))
-      in_order.2 in
-      ap standing_by same ∙ places_same rows.places in_order.0 are.placed_once in_order.1
-
-  listing_same : lines_by shown.lines ≡ lines_by rows.lines
-  listing_same =
-      let in_order = shown_in listed (0 ∷ 1 ∷ 2 ∷ 3 ∷ 4 ∷ 5 ∷ []) (0 ∷ 1 ∷ 2 ∷ 3 ∷ []) line_values rows.lines db (map line_values shown.lines) (λ l. refl) has.rows_are.lines shows.lines in
-      let same : shown.lines ≡ in_order.0 = same_records (λ _. Unit {0}) line_values line_one shown.lines in_order.0 (λ _ _. tt) (λ _ _. tt) in_order.2 in
-      ap lines_by same ∙ lines_same rows.lines in_order.0 are.listed_once in_order.1
-
-  blocks_same : other.blocks ≡ now.blocks
-  blocks_same =
-      let in_order = shown_in block (0 ∷ 1 ∷ 2 ∷ 3 ∷ []) (0 ∷ []) block_values rows.blocks db (map block_values shown.blocks) (λ b. refl) has.rows_are.blocks shows.blocks in
-      let same : shown.blocks ≡ in_order.0 = same_records (λ _. Unit {0}) block_values block_one shown.blocks in_order.0 (λ _ _. tt) (λ _ _. tt) in_order.2 in
-      let shuffled : IsPermutation now.blocks other.blocks = subst (IsPermutation now.blocks) (sym same ∙ office.blocks) (subst (λ l. IsPermutation l in_order.0) are.blocks in_order.1) in
-      sym (rising_same letter_key 0 now.blocks other.blocks (blocks_rise 0 now.blocks given_now.by_letter given_now.plan.apart (any_head now.blocks))
-      (blocks_rise 0 other.blocks office.given.by_letter office.given.plan.apart (any_head other.blocks)) shuffled)
-
-  settings_shuffled : IsPermutation (settings_of now) (settings_by_name other)
-  settings_shuffled =
-      let in_order = shown_in settings_table (0 ∷ 1 ∷ []) (0 ∷ []) setting_values rows.settings db (map setting_values shown.settings) (λ s. refl) has.rows_are.settings shows.settings in
-      let same : shown.settings ≡ in_order.0 = same_records (λ _. Unit {0}) setting_values setting_one shown.settings in_order.0 (λ _ _. tt) (λ _ _. tt) in_order.2 in
-      subst (IsPermutation (settings_of now)) (sym same ∙ office.settings) (subst (λ l. IsPermutation l in_order.0) are.settings in_order.1)
-
-  limit_same : other.visit_limit ≡ now.visit_limit
-  limit_same =
-      let written : decimal other.visit_limit ≡ decimal now.visit_limit = value_one (codes "visits") _ _ (named_same now other (codes "visits") settings_shuffled (omega arith)) in
-      let low : other.visit_limit ≤ 999999999 = office.given.limit.1 in
-      let high : now.visit_limit ≤ 999999999 = given_now.limit.1 in
-      decimal_injective other.visit_limit now.visit_limit (omega arith) (omega arith) written
-
-  terminal_same : other.terminal ≡ now.terminal
-  terminal_same = value_one (codes "terminal") _ _ (named_same now other (codes "terminal") settings_shuffled (omega arith))
-
-  texts_same : table_texts other.codes ≡ table_texts now.codes
-  texts_same i =
-      value_one (codes "gate-in") _ _ (named_same now other (codes "gate-in") settings_shuffled (omega arith)) i
-      ∷ value_one (codes "gate-out") _ _ (named_same now other (codes "gate-out") settings_shuffled (omega arith)) i
-      ∷ value_one (codes "yard-move") _ _ (named_same now other (codes "yard-move") settings_shuffled (omega arith)) i
-      ∷ value_one (codes "discharge-list") _ _ (named_same now other (codes "discharge-list") settings_shuffled (omega arith)) i
-      ∷ value_one (codes "load-list") _ _ (named_same now other (codes "load-list") settings_shuffled (omega arith)) i
-      ∷ value_one (codes "discharge-report") _ _ (named_same now other (codes "discharge-report") settings_shuffled (omega arith)) i
-      ∷ value_one (codes "load-report") _ _ (named_same now other (codes "load-report") settings_shuffled (omega arith)) i ∷ []
-
-  partners_same : other.partners ≡ now.partners
-  partners_same =
-      let next : ℕ → ℕ = λ p. run D p + 1 in
-      let in_order = shown_in partner (0 ∷ 1 ∷ 2 ∷ 3 ∷ []) (0 ∷ []) partner_values rows.partners db (map partner_values shown.partners) (λ p. refl) has.rows_are.partners shows.partners in
-      let same : shown.partners ≡ in_order.0 = same_records (λ _. Unit {0}) partner_values partner_one shown.partners in_order.0 (λ _ _. tt) (λ _ _. tt) in_order.2 in
-      let mine : Rises (λ (p : Partner). p.id) 0 rows.partners = subst (Rises (λ (p : Partner). p.id) 0) (sym are.partners) (accounts_rise 1 0 next now.partners refl) in
-      let theirs : Rises (λ (p : Partner). p.id) 0 shown.partners = given_rise 1 0 shown.partners other.partners refl office.accounts in
-      let one : rows.partners ≡ shown.partners = rising_same (λ (p : Partner). p.id) 0 rows.partners shown.partners mine theirs (subst (IsPermutation rows.partners) (sym same) in_order.1) in
-      accounts_same 1 next now.partners other.partners (subst (λ l. AreAccounts 1 l other.partners) (sym one ∙ are.partners) office.accounts)
-
-  pub state_given : state ≡ own
-  state_given =
-      let ground = state_on_ground newest content es (opening_of now) D in
-      state_of_rows state own office.whole sound_whole (office.plan ∙ blocks_same ∙ sym ground.plan) (office.limit ∙ limit_same ∙ sym ground.limit)
-      (sym office.terminal ∙ (λ i. record { visits = visits_same i; places = standing_same i; lines = listing_same i }) ∙ are.terminal)
-
-  pub says_same : SaysSame other (content_after content es)
-  says_same = record { terminal = terminal_same; codes = texts_same; partners = partners_same; blocks = blocks_same; limit = limit_same }
 
 -- ---- two offices that one database shows
 
@@ -504,16 +356,45 @@ module _ (db : Database) (one two : OpenedRows) (content other : SetupContent) (
       let same : two.settings ≡ in_order.0 = same_records (λ _. Unit {0}) setting_values setting_one two.settings in_order.0 (λ _ _. tt) (λ _ _. tt) in_order.2 in
       subst (IsPermutation (settings_by_name content)) (sym same ∙ second.settings) (subst (λ l. IsPermutation l in_order.0) office.settings in_order.1)
 
+  named_same : (name : List ℕ) → count_by (is_named name) (settings_by_name content) ≤ 1 → find (is_named name) (settings_by_name content) ≡ find (is_named name) (settings_by_name other)
+  named_same name once = sym (found_same (is_named name) (settings_by_name content) (settings_by_name other) once both_settings)
+
   both_limits : content.visit_limit ≡ other.visit_limit
   both_limits =
-      let written : decimal other.visit_limit ≡ decimal content.visit_limit =
-      value_one (codes "visits") _ _ (found_same (is_named (codes "visits")) (settings_by_name content) (settings_by_name other) (omega arith) both_settings) in
-      let low : other.visit_limit ≤ 999999999 = second.given.limit.1 in
-      let high : content.visit_limit ≤ 999999999 = office.given.limit.1 in
-      sym (decimal_injective other.visit_limit content.visit_limit (omega arith) (omega arith) written)
+      let written : decimal content.visit_limit ≡ decimal other.visit_limit = value_one (codes "visits") _ _ (named_same (codes "visits") (omega arith)) in
+      let low : content.visit_limit ≤ 999999999 = office.given.limit.1 in
+      let high : other.visit_limit ≤ 999999999 = second.given.limit.1 in
+      decimal_injective content.visit_limit other.visit_limit (omega arith) (omega arith) written
+
+  both_texts : table_texts content.codes ≡ table_texts other.codes
+  both_texts i =
+      value_one (codes "gate-in") _ _ (named_same (codes "gate-in") (omega arith)) i
+      ∷ value_one (codes "gate-out") _ _ (named_same (codes "gate-out") (omega arith)) i
+      ∷ value_one (codes "yard-move") _ _ (named_same (codes "yard-move") (omega arith)) i
+      ∷ value_one (codes "discharge-list") _ _ (named_same (codes "discharge-list") (omega arith)) i
+      ∷ value_one (codes "load-list") _ _ (named_same (codes "load-list") (omega arith)) i
+      ∷ value_one (codes "discharge-report") _ _ (named_same (codes "discharge-report") (omega arith)) i
+      ∷ value_one (codes "load-report") _ _ (named_same (codes "load-report") (omega arith)) i ∷ []
+
+  both_accounts : one.partners ≡ two.partners
+  both_accounts =
+      let in_order = shown_twice partner (0 ∷ 1 ∷ 2 ∷ 3 ∷ []) (0 ∷ []) partner_values one.partners two.partners db shows.partners also.partners in
+      let same : two.partners ≡ in_order.0 = same_records (λ _. Unit {0}) partner_values partner_one two.partners in_order.0 (λ _ _. tt) (λ _ _. tt) in_order.2 in
+      rising_same (λ (p : Partner). p.id) 0 one.partners two.partners (given_rise 1 0 one.partners content.partners refl office.accounts) (given_rise 1 0 two.partners other.partners refl second.accounts)
+      (subst (IsPermutation one.partners) (sym same) in_order.1)
 
   -- one database shows one terminal
   pub one_terminal : state ≡ own
   one_terminal =
       state_of_rows state own office.whole second.whole (office.plan ∙ both_blocks ∙ sym second.plan) (office.limit ∙ both_limits ∙ sym second.limit)
       (sym office.terminal ∙ (λ i. record { visits = both_visits i; places = both_places i; lines = both_lines i }) ∙ second.terminal)
+
+  -- and one set-up
+  pub one_setup : SaysSame content other
+  one_setup = record {
+    terminal = value_one (codes "terminal") _ _ (named_same (codes "terminal") (omega arith));
+    codes = both_texts;
+    partners = accounts_same 1 one.partners content.partners other.partners office.accounts (subst (λ l. AreAccounts 1 l other.partners) (sym both_accounts) second.accounts);
+    blocks = both_blocks;
+    limit = both_limits;
+  }

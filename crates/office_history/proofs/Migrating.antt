@@ -1,16 +1,16 @@
 -- The rows after a migration.
-use Rattle.std.proofs.Common.{◌≡◌, ℕ, List, [], ◌∷◌, ◌++◌, Option, None, Some, refl, sym, ap, subst, ◌∙◌}
-use Rattle.std.specs.Option.{option_or}
+use Rattle.std.proofs.Common.{◌≡◌, ℕ, List, [], ◌∷◌, ◌++◌, None, refl, sym, ap, subst, ◌∙◌}
 use Rattle.std.proofs.lemmas.List.{append-nil}
 use Rattle.partner_core.specs.ByPlace.{taken_by_place, AreNumbered, FoldsByPlace}
 use Rattle.partner_core.specs.Deliveries.{Delivery}
 use Rattle.partner_core.specs.Machine.{Taking}
 use Rattle.partner_core.specs.Order.{state, reply_of}
 use Rattle.partner_core.proofs.ByPlace.{rules_by_place}
+use Rattle.partner_core.proofs.Orders.{option_or-none}
 use Rattle.terminal_core.specs.Changes.{rows_of}
 use Rattle.terminal_core.specs.Versions.{newest}
-use Rattle.terminal_core.specs.declared.version.Version.{Version}
-use Rattle.terminal_core.specs.declared.version.Version.TheVariants.{First, Second, Third}
+use Rattle.terminal_core.specs.declared.change.Version.{Version}
+use Rattle.terminal_core.specs.declared.change.Version.TheVariants.{First, Second, Third}
 use Rattle.office_replies.specs.Events.{Event, migrated}
 use Rattle.office_setup.specs.Setups.{SetupContent}
 use Rattle.office_admission.specs.Accounts.{content_after}
@@ -24,10 +24,6 @@ use Rattle.office_rows.specs.Opening.{settings_in}
 use Rattle.office_history.specs.After.{opening_of, migration_in, taking_in, AreRowsOf, AreAfterBy, AreAfter}
 use Rattle.office_history.specs.Laws.{MigrationGoesOn}
 use Rattle.office_history.proofs.Places.{numbered, taking_unmigrated, taking_migrated, moved}
-
-no_other : (o : Option (List ℕ)) → option_or o None ≡ o
-no_other None = refl
-no_other (Some text) = refl
 
 settings_migrated : (version : Version) (content : SetupContent) → migrated_settings (settings_in version content) ≡ settings_in newest content
 settings_migrated First content = refl
@@ -60,7 +56,7 @@ module _ (content : SetupContent) (version : Version) (es : List Event) (rows : 
   state_same = ap (state by_place (opening_of now)) (sym end) ∙ folds.state_is
 
   reply_same : (p k : ℕ) → reply_of by_place (opening_of now) D p k ≡ reply_of old (opening_of now) D p k
-  reply_same p k = ap (λ E. reply_of by_place (opening_of now) E p k) (sym end) ∙ folds.replies p k ∙ no_other (reply_of old (opening_of now) D p k)
+  reply_same p k = ap (λ E. reply_of by_place (opening_of now) E p k) (sym end) ∙ folds.replies p k ∙ option_or-none (reply_of old (opening_of now) D p k)
 
   rows_by_old : AreRowsOf version old now D rows
   rows_by_old = subst (λ taking. AreRowsOf version taking now D rows) (taking_unmigrated version content es none) are

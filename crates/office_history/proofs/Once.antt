@@ -1,19 +1,15 @@
 -- The interchanges of an office: no number of a partner has two.
-use Rattle.std.proofs.Common.{◌≡◌, ℕ, zero, suc, ◌+◌, ◌*◌, ◌-◌, ◌<◌, ◌≤◌, List, [], ◌∷◌, ◌++◌, map, Bool, true, false, cond, refl, sym, ap, ap₂, subst, ◌∙◌, arith}
-use Rattle.std.specs.Prelude.{◌==◌, count_by}
+use Rattle.std.proofs.Common.{◌≡◌, ℕ, zero, suc, ◌+◌, ◌*◌, ◌-◌, ◌<◌, ◌≤◌, List, [], ◌∷◌, ◌++◌, map, true, cond, refl, sym, ap, ap₂, subst, ◌∙◌, arith}
+use Rattle.std.specs.Prelude.{count_by}
 use Rattle.std.specs.List.{range_with_len}
-use Rattle.std.proofs.lemmas.Bool.{and_parts, eqb-true}
-use Rattle.std.proofs.lemmas.List.Sums.{sum_by-cons}
 use Rattle.std.proofs.lemmas.List.Sorted.{IsPermutation-trans, sum_by-IsPermutation}
-use Rattle.sqlite.specs.declared.types.Value.{Value}
-use Rattle.sqlite.specs.declared.types.Value.TheVariants.{Text}
 use Rattle.sqlite.specs.Order.{column}
 use Rattle.sqlite.specs.Effect.{Database}
-use Rattle.edi_messages.specs.declared.partner_kind.PartnerKind.{PartnerKind}
+use Rattle.edi_messages.specs.declared.codes.PartnerKind.{PartnerKind}
 use Rattle.terminal_core.specs.State.{TerminalState}
 use Rattle.office_setup.specs.Setups.{SetupContent}
 use Rattle.office_rows.specs.Rows.{Partner, Interchange, Rows}
-use Rattle.office_rows.specs.Values.{number, interchange_values}
+use Rattle.office_rows.specs.Values.{interchange_values}
 use Rattle.office_rows.specs.Stored.{HasRows}
 use Rattle.office_rows.specs.Effects.{is_pair}
 use Rattle.office_rows.specs.Opened.{Numbered, OpenedRows, Shows, numbered, reply_values}
@@ -21,7 +17,10 @@ use Rattle.office_rows.specs.Office.{AreAccounts, AreWaiting, AreKept, IsOffice}
 use Rattle.office_rows.specs.Shown.{columns_at}
 use Rattle.office_rows.proofs.Listed.{unmapped}
 use Rattle.office_history.specs.After.{AreKeptOnce}
-use Rattle.office_history.proofs.Shown.{Rises}
+use Rattle.office_history.proofs.Kept.{taken_by}
+use Rattle.office_history.proofs.Loads.{number_one, text_one}
+use Rattle.office_history.proofs.Runs.{pair_of}
+use Rattle.office_history.proofs.Shown.{Rises, one_at}
 
 -- ---- rising lists
 
@@ -46,32 +45,6 @@ climbs_on : {A : Type 0} (key : A → ℕ) (low mid high : ℕ) (xs ys : List A)
 climbs_on key low mid high [] ys one two = climbs_lower key low mid high ys one two
 climbs_on key low mid high (x ∷ xs) ys one two = (one.0, climbs_on key (key x) mid high xs ys one.1 two)
 
--- ---- one key
-
-count_more : {A : Type 0} (p : A → Bool) (x : A) (xs : List A) (is : Bool) → p x ≡ is → count_by p (x ∷ xs) ≡ cond is 1 0 + count_by p xs
-count_more p x xs is e = sum_by-cons (λ y. cond (p y) 1 0) x xs ∙ ap (λ b. cond b 1 0 + count_by p xs) e
-
-module _ {A : Type 0} (key : A → ℕ) (p : A → Bool) (at : ℕ) (passes : (x : A) → p x ≡ true → key x ≡ at) where
-  none_above : (low : ℕ) (xs : List A) → at ≤ low → Rises key low xs → count_by p xs ≡ 0
-  none_above low [] below rises = refl
-  none_above low (x ∷ xs) below rises = by (p x) refl (none_above (key x) xs (omega (arith, rises.0, below)) rises.1)
-    where
-      by : (is : Bool) → p x ≡ is → count_by p xs ≡ 0 → count_by p (x ∷ xs) ≡ 0
-      by true e rest = absurd (omega (arith, passes x e, rises.0, below))
-      by false e rest = let more : count_by p (x ∷ xs) ≡ 0 + count_by p xs = count_more p x xs false e in omega (arith, more, rest)
-
-  -- of a rising list one at most has that key
-  one_at : (low : ℕ) (xs : List A) → Rises key low xs → count_by p xs ≤ 1
-  one_at low [] rises = omega arith
-  one_at low (x ∷ xs) rises = by (p x) refl (one_at (key x) xs rises.1)
-    where
-      by : (is : Bool) → p x ≡ is → count_by p xs ≤ 1 → count_by p (x ∷ xs) ≤ 1
-      by true e rest =
-          let more : count_by p (x ∷ xs) ≡ 1 + count_by p xs = count_more p x xs true e in
-          let none = none_above (key x) xs (omega (arith, passes x e)) rises.1 in
-          omega (arith, more, none)
-      by false e rest = let more : count_by p (x ∷ xs) ≡ 0 + count_by p xs = count_more p x xs false e in omega (arith, more, rest)
-
 -- ---- what is kept, in the order of partners and numbers
 
 -- the place of a partner's number among all
@@ -80,9 +53,6 @@ place_of partner number = partner * 1000000000 + number
 
 abbrev place : Numbered → ℕ
 place n = place_of n.partner n.number
-
-abbrev taken_by : ℕ → ℕ → Numbered
-taken_by partner number = record { partner = partner; number = number; is_taken = true }
 
 taken_climb : (partner from many low high : ℕ) → low < place_of partner from → place_of partner from + many ≤ high + 1 → Climbs place low (map (taken_by partner) (range_with_len from many)) high
 taken_climb partner from zero low high above below = omega (arith, above, below)
@@ -116,20 +86,14 @@ kept_rise id (partner ∷ partners) (account ∷ accounts) ns are kept =
 
 -- ---- the interchanges
 
-one_number : (m n : ℕ) → number m ≡ number n → m ≡ n
-one_number m n e = cc
-
-one_text : (s t : List ℕ) → ◌≡◌ {A = Value} (Text s) (Text t) → s ≡ t
-one_text s t e = cc
-
 numbered_one : (i j : Interchange) → reply_values i ≡ columns_at (0 ∷ 1 ∷ 3 ∷ []) (interchange_values j) → numbered i ≡ numbered j
 numbered_one i j e =
-    let partner : i.partner ≡ j.partner = one_number i.partner j.partner (ap (λ r. column r 0) e) in
-    let own : i.number ≡ j.number = one_number i.number j.number (ap (λ r. column r 1) e) in
-    let reply : i.reply ≡ j.reply = one_text i.reply j.reply (ap (λ r. column r 2) e) in
+    let partner : i.partner ≡ j.partner = number_one i.partner j.partner (ap (λ r. column r 0) e) in
+    let own : i.number ≡ j.number = number_one i.number j.number (ap (λ r. column r 1) e) in
+    let reply : i.reply ≡ j.reply = text_one i.reply j.reply (ap (λ r. column r 2) e) in
     λ k. numbered (record { partner = partner k; number = own k; body = i.body; reply = reply k })
 
-numbers_same : (xs ys : List Interchange) → map reply_values xs ≡ map (columns_at (0 ∷ 1 ∷ 3 ∷ [])) (map interchange_values ys) → map numbered xs ≡ map numbered ys
+pub numbers_same : (xs ys : List Interchange) → map reply_values xs ≡ map (columns_at (0 ∷ 1 ∷ 3 ∷ [])) (map interchange_values ys) → map numbered xs ≡ map numbered ys
 numbers_same [] [] e = refl
 numbers_same [] (y ∷ ys) e = cc
 numbers_same (x ∷ xs) [] e = cc
@@ -146,9 +110,7 @@ rises_in low [] rises = tt
 rises_in low (x ∷ xs) rises = (rises.0, rises_in (place_in x) xs rises.1)
 
 pair_at : (partner number : ℕ) (i : Interchange) → is_pair partner number i ≡ true → place_in i ≡ place_of partner number
-pair_at partner number i passes =
-    let parts = and_parts (i.partner == partner) (i.number == number) passes in
-    ap₂ place_of (eqb-true i.partner partner parts.0) (eqb-true i.number number parts.1)
+pair_at partner number i passes = let pair = pair_of partner number i passes in ap₂ place_of pair.0 pair.1
 
 -- of the rows of an office
 pub kept_once : (db : Database) (rows : Rows) (shown : OpenedRows) (content : SetupContent) (state : TerminalState) → HasRows rows db → Shows db shown → IsOffice shown content state → AreKeptOnce rows.interchanges

@@ -9,17 +9,17 @@ use Rattle.partner_core.specs.Machine.{Taking}
 use Rattle.partner_core.proofs.ByPlace.{goes_on_by_new}
 use Rattle.partner_core.proofs.Keepings.{keeps_run}
 use Rattle.terminal_core.specs.Versions.{newest}
-use Rattle.terminal_core.specs.declared.version.Version.{Version}
+use Rattle.terminal_core.specs.declared.change.Version.{Version}
 use Rattle.office_admission.specs.Admission.{admission, number_said}
 use Rattle.office_admission.specs.Deliveries.{with_delivery}
 use Rattle.office_admission.proofs.Adding.{deliveries_on, first_admitted}
 use Rattle.office_admission.proofs.Growing.{number_told}
 use Rattle.office_replies.specs.Events.{Event, delivered, migrated, added}
-use Rattle.office_replies.specs.declared.fault.Fault.{Fault}
+use Rattle.office_replies.specs.declared.deliver.Fault.{Fault}
 use Rattle.office_setup.specs.Setups.{SetupContent, parties_in}
-use Rattle.office_taking.specs.Laws.{KeepsSound}
+use Rattle.office_taking.specs.Laws.{ChangesTerminalAlone, KeepsSound}
 use Rattle.office_taking.specs.Taking.{MachineState, interchange_taken, interchange_taken_by}
-use Rattle.office_taking.proofs.Reaching.{keeps_sound, by_place_sound}
+use Rattle.office_taking.proofs.Reaching.{by_place_alone, by_place_sound, keeps_sound, terminal_alone}
 use Rattle.office_rows.specs.Rows.{Rows}
 use Rattle.office_history.specs.After.{behind, migration_in, taking_by, taking_in, content_after, deliveries_of, opening_of, AreRowsOf}
 use Rattle.office_history.specs.Laws.{IsFor}
@@ -49,6 +49,9 @@ module _ (P : Taking MachineState → Type 0) (each : (version : Version) → P 
 
 pub sound_in : (version : Version) (content : SetupContent) (es : List Event) → KeepsSound (taking_in version content es)
 sound_in version content es = in_force KeepsSound keeps_sound (λ before old new one two. by_place_sound number_said before old new one two) version content es
+
+pub alone_in : (version : Version) (content : SetupContent) (es : List Event) → ChangesTerminalAlone (taking_in version content es)
+alone_in version content es = in_force ChangesTerminalAlone terminal_alone (λ before old new one two. by_place_alone number_said before old new one two) version content es
 
 -- ---- where they stay
 

@@ -2,9 +2,9 @@
 use Rattle.std.proofs.Common.{◌≡◌, ◌≢◌, ℕ, ◌+◌, ◌≤◌, List, [], ◌∷◌, length, map, Bool, true, false, cond, Option, None, Some, is_some, refl, sym, ap, subst, ◌∙◌, arith}
 use Rattle.std.specs.Prelude.{find, ◌&&◌, ◌==◌, count_by, if◌then◌else◌}
 use Rattle.std.specs.Option.{option_map, option_and_then}
-use Rattle.std.proofs.lemmas.Bool.{eq-eqb, eqb-true, eqb-false, ne_eqb, cond-true, cond-false}
+use Rattle.std.proofs.lemmas.Bool.{and_parts, eq-eqb, eqb-true, eqb-false, ne_eqb, cond-true, cond-false}
 use Rattle.edi_moments.specs.Moments.{CivilMoment}
-use Rattle.edi_messages.specs.declared.partner_kind.PartnerKind.{PartnerKind}
+use Rattle.edi_messages.specs.declared.codes.PartnerKind.{PartnerKind}
 use Rattle.edi_segments.specs.Text.{Content}
 use Rattle.edi_segments.specs.Interchange.{segments_in}
 use Rattle.edi_syntax.specs.Envelope.{header_of}
@@ -12,7 +12,7 @@ use Rattle.edi_syntax.specs.Header.{preparation}
 use Rattle.partner_core.specs.Numbered.{with_number}
 use Rattle.partner_core.specs.Cascade.{TakesTexts}
 use Rattle.partner_core.proofs.Cascades.{takes_one_more}
-use Rattle.terminal_core.specs.Rows.{ChangeContent, visit_opened, visit_closed, placed_at, moved_to, removed_from, listed_on, line_done, unlisted}
+use Rattle.terminal_core.specs.Rows.{ChangeContent, visit_opened}
 use Rattle.terminal_core.specs.State.{IsWhole}
 use Rattle.terminal_core.specs.Changes.{TerminalRows, rows_of, all_changed, AreApplicable}
 use Rattle.terminal_core.proofs.Counted.{found_is}
@@ -29,23 +29,17 @@ use Rattle.office_history.proofs.ByKeys.{changes_agree, count_mapped, find_mappe
 
 -- ---- what changes leave alone
 
-record SameBeside (old new : Rows) : Type 0 where
-  partners : new.partners ≡ old.partners
+pub record SameBeside (old new : Rows) : Type 0 where
+  pub partners : new.partners ≡ old.partners
   interchanges : new.interchanges ≡ old.interchanges
   settings : new.settings ≡ old.settings
   blocks : new.blocks ≡ old.blocks
 
 one_beside : (rows : Rows) (change : ChangeContent) → SameBeside rows (with_change change rows)
 one_beside rows (visit_opened visit) = record { partners = refl; interchanges = refl; settings = refl; blocks = refl }
-one_beside rows (visit_closed number departure) = record { partners = refl; interchanges = refl; settings = refl; blocks = refl }
-one_beside rows (placed_at container visit slot) = record { partners = refl; interchanges = refl; settings = refl; blocks = refl }
-one_beside rows (moved_to container slot) = record { partners = refl; interchanges = refl; settings = refl; blocks = refl }
-one_beside rows (removed_from container) = record { partners = refl; interchanges = refl; settings = refl; blocks = refl }
-one_beside rows (listed_on call side container port) = record { partners = refl; interchanges = refl; settings = refl; blocks = refl }
-one_beside rows (line_done call side container) = record { partners = refl; interchanges = refl; settings = refl; blocks = refl }
-one_beside rows (unlisted call side container) = record { partners = refl; interchanges = refl; settings = refl; blocks = refl }
+one_beside rows change = record { partners = refl; interchanges = refl; settings = refl; blocks = refl }
 
-changes_beside : (changes : List ChangeContent) (rows : Rows) → SameBeside rows (with_changes changes rows)
+pub changes_beside : (changes : List ChangeContent) (rows : Rows) → SameBeside rows (with_changes changes rows)
 changes_beside [] rows = record { partners = refl; interchanges = refl; settings = refl; blocks = refl }
 changes_beside (change ∷ changes) rows =
     let one = one_beside rows change in
@@ -78,18 +72,10 @@ text_kept interchanges p n reply q k =
 abbrev reply_there : Option Interchange → Option (List ℕ)
 reply_there o = option_and_then (λ (i : Interchange). reply_if_any i.reply) o
 
-pair_of : (p n : ℕ) (i : Interchange) → is_pair p n i ≡ true → (i.partner ≡ p) × (i.number ≡ n)
-pair_of p n i e = (eqb-true i.partner p (and_true_left (i.partner == p) (i.number == n) e), eqb-true i.number n (and_true_right (i.partner == p) (i.number == n) e))
-  where
-    and_true_left : (a b : Bool) → (a && b) ≡ true → a ≡ true
-    and_true_left true b e = refl
-    and_true_left false b e = cc
+pub pair_of : (p n : ℕ) (i : Interchange) → is_pair p n i ≡ true → (i.partner ≡ p) × (i.number ≡ n)
+pair_of p n i e = let parts = and_parts (i.partner == p) (i.number == n) e in (eqb-true i.partner p parts.0, eqb-true i.number n parts.1)
 
-    and_true_right : (a b : Bool) → (a && b) ≡ true → b ≡ true
-    and_true_right true b e = e
-    and_true_right false b e = cc
-
-is_pair_at : (p n : ℕ) (i : Interchange) → i.partner ≡ p → i.number ≡ n → is_pair p n i ≡ true
+pub is_pair_at : (p n : ℕ) (i : Interchange) → i.partner ≡ p → i.number ≡ n → is_pair p n i ≡ true
 is_pair_at p n i a b = ap (λ v. v && (i.number == n)) (eq-eqb i.partner p a) ∙ eq-eqb i.number n b
 
 some_reply : (reply : List ℕ) → reply ≢ [] → reply_if_any reply ≡ Some reply

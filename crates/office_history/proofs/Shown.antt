@@ -1,7 +1,8 @@
 -- What the queries of all rows show, of rows that a database has.
-use Rattle.std.proofs.Common.{◌≡◌, ℕ, zero, suc, ◌<◌, ◌≤◌, List, [], ◌∷◌, length, map, Bool, true, false, Option, None, Some, is_some, refl, sym, ap, ap₂, subst, ◌∙◌, arith}
+use Rattle.std.proofs.Common.{◌≡◌, ℕ, zero, suc, ◌+◌, ◌<◌, ◌≤◌, List, [], ◌∷◌, length, map, Bool, true, false, cond, Option, None, Some, is_some, refl, sym, ap, ap₂, subst, ◌∙◌, arith}
 use Rattle.std.specs.Prelude.{find, count_by, Contains, slice_index_or}
 use Rattle.std.specs.List.Sorted.{IsPermutation}
+use Rattle.std.proofs.lemmas.List.Sums.{sum_by-cons}
 use Rattle.std.proofs.lemmas.List.Sorted.{IsPermutation-trans, IsPermutation-sym, Contains-permutation}
 use Rattle.sqlite.specs.Order.{Row}
 use Rattle.sqlite.specs.Table.{Table}
@@ -53,7 +54,7 @@ above_at key low (y ∷ xs) x (suc k) rises below is =
     let rest : key y < key x = above_at key (key y) xs x k rises.1 (omega arith) is in
     omega arith
 
-above : {A : Type 0} (key : A → ℕ) (low : ℕ) (xs : List A) (x : A) → Rises key low xs → Contains xs x → low < key x
+pub above : {A : Type 0} (key : A → ℕ) (low : ℕ) (xs : List A) (x : A) → Rises key low xs → Contains xs x → low < key x
 above key low xs x rises inside = above_at key low xs x inside.0 rises inside.1 inside.2
 
 later : {A : Type 0} (x y : A) (xs : List A) (key : A → ℕ) → Contains (x ∷ xs) y → (key y ≡ key x → ⊥) → Contains xs y
@@ -114,6 +115,35 @@ found_only {A} p xs x once inside passes = first (find p xs) refl (is_found p xs
     first : (o : Option A) → find p xs ≡ o → is_some o ≡ true → find p xs ≡ Some x
     first None e is = cc
     first (Some y) e is = let here = found_is p xs y e in e ∙ ap Some (one_passes p xs y x once (contained xs here.0 y here.1) inside here.2 passes)
+
+-- ---- one key
+
+pub count_more : {A : Type 0} (p : A → Bool) (x : A) (xs : List A) (is : Bool) → p x ≡ is → count_by p (x ∷ xs) ≡ cond is 1 0 + count_by p xs
+count_more p x xs is e = sum_by-cons (λ y. cond (p y) 1 0) x xs ∙ ap (λ b. cond b 1 0 + count_by p xs) e
+
+pub fewer : {A : Type 0} (p : A → Bool) (x : A) (xs : List A) → count_by p (x ∷ xs) ≤ 1 → count_by p xs ≤ 1
+fewer p x xs once = let more : count_by p (x ∷ xs) ≡ cond (p x) 1 0 + count_by p xs = count_more p x xs (p x) refl in omega (arith, more, once)
+
+module _ {A : Type 0} (key : A → ℕ) (p : A → Bool) (at : ℕ) (passes : (x : A) → p x ≡ true → key x ≡ at) where
+  none_above : (low : ℕ) (xs : List A) → at ≤ low → Rises key low xs → count_by p xs ≡ 0
+  none_above low [] below rises = refl
+  none_above low (x ∷ xs) below rises = by (p x) refl (none_above (key x) xs (omega (arith, rises.0, below)) rises.1)
+    where
+      by : (is : Bool) → p x ≡ is → count_by p xs ≡ 0 → count_by p (x ∷ xs) ≡ 0
+      by true e rest = absurd (omega (arith, passes x e, rises.0, below))
+      by false e rest = let more : count_by p (x ∷ xs) ≡ 0 + count_by p xs = count_more p x xs false e in omega (arith, more, rest)
+
+  -- of a rising list one at most has that key
+  pub one_at : (low : ℕ) (xs : List A) → Rises key low xs → count_by p xs ≤ 1
+  one_at low [] rises = omega arith
+  one_at low (x ∷ xs) rises = by (p x) refl (one_at (key x) xs rises.1)
+    where
+      by : (is : Bool) → p x ≡ is → count_by p xs ≤ 1 → count_by p (x ∷ xs) ≤ 1
+      by true e rest =
+          let more : count_by p (x ∷ xs) ≡ 1 + count_by p xs = count_more p x xs true e in
+          let none = none_above (key x) xs (omega (arith, passes x e)) rises.1 in
+          omega (arith, more, none)
+      by false e rest = let more : count_by p (x ∷ xs) ≡ 0 + count_by p xs = count_more p x xs false e in omega (arith, more, rest)
 
 -- ---- a table
 

@@ -1,13 +1,13 @@
 -- What the rows tell: of the numbers, and of the next answer.
 use Rattle.std.proofs.Common.{◌≡◌, ℕ, zero, suc, ◌+◌, ◌<◌, ◌≤◌, List, [], ◌∷◌, ◌++◌, length, Bool, true, false, cond, Option, None, Some, Result, Ok, Err, refl, sym, ap, subst, ◌∙◌, arith}
-use Rattle.std.specs.Prelude.{slice_index_or, Contains, nat_lt}
+use Rattle.std.specs.Prelude.{slice_index_or, Contains}
 use Rattle.std.specs.Str.{bytes_eq}
 use Rattle.std.specs.Cmp.Lexicographic.{bytes_decides}
-use Rattle.std.proofs.lemmas.Bool.{lt-ltb, ltb-true}
+use Rattle.std.proofs.lemmas.Bool.{le-ltb, lt-ltb}
 use Rattle.std.proofs.lemmas.List.{length-map}
-use Rattle.edi_messages.specs.declared.partner_kind.PartnerKind.{PartnerKind}
+use Rattle.edi_messages.specs.declared.codes.PartnerKind.{PartnerKind}
 use Rattle.edi_segments.specs.Interchange.{interchange_of, segments_in}
-use Rattle.edi_segments.specs.declared.syntax_fault.SyntaxFault.{SyntaxFault}
+use Rattle.edi_segments.specs.declared.interchange.SyntaxFault.{SyntaxFault}
 use Rattle.edi_syntax.specs.Envelope.{header_of}
 use Rattle.edi_syntax.specs.Faults.{fault_of}
 use Rattle.edi_syntax.specs.Header.{recipient}
@@ -15,8 +15,8 @@ use Rattle.partner_core.specs.Deliveries.{Delivery, delivery, first_text, run}
 use Rattle.partner_core.specs.Order.{reply_of}
 use Rattle.partner_core.specs.Answers.{answer_by, Taken}
 use Rattle.partner_core.specs.Standings.{standing_of, is_same_text}
-use Rattle.partner_core.specs.declared.standing.Standing.{Standing}
-use Rattle.partner_core.specs.declared.standing.Standing.TheVariants.{Known, Other, Early, Next}
+use Rattle.partner_core.specs.declared.runs.Standing.{Standing}
+use Rattle.partner_core.specs.declared.runs.Standing.TheVariants.{Known, Other, Early, Next}
 use Rattle.office_admission.specs.Admission.{admission, by_header, by_recipient, sender_of, number_in}
 use Rattle.office_admission.specs.Accounts.{content_after}
 use Rattle.office_admission.specs.Deliveries.{deliveries_of}
@@ -24,8 +24,8 @@ use Rattle.office_admission.proofs.Adding.{first_admitted, given_after}
 use Rattle.office_admission.proofs.Growing.{found_low}
 use Rattle.office_replies.specs.Events.{Event}
 use Rattle.terminal_core.specs.Versions.{newest}
-use Rattle.office_replies.specs.declared.fault.Fault.{Fault}
-use Rattle.office_replies.specs.declared.fault.Fault.TheVariants.{WrongRecipient}
+use Rattle.office_replies.specs.declared.deliver.Fault.{Fault}
+use Rattle.office_replies.specs.declared.deliver.Fault.TheVariants.{WrongRecipient}
 use Rattle.office_setup.specs.Parties.{Parties}
 use Rattle.office_setup.specs.Setups.{SetupContent, parties_in}
 use Rattle.office_setup.specs.Given.{IsGiven}
@@ -82,7 +82,7 @@ text_within content es rows p k t are e = delivered_within content es p k t (sym
 
 -- ---- accounts
 
-next_in : (id : ℕ) (f : ℕ → ℕ) (accounts : List (List ℕ × PartnerKind)) (account : Partner) (i : ℕ) → i < length (accounts_from id f accounts) → slice_index_or (accounts_from id f accounts) i account ≡ account
+pub next_in : (id : ℕ) (f : ℕ → ℕ) (accounts : List (List ℕ × PartnerKind)) (account : Partner) (i : ℕ) → i < length (accounts_from id f accounts) → slice_index_or (accounts_from id f accounts) i account ≡ account
     → account.next ≡ f account.id
 next_in id f [] account i low e = absurd (omega arith)
 next_in id f (a ∷ accounts) account zero low e = ap (λ (p : Partner). p.next) (sym e) ∙ ap (λ (p : Partner). f p.id) e
@@ -113,11 +113,7 @@ stands_early : (next k : ℕ) (text : List ℕ) → next < k → standing_of nex
 stands_early next k text later = ap (λ b. cond b Early Next) (lt-ltb next k later)
 
 stands_next : (next k : ℕ) (text : List ℕ) → k ≡ next → standing_of next k None text ≡ Next
-stands_next next k text is = ap (λ b. cond b Early Next) (not_less (nat_lt next k) refl)
-  where
-    not_less : (b : Bool) → nat_lt next k ≡ b → nat_lt next k ≡ false
-    not_less true e = absurd (omega (arith, ltb-true next k e, is))
-    not_less false e = e
+stands_next next k text is = ap (λ b. cond b Early Next) (le-ltb next k (omega (arith, is)))
 
 module _ (content : SetupContent) (es : List Event) (rows : Rows) (sent : List ℕ) (p k : ℕ) (are : AreAfter content es rows) (for : IsFor content es sent p k) where
   abbrev D : List Delivery

@@ -2,7 +2,7 @@
 use Rattle.std.specs.Prelude.{◌≡◌, ℕ, ◌+◌, ◌≤◌, List, [], ◌∷◌, map, find, count_by, Option, None, Some}
 use Rattle.std.specs.Option.{option_and_then}
 use Rattle.std.specs.FinMap as finite_map
-use Rattle.edi_messages.specs.declared.partner_kind.PartnerKind.{PartnerKind}
+use Rattle.edi_messages.specs.declared.codes.PartnerKind.{PartnerKind}
 use Rattle.edi_messages.specs.Codes.{table_texts}
 use Rattle.yard_core.specs.YardMap.{YardMap}
 use Rattle.partner_core.specs.ByPlace.{taken_by_place}
@@ -12,7 +12,7 @@ use Rattle.partner_core.specs.Order.{state, reply_of}
 use Rattle.terminal_core.specs.State.{TerminalState, empty_state}
 use Rattle.terminal_core.specs.Changes.{rows_of}
 use Rattle.terminal_core.specs.Versions.{newest}
-use Rattle.terminal_core.specs.declared.version.Version.{Version}
+use Rattle.terminal_core.specs.declared.change.Version.{Version}
 pub use Rattle.office_setup.specs.Setups.{SetupContent, parties_in}
 use Rattle.office_replies.specs.Events.{Event, delivered, migrated, added}
 pub use Rattle.office_admission.specs.Accounts.{content_after}

@@ -1,6 +1,6 @@
 -- What the rows are after events: the laws.
 use Rattle.std.specs.Prelude.{◌≡◌, ℕ, ◌+◌, ◌<◌, ◌≤◌, List, [], ◌∷◌, ◌++◌, length, Contains, None, Some, Ok, Err}
-use Rattle.edi_messages.specs.declared.partner_kind.PartnerKind.{PartnerKind}
+use Rattle.edi_messages.specs.declared.codes.PartnerKind.{PartnerKind}
 use Rattle.edi_segments.specs.Interchange.{interchange_of}
 use Rattle.edi_syntax.specs.Numbers.{last_number}
 use Rattle.partner_core.specs.Deliveries.{delivery, run}
@@ -11,11 +11,11 @@ use Rattle.office_admission.specs.Admission.{admission}
 use Rattle.office_admission.specs.Accounts.{content_after, account_answer, added_as}
 use Rattle.office_admission.specs.Deliveries.{deliveries_of}
 use Rattle.office_replies.specs.Events.{Event, delivered, migrated, added}
-use Rattle.office_replies.specs.declared.fault.Fault.{Fault}
+use Rattle.office_replies.specs.declared.deliver.Fault.{Fault}
 use Rattle.sqlite.specs.Effect.{Database}
 use Rattle.terminal_core.specs.State.{TerminalState}
 use Rattle.terminal_core.specs.Versions.{newest}
-use Rattle.terminal_core.specs.declared.version.Version.{Version}
+use Rattle.terminal_core.specs.declared.change.Version.{Version}
 use Rattle.office_rows.specs.Rows.{Partner, Rows}
 use Rattle.office_rows.specs.Stored.{AreRows, HasRows}
 use Rattle.office_rows.specs.Opened.{OpenedRows, Shows}

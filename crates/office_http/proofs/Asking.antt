@@ -5,17 +5,17 @@ use Rattle.httparse.specs.Grammar.{RequestHead}
 use Rattle.httparse.specs.Spans.{IsRequestAt}
 use Rattle.httparse.specs.declared.spans.HeaderSpan.{HeaderSpan}
 use Rattle.office_queries.specs.Keys.{query_of}
-use Rattle.office_queries.specs.declared.report_kind.ReportKind.{ReportKind}
+use Rattle.office_queries.specs.declared.query.ReportKind.{ReportKind}
 use Rattle.office_http.specs.Heads.{FindsHead}
 use Rattle.office_http.specs.Requests.{Asks, AsksAt, AsksWith, Gets}
 use Rattle.office_http.specs.Routes.{endpoint_of, path_of, key_in}
-use Rattle.office_http.specs.declared.endpoint.Endpoint.{Endpoint}
-use Rattle.office_http.specs.declared.endpoint.Endpoint.TheVariants as endpoint
-use Rattle.office_http.specs.declared.found_head.FoundHead.{FoundHead}
-use Rattle.office_http.specs.declared.refusal.Refusal.{Refusal}
-use Rattle.office_http.specs.declared.refusal.Refusal.TheVariants.{NotNow}
-use Rattle.office_http.specs.declared.request.Request.{Request}
-use Rattle.office_http.specs.declared.request.Request.TheVariants.{Refused}
+use Rattle.office_http.specs.declared.routes.Endpoint.{Endpoint}
+use Rattle.office_http.specs.declared.routes.Endpoint.TheVariants as endpoint
+use Rattle.office_http.specs.declared.head.FoundHead.{FoundHead}
+use Rattle.office_http.specs.declared.response.Refusal.{Refusal}
+use Rattle.office_http.specs.declared.response.Refusal.TheVariants.{NotNow}
+use Rattle.office_http.specs.declared.requests.Request.{Request}
+use Rattle.office_http.specs.declared.requests.Request.TheVariants.{Refused}
 
 abbrev pub IsRouted : Result Endpoint Refusal → Type 0
 IsRouted (Ok to) = Unit {0}

@@ -10,7 +10,7 @@ use Rattle.httparse.specs.declared.spans.HeaderSpan.{HeaderSpan}
 use Rattle.httparse.proofs.GrammarLemmas.{ReadsRequest-append, request_unique}
 use Rattle.office_http.specs.Heads.{IsHead, FindsHead, most_head_bytes}
 use Rattle.office_http.specs.Deciding.{wanted_behind, WantsMore, Decides, EndsWhenDecided, HeadsDecide, FullRoomDecides}
-use Rattle.office_http.specs.declared.found_head.FoundHead.{FoundHead}
+use Rattle.office_http.specs.declared.head.FoundHead.{FoundHead}
 
 -- of two fronts of a stream the shorter is a front of the longer
 same_front : (given left bytes rest : List ℕ) → given ++ left ≡ bytes ++ rest → length bytes ≤ length given → given ≡ bytes ++ drop (length bytes) given

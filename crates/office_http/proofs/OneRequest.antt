@@ -4,17 +4,17 @@ use Rattle.std.proofs.Common.{◌≡◌, ◌≢◌, ℕ, List, take, Option, Non
 use Rattle.httparse.specs.Grammar.{RequestHead}
 use Rattle.httparse.proofs.GrammarLemmas.{request_unique}
 use Rattle.office_queries.specs.Keys.{Asked}
-use Rattle.office_queries.specs.declared.report_kind.ReportKind.{ReportKind}
+use Rattle.office_queries.specs.declared.query.ReportKind.{ReportKind}
 use Rattle.office_http.specs.Requests.{IsDelivery, IsOwnDelivery, IsAccount, IsReport, Gets, Names, Posts, PostsFrom, PostsOwn, PostsBy, PostsAccount, AsksAt, AsksWith, IsSameRequest, HeadsAreOne, RequestsAreOne}
 use Rattle.office_http.specs.Senders.{sender_at}
-use Rattle.office_http.specs.declared.endpoint.Endpoint.{Endpoint}
-use Rattle.office_http.specs.declared.endpoint.Endpoint.TheVariants as endpoint
-use Rattle.office_http.specs.declared.refusal.Refusal.{Refusal}
-use Rattle.office_http.specs.declared.refusal.Refusal.TheVariants.{NotNow}
-use Rattle.office_http.specs.declared.request.Request.{Request}
-use Rattle.office_http.specs.declared.request.Request.TheVariants.{Delivery, OwnDelivery, Account, Report, Refused}
-use Rattle.office_http.specs.declared.senders.Sender.{Sender}
-use Rattle.office_http.specs.declared.senders.Sender.TheVariants.{Nobody, Own, Another}
+use Rattle.office_http.specs.declared.routes.Endpoint.{Endpoint}
+use Rattle.office_http.specs.declared.routes.Endpoint.TheVariants as endpoint
+use Rattle.office_http.specs.declared.response.Refusal.{Refusal}
+use Rattle.office_http.specs.declared.response.Refusal.TheVariants.{NotNow}
+use Rattle.office_http.specs.declared.requests.Request.{Request}
+use Rattle.office_http.specs.declared.requests.Request.TheVariants.{Delivery, OwnDelivery, Account, Report, Refused}
+use Rattle.office_http.specs.declared.routes.Sender.{Sender}
+use Rattle.office_http.specs.declared.routes.Sender.TheVariants.{Nobody, Own, Another}
 
 pub heads_are_one : HeadsAreOne
 heads_are_one stream head head' rest rest' one other = request_unique stream head head' rest rest' one.reads other.reads

@@ -7,13 +7,13 @@ use Rattle.httparse.specs.Grammar.{RequestHead}
 use Rattle.httparse.specs.Spans.{name_and_value}
 use Rattle.edi_segments.specs.Interchange.{interchange_of, segments_in}
 use Rattle.edi_segments.specs.Text.{Content}
-use Rattle.edi_segments.specs.declared.syntax_fault.SyntaxFault.{SyntaxFault}
+use Rattle.edi_segments.specs.declared.interchange.SyntaxFault.{SyntaxFault}
 use Rattle.edi_syntax.specs.Envelope.{header_of}
 use Rattle.edi_syntax.specs.Faults.{fault_of, head_fault_of}
 use Rattle.edi_syntax.specs.Header.{sender, recipient}
 use Rattle.edi_syntax.proofs.FaultLemmas.{of_head}
-use Rattle.office_replies.specs.declared.fault.Fault.{Fault}
-use Rattle.office_replies.specs.declared.fault.Fault.TheVariants.{WrongRecipient}
+use Rattle.office_replies.specs.declared.deliver.Fault.{Fault}
+use Rattle.office_replies.specs.declared.deliver.Fault.TheVariants.{WrongRecipient}
 use Rattle.office_setup.specs.Parties.{Parties, partner_from}
 use Rattle.office_admission.specs.Admission.{admission, by_header, by_recipient, number_in, sender_of}
 use Rattle.office_queries.specs.AccountKeys.{sender_in}
@@ -22,13 +22,13 @@ use Rattle.office_http.specs.OwnPaths.{Brings, OwnPathsAreOwn}
 use Rattle.office_http.specs.Requests.{IsDelivery, IsOwnDelivery, PostsFrom, PostsOwn, PostsBy, AsksAt, AsksWith}
 use Rattle.office_http.specs.Routes.{endpoint_of, path_of, partner_key_in}
 use Rattle.office_http.specs.Senders.{named_by, sender_by, sender_at}
-use Rattle.office_http.specs.declared.endpoint.Endpoint.{Endpoint}
-use Rattle.office_http.specs.declared.endpoint.Endpoint.TheVariants.{PartnerInterchanges}
-use Rattle.office_http.specs.declared.refusal.Refusal.{Refusal}
-use Rattle.office_http.specs.declared.request.Request.{Request}
-use Rattle.office_http.specs.declared.request.Request.TheVariants.{Delivery, OwnDelivery, Account, Report, Refused}
-use Rattle.office_http.specs.declared.senders.Sender.{Sender}
-use Rattle.office_http.specs.declared.senders.Sender.TheVariants.{Nobody, Own, Another}
+use Rattle.office_http.specs.declared.routes.Endpoint.{Endpoint}
+use Rattle.office_http.specs.declared.routes.Endpoint.TheVariants.{PartnerInterchanges}
+use Rattle.office_http.specs.declared.response.Refusal.{Refusal}
+use Rattle.office_http.specs.declared.requests.Request.{Request}
+use Rattle.office_http.specs.declared.requests.Request.TheVariants.{Delivery, OwnDelivery, Account, Report, Refused}
+use Rattle.office_http.specs.declared.routes.Sender.{Sender}
+use Rattle.office_http.specs.declared.routes.Sender.TheVariants.{Nobody, Own, Another}
 use Rattle.office_http.proofs.OneRequest.{heads_are_one}
 
 -- ---- for whom a text is admitted

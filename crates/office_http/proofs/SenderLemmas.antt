@@ -4,19 +4,19 @@ use Rattle.std.specs.Option.{unwrap_or}
 use Rattle.std.specs.Str.{bytes_eq}
 use Rattle.edi_segments.specs.Interchange.{interchange_of, segments_in}
 use Rattle.edi_segments.specs.Text.{Content}
-use Rattle.edi_segments.specs.declared.syntax_fault.SyntaxFault.{SyntaxFault}
+use Rattle.edi_segments.specs.declared.interchange.SyntaxFault.{SyntaxFault}
 use Rattle.edi_syntax.specs.Envelope.{header_of}
 use Rattle.edi_syntax.specs.Faults.{head_fault_of}
 use Rattle.edi_syntax.specs.Header.{sender, control_number}
 use Rattle.office_admission.specs.Admission.{number_in}
 use Rattle.office_http.specs.Requests.{IsDelivery, Posts, PostsFrom, PostsOwn, PostsBy}
 use Rattle.office_http.specs.Senders.{named_by, sender_by, sender_at}
-use Rattle.office_http.specs.declared.refusal.Refusal.{Refusal}
-use Rattle.office_http.specs.declared.refusal.Refusal.TheVariants.{NotNow}
-use Rattle.office_http.specs.declared.request.Request.{Request}
-use Rattle.office_http.specs.declared.request.Request.TheVariants.{Delivery, OwnDelivery, Account, Report, Refused}
-use Rattle.office_http.specs.declared.senders.Sender.{Sender}
-use Rattle.office_http.specs.declared.senders.Sender.TheVariants.{Nobody, Own, Another}
+use Rattle.office_http.specs.declared.response.Refusal.{Refusal}
+use Rattle.office_http.specs.declared.response.Refusal.TheVariants.{NotNow}
+use Rattle.office_http.specs.declared.requests.Request.{Request}
+use Rattle.office_http.specs.declared.requests.Request.TheVariants.{Delivery, OwnDelivery, Account, Report, Refused}
+use Rattle.office_http.specs.declared.routes.Sender.{Sender}
+use Rattle.office_http.specs.declared.routes.Sender.TheVariants.{Nobody, Own, Another}
 
 -- ---- whom a text names
 

@@ -5,9 +5,9 @@ use Rattle.httparse.specs.Spans.{name_and_value}
 use Rattle.office_http.specs.Heads.{IsHead, HasNoHead, most_head_bytes}
 use Rattle.office_http.specs.Fields.{body_length}
 use Rattle.office_http.specs.Routes.{endpoint_of, path_of}
-use Rattle.office_http.specs.declared.endpoint.Endpoint.{Endpoint}
-use Rattle.office_http.specs.declared.endpoint.Endpoint.TheVariants as endpoint
-use Rattle.office_http.specs.declared.refusal.Refusal.{Refusal}
+use Rattle.office_http.specs.declared.routes.Endpoint.{Endpoint}
+use Rattle.office_http.specs.declared.routes.Endpoint.TheVariants as endpoint
+use Rattle.office_http.specs.declared.response.Refusal.{Refusal}
 
 -- how many bytes a body has; there is none without a length
 abbrev pub body_size : Result ℕ Refusal → ℕ

@@ -4,7 +4,7 @@ use Rattle.edi_segments.specs.Interchange.{most_bytes}
 use Rattle.httparse.specs.declared.spans.HeaderSpan.{HeaderSpan}
 use Rattle.httparse.specs.Grammar.{RequestHead, print_request, ReadsRequest}
 use Rattle.httparse.specs.Spans.{IsRequestAt}
-use Rattle.office_http.specs.declared.found_head.FoundHead.{FoundHead}
+use Rattle.office_http.specs.declared.head.FoundHead.{FoundHead}
 
 -- the most bytes that a head may have (our own)
 abbrev pub most_head_bytes : ℕ

@@ -9,9 +9,9 @@ use Rattle.office_queries.specs.AccountKeys.{sender_in}
 use Rattle.office_http.specs.Heads.{IsHead}
 use Rattle.office_http.specs.Requests.{Asks}
 use Rattle.office_http.specs.Routes.{endpoint_of, path_of, partner_key_in}
-use Rattle.office_http.specs.declared.endpoint.Endpoint.TheVariants.{PartnerInterchanges}
-use Rattle.office_http.specs.declared.request.Request.{Request}
-use Rattle.office_http.specs.declared.request.Request.TheVariants.{Delivery, OwnDelivery}
+use Rattle.office_http.specs.declared.routes.Endpoint.TheVariants.{PartnerInterchanges}
+use Rattle.office_http.specs.declared.requests.Request.{Request}
+use Rattle.office_http.specs.declared.requests.Request.TheVariants.{Delivery, OwnDelivery}
 
 -- the text is to be delivered, by whatever path it came
 abbrev pub Brings : List ℕ → Request → Type 0

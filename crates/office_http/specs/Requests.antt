@@ -6,19 +6,19 @@ use Rattle.httparse.specs.Spans.{name_and_value}
 use Rattle.edi_segments.specs.Interchange.{interchange_of}
 use Rattle.office_queries.specs.AccountKeys.{account_in, account_named, sender_in}
 use Rattle.office_queries.specs.Keys.{Asked, next_number, query_asked, query_of}
-use Rattle.office_queries.specs.declared.report_kind.ReportKind.{ReportKind}
+use Rattle.office_queries.specs.declared.query.ReportKind.{ReportKind}
 use Rattle.office_http.specs.Heads.{IsHead, HasNoHead}
 use Rattle.office_http.specs.Routes.{endpoint_of, path_of, key_in, partner_key_in}
 use Rattle.office_http.specs.Senders.{sender_at}
 use Rattle.office_http.specs.Fields.{body_length}
-use Rattle.office_http.specs.declared.endpoint.Endpoint.{Endpoint}
-use Rattle.office_http.specs.declared.endpoint.Endpoint.TheVariants as endpoint
-use Rattle.office_http.specs.declared.refusal.Refusal.{Refusal}
-use Rattle.office_http.specs.declared.refusal.Refusal.TheVariants.{BadRequest, NotFound, OtherSender, NotNow}
-use Rattle.office_http.specs.declared.request.Request.{Request}
-use Rattle.office_http.specs.declared.senders.Sender.{Sender}
-use Rattle.office_http.specs.declared.senders.Sender.TheVariants.{Nobody, Own, Another}
-use Rattle.office_http.specs.declared.request.Request.TheVariants.{Delivery, OwnDelivery, Account, Report, Refused}
+use Rattle.office_http.specs.declared.routes.Endpoint.{Endpoint}
+use Rattle.office_http.specs.declared.routes.Endpoint.TheVariants as endpoint
+use Rattle.office_http.specs.declared.response.Refusal.{Refusal}
+use Rattle.office_http.specs.declared.response.Refusal.TheVariants.{BadRequest, NotFound, OtherSender, NotNow}
+use Rattle.office_http.specs.declared.requests.Request.{Request}
+use Rattle.office_http.specs.declared.routes.Sender.{Sender}
+use Rattle.office_http.specs.declared.routes.Sender.TheVariants.{Nobody, Own, Another}
+use Rattle.office_http.specs.declared.requests.Request.TheVariants.{Delivery, OwnDelivery, Account, Report, Refused}
 
 -- ---- what a request is
 

@@ -1,10 +1,10 @@
 -- The bytes of a response (RFC 9112, sections 4 and 5).
 use Rattle.std.specs.Prelude.{ℕ, Bool, ◌==◌, ◌||◌, List, [], ◌++◌, length, codes, decimal, unwrap_or, Option, None, Some, if◌then◌else◌}
 use Rattle.http.specs.StatusCode.{code_digits, reason_phrase}
-use Rattle.office_http.specs.declared.content_type.ContentType.{ContentType}
-use Rattle.office_http.specs.declared.content_type.ContentType.TheVariants.{Json, Text, Table, Page, Interchange, Metrics}
-use Rattle.office_http.specs.declared.refusal.Refusal.{Refusal}
-use Rattle.office_http.specs.declared.refusal.Refusal.TheVariants.{BadRequest, NotFound, OnlyGet, OnlyPost, NoLength, TooLong, OtherSender, NotNow}
+use Rattle.office_http.specs.declared.head.ContentType.{ContentType}
+use Rattle.office_http.specs.declared.head.ContentType.TheVariants.{Json, Text, Table, Page, Interchange, Metrics}
+use Rattle.office_http.specs.declared.response.Refusal.{Refusal}
+use Rattle.office_http.specs.declared.response.Refusal.TheVariants.{BadRequest, NotFound, OnlyGet, OnlyPost, NoLength, TooLong, OtherSender, NotNow}
 
 abbrev pub media_type : ContentType → List ℕ
 media_type Json = codes "application/json"

@@ -9,12 +9,12 @@ use Rattle.matchit.specs.Router.{RouteOf, route_from}
 use Rattle.matchit.specs.Order.{placed}
 use Rattle.matchit.specs.Seek.{first}
 use Rattle.matchit.specs.declared.error.InsertError.{InsertError}
-use Rattle.office_queries.specs.declared.report_kind.ReportKind.{ReportKind}
-use Rattle.office_queries.specs.declared.report_kind.ReportKind.TheVariants as kind
-use Rattle.office_http.specs.declared.endpoint.Endpoint.{Endpoint}
-use Rattle.office_http.specs.declared.endpoint.Endpoint.TheVariants as endpoint
-use Rattle.office_http.specs.declared.refusal.Refusal.{Refusal}
-use Rattle.office_http.specs.declared.refusal.Refusal.TheVariants.{NotFound, OnlyGet, OnlyPost}
+use Rattle.office_queries.specs.declared.query.ReportKind.{ReportKind}
+use Rattle.office_queries.specs.declared.query.ReportKind.TheVariants as kind
+use Rattle.office_http.specs.declared.routes.Endpoint.{Endpoint}
+use Rattle.office_http.specs.declared.routes.Endpoint.TheVariants as endpoint
+use Rattle.office_http.specs.declared.response.Refusal.{Refusal}
+use Rattle.office_http.specs.declared.response.Refusal.TheVariants.{NotFound, OnlyGet, OnlyPost}
 
 -- ---- the routes
 
@@ -28,7 +28,8 @@ with_route text to rows = place_route (parse_route text) to rows
 
 unfoldable pub endpoints : RowsOf (RouteOf Endpoint)
 endpoints =
-    with_route (codes "/metrics") (endpoint.Report kind.Metrics)
+    with_route (codes "/calls") (endpoint.Report kind.Calls)
+    (with_route (codes "/metrics") (endpoint.Report kind.Metrics)
     (with_route (codes "/health") (endpoint.Report kind.Health)
     (with_route (codes "/partners/{code}") (endpoint.Report kind.Partner)
     (with_route (codes "/partners/{code}/interchanges") endpoint.PartnerInterchanges
@@ -45,7 +46,7 @@ endpoints =
     (with_route (codes "/yard") (endpoint.Report kind.Yard)
     (with_route (codes "/tickets/{partner}/{number}") (endpoint.Report kind.Ticket)
     (with_route (codes "/replies/{partner}/{number}") (endpoint.Report kind.Reply)
-    (with_route (codes "/interchanges") endpoint.Interchanges [])))))))))))))))))
+    (with_route (codes "/interchanges") endpoint.Interchanges []))))))))))))))))))
 
 -- the target up to `?` (63)
 abbrev pub path_of : List ℕ → List ℕ
@@ -96,6 +97,7 @@ front_of kind.Container = codes "/containers/"
 front_of kind.Work = codes "/work/"
 front_of kind.Partners = codes "/partners"
 front_of kind.Blocks = codes "/blocks"
+front_of kind.Calls = codes "/calls"
 front_of kind.Contrl = codes "/contrls/"
 front_of kind.Picture = codes "/picture"
 front_of kind.Partner = codes "/partners/"

@@ -3,13 +3,13 @@ use Rattle.std.specs.Prelude.{ℕ, List, Option, None, Some, if◌then◌else◌
 use Rattle.std.specs.Str.{bytes_eq}
 use Rattle.edi_segments.specs.Interchange.{segments_in}
 use Rattle.edi_segments.specs.Text.{Content}
-use Rattle.edi_segments.specs.declared.syntax_fault.SyntaxFault.{SyntaxFault}
+use Rattle.edi_segments.specs.declared.interchange.SyntaxFault.{SyntaxFault}
 use Rattle.edi_syntax.specs.Envelope.{header_of}
 use Rattle.edi_syntax.specs.Faults.{head_fault_of}
 use Rattle.edi_syntax.specs.Header.{sender}
 use Rattle.office_admission.specs.Admission.{number_in}
-use Rattle.office_http.specs.declared.senders.Sender.{Sender}
-use Rattle.office_http.specs.declared.senders.Sender.TheVariants.{Nobody, Own, Another}
+use Rattle.office_http.specs.declared.routes.Sender.{Sender}
+use Rattle.office_http.specs.declared.routes.Sender.TheVariants.{Nobody, Own, Another}
 
 abbrev pub named_by : Option SyntaxFault → Content → Option (List ℕ × ℕ)
 named_by (Some fault) header = None

@@ -1,30 +1,27 @@
 -- The answer to a request, and what is done with the office.
 use Rattle.std.specs.Prelude.{◌≡◌, ℕ, ◌*◌, ◌≤◌, List, length, Option, None, Some, Result, Ok, Err}
-use Rattle.office_replies.specs.declared.account_answer.AccountAnswer.{AccountAnswer}
-use Rattle.office_replies.specs.declared.response.Response.{Response}
+use Rattle.office_replies.specs.declared.accounts.AccountAnswer.{AccountAnswer}
+use Rattle.office_replies.specs.declared.deliver.Response.{Response}
 use Rattle.office_replies.specs.AccountAnswers.{account_body, account_status}
-use Rattle.office_replies.specs.Calls.{IsAsked, IsDelivered}
 use Rattle.office_replies.specs.Responses.{body_of, status_of}
-use Rattle.office_replies.specs.Events.{Event}
-use Rattle.office_queries.specs.Looking.{IsLookedAt}
-use Rattle.office_queries.specs.declared.not_now.NotNow.{NotNow as Unreported}
+use Rattle.office_queries.specs.declared.query.NotNow.{NotNow as Unreported}
 use Rattle.office_queries.specs.declared.query.Query.{Query}
-use Rattle.office_queries.specs.declared.report_kind.ReportKind.{ReportKind}
-use Rattle.office_queries.specs.declared.report_kind.ReportKind.TheVariants as kind
+use Rattle.office_queries.specs.declared.query.ReportKind.{ReportKind}
+use Rattle.office_queries.specs.declared.query.ReportKind.TheVariants as kind
 use Rattle.office_http.specs.Doors.{door_of}
 use Rattle.office_http.specs.Requests.{Asks}
 use Rattle.office_http.specs.Responses.{response_bytes, refusal_bytes, early_bytes}
-use Rattle.office_http.specs.Steps.{Step, events_after, AreAnswered, StepsLead}
-use Rattle.office_http.specs.declared.content_type.ContentType.{ContentType}
-use Rattle.office_http.specs.declared.content_type.ContentType.TheVariants.{Json, Text, Table, Page, Interchange, Metrics}
-use Rattle.office_http.specs.declared.door.Door.{Door}
-use Rattle.office_http.specs.declared.door.Door.TheVariants as door
-use Rattle.office_http.specs.declared.refusal.Refusal.TheVariants.{NotFound, NotNow}
-use Rattle.office_http.specs.declared.own_text.OwnText.{OwnText}
-use Rattle.office_http.specs.declared.request.Request.{Request}
-use Rattle.office_http.specs.declared.request.Request.TheVariants.{Delivery, OwnDelivery, Account, Report, Refused}
-use Rattle.office_http.specs.declared.serve_fault.ServeFault.{ServeFault}
-use Rattle.office_http.specs.declared.serve_fault.ServeFault.TheVariants as fault
+use Rattle.office_http.specs.Steps.{Step, StepsLead}
+use Rattle.office_http.specs.declared.head.ContentType.{ContentType}
+use Rattle.office_http.specs.declared.head.ContentType.TheVariants.{Json, Text, Table, Page, Interchange, Metrics}
+use Rattle.office_http.specs.declared.serve.Door.{Door}
+use Rattle.office_http.specs.declared.serve.Door.TheVariants as door
+use Rattle.office_http.specs.declared.response.Refusal.TheVariants.{NotFound, NotNow}
+use Rattle.office_http.specs.declared.head.OwnText.{OwnText}
+use Rattle.office_http.specs.declared.requests.Request.{Request}
+use Rattle.office_http.specs.declared.requests.Request.TheVariants.{Delivery, OwnDelivery, Account, Report, Refused}
+use Rattle.office_http.specs.declared.serve.ServeFault.{ServeFault}
+use Rattle.office_http.specs.declared.serve.ServeFault.TheVariants as fault
 
 -- what a report is: a reply is JSON and so is health, a CONTRL an interchange, the picture a page
 abbrev pub content_of : ReportKind → ContentType
@@ -38,6 +35,7 @@ content_of kind.Container = Text
 content_of kind.Work = Text
 content_of kind.Partners = Text
 content_of kind.Blocks = Text
+content_of kind.Calls = Text
 content_of kind.Contrl = Interchange
 content_of kind.Picture = Page
 content_of kind.Partner = Text
@@ -64,17 +62,11 @@ found_bytes kind (Err refusal) = refusal_bytes NotNow
 
 -- ---- what is done at a request
 
-module _ {D Opening : Type 0} (is_sound : D → Type 0) (stands : Opening → List Event → D → Type 0)
-    (answers : Opening → List Event → List ℕ → Response → Type 0)
-    (added : Opening → List Event → List ℕ → List ℕ → AccountAnswer → Type 0)
-    (tells : D → Query → Option (List ℕ) → Type 0) (leads : D → List ℕ → Response → D → Type 0)
-    (enrols : D → List ℕ → List ℕ → AccountAnswer → D → Type 0)
-    (looks : D → Query → Result (Option (List ℕ)) Unreported → D → Type 0) where
+module _ {D : Type 0} (leads : D → List ℕ → Response → D → Type 0) where
   -- a text is delivered, and these bytes answer it
   abbrev pub DoesDelivery : List ℕ → D → D → (IsWritten : List ℕ → Type 0) → Type 0
   DoesDelivery text old new IsWritten =
-      (response : Response) × IsDelivered is_sound stands answers leads old text response new
-      × IsWritten (answer_bytes response)
+      (response : Response) × leads old text response new × IsWritten (answer_bytes response)
 
   -- so it is where the door is open; where it isn't, the desk isn't touched
   abbrev pub DoesAt : Door → List ℕ → D → D → (IsWritten : List ℕ → Type 0) → Type 0
@@ -82,24 +74,26 @@ module _ {D Opening : Type 0} (is_sound : D → Type 0) (stands : Opening → Li
   DoesAt (door.TooEarly next) text old new IsWritten = (new ≡ old) × IsWritten (early_bytes next)
   DoesAt door.NotNow text old new IsWritten = (new ≡ old) × IsWritten (refusal_bytes NotNow)
 
+module _ {D : Type 0} (leads : D → List ℕ → Response → D → Type 0)
+    (looks : D → Query → Result (Option (List ℕ)) Unreported → D → Type 0) where
   -- without a bound a text is delivered; with one the desk is looked at first, for the number that is next
   abbrev pub DoesOwn : (ahead : Option ℕ) → OwnText → D → D → (IsWritten : List ℕ → Type 0) → Type 0
-  DoesOwn None own old new IsWritten = DoesDelivery own.text.items old new IsWritten
+  DoesOwn None own old new IsWritten = DoesDelivery leads own.text.items old new IsWritten
   DoesOwn (Some ahead) own old new IsWritten =
-      (found : Result (Option (List ℕ)) Unreported) × (looked : D)
-      × IsLookedAt is_sound stands tells looks old own.next found looked
-      × DoesAt (door_of ahead own.number found) own.text.items looked new IsWritten
+      (found : Result (Option (List ℕ)) Unreported) × (looked : D) × looks old own.next found looked
+      × DoesAt leads (door_of ahead own.number found) own.text.items looked new IsWritten
 
+module _ {D : Type 0} (leads : D → List ℕ → Response → D → Type 0)
+    (enrols : D → List ℕ → List ℕ → AccountAnswer → D → Type 0)
+    (looks : D → Query → Result (Option (List ℕ)) Unreported → D → Type 0) where
   -- The calls that are made of the desk, and the bytes that answer them. A refusal doesn't touch the desk.
   abbrev pub Does : (ahead : Option ℕ) → Request → D → D → (IsWritten : List ℕ → Type 0) → Type 0
-  Does ahead (Delivery body) old new IsWritten = DoesDelivery body.items old new IsWritten
-  Does ahead (OwnDelivery own) old new IsWritten = DoesOwn ahead own old new IsWritten
+  Does ahead (Delivery body) old new IsWritten = DoesDelivery leads body.items old new IsWritten
+  Does ahead (OwnDelivery own) old new IsWritten = DoesOwn leads looks ahead own old new IsWritten
   Does ahead (Account key) old new IsWritten =
-      (answer : AccountAnswer) × IsAsked is_sound stands added enrols old key.code.items key.kind.items answer new
-      × IsWritten (account_bytes answer)
+      (answer : AccountAnswer) × enrols old key.code.items key.kind.items answer new × IsWritten (account_bytes answer)
   Does ahead (Report kind query) old new IsWritten =
-      (found : Result (Option (List ℕ)) Unreported) × IsLookedAt is_sound stands tells looks old query found new
-      × IsWritten (found_bytes kind found)
+      (found : Result (Option (List ℕ)) Unreported) × looks old query found new × IsWritten (found_bytes kind found)
   Does ahead (Refused refusal) old new IsWritten = (new ≡ old) × IsWritten (refusal_bytes refusal)
 
   -- what a stream asks for was done, and these bytes are its answer
@@ -108,25 +102,15 @@ module _ {D Opening : Type 0} (is_sound : D → Type 0) (stands : Opening → Li
     pub asks : Asks stream request
     pub does : Does ahead request old new IsWritten
 
--- the most calls that so many requests make: a look at the number that is next, and what is asked for
-abbrev pub calls_of : ℕ → ℕ
-calls_of requests = requests * 2
-
--- ---- what was done with a desk
-
-module _ {D Opening : Type 0} (is_sound : D → Type 0) (stands : Opening → List Event → D → Type 0)
-    (answers : Opening → List Event → List ℕ → Response → Type 0)
-    (added : Opening → List Event → List ℕ → List ℕ → AccountAnswer → Type 0)
-    (leads : D → List ℕ → Response → D → Type 0) (enrols : D → List ℕ → List ℕ → AccountAnswer → D → Type 0)
-    (looks : D → Query → Result (Option (List ℕ)) Unreported → D → Type 0) where
-  -- These steps, at most so many, led it from what it was to what it is, whatever desk it is. And if its records have told
-  -- the truth, each was answered at its place, from whatever events it stood at, and it stands behind them.
+  -- these steps, at most so many, led a desk from what it was to what it is
   pub record AtMost (count : ℕ) (old new : D) : Type 0 where
     pub steps : List Step
     pub few : length steps ≤ count
     pub led : StepsLead leads enrols looks old steps new
-    pub answered : is_sound new → (opening : Opening) (es : List Event) → stands opening es old →
-        AreAnswered (answers opening) (added opening) es steps × stands opening (events_after es steps) new
+
+-- the most calls that so many requests make: a look at the number that is next, and what is asked for
+abbrev pub calls_of : ℕ → ℕ
+calls_of requests = requests * 2
 
 -- what holds after a failed read, and what after a failed write
 abbrev pub MatchFault : ServeFault → Type 0 → Type 0 → Type 0

@@ -1,11 +1,11 @@
 -- What was done with a desk, one thing behind the other.
 use Rattle.std.specs.Prelude.{◌≡◌, ℕ, List, [], ◌∷◌, Option, Result}
-use Rattle.office_replies.specs.declared.account_answer.AccountAnswer.{AccountAnswer}
-use Rattle.office_replies.specs.declared.response.Response.{Response}
+use Rattle.office_replies.specs.declared.accounts.AccountAnswer.{AccountAnswer}
+use Rattle.office_replies.specs.declared.deliver.Response.{Response}
 use Rattle.office_replies.specs.Adding.{with_added}
 use Rattle.office_replies.specs.Delivering.{with_answered}
 use Rattle.office_replies.specs.Events.{Event}
-use Rattle.office_queries.specs.declared.not_now.NotNow.{NotNow}
+use Rattle.office_queries.specs.declared.query.NotNow.{NotNow}
 use Rattle.office_queries.specs.declared.query.Query.{Query}
 
 -- a text was delivered and answered so; an account was asked for by a code and a kind, and answered so; at a query that
@@ -24,19 +24,6 @@ with_step es (report query found) = es
 abbrev pub events_after : List Event → List Step → List Event
 events_after es [] = es
 events_after es (step ∷ steps) = events_after (with_step es step) steps
-
-module _ (answers : List Event → List ℕ → Response → Type 0)
-    (added : List Event → List ℕ → List ℕ → AccountAnswer → Type 0) where
-  -- it is answered so behind those events
-  abbrev pub IsAnswered : List Event → Step → Type 0
-  IsAnswered es (delivery text response) = answers es text response
-  IsAnswered es (account code kind answer) = added es code kind answer
-  IsAnswered es (report query found) = Unit {0}
-
-  -- each is answered so at its place
-  abbrev pub AreAnswered : List Event → List Step → Type 0
-  AreAnswered es [] = Unit {0}
-  AreAnswered es (step ∷ steps) = IsAnswered es step × AreAnswered (with_step es step) steps
 
 module _ {D : Type 0} (leads : D → List ℕ → Response → D → Type 0)
     (enrols : D → List ℕ → List ℕ → AccountAnswer → D → Type 0)

@@ -1,34 +1,46 @@
-ghost use Rattle.std.specs.Prelude.{◌≡◌, ◌⊎◌, ◌≤◌, ◌+◌, ◌-◌, ◌++◌, length, take, drop, map, IfOk, IfSome};
-ghost use Rattle.edi_segments.specs.Interchange.{most_bytes};
 ghost use Rattle.std.specs.Option.{option_and_then};
+ghost use Rattle.std.specs.Prelude.{◌≡◌, ◌⊎◌, ◌≤◌, ◌+◌, ◌-◌, ◌++◌, length, take, drop, map, IfOk, IfSome, IsTrue, ◌↔◌, Ok};
+ghost use Rattle.edi_segments.specs.Interchange.{most_bytes};
 ghost use Rattle.httparse.specs.Grammar.{RequestHead};
 ghost use Rattle.httparse.specs.Spans.{header_bytes, IsRequestAt, IsRequestWithin, IsSectionWithin};
-ghost use Rattle.office_queries.specs.AccountKeys.{account_in, sender_in};
-ghost use Rattle.office_queries.specs.Keys.{query_of};
 ghost use Rattle.office_http.specs.Deciding.{body_size, EndsWhenDecided, wanted_behind};
 ghost use Rattle.office_http.specs.Fields.{body_length};
 ghost use Rattle.office_http.specs.Heads.{most_request_reads};
 ghost use Rattle.office_http.specs.Ports.{ReadsUpTo};
 ghost use Rattle.office_http.specs.Requests.{Asks, AsksWith, Gets, Names, Posts, PostsAccount, PostsBy};
 ghost use Rattle.office_http.specs.Routes.{key_in, partner_key_in};
-ghost use Rattle.office_http.specs.declared.request.Request.TheVariants.{Refused};
-ghost use Rattle.office_http.specs.declared.refusal.Refusal.TheVariants.{NotNow};
+ghost use Rattle.office_http.specs.declared.requests.Request.TheVariants.{Refused};
+ghost use Rattle.office_http.specs.declared.response.Refusal.TheVariants.{NotNow};
+ghost use Rattle.office_queries.specs.AccountKeys.{account_in, sender_in};
+ghost use Rattle.office_queries.specs.Keys.{query_of};
 
-use crate::body::{read_delivery, skip_body};
-use crate::endpoint::Endpoint;
-use crate::fields::content_length;
-use crate::found_head::FoundHead;
-use crate::head::{MOST_FIELDS, MOST_HEAD_BYTES, read_head};
-use crate::refusal::Refusal;
-use crate::request::Request;
-use crate::routes::{direct, key_in, partner_key_in, path_of};
-use crate::senders::posted_as;
+use crate::head::{FoundHead, MOST_FIELDS, MOST_HEAD_BYTES, OwnText, content_length, read_head};
+use crate::response::Refusal;
+use crate::routes::{Endpoint, direct, key_in, partner_key_in, path_of, posted_as};
 use httparse::spans::{EMPTY_HEADER_SPAN, HeaderSpan};
-use office_queries::{ReportKind, read_account_key, read_query, read_sender_key};
+use office_queries::{
+    AccountKey, Query, ReportKind, read_account_key, read_query, read_sender_key,
+};
 use office_stream::Port;
 use std::alloc::Global;
+use std::cmp::min;
 use std::io::{Read, Result};
 use std::str;
+
+/// What a request asks for.
+#[derive(Drop)]
+pub(crate) enum Request {
+    /// That this text is delivered.
+    Delivery(Vec<u8>),
+    /// That this text of a partner's is delivered, unless it comes too early.
+    OwnDelivery(OwnText),
+    /// That this account is added.
+    Account(AccountKey),
+    /// A report.
+    Report(ReportKind, Query),
+    /// Nothing that the office could do.
+    Refused(Refusal),
+}
 
 /// Reads a request: what it asks for.
 pub(crate) fn read_request<R: Read>(alloc: Global, reader: &mut Port<R>) -> Result<Request>
@@ -189,4 +201,53 @@ fn read_report(alloc: Global, kind: ReportKind, path: &str) -> Request
         Ok(None) => Request::Refused(Refusal::NotFound),
         Err(_) => Request::Refused(Refusal::NotNow),
     }
+}
+
+/// How many bytes are asked for at once.
+pub(crate) const ROOM: usize = 4096;
+
+/// Reads a body of that size, whose front was read already.
+pub(crate) fn read_delivery<R: Read>(
+    alloc: Global,
+    reader: &mut Port<R>,
+    front: &[u8],
+    size: usize,
+) -> Result<Request>
+    ensures posts { IfOk result (λ request. IfSome (R.remaining reader.old.inner) (λ left.
+        (request ≡ Refused NotNow) ⊎ Posts (Ok size) (front.now ++ left) request)) }
+    ensures reads { ReadsUpTo (size - length front.now) reader.old reader.new result }
+{
+    let Ok(mut body) = Vec::from_slice(alloc, &front[..min(front.len(), size)]) else {
+        return Ok(Request::Refused(Refusal::NotNow));
+    };
+    let mut buffer = [0; ROOM];
+    'reads: while body.len() < size {
+        let count = reader.read(&mut buffer)?;
+        if count == 0 {
+            return Ok(Request::Refused(Refusal::BadRequest));
+        }
+        let taken = min(count, size - body.len());
+        let Ok(()) = body.extend_from_slice(&buffer[..taken]) else {
+            return Ok(Request::Refused(Refusal::NotNow));
+        };
+    }
+    Ok(Request::Delivery(body))
+}
+
+/// Reads past a body of that size, whose front was read already; true if it is whole. It takes no memory.
+pub(crate) fn skip_body<R: Read>(reader: &mut Port<R>, front: &[u8], size: usize) -> Result<bool>
+    ensures whole { IfOk result (λ whole. IfSome (R.remaining reader.old.inner) (λ left.
+        IsTrue whole ↔ (size ≤ length (front.now ++ left)))) }
+    ensures reads { ReadsUpTo (size - length front.now) reader.old reader.new result }
+{
+    let mut left = size.saturating_sub(front.len());
+    let mut buffer = [0; ROOM];
+    'skips: while left > 0 {
+        let count = reader.read(&mut buffer)?;
+        if count == 0 {
+            return Ok(false);
+        }
+        left = left.saturating_sub(count);
+    }
+    Ok(true)
 }

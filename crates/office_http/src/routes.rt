@@ -1,12 +1,48 @@
-ghost use Rattle.std.specs.Prelude.{◌≡◌, ◌⊎◌, IfOk, option_map, Err};
-ghost use Rattle.office_http.specs.Routes.{endpoint_of, endpoint_at, endpoints, front_of, key_in, other_method, partner_key_in, path_of};
-ghost use Rattle.office_http.specs.declared.refusal.Refusal.TheVariants.{NotNow};
+ghost use Rattle.std.specs.Prelude.{◌≡◌, ◌⊎◌, IfOk, option_map, Err, ℕ, List, Result, string_bytes};
+ghost use Rattle.edi_segments.specs.Interchange.{interchange_of};
+ghost use Rattle.office_http.specs.Requests.{Posts, PostsFrom, PostsOwn};
+ghost use Rattle.office_http.specs.Routes.{method_of, endpoint_of, endpoint_at, endpoints, front_of, key_in, other_method, partner_key_in, path_of};
+ghost use Rattle.office_http.specs.Senders.{sender_at};
+ghost use Rattle.office_http.specs.declared.requests.Request.TheVariants.{Refused};
+ghost use Rattle.office_http.specs.declared.response.Refusal.{Refusal};
+ghost use Rattle.office_http.specs.declared.response.Refusal.TheVariants.{NotNow};
 
-use crate::endpoint::Endpoint;
-use crate::refusal::Refusal;
+use crate::head::OwnText;
+use crate::requests::Request;
+use crate::response::Refusal;
+use edi_segments::interchange_text;
+use edi_syntax::Head;
+use http::Method;
 use matchit::{InsertError, Router};
-use office_queries::ReportKind;
+use office_queries::{Query, ReportKind};
 use std::alloc::Global;
+
+/// What a path leads to.
+#[derive(Clone, Copy)]
+pub(crate) enum Endpoint {
+    /// Where interchanges are delivered.
+    Interchanges,
+    /// Where the interchanges of one partner are delivered.
+    PartnerInterchanges,
+    /// Where accounts are added.
+    Accounts,
+    /// A report.
+    Report(ReportKind),
+}
+
+impl Endpoint {
+    /// The method that it takes.
+    pub(crate) fn method(self) -> Method
+        ensures { result ≡ method_of self }
+    {
+        match self {
+            Endpoint::Interchanges | Endpoint::PartnerInterchanges | Endpoint::Accounts => {
+                Method::POST
+            }
+            Endpoint::Report(_) => Method::GET,
+        }
+    }
+}
 
 /// Where a request goes to, or why it is refused.
 pub(crate) fn direct(alloc: Global, method: &[u8], path: &str) -> Result<Endpoint, Refusal>
@@ -66,6 +102,7 @@ fn router(alloc: Global) -> Result<Router<Endpoint>, InsertError>
     router.insert("/partners/{code}", Endpoint::Report(ReportKind::Partner))?;
     router.insert("/health", Endpoint::Report(ReportKind::Health))?;
     router.insert("/metrics", Endpoint::Report(ReportKind::Metrics))?;
+    router.insert("/calls", Endpoint::Report(ReportKind::Calls))?;
     Ok(router)
 }
 
@@ -128,10 +165,67 @@ fn front_of(kind: ReportKind) -> &'static str
         ReportKind::Work => "/work/",
         ReportKind::Partners => "/partners",
         ReportKind::Blocks => "/blocks",
+        ReportKind::Calls => "/calls",
         ReportKind::Contrl => "/contrls/",
         ReportKind::Picture => "/picture",
         ReportKind::Partner => "/partners/",
         ReportKind::Health => "/health",
         ReportKind::Metrics => "/metrics",
+    }
+}
+
+/// Whom the head of a text names as its sender.
+#[derive(Clone, Copy)]
+pub(crate) enum Sender {
+    /// Nobody: it can't be read.
+    Nobody,
+    /// The partner whose path it came by, under this number.
+    Own(u32),
+    /// Another.
+    Another,
+}
+
+/// What was posted, by the path of the partner of that code.
+pub(crate) fn posted_as(code: String, posted: Request) -> Request
+    ensures { (said : Result ℕ Refusal) (rest : List ℕ) → (posted ≡ Refused NotNow) ⊎ Posts said rest posted
+        → (result ≡ Refused NotNow) ⊎ PostsOwn (string_bytes code) said rest result }
+{
+    match posted {
+        Request::Delivery(text) => sent_as(code, text),
+        Request::OwnDelivery(own) => Request::OwnDelivery(own),
+        Request::Account(key) => Request::Account(key),
+        Request::Report(kind, query) => Request::Report(kind, query),
+        Request::Refused(refusal) => Request::Refused(refusal),
+    }
+}
+
+/// A text that was posted by the path of the partner of that code.
+fn sent_as(code: String, text: Vec<u8>) -> Request
+    ensures { PostsFrom (sender_at (string_bytes code) (interchange_of text.items)) (string_bytes code) text.items result }
+{
+    match sender_of(code.as_bytes(), interchange_text(text.as_slice())) {
+        Sender::Nobody => Request::Delivery(text),
+        Sender::Own(number) => Request::OwnDelivery(OwnText {
+            next: Query::Next(code),
+            number,
+            text,
+        }),
+        Sender::Another => Request::Refused(Refusal::OtherSender),
+    }
+}
+
+/// Whom a text names, that came by the path of the partner of that code.
+fn sender_of(code: &[u8], text: &[u8]) -> Sender
+    ensures { result ≡ sender_at code.now text.now }
+{
+    match Head::open(text) {
+        Ok(head) => {
+            if head.sender(1).equals(code) {
+                Sender::Own(head.number())
+            } else {
+                Sender::Another
+            }
+        }
+        Err(_) => Sender::Nobody,
     }
 }

@@ -1,25 +1,132 @@
-ghost use Rattle.std.specs.Prelude.{◌≡◌, ◌⊎◌, ◌≤◌, ◌+◌, ℕ, List, Option, Result, true, false, IfErr, OnOk, OnErr, IfSome, Err};
 ghost use Rattle.std.specs.Io.KnownBytes.{Appends};
-ghost use Rattle.office_queries.specs.Looking.{IsLookedAt};
-ghost use Rattle.office_queries.specs.declared.not_now.NotNow.{NotNow};
+ghost use Rattle.std.specs.Prelude.{◌≤◌, ◌≡◌, ℕ, List, Option, Result, ◌⊎◌, ◌+◌, true, false, IfErr, OnOk, OnErr, IfSome, Err};
 ghost use Rattle.office_http.specs.Deciding.{EndsWhenDecided};
+ghost use Rattle.office_http.specs.Doors.{door_by, door_of};
 ghost use Rattle.office_http.specs.Heads.{most_request_reads};
 ghost use Rattle.office_http.specs.Served.{AtMost, calls_of, content_of, Does, DoesDelivery, DoesOwn, found_bytes, MatchFault, Serves};
+ghost use Rattle.office_queries.specs.declared.query.NotNow.{NotNow};
 
-use crate::content_type::ContentType;
-use crate::door::{Door, door_of};
-use crate::own_text::OwnText;
-use crate::refusal::Refusal;
-use crate::request::Request;
-use crate::requests::read_request;
-use crate::response::{write_account_answer, write_answer, write_early, write_refusal, write_text};
-use crate::serve_fault::ServeFault;
+use crate::head::{ContentType, OwnText};
+use crate::requests::{Request, read_request};
+use crate::response::{
+    Refusal, write_account_answer, write_answer, write_early, write_refusal, write_text,
+};
 use http::StatusCode;
-use office_queries::{NotNow, Query, Report, ReportKind};
+use office_queries::{NotNow, Query, Report, ReportKind, number_of};
 use office_replies::AddAccount;
 use office_stream::Port;
 use std::alloc::Global;
 use std::io::{self, Read, Write};
+use thiserror::Error;
+
+/// What watches a server.
+pub trait Watch {
+    /// A connection was served.
+    fn served(&mut self, seen: &Seen<'_>);
+}
+
+/// What was seen of a connection: the first two words of what came, and what was written.
+#[derive(Clone, Copy, Debug)]
+pub struct Seen<'a> {
+    /// The method, or whatever stands in its place. Empty if nothing came.
+    pub method: &'a [u8],
+    /// The target, as it came. What stands behind the first 256 bytes of a request is cut off.
+    pub target: &'a [u8],
+    /// The status of the response, 0 if none was written.
+    pub status: u16,
+    /// How many bytes were written.
+    pub bytes: u64,
+}
+
+impl<'a> Seen<'a> {
+    /// By the fronts of a request and its response, and how many bytes that has.
+    pub(crate) fn new(request: &'a [u8], response: &[u8], bytes: u64) -> Seen<'a> {
+        let (method, behind) = split_word(request);
+        let (target, _) = match behind {
+            [_, rest @ ..] => split_word(rest),
+            [] => (behind, behind),
+        };
+        Seen {
+            method,
+            target,
+            status: status_in(response),
+            bytes,
+        }
+    }
+}
+
+/// The characters before the first that can't be seen, and what follows.
+fn split_word(bytes: &[u8]) -> (&[u8], &[u8]) {
+    let end = bytes.iter().position(|byte| !byte.is_ascii_graphic());
+    bytes.split_at(end.unwrap_or(bytes.len()).min(bytes.len()))
+}
+
+/// The status of a response, 0 if it doesn't reach so far.
+fn status_in(response: &[u8]) -> u16 {
+    match response {
+        [b'H', b'T', b'T', b'P', _, _, _, _, _, a, b, c, ..] => {
+            digit(*a) * 100 + digit(*b) * 10 + digit(*c)
+        }
+        _ => 0,
+    }
+}
+
+fn digit(byte: u8) -> u16
+    ensures { result ≤ 9 }
+{
+    u16::from(byte.saturating_sub(b'0').min(9))
+}
+
+/// Why a request got no whole response.
+#[derive(Clone, Copy, PartialEq, Eq, Debug, Error)]
+pub enum ServeFault {
+    /// A read failed: nothing was delivered, and nothing written.
+    #[error("a read failed")]
+    Read,
+    /// A write failed: what was delivered stands.
+    #[error("a write failed")]
+    Write,
+}
+
+/// Whether a text that came by the path of its sender goes on to the desk.
+#[derive(Clone, Copy)]
+pub(crate) enum Door {
+    /// It does.
+    Open,
+    /// Its number is too far above the next one, which this is.
+    TooEarly(u64),
+    /// The next number can't be told now.
+    NotNow,
+}
+
+/// Asks the desk for the number that is next, and whether a text's is above it by more than that.
+pub(crate) fn door_of<D: Report>(alloc: Global, desk: &mut D, ahead: u32, own: &OwnText) -> Door
+    ensures door { (found : Result (Option (List ℕ)) NotNow)
+        × D.looks desk.old own.now.next found desk.new
+        × (result ≡ door_of ahead own.now.number found) }
+{
+    match desk.report(alloc, &own.next) {
+        Ok(Some(digits)) => door_by(ahead, own.number, number_of(digits.as_bytes(), 10)),
+        Ok(None) => Door::Open,
+        Err(NotNow) => Door::NotNow,
+    }
+}
+
+/// Whether a number is above the next one by no more than that.
+fn door_by(ahead: u32, number: u32, next: Option<u64>) -> Door
+    ensures { result ≡ door_by ahead number next }
+{
+    match next {
+        Some(next) => {
+            if u64::from(number.saturating_sub(ahead)) <= next {
+                Door::Open
+            } else {
+                Door::TooEarly(next)
+            }
+        }
+        None => Door::NotNow,
+    }
+}
 
 /// Reads one request, does what it asks for, and writes its response. By the path of a partner a number may be above its
 /// next one by `ahead`; by any, if there is no bound. What a reader gives behind a request has no effect.
@@ -32,7 +139,7 @@ pub fn serve_one<R: Read, W: Write, D: Report + AddAccount>(
 ) -> Result<(), ServeFault>
     // Unless a read failed, what was asked for is done, whatever desk it is, and at Ok exactly its answer is written.
     ensures serves { IfSome (R.remaining reader.old.inner) (λ stream. (result ≡ Err ServeFault.Read)
-        ⊎ Serves D.is_sound D.stands D.answers D.added D.tells D.leads D.enrols D.looks ahead stream desk.old desk.new
+        ⊎ Serves D.leads D.enrols D.looks ahead stream desk.old desk.new
         (λ bytes. OnOk result (Appends (W.contents writer.old.inner) (W.contents writer.new.inner) bytes))) }
 
     // After a failed read nothing was delivered, and nothing written.
@@ -41,10 +148,7 @@ pub fn serve_one<R: Read, W: Write, D: Report + AddAccount>(
         ((writer.new.failed ≡ true) × (reader.new.failed ≡ reader.old.failed))) }
 
     // Whatever the reader gives, one thing is asked of the desk at most, behind a look at the number that is next.
-    ensures steps { AtMost D.is_sound D.stands D.answers D.added D.leads D.enrols D.looks (calls_of 1) desk.old desk.new }
-
-    // Nothing is said of the answers of a desk whose records have not told the truth.
-    ensures stays { D.is_sound desk.new → D.is_sound desk.old }
+    ensures steps { AtMost D.leads D.enrols D.looks (calls_of 1) desk.old desk.new }
 
     // A read for each byte of a head and of a body, at most.
     ensures reads { reader.new.reads ≤ reader.old.reads + most_request_reads }
@@ -80,12 +184,11 @@ fn send_answer<W: Write, D: Report + AddAccount>(
     ahead: Option<u32>,
     request: Request,
 ) -> io::Result<()>
-    ensures does { Does D.is_sound D.stands D.answers D.added D.tells D.leads D.enrols D.looks ahead request desk.old desk.new
+    ensures does { Does D.leads D.enrols D.looks ahead request desk.old desk.new
         (λ bytes. OnOk result (Appends (W.contents writer.old.inner) (W.contents writer.new.inner) bytes)) }
     ensures kept { OnOk result (writer.new.failed ≡ writer.old.failed) }
     ensures fails { OnErr result (writer.new.failed ≡ true) }
     ensures flushed { OnOk result (writer.new.flushed ≡ true) }
-    ensures stays { D.is_sound desk.new → D.is_sound desk.old }
 {
     answer(alloc, writer, desk, ahead, request)?;
     writer.flush()
@@ -99,11 +202,10 @@ fn answer<W: Write, D: Report + AddAccount>(
     ahead: Option<u32>,
     request: Request,
 ) -> io::Result<()>
-    ensures does { Does D.is_sound D.stands D.answers D.added D.tells D.leads D.enrols D.looks ahead request desk.old desk.new
+    ensures does { Does D.leads D.enrols D.looks ahead request desk.old desk.new
         (λ bytes. OnOk result (Appends (W.contents writer.old.inner) (W.contents writer.new.inner) bytes)) }
     ensures kept { OnOk result (writer.new.failed ≡ writer.old.failed) }
     ensures fails { OnErr result (writer.new.failed ≡ true) }
-    ensures stays { D.is_sound desk.new → D.is_sound desk.old }
 {
     match request {
         Request::Delivery(body) => answer_delivery(alloc, writer, desk, body.as_slice()),
@@ -118,35 +220,33 @@ fn answer<W: Write, D: Report + AddAccount>(
 }
 
 /// Delivers a text, and writes its answer.
-fn answer_delivery<W: Write, D: Report + AddAccount>(
+fn answer_delivery<W: Write, D: Report>(
     alloc: Global,
     writer: &mut Port<W>,
     desk: &mut D,
     text: &[u8],
 ) -> io::Result<()>
-    ensures does { DoesDelivery D.is_sound D.stands D.answers D.added D.tells D.leads D.enrols D.looks text.now desk.old desk.new
+    ensures does { DoesDelivery D.leads text.now desk.old desk.new
         (λ bytes. OnOk result (Appends (W.contents writer.old.inner) (W.contents writer.new.inner) bytes)) }
     ensures kept { OnOk result (writer.new.failed ≡ writer.old.failed) }
     ensures fails { OnErr result (writer.new.failed ≡ true) }
-    ensures stays { D.is_sound desk.new → D.is_sound desk.old }
 {
     let response = desk.deliver(alloc, text);
     write_answer(writer, &response)
 }
 
 /// Delivers the text of a partner, unless its number is too far above the next one, and writes its answer.
-fn answer_own<W: Write, D: Report + AddAccount>(
+fn answer_own<W: Write, D: Report>(
     alloc: Global,
     writer: &mut Port<W>,
     desk: &mut D,
     ahead: Option<u32>,
     own: &OwnText,
 ) -> io::Result<()>
-    ensures does { DoesOwn D.is_sound D.stands D.answers D.added D.tells D.leads D.enrols D.looks ahead own.now desk.old desk.new
+    ensures does { DoesOwn D.leads D.looks ahead own.now desk.old desk.new
         (λ bytes. OnOk result (Appends (W.contents writer.old.inner) (W.contents writer.new.inner) bytes)) }
     ensures kept { OnOk result (writer.new.failed ≡ writer.old.failed) }
     ensures fails { OnErr result (writer.new.failed ≡ true) }
-    ensures stays { D.is_sound desk.new → D.is_sound desk.old }
 {
     let Some(ahead) = ahead else {
         return answer_delivery(alloc, writer, desk, own.text.as_slice());
@@ -166,11 +266,10 @@ fn answer_report<W: Write, D: Report>(
     query: &Query,
 ) -> io::Result<()>
     ensures does { (found : Result (Option (List ℕ)) NotNow)
-        × IsLookedAt D.is_sound D.stands D.tells D.looks desk.old query.now found desk.new
+        × D.looks desk.old query.now found desk.new
         × OnOk result (Appends (W.contents writer.old.inner) (W.contents writer.new.inner) (found_bytes kind found)) }
     ensures kept { OnOk result (writer.new.failed ≡ writer.old.failed) }
     ensures fails { OnErr result (writer.new.failed ≡ true) }
-    ensures stays { D.is_sound desk.new → D.is_sound desk.old }
 {
     match desk.report(alloc, query) {
         Ok(Some(text)) => write_text(writer, StatusCode::OK, content_of(kind), text.as_str()),
@@ -196,6 +295,7 @@ fn content_of(kind: ReportKind) -> ContentType
         | ReportKind::Work
         | ReportKind::Partners
         | ReportKind::Partner
-        | ReportKind::Blocks => ContentType::Text,
+        | ReportKind::Blocks
+        | ReportKind::Calls => ContentType::Text,
     }
 }

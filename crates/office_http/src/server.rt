@@ -1,19 +1,42 @@
 ghost use Rattle.office_http.specs.Served.{AtMost, calls_of};
 
-use crate::body::ROOM;
 use crate::overheard::Overheard;
-use crate::seen::Seen;
-use crate::serve::serve_one;
-use crate::timed_reader::TimedReader;
-use crate::timed_writer::TimedWriter;
-use crate::watch::Watch;
+use crate::requests::ROOM;
+use crate::serve::{Seen, Watch, serve_one};
 use office_queries::Report;
 use office_replies::AddAccount;
 use office_stream::Port;
 use std::alloc::Global;
-use std::io::Read;
+use std::io::{self, ErrorKind, Read, Result, Write};
 use std::net::{Shutdown, TcpListener, TcpStream};
 use std::rt::Clock;
+use std::time::{Duration, Instant};
+
+/// A moment by which something has to be over.
+#[derive(Clone, Copy)]
+pub(crate) struct Deadline {
+    begun: Instant,
+    seconds: u64,
+}
+
+impl Deadline {
+    /// So many seconds from now.
+    pub(crate) fn begin<C: Clock>(clock: &C, seconds: u64) -> io::Result<Deadline> {
+        Ok(Deadline {
+            begun: Instant::now(clock)?,
+            seconds,
+        })
+    }
+
+    /// How long it is till then; TimedOut if it is over.
+    pub(crate) fn left<C: Clock>(&self, clock: &C) -> io::Result<Duration> {
+        let spent = self.begun.elapsed(clock)?;
+        match Duration::from_secs(self.seconds).checked_sub(spent) {
+            Some(left) if !left.is_zero() => Ok(left),
+            _ => Err(ErrorKind::TimedOut.into()),
+        }
+    }
+}
 
 /// How often at most what a peer still sends behind its request is read.
 const PARTING_READS: u32 = 1024;
@@ -31,11 +54,8 @@ pub fn serve_on<C: Clock, D: Report + AddAccount, H: Watch>(
     desk: &mut D,
     watch: &mut H,
 )
-    // At most the calls of so many requests are made of the desk, each answered at its place.
-    ensures steps { AtMost D.is_sound D.stands D.answers D.added D.leads D.enrols D.looks (calls_of count) desk.old desk.new }
-
-    // Nothing is said of the answers of a desk whose records have not told the truth.
-    ensures stays { D.is_sound desk.new → D.is_sound desk.old }
+    // At most the calls of so many requests are made of the desk.
+    ensures steps { AtMost D.leads D.enrols D.looks (calls_of count) desk.old desk.new }
 {
     'connections: for _ in 0..count {
         if let Ok((stream, _)) = listener.accept() {
@@ -53,8 +73,7 @@ fn serve_stream<C: Clock, D: Report + AddAccount, H: Watch>(
     desk: &mut D,
     watch: &mut H,
 )
-    ensures steps { AtMost D.is_sound D.stands D.answers D.added D.leads D.enrols D.looks (calls_of 1) desk.old desk.new }
-    ensures stays { D.is_sound desk.new → D.is_sound desk.old }
+    ensures steps { AtMost D.leads D.enrols D.looks (calls_of 1) desk.old desk.new }
 {
     let Ok(timed) = TimedReader::of_request(stream, clock) else {
         return;
@@ -79,5 +98,115 @@ fn drain<C: Clock>(mut stream: TimedReader<'_, C>) {
             Ok(count) if count > 0 => {}
             _ => return,
         }
+    }
+}
+
+/// How many seconds the first byte of a request may take, from when its connection was accepted.
+const FIRST_BYTE: u64 = 2;
+
+/// How many seconds a request may take till it is whole, from when its connection was accepted.
+const REQUEST: u64 = 10;
+
+/// How many seconds may bring nothing once the response is written.
+const PARTING: u64 = 1;
+
+/// What a connection brings, in time.
+#[derive(Drop)]
+pub(crate) struct TimedReader<'a, C: Clock> {
+    stream: &'a TcpStream,
+    clock: &'a C,
+    deadline: Deadline,
+    /// How many seconds the next read may take.
+    turn: u64,
+    /// How many seconds a read behind that may take.
+    later: u64,
+}
+
+impl<'a, C: Clock> TimedReader<'a, C> {
+    /// The request of a connection that was just accepted.
+    pub(crate) fn of_request(stream: &'a TcpStream, clock: &'a C) -> Result<TimedReader<'a, C>> {
+        Ok(TimedReader {
+            stream,
+            clock,
+            deadline: Deadline::begin(clock, REQUEST)?,
+            turn: FIRST_BYTE,
+            later: REQUEST,
+        })
+    }
+
+    /// What still comes behind a request whose response is written: nobody waits long for a peer that doesn't close.
+    pub(crate) fn parting(
+        stream: &'a TcpStream,
+        clock: &'a C,
+        deadline: Deadline,
+    ) -> TimedReader<'a, C> {
+        TimedReader {
+            stream,
+            clock,
+            deadline,
+            turn: PARTING,
+            later: PARTING,
+        }
+    }
+}
+
+impl<C: Clock> Read for TimedReader<'_, C> {
+    fn read(&mut self, buf: &mut [u8]) -> Result<usize> {
+        let left = self.deadline.left(self.clock)?;
+        let limit = left.min(Duration::from_secs(self.turn));
+        self.stream.set_read_timeout(Some(limit))?;
+        let mut stream = self.stream;
+        let count = stream.read(buf)?;
+        self.turn = self.later;
+        Ok(count)
+    }
+}
+
+/// How many seconds a response may take till it is taken, and till the peer has closed behind it.
+const RESPONSE: u64 = 10;
+
+/// What a connection takes, in time.
+#[derive(Drop)]
+pub(crate) struct TimedWriter<'a, C: Clock> {
+    stream: &'a TcpStream,
+    clock: &'a C,
+    deadline: Option<Deadline>,
+}
+
+impl<'a, C: Clock> TimedWriter<'a, C> {
+    pub(crate) fn new(stream: &'a TcpStream, clock: &'a C) -> TimedWriter<'a, C> {
+        TimedWriter {
+            stream,
+            clock,
+            deadline: None,
+        }
+    }
+
+    /// When the response has to be taken, once a write has begun it.
+    pub(crate) fn deadline(&self) -> Option<Deadline> {
+        self.deadline
+    }
+
+    /// How long the next write may take. The first begins the response.
+    fn left(&mut self) -> Result<Duration> {
+        let deadline = match self.deadline {
+            Some(deadline) => deadline,
+            None => Deadline::begin(self.clock, RESPONSE)?,
+        };
+        self.deadline = Some(deadline);
+        deadline.left(self.clock)
+    }
+}
+
+impl<C: Clock> Write for TimedWriter<'_, C> {
+    fn write(&mut self, buf: &[u8]) -> Result<usize> {
+        let left = self.left()?;
+        self.stream.set_write_timeout(Some(left))?;
+        let mut stream = self.stream;
+        stream.write(buf)
+    }
+
+    fn flush(&mut self) -> Result<()> {
+        Ok(())
     }
 }

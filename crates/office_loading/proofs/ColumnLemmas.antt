@@ -6,8 +6,8 @@ use Rattle.box6346.specs.ContainerNumber.{number_of}
 use Rattle.box6346.specs.NumberText as container
 use Rattle.box6346.specs.SizeCode.{size_of}
 use Rattle.box6346.specs.SizeText as size
-use Rattle.box6346.specs.declared.number_fault.NumberFault.{NumberFault}
-use Rattle.box6346.specs.declared.size_fault.SizeFault.{SizeFault}
+use Rattle.box6346.specs.declared.box_number.NumberFault.{NumberFault}
+use Rattle.box6346.specs.declared.size_type.SizeFault.{SizeFault}
 use Rattle.edi_moments.specs.Moments.{CivilMoment, moment_of, moment_digits}
 use Rattle.sqlite.specs.declared.types.Value.{Value}
 use Rattle.sqlite.specs.declared.types.Value.TheVariants.{Text}

@@ -9,15 +9,15 @@ use Rattle.std.proofs.lemmas.Str.{IsUtf8-from_ascii, IsUtf8-nil}
 use Rattle.edi_segments.specs.Characters.{is_printable}
 use Rattle.edi_messages.specs.Forms.{is_name_if_any}
 use Rattle.edi_messages.specs.Texts.{is_name}
-use Rattle.edi_messages.specs.declared.partner_kind.PartnerKind.{PartnerKind}
+use Rattle.edi_messages.specs.declared.codes.PartnerKind.{PartnerKind}
 use Rattle.edi_moments.proofs.DigitLemmas.{read_back}
 use Rattle.box6346.proofs.SlotNames.{names_are_read_again_lem}
-use Rattle.terminal_core.specs.declared.departure.Departure.{Departure}
-use Rattle.terminal_core.specs.declared.source.Source.{Source}
+use Rattle.terminal_core.specs.declared.visits.Departure.{Departure}
+use Rattle.terminal_core.specs.declared.change.Source.{Source}
 use Rattle.terminal_core.specs.Forms.{IsSource, IsFormedExit, IsFormedVisit}
 use Rattle.terminal_core.specs.Rows.{VisitContent}
 use Rattle.terminal_core.specs.State.{AreNumbered}
-use Rattle.yard_core.specs.declared.block.Block.{Block}
+use Rattle.yard_core.specs.declared.plan.Block.{Block}
 use Rattle.yard_core.specs.Plan.{IsSized}
 use Rattle.office_setup.specs.Given.{is_party_byte, is_party_code}
 use Rattle.office_rows.specs.Rows.{Partner}

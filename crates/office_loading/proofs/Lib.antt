@@ -1,3 +1,9 @@
+pub mod MissingLemmas
+pub mod SettingQuery
+pub mod LackingLemmas
+pub mod QueryTexts
+pub mod ListedLemmas
+pub mod WaitingQuery
 pub mod ColumnLemmas
 pub mod DecodeLemmas
 pub mod OrderLemmas

@@ -1,7 +1,7 @@
 -- The interchanges of an office are in the order of partner and number.
 use Rattle.std.proofs.Common.{◌≡◌, ◌⊎◌, ℕ, zero, suc, ◌+◌, ◌-◌, ◌<◌, ◌≤◌, true, List, [], ◌∷◌, ◌++◌, map, inl, inr, refl, sym, subst, ◌∙◌, arith}
 use Rattle.std.specs.List.{AllByRecursion, range_with_len}
-use Rattle.edi_messages.specs.declared.partner_kind.PartnerKind.{PartnerKind}
+use Rattle.edi_messages.specs.declared.codes.PartnerKind.{PartnerKind}
 use Rattle.sqlite_trees.specs.Tree.{IsAscending}
 use Rattle.sqlite_rules.specs.Lists.{Has}
 use Rattle.office_rows.specs.Rows.{Partner, Interchange}
@@ -11,7 +11,7 @@ use Rattle.office_rows.specs.Office.{AreAccounts, AreWaiting, AreKept, taken_num
 abbrev Before : Numbered → Numbered → Type 0
 Before a b = (a.partner < b.partner) ⊎ ((a.partner ≡ b.partner) × (a.number < b.number))
 
-all_from : {X : Type 0} (P : X → Type 0) (xs : List X) → ((x : X) → Has xs x → P x) → AllByRecursion P xs
+pub all_from : {X : Type 0} (P : X → Type 0) (xs : List X) → ((x : X) → Has xs x → P x) → AllByRecursion P xs
 all_from P [] h = tt
 all_from P (x ∷ xs) h = (h x (inl refl), all_from P xs (λ y p. h y (inr p)))
 

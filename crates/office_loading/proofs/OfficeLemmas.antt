@@ -1,5 +1,5 @@
 -- The rows of an office can be read, and in one way.
-use Rattle.std.proofs.Common.{◌≡◌, ◌+◌, ◌<◌, ◌≤◌, ◌^◌, List, [], ◌∷◌, map, length, Contains, inl, inr, refl, sym, ap, ap₂, subst, ◌∙◌, arith, Equal}
+use Rattle.std.proofs.Common.{◌≡◌, ◌+◌, ◌<◌, ◌≤◌, ◌^◌, List, [], ◌∷◌, map, length, Contains, refl, sym, ap, ap₂, subst, ◌∙◌, arith, Equal}
 use Rattle.std.specs.List.{AllByRecursion}
 use Rattle.box6346.specs.declared.box_number.BoxNumber.{BoxNumber}
 use Rattle.sqlite.specs.Effect.{Database}
@@ -9,8 +9,8 @@ use Rattle.terminal_core.specs.Changes.{TerminalRows, standing_of}
 use Rattle.terminal_core.specs.Forms.{IsFormedVisit}
 use Rattle.terminal_core.specs.Rows.{VisitContent}
 use Rattle.terminal_core.specs.State.{TerminalState}
-use Rattle.terminal_core.specs.declared.restore_fault.RestoreFault.{RestoreFault}
-use Rattle.terminal_core.specs.declared.restore_fault.RestoreFault.TheVariants as restoring
+use Rattle.terminal_core.specs.declared.restoring.RestoreFault.{RestoreFault}
+use Rattle.terminal_core.specs.declared.restoring.RestoreFault.TheVariants as restoring
 use Rattle.office_setup.specs.Setups.{SetupContent}
 use Rattle.office_rows.specs.Tables as table
 use Rattle.office_rows.specs.Rows.{Interchange}
@@ -21,21 +21,17 @@ use Rattle.office_rows.specs.Office.{IsOffice}
 use Rattle.office_checks.specs.Refusals.{RefusesTables}
 use Rattle.office_loading.specs.Fits.{FitsPartner, FitsVisit, FitsPlace, FitsLine, FitsSetting, FitsBlock}
 use Rattle.office_tables.specs.declared.table_fault.TableFault.{TableFault}
-use Rattle.office_tables.specs.declared.table_fault.TableFault.TheVariants.{Store, Damaged, Version, Memory}
 use Rattle.office_tables.specs.Faults.{IsOfStoreOr}
-use Rattle.office_loading.specs.Tables.{FitsRows, FailsTables, FailsToLoad, ShowsNoOffice, HasVersion, fault_of_restoring}
+use Rattle.office_loading.specs.Tables.{FitsRows, FailsTables, FailsToLoad, ShowsNoOffice, ShowsUnfit, HasVersion, fault_of_restoring}
 use Rattle.office_loading.proofs.OrderLemmas.{all_in}
+use Rattle.office_loading.proofs.VersionLemmas.{fails_weaker}
 use Rattle.office_loading.proofs.KeyLemmas.{number_tied, text_tied, one_showing, one_reading}
 use Rattle.office_loading.proofs.FitLemmas.{partners_fit, numbers_fit, blocks_fit, visits_fit}
 use Rattle.office_loading.proofs.RowLemmas.{one_partner, one_visit, one_place, one_line, one_setting, one_block, ids_differ, visits_differ, blocks_differ}
 use Rattle.office_loading.proofs.SettingLemmas.{settings_fit, settings_tied}
-use Rattle.office_loading.proofs.NumberLemmas.{interchanges_differ}
+use Rattle.office_loading.proofs.NumberLemmas.{all_from, interchanges_differ}
 use Rattle.office_loading.proofs.PlaceLemmas.{place_fits, places_differ}
 use Rattle.office_loading.proofs.LineLemmas.{line_fits, lines_differ}
-
-all_from : {X : Type 0} (P : X → Type 0) (xs : List X) → ((x : X) → Has xs x → P x) → AllByRecursion P xs
-all_from P [] h = tt
-all_from P (x ∷ xs) h = (h x (inl refl), all_from P xs (λ y p. h y (inr p)))
 
 pub replies_same : (is js : List Interchange) → map reply_values is ≡ map reply_values js → map numbered is ≡ map numbered js
 replies_same [] [] same = refl
@@ -150,10 +146,7 @@ module _ (rows : OpenedRows) (content : SetupContent) (state : TerminalState) (o
 -- ---- faults
 
 pub tables_fail : (db : Database) (fault : TableFault) → FailsTables db fault → FailsToLoad db fault
-tables_fail db Damaged h = (h.0, λ rows content state shown office. h.1 rows shown (office_fits rows content state office))
-tables_fail db Version h = h
-tables_fail db Memory h = h
-tables_fail db (Store error) h = h
+tables_fail db fault = fails_weaker (HasVersion db) (ShowsUnfit db) (ShowsNoOffice db) fault (λ h rows content state shown office. h rows shown (office_fits rows content state office))
 
 pub none_shown : (db : Database) (other : OpenedRows) → Shows db other → FitsRows other → ((content : SetupContent) (state : TerminalState) → ¬ IsOffice other content state) → ShowsNoOffice db
 none_shown db other that fits none rows content state shown = λ office. none content state (subst (λ r. IsOffice r content state) (office_one rows content state office db shown other that fits) office)

@@ -13,9 +13,9 @@ use Rattle.sqlite.specs.Tree.{Trees}
 use Rattle.sqlite.specs.Effect.{Database}
 use Rattle.sqlite_trees.proofs.ListLemmas.{map-map}
 use Rattle.terminal_core.specs.State.{TerminalState}
-use Rattle.terminal_core.specs.declared.restore_fault.RestoreFault.{RestoreFault}
-use Rattle.terminal_core.specs.declared.restore_fault.RestoreFault.TheVariants as restoring
-use Rattle.terminal_core.specs.declared.version.Version.TheVariants.{First, Second, Third}
+use Rattle.terminal_core.specs.declared.restoring.RestoreFault.{RestoreFault}
+use Rattle.terminal_core.specs.declared.restoring.RestoreFault.TheVariants as restoring
+use Rattle.terminal_core.specs.declared.change.Version.TheVariants.{First, Second, Third}
 use Rattle.office_setup.specs.Setups.{SetupContent}
 use Rattle.office_rows.specs.Tables.{setting}
 use Rattle.office_rows.specs.Rows.{Setting}
@@ -29,11 +29,11 @@ use Rattle.office_rows.specs.Migrated.{migrated_settings, migrated_opened}
 use Rattle.office_rows.specs.Office.{IsOffice}
 use Rattle.office_checks.specs.Refusals.{RefusesTables}
 use Rattle.office_tables.specs.declared.table_fault.TableFault.{TableFault}
-use Rattle.office_tables.specs.declared.table_fault.TableFault.TheVariants.{Store, Damaged, Version, Memory}
 use Rattle.office_loading.specs.Fits.{FitsSetting}
-use Rattle.office_loading.specs.Tables.{FitsRows, fault_of_restoring}
+use Rattle.office_loading.specs.Tables.{FitsRows, ShowsUnfit, fault_of_restoring}
 use Rattle.office_loading.specs.Older.{FailsOlderTables, FailsToLoadOlder, HasOlder, ShowsNoOlder}
 use Rattle.office_loading.proofs.ShownLemmas.{keys_cmp}
+use Rattle.office_loading.proofs.VersionLemmas.{fails_weaker}
 use Rattle.office_loading.proofs.SettingLemmas.{version_utf8}
 use Rattle.office_loading.proofs.OfficeLemmas.{office_fits, office_one}
 
@@ -138,10 +138,7 @@ newest_shown db rows s = record {
 -- ---- faults
 
 pub older_tables_fail : (db : Database) (fault : TableFault) → FailsOlderTables db fault → FailsToLoadOlder db fault
-older_tables_fail db Damaged h = (h.0, λ rows content state shown office. h.1 rows shown (older_fits rows content state office))
-older_tables_fail db Version h = h
-older_tables_fail db Memory h = h
-older_tables_fail db (Store error) h = h
+older_tables_fail db fault = fails_weaker (HasOlder db) (ShowsUnfit (with_weights db)) (ShowsNoOlder db) fault (λ h rows content state shown office. h rows shown (older_fits rows content state office))
 
 -- the rows that were read are those of the office that the tables show
 pub older_one : (db : Database) (rows : OpenedRows) (content : SetupContent) (state : TerminalState) → IsOffice (migrated_opened rows) content state → Shows (with_weights db) rows → (read : OpenedRows) → Shows (with_weights db) read → FitsRows read → IsOffice (migrated_opened read) content state

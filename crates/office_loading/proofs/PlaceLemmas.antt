@@ -8,8 +8,8 @@ use Rattle.box6346.specs.NumberText.{is_number}
 use Rattle.box6346.specs.SlotName.{IsNamed}
 use Rattle.box6346.specs.declared.box_number.BoxNumber.{BoxNumber}
 use Rattle.box6346.proofs.SlotNames.{names_are_read_again_lem}
-use Rattle.yard_core.specs.declared.placement.Placement.{Placement}
-use Rattle.yard_core.specs.declared.stowed.Stowed.{Stowed}
+use Rattle.yard_core.specs.declared.placements.Placement.{Placement}
+use Rattle.yard_core.specs.declared.placements.Stowed.{Stowed}
 use Rattle.yard_core.specs.YardMap.{placed, placement_of}
 use Rattle.terminal_core.specs.Changes.{Standing, standing_in, standing_of}
 use Rattle.terminal_core.specs.Forms.{IsWellFormed}

@@ -15,6 +15,7 @@ use Rattle.office_rows.specs.Shown.{columns_at, ShowsTable}
 use Rattle.office_tables.specs.declared.table_fault.TableFault.{TableFault}
 use Rattle.office_tables.specs.declared.table_fault.TableFault.TheVariants.{Store, Damaged, Version, Memory}
 use Rattle.office_tables.specs.Faults.{IsOfStore}
+use Rattle.office_tables.proofs.FaultLemmas.{of_store_or}
 use Rattle.office_loading.specs.Decoded.{Said, FailsOne, DecodesAll}
 use Rattle.office_loading.specs.Columns.{SaysNumbered}
 use Rattle.office_loading.specs.Fits.{FitsNumber}
@@ -34,10 +35,7 @@ mapped_has f (y ∷ xs) x (inr later) = inr (mapped_has f xs x later)
 
 -- a failed query says nothing of records
 pub store_fails : {C : Type 0} (Fits : C → Type 0) (Shown : List C → Type 0) (fault : TableFault) → IsOfStore fault → FailsTable Fits Shown fault
-store_fails Fits Shown (Store error) h = h
-store_fails Fits Shown Memory h = h
-store_fails Fits Shown Damaged h = absurd h
-store_fails Fits Shown Version h = absurd h
+store_fails {C} Fits Shown = of_store_or ((all : List C) → Shown all → ¬ AllByRecursion Fits all)
 
 -- ---- rows that show all their columns
 

@@ -1,5 +1,5 @@
 -- The row of the version.
-use Rattle.std.proofs.Common.{◌≡◌, ℕ, true, false, List, [], ◌∷◌, map, codes, Contains, Result, Ok, Err, refl, sym, ap, ap₂, subst, ◌∙◌}
+use Rattle.std.proofs.Common.{◌≡◌, ℕ, true, false, List, [], ◌∷◌, map, codes, Contains, Result, Ok, Err, IfErr, refl, sym, ap, ap₂, subst, ◌∙◌}
 use Rattle.std.specs.Prelude.{Vec}
 use Rattle.std.specs.List.{list_any}
 use Rattle.std.proofs.lemmas.Bool.{and_parts}
@@ -19,12 +19,12 @@ use Rattle.office_rows.specs.Stored.{columns_of}
 use Rattle.office_rows.specs.Shown.{columns_at, ShowsTable}
 use Rattle.office_tables.specs.declared.table_fault.TableFault.{TableFault}
 use Rattle.office_tables.specs.declared.table_fault.TableFault.TheVariants.{Store, Damaged, Version, Memory}
-use Rattle.office_tables.specs.Faults.{IsOfStore, IsOfStoreOr}
+use Rattle.office_tables.specs.Faults.{IsOfStoreOr}
 use Rattle.office_loading.specs.Columns.{is_text, names_version}
 use Rattle.office_loading.specs.Fits.{FitsSetting}
-use Rattle.office_selecting.specs.Settings.{setting_in}
-use Rattle.office_loading.specs.Decoded.{DecodesAll}
-use Rattle.office_loading.specs.Tables.{HasVersion, Names, NamesVersion, TellsVersion, FailsSettings, ReadsTable, ReadsSettings, ShowsSettings}
+use Rattle.office_loading.specs.Settings.{setting_in}
+use Rattle.office_loading.specs.Decoded.{DecodesAll, FailsOne}
+use Rattle.office_loading.specs.Tables.{HasVersion, Names, Tells, FailsByVersion, FailsTable, ReadsTable, ReadsSettings, ShowsSettings}
 use Rattle.office_loading.proofs.TableLemmas.{has_mapped, mapped_has}
 
 abbrev version : List ℕ → Setting
@@ -62,25 +62,29 @@ module _ (db : Database) (answer : List Row) (it : ShowsTable setting (0 ∷ 1 �
       let holds = some_from (names_version text) answer (setting_values (version text)) shown ((bytes_eq-Decides text text).1 refl) in
       absurd cc
 
--- a failed query says nothing of the version
-pub store_fails_settings : (db : Database) (fault : TableFault) → IsOfStore fault → FailsSettings db fault
-store_fails_settings db (Store error) h = h
-store_fails_settings db Memory h = h
-store_fails_settings db Damaged h = absurd h
-store_fails_settings db Version h = absurd h
+-- a fault of the store, or damage, where the version is named
+pub fails_named : (named damaged : Type 0) (fault : TableFault) → named → IsOfStoreOr damaged fault → FailsByVersion named damaged fault
+fails_named named damaged Damaged has h = (has, h)
+fails_named named damaged Memory has h = h
+fails_named named damaged (Store error) has h = h
+fails_named named damaged Version has h = absurd h
+
+-- what follows from the damage
+pub fails_weaker : (named damaged more : Type 0) (fault : TableFault) → (damaged → more) → FailsByVersion named damaged fault → FailsByVersion named more fault
+fails_weaker named damaged more Damaged f h = (h.0, f h.1)
+fails_weaker named damaged more Version f h = h
+fails_weaker named damaged more Memory f h = h
+fails_weaker named damaged more (Store error) f h = h
 
 pub reads_settings : {X Z : Type 0} (content : X → Setting) (db : Database) (result : Result (Vec X Z) TableFault) → HasVersion db → ReadsTable content FitsSetting (ShowsSettings db) result → ReadsSettings content db result
 reads_settings content db (Ok read) has h = (has, h)
-reads_settings content db (Err Damaged) has h = (has, h)
-reads_settings content db (Err Memory) has h = h
-reads_settings content db (Err (Store error)) has h = h
-reads_settings content db (Err Version) has h = absurd h
+reads_settings content db (Err fault) has h = fails_named (HasVersion db) (FailsTable FitsSetting (ShowsSettings db) Damaged) fault has h
 
 -- ---- settings in any tree
 
 module _ (db : Database) (tree : ℕ) (answer : List Row) (it : ShowsTable (setting_in tree) (0 ∷ 1 ∷ []) (0 ∷ []) db answer) where
   -- a database whose trees are all this one shows the same
-  shows_there : ShowsTable setting (0 ∷ 1 ∷ []) (0 ∷ []) (record db { trees = λ _. db.trees tree }) answer
+  pub shows_there : ShowsTable setting (0 ∷ 1 ∷ []) (0 ∷ []) (record db { trees = λ _. db.trees tree }) answer
   shows_there = record { by_key = it.by_key; same = it.same; ordered = it.ordered; is = it.is }
 
   pub names_this : (text : List ℕ) → list_any (names_version text) answer ≡ true → Names text (db.trees tree)
@@ -89,16 +93,31 @@ module _ (db : Database) (tree : ℕ) (answer : List Row) (it : ShowsTable (sett
   pub names_none : (text : List ℕ) → list_any (names_version text) answer ≡ false → ¬ Names text (db.trees tree)
   names_none text = version_absent (record db { trees = λ _. db.trees tree }) answer shows_there text
 
--- behind the version comes no other Version
-pub fault_tells : (X : Type 0) (rows : List Row) (fault : TableFault) → NamesVersion rows → IsOfStoreOr (Unit {0}) fault → TellsVersion {X = X} rows (Err fault)
-fault_tells X rows (Store error) named h = h
-fault_tells X rows Memory named h = h
-fault_tells X rows Damaged named h = named
-fault_tells X rows Version named h = absurd h
+-- ---- where the version is named, no later call fails by it
 
-pub decoded_tells : {A X Z : Type 0} (says : A → X → Type 0) (is_said : A → Type 0) (given : List A) (rows : List Row) (result : Result (Vec X Z) TableFault) → NamesVersion rows → DecodesAll says is_said given result → TellsVersion rows result
-decoded_tells says is_said given rows (Ok read) named h = named
-decoded_tells says is_said given rows (Err Damaged) named h = named
-decoded_tells says is_said given rows (Err Memory) named h = h
-decoded_tells says is_said given rows (Err Version) named h = absurd h
-decoded_tells says is_said given rows (Err (Store error)) named h = absurd h
+pub fault_tells : (X named : Type 0) (fault : TableFault) → named → IsOfStoreOr (Unit {0}) fault → Tells {X = X} named (Err fault)
+fault_tells X named (Store error) has h = h
+fault_tells X named Memory has h = h
+fault_tells X named Damaged has h = has
+fault_tells X named Version has h = absurd h
+
+pub result_tells : (X named : Type 0) (result : Result X TableFault) → named → IfErr result (IsOfStoreOr (Unit {0})) → Tells named result
+result_tells X named (Ok x) has h = has
+result_tells X named (Err fault) has h = fault_tells X named fault has h
+
+pub decoding_tells : {A : Type 0} (X : Type 0) (is_said : A → Type 0) (given : List A) (named : Type 0) (fault : TableFault) → named → FailsOne is_said given fault → Tells {X = X} named (Err fault)
+decoding_tells X is_said given named Damaged has h = has
+decoding_tells X is_said given named Memory has h = h
+decoding_tells X is_said given named Version has h = absurd h
+decoding_tells X is_said given named (Store error) has h = absurd h
+
+pub decoded_tells : {A X Z : Type 0} (says : A → X → Type 0) (is_said : A → Type 0) (given : List A) (named : Type 0) (result : Result (Vec X Z) TableFault) → named → DecodesAll says is_said given result → Tells named result
+decoded_tells says is_said given named (Ok read) has h = has
+decoded_tells {X = X} {Z = Z} says is_said given named (Err fault) has h = decoding_tells (Vec X Z) is_said given named fault has h
+
+-- the same fault of another call
+pub told : (X Y named : Type 0) (fault : TableFault) → Tells {X = X} named (Err fault) → Tells {X = Y} named (Err fault)
+told X Y named (Store error) h = h
+told X Y named Memory h = h
+told X Y named Damaged h = h
+told X Y named Version h = h

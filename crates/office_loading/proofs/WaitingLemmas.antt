@@ -11,10 +11,9 @@ use Rattle.office_rows.proofs.Listed.{unmapped}
 use Rattle.office_tables.specs.declared.table_fault.TableFault.{TableFault}
 use Rattle.office_tables.specs.declared.table_fault.TableFault.TheVariants.{Store, Damaged, Version, Memory}
 use Rattle.office_tables.specs.Faults.{IsOfStoreOr}
-use Rattle.office_selecting.specs.Waiting.{waiting_in, waiting_numbers, waiting_values}
+use Rattle.office_loading.specs.Waiting.{HasHighWaiting, waiting_in, waiting_numbers, waiting_values}
 use Rattle.office_loading.specs.Decoded.{Said, FailsOne}
 use Rattle.office_loading.specs.Columns.{SaysNumber}
-use Rattle.office_loading.specs.Waiting.{HasHighWaiting}
 use Rattle.office_loading.proofs.TableLemmas.{has_mapped, mapped_has}
 
 numbers_same : (xs ys : List ℕ) → map number xs ≡ map number ys → xs ≡ ys

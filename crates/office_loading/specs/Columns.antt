@@ -6,26 +6,26 @@ use Rattle.box6346.specs.SizeText.{is_size}
 use Rattle.box6346.specs.SlotName.{slot_text}
 use Rattle.box6346.specs.declared.slot.Slot.{Slot}
 use Rattle.edi_moments.specs.Moments.{CivilMoment, moment_digits}
-use Rattle.edi_messages.specs.declared.partner_kind.PartnerKind.{PartnerKind}
+use Rattle.edi_messages.specs.declared.codes.PartnerKind.{PartnerKind}
 use Rattle.sqlite.specs.declared.types.Value.{Value}
 use Rattle.sqlite.specs.declared.types.Value.TheVariants.{Text}
 use Rattle.sqlite.specs.Order.{Row, column}
-use Rattle.terminal_core.specs.declared.arrival.Arrival.{Arrival}
-use Rattle.terminal_core.specs.declared.departure.Departure.{Departure}
-use Rattle.terminal_core.specs.declared.line_state.LineState.{LineState}
-use Rattle.terminal_core.specs.declared.side.Side.{Side}
-use Rattle.terminal_core.specs.declared.source.Source.{Source}
-use Rattle.terminal_core.specs.declared.way.Way.{Way}
+use Rattle.terminal_core.specs.declared.visits.Arrival.{Arrival}
+use Rattle.terminal_core.specs.declared.visits.Departure.{Departure}
+use Rattle.terminal_core.specs.declared.lines.LineState.{LineState}
+use Rattle.terminal_core.specs.declared.lines.Side.{Side}
+use Rattle.terminal_core.specs.declared.change.Source.{Source}
+use Rattle.terminal_core.specs.declared.visits.Way.{Way}
 use Rattle.terminal_core.specs.Rows.{VisitContent}
 use Rattle.terminal_core.specs.State.{side_code}
-use Rattle.yard_core.specs.declared.block.Block.{Block}
+use Rattle.yard_core.specs.declared.plan.Block.{Block}
 use Rattle.office_rows.specs.Rows.{Partner, Interchange, PlaceContent, ListingContent, Setting}
 use Rattle.office_rows.specs.Values.{number, kind_code, way_code, laden_code, state_code, out_by, out_partner, out_number, out_at, partner_values, visit_values, place_values, line_values, setting_values, block_values}
 use Rattle.office_rows.specs.Opened.{Numbered, numbered, reply_values}
 use Rattle.office_rows.specs.Shown.{columns_at}
 use Rattle.office_loading.specs.Fits.{IsSlot, IsMoment, FitsPartner, FitsNumber, FitsSource, FitsArrival, FitsExit, FitsVisit, FitsPlace, FitsLine, FitsSetting, FitsBlock}
 use Rattle.std.specs.List.{list_any}
-use Rattle.terminal_core.specs.declared.version.Version.TheVariants.{First, Second}
+use Rattle.terminal_core.specs.declared.change.Version.TheVariants.{First, Second}
 use Rattle.office_rows.specs.Opening.{version_text}
 
 -- ---- columns

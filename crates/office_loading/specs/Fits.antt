@@ -5,11 +5,11 @@ use Rattle.box6346.specs.SizeText.{is_size}
 use Rattle.box6346.specs.SlotName.{slot_of, slot_text}
 use Rattle.box6346.specs.declared.slot.Slot.{Slot}
 use Rattle.edi_moments.specs.Moments.{CivilMoment, moment_of, moment_digits}
-use Rattle.terminal_core.specs.declared.arrival.Arrival.{Arrival}
-use Rattle.terminal_core.specs.declared.departure.Departure.{Departure}
-use Rattle.terminal_core.specs.declared.source.Source.{Source}
+use Rattle.terminal_core.specs.declared.visits.Arrival.{Arrival}
+use Rattle.terminal_core.specs.declared.visits.Departure.{Departure}
+use Rattle.terminal_core.specs.declared.change.Source.{Source}
 use Rattle.terminal_core.specs.Rows.{VisitContent}
-use Rattle.yard_core.specs.declared.block.Block.{Block}
+use Rattle.yard_core.specs.declared.plan.Block.{Block}
 use Rattle.office_rows.specs.Rows.{Partner, PlaceContent, ListingContent, Setting}
 use Rattle.office_rows.specs.Opened.{Numbered}
 

@@ -4,7 +4,7 @@ use Rattle.std.specs.List.{AllByRecursion}
 use Rattle.sqlite.specs.Order.{Row}
 use Rattle.sqlite.specs.Effect.{Database}
 use Rattle.terminal_core.specs.State.{TerminalState}
-use Rattle.terminal_core.specs.declared.version.Version.TheVariants.{First, Second}
+use Rattle.terminal_core.specs.declared.change.Version.TheVariants.{First, Second}
 use Rattle.office_setup.specs.Setups.{SetupContent}
 use Rattle.office_rows.specs.Tables as table
 use Rattle.office_rows.specs.Rows.{Setting}
@@ -14,11 +14,11 @@ use Rattle.office_rows.specs.Bare.{with_weights}
 use Rattle.office_rows.specs.Migrated.{migrated_settings, migrated_opened}
 use Rattle.office_rows.specs.Office.{IsOffice}
 use Rattle.office_checks.specs.Contents.{opened_rows}
-use Rattle.office_checks.specs.declared.opened_tables.OpenedTables.{OpenedTables}
+use Rattle.office_checks.specs.declared.restoring.OpenedTables.{OpenedTables}
 use Rattle.office_tables.specs.declared.table_fault.TableFault.{TableFault}
-use Rattle.office_tables.specs.declared.table_fault.TableFault.TheVariants.{Store, Damaged, Version, Memory}
+use Rattle.office_tables.specs.declared.table_fault.TableFault.TheVariants.{Damaged}
 use Rattle.office_loading.specs.Fits.{FitsSetting}
-use Rattle.office_loading.specs.Tables.{Names, FailsTable, ShowsSettings, FitsRows}
+use Rattle.office_loading.specs.Tables.{Names, FailsByVersion, Tells, FailsTable, ShowsSettings, ShowsUnfit, FitsRows}
 
 -- one of these rows of a table of settings names version 1 or 2
 abbrev pub NamesOlder : List Row → Type 0
@@ -28,22 +28,15 @@ NamesOlder rows = Names (version_text First) rows ⊎ Names (version_text Second
 abbrev pub HasOlder : Database → Type 0
 HasOlder db = NamesOlder (db.trees table.setting.tree)
 
--- Version is told where no row of the settings names version 1 or 2, and there alone: or else the store failed
+-- Version comes only if no row of the settings names version 1 or 2; what is read or damaged has such a row
 abbrev pub TellsOlder : {X : Type 0} → List Row → Result X TableFault → Type 0
-TellsOlder rows (Ok read) = NamesOlder rows
-TellsOlder rows (Err Version) = ¬ NamesOlder rows
-TellsOlder rows (Err Damaged) = NamesOlder rows
-TellsOlder rows (Err Memory) = Unit {0}
-TellsOlder rows (Err (Store error)) = Unit {0}
+TellsOlder rows result = Tells (NamesOlder rows) result
 
 -- ---- the settings
 
 -- it is another version, or one of these and the settings can't be read
 abbrev pub FailsOlderSettings : Database → TableFault → Type 0
-FailsOlderSettings db Version = ¬ HasOlder db
-FailsOlderSettings db Damaged = HasOlder db × FailsTable FitsSetting (ShowsSettings db) Damaged
-FailsOlderSettings db Memory = Unit {0}
-FailsOlderSettings db (Store error) = Unit {0}
+FailsOlderSettings db fault = FailsByVersion (HasOlder db) (FailsTable FitsSetting (ShowsSettings db) Damaged) fault
 
 -- what is read are the settings that are shown, with the newest version for their own
 abbrev pub ReadsOlderSettings : {X Z : Type 0} → (X → Setting) → Database → Result (Vec X Z) TableFault → Type 0
@@ -55,10 +48,7 @@ ReadsOlderSettings content db (Err fault) = FailsOlderSettings db fault
 -- ---- all tables
 
 abbrev pub FailsOlderTables : Database → TableFault → Type 0
-FailsOlderTables db Version = ¬ HasOlder db
-FailsOlderTables db Damaged = HasOlder db × ((rows : OpenedRows) → Shows (with_weights db) rows → ¬ FitsRows rows)
-FailsOlderTables db Memory = Unit {0}
-FailsOlderTables db (Store error) = Unit {0}
+FailsOlderTables db fault = FailsByVersion (HasOlder db) (ShowsUnfit (with_weights db)) fault
 
 -- what is read are the rows that are shown, each visit with a weight of 0, with the newest version for their own
 abbrev pub ReadsOlderTables : Database → Result OpenedTables TableFault → Type 0
@@ -81,7 +71,4 @@ ShowsNoOlder db = (rows : OpenedRows) (content : SetupContent) (state : Terminal
 
 -- the version is another one; or it is 1 or 2 and the tables show no office
 abbrev pub FailsToLoadOlder : Database → TableFault → Type 0
-FailsToLoadOlder db Version = ¬ HasOlder db
-FailsToLoadOlder db Damaged = HasOlder db × ShowsNoOlder db
-FailsToLoadOlder db Memory = Unit {0}
-FailsToLoadOlder db (Store error) = Unit {0}
+FailsToLoadOlder db fault = FailsByVersion (HasOlder db) (ShowsNoOlder db) fault

@@ -1,27 +1,31 @@
 -- What reading the tables answers.
-use Rattle.std.specs.Prelude.{ℕ, ◌<◌, ◌^◌, List, [], ◌∷◌, map, Contains, codes, Result, Ok, Err, Vec}
+use Rattle.std.specs.Prelude.{◌≡◌, ℕ, ◌<◌, ◌^◌, List, [], ◌∷◌, map, Contains, codes, Result, Ok, Err, Vec}
 use Rattle.std.specs.List.{AllByRecursion}
 use Rattle.sqlite.specs.Order.{Row}
 use Rattle.sqlite.specs.Effect.{Database}
 use Rattle.terminal_core.specs.Rows.{VisitContent}
 use Rattle.terminal_core.specs.State.{TerminalState}
-use Rattle.terminal_core.specs.declared.restore_fault.RestoreFault.{RestoreFault}
-use Rattle.terminal_core.specs.declared.restore_fault.RestoreFault.TheVariants as restoring
-use Rattle.yard_core.specs.declared.block.Block.{Block}
+use Rattle.terminal_core.specs.declared.restoring.RestoreFault.{RestoreFault}
+use Rattle.terminal_core.specs.declared.restoring.RestoreFault.TheVariants as restoring
+use Rattle.yard_core.specs.declared.plan.Block.{Block}
 use Rattle.office_setup.specs.Setups.{SetupContent}
 use Rattle.office_rows.specs.Tables as table
 use Rattle.office_rows.specs.Rows.{Partner, PlaceContent, ListingContent, Setting}
 use Rattle.office_rows.specs.Values.{partner_values, visit_values, place_values, line_values, setting_values, block_values}
 use Rattle.office_rows.specs.Opening.{setting, tables_version}
+use Rattle.office_rows.specs.Layouts.{Layout, bare, weighed}
+use Rattle.office_rows.specs.Bare.{weighed_in}
 use Rattle.office_rows.specs.Stored.{columns_of}
 use Rattle.office_rows.specs.Shown.{ShowsTable}
 use Rattle.office_rows.specs.Opened.{OpenedRows, Shows}
 use Rattle.office_rows.specs.Office.{IsOffice}
-use Rattle.office_checks.specs.Contents.{opened_rows}
-use Rattle.office_checks.specs.declared.opened_tables.OpenedTables.{OpenedTables}
+use Rattle.office_checks.specs.Contents.{opened_rows, setting_content}
+use Rattle.office_checks.specs.declared.restoring.OpenedTables.{OpenedTables}
 use Rattle.office_tables.specs.declared.table_fault.TableFault.{TableFault}
 use Rattle.office_tables.specs.declared.table_fault.TableFault.TheVariants.{Store, Damaged, Version, Memory}
 use Rattle.office_tables.specs.Faults.{IsOfStoreOr}
+use Rattle.office_loading.specs.declared.table_reading.Weights.{Weights}
+use Rattle.office_loading.specs.declared.table_reading.Weights.TheVariants.{Absent, Kept}
 use Rattle.office_loading.specs.Fits.{FitsPartner, FitsNumber, FitsVisit, FitsPlace, FitsLine, FitsSetting, FitsBlock}
 
 -- ---- one table
@@ -57,6 +61,21 @@ ReadsTable content Fits Shown (Err fault) = FailsTable Fits Shown fault
 
 -- ---- the version
 
+-- Version only if no row names it, damage only if one does; or the store failed, or memory
+abbrev pub FailsByVersion : Type 0 → Type 0 → TableFault → Type 0
+FailsByVersion named damaged Version = ¬ named
+FailsByVersion named damaged Damaged = named × damaged
+FailsByVersion named damaged Memory = Unit {0}
+FailsByVersion named damaged (Store error) = Unit {0}
+
+-- Version only if no row names it; what is read or damaged has such a row
+abbrev pub Tells : {X : Type 0} → Type 0 → Result X TableFault → Type 0
+Tells named (Ok read) = named
+Tells named (Err Version) = ¬ named
+Tells named (Err Damaged) = named
+Tells named (Err Memory) = Unit {0}
+Tells named (Err (Store error)) = Unit {0}
+
 -- one of these rows of a table of settings names this version
 abbrev pub Names : List ℕ → List Row → Type 0
 Names text rows = Contains (map (columns_of table.setting) rows) (setting_values (setting (codes "version") text))
@@ -69,20 +88,13 @@ NamesVersion rows = Names tables_version rows
 abbrev pub HasVersion : Database → Type 0
 HasVersion db = NamesVersion (db.trees table.setting.tree)
 
--- Version is told where no row of the settings names it, and there alone: or else the store failed
+-- Version comes only if no row of the settings names it; what is read or damaged has such a row
 abbrev pub TellsVersion : {X : Type 0} → List Row → Result X TableFault → Type 0
-TellsVersion rows (Ok read) = NamesVersion rows
-TellsVersion rows (Err Version) = ¬ NamesVersion rows
-TellsVersion rows (Err Damaged) = NamesVersion rows
-TellsVersion rows (Err Memory) = Unit {0}
-TellsVersion rows (Err (Store error)) = Unit {0}
+TellsVersion rows result = Tells (NamesVersion rows) result
 
 -- the version is another one, or it is this and the settings can't be read
 abbrev pub FailsSettings : Database → TableFault → Type 0
-FailsSettings db Version = ¬ HasVersion db
-FailsSettings db Damaged = HasVersion db × FailsTable FitsSetting (ShowsSettings db) Damaged
-FailsSettings db Memory = Unit {0}
-FailsSettings db (Store error) = Unit {0}
+FailsSettings db fault = FailsByVersion (HasVersion db) (FailsTable FitsSetting (ShowsSettings db) Damaged) fault
 
 abbrev pub ReadsSettings : {X Z : Type 0} → (X → Setting) → Database → Result (Vec X Z) TableFault → Type 0
 ReadsSettings content db (Ok read) = HasVersion db × ReadsTable content FitsSetting (ShowsSettings db) (Ok read)
@@ -99,15 +111,34 @@ pub record FitsRows (rows : OpenedRows) : Type 0 where
   pub settings : AllByRecursion FitsSetting rows.settings
   pub blocks : AllByRecursion FitsBlock rows.blocks
 
+-- whatever rows the tables show, some don't fit the types of a row
+abbrev pub ShowsUnfit : Database → Type 0
+ShowsUnfit db = (rows : OpenedRows) → Shows db rows → ¬ FitsRows rows
+
 abbrev pub FailsTables : Database → TableFault → Type 0
-FailsTables db Version = ¬ HasVersion db
-FailsTables db Damaged = HasVersion db × ((rows : OpenedRows) → Shows db rows → ¬ FitsRows rows)
-FailsTables db Memory = Unit {0}
-FailsTables db (Store error) = Unit {0}
+FailsTables db fault = FailsByVersion (HasVersion db) (ShowsUnfit db) fault
 
 abbrev pub ReadsTables : Database → Result OpenedTables TableFault → Type 0
 ReadsTables db (Ok tables) = HasVersion db × Shows db (opened_rows tables) × FitsRows (opened_rows tables)
 ReadsTables db (Err fault) = FailsTables db fault
+
+-- ---- all tables but that of the settings, which are read first
+
+abbrev pub layout_with : Weights → Layout
+layout_with Absent = bare
+layout_with Kept = weighed
+
+-- the rows with these for their settings
+abbrev pub with_shown : List Setting → OpenedRows → OpenedRows
+with_shown settings rows = record rows { settings = settings }
+
+-- the settings that were read first stay; with any that are shown and fit, all that was read is shown and fits
+abbrev pub ReadsOthers : Layout → Database → List Setting → Result OpenedTables TableFault → Type 0
+ReadsOthers layout db settings (Ok tables) =
+    (map setting_content tables.settings.items ≡ settings)
+    × ((all : List Setting) → ShowsSettings (weighed_in layout db) all → AllByRecursion FitsSetting all →
+    Shows (weighed_in layout db) (with_shown all (opened_rows tables)) × FitsRows (with_shown all (opened_rows tables)))
+ReadsOthers layout db settings (Err fault) = IsOfStoreOr (ShowsUnfit (weighed_in layout db)) fault
 
 -- ---- the office
 
@@ -122,10 +153,7 @@ ShowsNoOffice db = (rows : OpenedRows) (content : SetupContent) (state : Termina
 
 -- the version is another one; or it is this and the tables show no office
 abbrev pub FailsToLoad : Database → TableFault → Type 0
-FailsToLoad db Version = ¬ HasVersion db
-FailsToLoad db Damaged = HasVersion db × ShowsNoOffice db
-FailsToLoad db Memory = Unit {0}
-FailsToLoad db (Store error) = Unit {0}
+FailsToLoad db fault = FailsByVersion (HasVersion db) (ShowsNoOffice db) fault
 
 -- rows that were read and are those of no office are damaged
 abbrev pub fault_of_restoring : RestoreFault → TableFault

@@ -1,31 +1,60 @@
-ghost use Rattle.std.specs.Prelude.{◌≡◌, ⊤, IfErr};
+ghost use Rattle.std.specs.Prelude.{◌≡◌, ⊤, IfErr, [], map};
+ghost use Rattle.office_checks.specs.Contents.{partner_content, number_content, place_content, setting_content};
+ghost use Rattle.office_loading.specs.Decoded.{itself, ReadsShown};
+ghost use Rattle.office_loading.specs.Fits.{FitsPartner, FitsNumber, FitsVisit, FitsPlace, FitsLine, FitsBlock};
+ghost use Rattle.office_loading.specs.Tables.{layout_with, ReadsOthers, ReadsTable, ShowsPartners, ShowsVisits, ShowsPlaces, ShowsLines, ShowsBlocks};
+ghost use Rattle.office_rows.specs.Bare.{with_weights, weighed_in};
+ghost use Rattle.office_rows.specs.Layouts.{Layout, bare_schema, schema_in};
+ghost use Rattle.office_rows.specs.Opened.{ShowsNumbers};
+ghost use Rattle.office_rows.specs.Rows.{listing_content};
+ghost use Rattle.office_rows.specs.Tables.{office_schema};
+ghost use Rattle.office_tables.specs.Faults.{IsOfStoreOr};
+ghost use Rattle.office_tables.specs.Reading.{Reads, OnlyShows};
 ghost use Rattle.sqlite.specs.Held.{state};
 ghost use Rattle.sqlite.specs.State.{HasCleanDisk};
 ghost use Rattle.terminal_core.specs.Rows.{visit_content};
-ghost use Rattle.office_rows.specs.Tables.{office_schema};
-ghost use Rattle.office_rows.specs.Layouts.{Layout, bare_schema, schema_in};
-ghost use Rattle.office_rows.specs.Bare.{with_weights, weighed_in};
-ghost use Rattle.office_rows.specs.Rows.{listing_content};
-ghost use Rattle.office_rows.specs.Opened.{ShowsNumbers};
-ghost use Rattle.office_checks.specs.Contents.{partner_content, number_content, place_content};
-ghost use Rattle.office_tables.specs.Faults.{IsOfStoreOr};
-ghost use Rattle.office_loading.specs.Decoded.{itself};
-ghost use Rattle.office_loading.specs.Fits.{FitsPartner, FitsNumber, FitsVisit, FitsPlace, FitsLine, FitsBlock};
-ghost use Rattle.office_tables.specs.Reading.{Reads};
-ghost use Rattle.office_loading.specs.Tables.{ReadsTable, ShowsPartners, ShowsVisits, ShowsPlaces, ShowsLines, ShowsBlocks};
 
-use crate::record::read_all;
-use crate::streaming::read_shown;
-use office_checks::{NumberRow, PartnerRow};
-use office_selecting::{select_blocks, select_partners, select_places};
+use crate::rows::{Record, append, read_all};
+use crate::selecting::{select_blocks, select_partners, select_places};
+use office_checks::{NumberRow, OpenedTables, PartnerRow, Setting};
 use office_tables::TableFault;
 use sqlite::{Alter, Connection};
 use std::alloc::Global;
 use terminal_core::{Listing, Place, Visit};
 use yard_core::Block;
 
+/// The rows of the seven tables, with settings that were read before them.
+pub(crate) fn read_others<S: Alter>(
+    alloc: Global,
+    conn: &mut Connection<S>,
+    weights: Weights,
+    settings: Vec<Setting>,
+) -> Result<OpenedTables, TableFault>
+    ensures read { HasCleanDisk (state S.Store conn.new) →
+        (state S.Store conn.old).now.schema ≡ schema_in (layout_with weights) →
+        ReadsOthers (layout_with weights) (state S.Store conn.old).now (map setting_content settings.items) result }
+    ensures version { IfErr result (IsOfStoreOr ⊤) }
+    ensures reads { Reads (state S.Store conn.old) (state S.Store conn.new) result }
+{
+    let partners = read_partners(alloc, conn)?;
+    let numbers = read_numbers(alloc, conn)?;
+    let visits = read_visits(alloc, conn, weights)?;
+    let places = read_places(alloc, conn)?;
+    let lines = read_lines(alloc, conn)?;
+    let blocks = read_blocks(alloc, conn)?;
+    Ok(OpenedTables {
+        partners,
+        numbers,
+        visits,
+        places,
+        lines,
+        settings,
+        blocks,
+    })
+}
+
 /// All accounts, by their key.
-pub(crate) fn read_partners<S: Alter>(
+fn read_partners<S: Alter>(
     alloc: Global,
     conn: &mut Connection<S>,
 ) -> Result<Vec<PartnerRow>, TableFault>
@@ -40,7 +69,7 @@ pub(crate) fn read_partners<S: Alter>(
 }
 
 /// All interchanges that are kept, by their key.
-pub(crate) fn read_numbers<S: Alter>(
+fn read_numbers<S: Alter>(
     alloc: Global,
     conn: &mut Connection<S>,
 ) -> Result<Vec<NumberRow>, TableFault>
@@ -57,8 +86,35 @@ pub(crate) fn read_numbers<S: Alter>(
     )
 }
 
-/// All visits, by their key.
-pub(crate) fn read_visits<S: Alter>(
+/// Whether a store's table of visits has a column for their weights.
+#[derive(Clone, Copy)]
+pub(crate) enum Weights {
+    /// It has none, as in versions 1 and 2.
+    Absent,
+    /// It has one, as in this version.
+    Kept,
+}
+
+/// All visits, by their key; each with a weight of 0 if there is no column for it.
+fn read_visits<S: Alter>(
+    alloc: Global,
+    conn: &mut Connection<S>,
+    weights: Weights,
+) -> Result<Vec<Visit>, TableFault>
+    ensures read { HasCleanDisk (state S.Store conn.new) →
+        (state S.Store conn.old).now.schema ≡ schema_in (layout_with weights) → ReadsTable visit_content FitsVisit
+        (ShowsVisits (weighed_in (layout_with weights) (state S.Store conn.old).now)) result }
+    ensures version { IfErr result (IsOfStoreOr ⊤) }
+    ensures reads { Reads (state S.Store conn.old) (state S.Store conn.new) result }
+{
+    match weights {
+        Weights::Absent => read_bare_visits(alloc, conn),
+        Weights::Kept => read_weighed_visits(alloc, conn),
+    }
+}
+
+/// All visits of a store of this version, by their key.
+fn read_weighed_visits<S: Alter>(
     alloc: Global,
     conn: &mut Connection<S>,
 ) -> Result<Vec<Visit>, TableFault>
@@ -75,7 +131,7 @@ pub(crate) fn read_visits<S: Alter>(
 }
 
 /// All visits of a store of version 1 or 2, by their key, each with a weight of 0.
-pub(crate) fn read_bare_visits<S: Alter>(
+fn read_bare_visits<S: Alter>(
     alloc: Global,
     conn: &mut Connection<S>,
 ) -> Result<Vec<Visit>, TableFault>
@@ -92,10 +148,7 @@ pub(crate) fn read_bare_visits<S: Alter>(
 }
 
 /// All containers in the yard, by their key.
-pub(crate) fn read_places<S: Alter>(
-    alloc: Global,
-    conn: &mut Connection<S>,
-) -> Result<Vec<Place>, TableFault>
+fn read_places<S: Alter>(alloc: Global, conn: &mut Connection<S>) -> Result<Vec<Place>, TableFault>
     ensures read { HasCleanDisk (state S.Store conn.new) → (layout : Layout) →
         (state S.Store conn.old).now.schema ≡ schema_in layout →
         ReadsTable place_content FitsPlace (ShowsPlaces (weighed_in layout (state S.Store conn.old).now)) result }
@@ -107,10 +160,7 @@ pub(crate) fn read_places<S: Alter>(
 }
 
 /// All lines of vessels' lists, by their key.
-pub(crate) fn read_lines<S: Alter>(
-    alloc: Global,
-    conn: &mut Connection<S>,
-) -> Result<Vec<Listing>, TableFault>
+fn read_lines<S: Alter>(alloc: Global, conn: &mut Connection<S>) -> Result<Vec<Listing>, TableFault>
     ensures read { HasCleanDisk (state S.Store conn.new) → (layout : Layout) →
         (state S.Store conn.old).now.schema ≡ schema_in layout →
         ReadsTable listing_content FitsLine (ShowsLines (weighed_in layout (state S.Store conn.old).now)) result }
@@ -125,10 +175,7 @@ pub(crate) fn read_lines<S: Alter>(
 }
 
 /// All blocks of the yard, by their key.
-pub(crate) fn read_blocks<S: Alter>(
-    alloc: Global,
-    conn: &mut Connection<S>,
-) -> Result<Vec<Block>, TableFault>
+fn read_blocks<S: Alter>(alloc: Global, conn: &mut Connection<S>) -> Result<Vec<Block>, TableFault>
     ensures read { HasCleanDisk (state S.Store conn.new) → (layout : Layout) →
         (state S.Store conn.old).now.schema ≡ schema_in layout →
         ReadsTable itself FitsBlock (ShowsBlocks (weighed_in layout (state S.Store conn.old).now)) result }
@@ -137,4 +184,31 @@ pub(crate) fn read_blocks<S: Alter>(
 {
     let rows = select_blocks(conn)?;
     read_all(alloc, &rows)
+}
+
+/// The records of all rows that a query shows. Each row is read as it comes, so that no two stand in memory side by side.
+///
+/// Damaged if a row is no record; Store and Memory say nothing of the rows.
+fn read_shown<S: Alter, T: Record>(
+    alloc: Global,
+    conn: &mut Connection<S>,
+    query: &str,
+) -> Result<Vec<T>, TableFault>
+    requires { OnlyShows query.now }
+    ensures read { HasCleanDisk (state S.Store conn.new) →
+        ReadsShown T.says T.is_said query.now (state S.Store conn.old) (state S.Store conn.new) result }
+    ensures version { IfErr result (IsOfStoreOr ⊤) }
+    ensures reads { Reads (state S.Store conn.old) (state S.Store conn.new) result }
+{
+    let mut records = Vec::new(alloc);
+    let mut rows = conn.query(query, &[])?;
+    'each: for _ in 0..u64::MAX {
+        let Some(row) = rows.next()? else {
+            return Ok(records);
+        };
+        let record = T::read(row)?;
+        append(&mut records, record)?;
+    }
+    // There are more rows than a Vec holds.
+    Err(TableFault::Memory)
 }

@@ -1,3 +1,4 @@
+pub mod CallLemmas
 pub mod Counts
 pub mod LoadLemmas
 pub mod Puts

@@ -1,26 +1,22 @@
 -- One row more, and the open lines that name a container.
-use Rattle.std.proofs.Common.{◌≡◌, ℕ, ◌+◌, ◌<◌, ◌≤◌, List, [], ◌∷◌, ◌++◌, length, map, take, Bool, true, false, cond, None, Some, refl, sym, ap, ◌∙◌, arith, get_or, slice_get, count_by, filter}
+use Rattle.std.proofs.Common.{◌≡◌, ℕ, ◌+◌, ◌<◌, ◌≤◌, List, [], ◌∷◌, ◌++◌, length, map, take, Bool, true, false, cond, None, refl, sym, ap, ◌∙◌, arith, get_or, count_by, filter}
 use Rattle.std.specs.FinMap as finite_map
 use Rattle.std.specs.List.{prefix_len, insert}
 use Rattle.std.proofs.lemmas.List.{map-append, take_more, take_all}
 use Rattle.box6346.specs.declared.box_number.BoxNumber.{BoxNumber}
 use Rattle.edi_messages.specs.Owned.{call_content}
-use Rattle.terminal_core.specs.declared.listing.Listing.{Listing}
+use Rattle.terminal_core.specs.declared.lines.Listing.{Listing}
 use Rattle.terminal_core.specs.Listings.{key_of, line_content, line_entry, lines_of, is_line}
 use Rattle.terminal_core.specs.Restoring.{AreOnce}
 use Rattle.terminal_core.specs.State.{LineContent, LineKey, Lines}
 use Rattle.terminal_core.proofs.Lined.{order, keys_total, keys_apart, line_tied, tied_self, found_none}
-use Rattle.terminal_core.proofs.Counted.{none_before_one, some_counted}
-use Rattle.terminal_core.proofs.Numbered.{contained}
+use Rattle.terminal_core.proofs.Counted.{none_before_one}
+use Rattle.office_reports.proofs.Listing.{none_there}
 use Rattle.office_lookups.specs.OpenLines.{is_behind, is_open_for, open_lines}
 use Rattle.office_lookups.proofs.Puts.{put_there, still_none, put_kept, prefix_mapped, insert_mapped}
 
 abbrev Entry : Type 0
 Entry = LineKey × LineContent
-
-none_there : {A : Type 0} (p : A → Bool) (xs : List A) → count_by p xs ≡ 0 → (k : ℕ) (x : A) → slice_get xs k ≡ Some x → (v : Bool) → p x ≡ v → v ≡ false
-none_there p xs none k x at false is = refl
-none_there p xs none k x at true is = let some : 1 ≤ count_by p xs = some_counted p xs x (contained xs k x at) is in absurd (omega arith)
 
 no_length : {A : Type 0} (xs : List A) → length xs ≡ 0 → xs ≡ []
 no_length [] e = refl

@@ -8,6 +8,7 @@ use Rattle.std.specs.declared.cmp.Ordering.{Ordering}
 use Rattle.std.specs.declared.cmp.Ordering.TheVariants.{Less, Equal, Greater}
 use Rattle.std.specs.Cmp.{IsTotalOrder}
 use Rattle.std.proofs.lemmas.Option.{none-some}
+use Rattle.office_reports.proofs.Once.{both}
 
 first : (a b : Bool) → T (a && b) → T a
 first true b p = tt
@@ -16,10 +17,6 @@ first false b p = p
 second : (a b : Bool) → T (a && b) → T b
 second true b p = p
 second false b p = absurd p
-
-both : (a b : Bool) → T a → T b → T (a && b)
-both true b p q = q
-both false b p q = p
 
 less : (o : Ordering) → T (is_lt o) → o ≡ Less
 less Less p = refl

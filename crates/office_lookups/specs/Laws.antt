@@ -2,7 +2,7 @@
 use Rattle.std.specs.Prelude.{◌≡◌, ℕ, List, Option}
 use Rattle.std.specs.List.{AllZip}
 use Rattle.edi_messages.specs.Purposes.{CallContent}
-use Rattle.terminal_core.specs.declared.side.Side.{Side}
+use Rattle.terminal_core.specs.declared.lines.Side.{Side}
 use Rattle.terminal_core.specs.State.{TerminalState}
 use Rattle.office_lookups.specs.Blocks.{IsBlocksReport}
 use Rattle.office_lookups.specs.Partners.{PartnerContent, AreAlike, partners_text}

@@ -1,4 +1,5 @@
 pub mod Blocks
+pub mod Calls
 pub mod Containers
 pub mod Contrls
 pub mod Laws

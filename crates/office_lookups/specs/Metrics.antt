@@ -6,8 +6,8 @@ use Rattle.terminal_core.specs.Rows.{VisitContent}
 use Rattle.terminal_core.specs.State.{TerminalState}
 use Rattle.office_reports.specs.Names.{line}
 use Rattle.office_lookups.specs.Partners.{PartnerContent, waiting_count}
-use Rattle.office_lookups.specs.declared.gauge.Gauge.{Gauge}
-use Rattle.office_lookups.specs.declared.versions.Versions.{Versions}
+use Rattle.office_lookups.specs.declared.metrics.Gauge.{Gauge}
+use Rattle.office_lookups.specs.declared.metrics.Versions.{Versions}
 
 -- ---- whether it can be asked
 

@@ -2,10 +2,10 @@
 use Rattle.std.specs.Prelude.{◌≡◌, ℕ, min, max, List, [], ◌∷◌, ◌++◌, length, sum_by, codes, decimal, string_bytes}
 use Rattle.std.specs.List.{flat_map, fold}
 use Rattle.std.specs.List.Sorted.{IsPermutation}
-use Rattle.edi_messages.specs.declared.partner_kind.PartnerKind.{PartnerKind}
-use Rattle.edi_messages.specs.declared.partner_kind.PartnerKind.TheVariants.{Gate, Line, Quay, Yard}
+use Rattle.edi_messages.specs.declared.codes.PartnerKind.{PartnerKind}
+use Rattle.edi_messages.specs.declared.codes.PartnerKind.TheVariants.{Gate, Line, Quay, Yard}
 use Rattle.office_reports.specs.Names.{line}
-use Rattle.office_lookups.specs.declared.partner.Partner.{Partner}
+use Rattle.office_lookups.specs.declared.partners.Partner.{Partner}
 
 -- a partner's code and what it is, the number that its next interchange has, and the numbers that wait for that one
 pub record PartnerContent : Type 0 where

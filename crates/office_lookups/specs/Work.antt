@@ -9,18 +9,18 @@ use Rattle.std.specs.Cmp.Lexicographic.{slice_cmp}
 use Rattle.box6346.specs.declared.box_number.BoxNumber.{BoxNumber}
 use Rattle.box6346.specs.declared.slot.Slot.{Slot}
 use Rattle.edi_messages.specs.Purposes.{CallContent}
-use Rattle.terminal_core.specs.declared.side.Side.{Side}
-use Rattle.terminal_core.specs.declared.side.Side.TheVariants.{Load, Discharge}
+use Rattle.terminal_core.specs.declared.lines.Side.{Side}
+use Rattle.terminal_core.specs.declared.lines.Side.TheVariants.{Load, Discharge}
 use Rattle.terminal_core.specs.Drop.{is_pending}
 use Rattle.terminal_core.specs.Rows.{VisitContent}
 use Rattle.terminal_core.specs.State.{TerminalState, LineContent, open_visit}
-use Rattle.office_reports.specs.declared.standing.Standing.{Standing}
+use Rattle.office_reports.specs.declared.yard.Standing.{Standing}
 use Rattle.office_reports.specs.Listed.{AreListed}
 use Rattle.office_reports.specs.Lists.{HasLine, list_name, port_words}
 use Rattle.office_reports.specs.Names.{slot_name, line, phrase}
 use Rattle.office_reports.specs.Yard.{slot_in}
 use Rattle.office_lookups.specs.Containers.{above_words, blocker_in}
-use Rattle.office_lookups.specs.declared.job.Job.{Job}
+use Rattle.office_lookups.specs.declared.work.Job.{Job}
 
 -- ---- jobs
 

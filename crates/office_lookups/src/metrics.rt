@@ -1,15 +1,11 @@
 //! What watches over the office is told.
-
-ghost use Rattle.std.specs.Prelude.{◌≡◌, ◌++◌, count_by, map, IfOk, OnOk, string_bytes};
 ghost use Rattle.std.specs.List.{flat_map};
-ghost use Rattle.terminal_core.specs.Rows.{visit_content};
+ghost use Rattle.std.specs.Prelude.{◌≡◌, ◌++◌, count_by, map, IfOk, OnOk, string_bytes};
 ghost use Rattle.office_lookups.specs.Metrics.{gauge_content, gauge_head, gauge_text, gauges, is_here, is_waited_for, metrics_text, ready_text, versions_text};
 ghost use Rattle.office_lookups.specs.Partners.{partner_content};
+ghost use Rattle.terminal_core.specs.Rows.{visit_content};
 
-use crate::gauge::Gauge;
-use crate::partner::Partner;
-use crate::partners::waiting_count;
-use crate::versions::Versions;
+use crate::partners::{Partner, waiting_count};
 use office_reports::texts::push_line;
 use std::alloc::{AllocError, Global};
 use terminal_core::{Terminal, Visit};
@@ -148,4 +144,23 @@ fn push_text(text: &mut String, more: &str) -> Result<(), AllocError>
     ensures { OnOk result (string_bytes text.new ≡ string_bytes text.old ++ more.now) }
 {
     text.push_str(more)
+}
+
+/// A value, under its name, and what it is.
+#[derive(Clone, Copy)]
+pub(crate) struct Gauge<'a> {
+    /// What Prometheus calls it.
+    pub(crate) name: &'a str,
+    /// What it is, in a sentence.
+    pub(crate) help: &'a str,
+    pub(crate) value: u128,
+}
+
+/// The versions by which a program and its store are known.
+#[derive(Clone, Copy)]
+pub struct Versions<'a> {
+    /// That of the program.
+    pub program: &'a str,
+    /// That of the tables.
+    pub store: &'a str,
 }

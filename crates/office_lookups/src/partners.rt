@@ -1,14 +1,28 @@
 //! Which number is expected of each partner, and what waits for it.
-
-ghost use Rattle.std.specs.Prelude.{◌≡◌, ◌++◌, ◌∷◌, [], codes, decimal, map, max, min, sum_by, IfOk, OnOk, string_bytes};
 ghost use Rattle.std.specs.List.{flat_map, fold};
-ghost use Rattle.office_reports.specs.Names.{line};
+ghost use Rattle.std.specs.Prelude.{◌≡◌, ◌++◌, ◌∷◌, [], codes, decimal, map, max, min, sum_by, IfOk, OnOk, string_bytes, option_map};
+ghost use Rattle.office_lookups.specs.Contrls.{contrl_in, contrl_of};
 ghost use Rattle.office_lookups.specs.Partners.{kind_name, partner_content, partner_line, partners_end, partners_text, waiting_count, waiting_words};
+ghost use Rattle.office_reports.specs.Names.{line};
+ghost use Rattle.serde_json.specs.View.{view};
 
-use crate::partner::Partner;
 use edi_messages::PartnerKind;
 use office_reports::texts::push_line;
+use serde_json::Value;
 use std::alloc::{AllocError, Global};
+
+/// A partner as it is looked up.
+#[derive(Drop)]
+pub struct Partner {
+    /// The code by which interchanges name it as their sender.
+    pub code: String,
+    /// What it is.
+    pub kind: PartnerKind,
+    /// The number that its next interchange has.
+    pub next: u32,
+    /// The numbers of its interchanges that wait for that one, in any order.
+    pub waiting: Vec<u32>,
+}
 
 /// What is expected of partners: `PARTNERS`; for each a line `CODE KIND NEXT n`, with ` WAITING k FROM a TO b MISSING n`
 /// behind it if some of its interchanges wait: how many, the least and the greatest of their numbers, and the first
@@ -160,4 +174,32 @@ fn kind_name<'a>(kind: PartnerKind) -> &'a str
         PartnerKind::Quay => "QUAY",
         PartnerKind::Yard => "YARD",
     }
+}
+
+/// The CONTRL of a reply, with LF behind it. `None` if the text is that of no reply.
+pub fn contrl_in(alloc: Global, reply: &str) -> Result<Option<String>, AllocError>
+    ensures { IfOk result (λ found. option_map string_bytes found ≡ contrl_in reply.now) }
+{
+    let value = match Value::from_str(alloc, reply) {
+        Ok(value) => value,
+        Err(error) => {
+            if error.is_memory() {
+                return Err(AllocError);
+            }
+            return Ok(None);
+        }
+    };
+    let Some(contrl) = contrl_of(&value) else {
+        return Ok(None);
+    };
+    let mut line = String::from_str(alloc, contrl)?;
+    line.push('\n')?;
+    Ok(Some(line))
+}
+
+/// The text of a reply's member, if there is one.
+fn contrl_of(reply: &Value) -> Option<&str>
+    ensures { option_map (λ text. text.now) result ≡ contrl_of (view reply.now) }
+{
+    reply.get("contrl")?.as_str()
 }

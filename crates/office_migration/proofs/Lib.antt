@@ -1,4 +1,3 @@
-pub mod StayLemmas
 pub mod MoreLemmas
 pub mod PairLemmas
 pub mod MigratedLemmas

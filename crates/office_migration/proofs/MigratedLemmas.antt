@@ -1,5 +1,5 @@
 -- The rows that were copied are those of the old store, brought to the newest version.
-use Rattle.std.proofs.Common.{◌≡◌, ℕ, List, [], ◌∷◌, map, Result, Ok, Err, IfErr, refl, sym, ap, subst, ◌∙◌, take}
+use Rattle.std.proofs.Common.{◌≡◌, ℕ, List, [], ◌∷◌, map, refl, sym, ap, subst, ◌∙◌, take}
 use Rattle.std.specs.List.Sorted.{IsPermutation}
 use Rattle.std.proofs.lemmas.List.Sorted.{IsPermutation-trans, IsPermutation-map}
 use Rattle.sqlite.specs.Order.{Row}
@@ -25,7 +25,7 @@ use Rattle.office_rows.proofs.StepLemmas.{stores}
 use Rattle.office_tables.specs.declared.table_fault.TableFault.{TableFault}
 use Rattle.office_tables.specs.declared.table_fault.TableFault.TheVariants.{Store, Damaged, Version, Memory}
 use Rattle.office_tables.specs.Faults.{IsOfStore}
-use Rattle.office_loading.specs.Older.{NamesOlder, TellsOlder, FailsToLoadOlder}
+use Rattle.office_loading.specs.Older.{FailsToLoadOlder}
 use Rattle.office_loading.proofs.OlderOffice.{renamed_columns, renamed_all}
 use Rattle.office_migration.specs.Copies.{AreOfPairs, copied_rows}
 use Rattle.office_migration.specs.Migration.{IsCopy, IsMigration}
@@ -91,11 +91,3 @@ of_store_fails db (Store error) h = h
 of_store_fails db Memory h = h
 of_store_fails db Damaged h = absurd h
 of_store_fails db Version h = absurd h
-
--- behind a version that was found comes a fault of the store alone
-pub copy_tells : (X : Type 0) (rows : List Row) (result : Result X TableFault) → NamesOlder rows → IfErr result IsOfStore → TellsOlder rows result
-copy_tells X rows (Ok x) named h = named
-copy_tells X rows (Err (Store error)) named h = h
-copy_tells X rows (Err Memory) named h = h
-copy_tells X rows (Err Damaged) named h = absurd h
-copy_tells X rows (Err Version) named h = absurd h

@@ -8,7 +8,7 @@ use Rattle.sqlite.specs.Effect.{Database}
 use Rattle.sqlite_rules.specs.Lists.{Has}
 use Rattle.sqlite_rules.proofs.ListLemmas.{has_contained, contains_had, has_filtered}
 use Rattle.sqlite_trees.proofs.ListLemmas.{map-map}
-use Rattle.edi_messages.specs.declared.partner_kind.PartnerKind.{PartnerKind}
+use Rattle.edi_messages.specs.declared.codes.PartnerKind.{PartnerKind}
 use Rattle.office_rows.specs.Tables.{interchange}
 use Rattle.office_rows.specs.Rows.{Partner, Interchange}
 use Rattle.office_rows.specs.Values.{interchange_values}
@@ -17,7 +17,7 @@ use Rattle.office_rows.specs.Shown.{columns_at}
 use Rattle.office_rows.specs.Effects.{is_pair}
 use Rattle.office_rows.specs.Opening.{interchange as interchange_of}
 use Rattle.office_tables.specs.Answers.{RepliesAs}
-use Rattle.office_tables.specs.declared.kept_interchange.Kept.{Kept}
+use Rattle.office_tables.specs.declared.interchanges.Kept.{Kept}
 use Rattle.office_rows.specs.Opened.{Numbered, numbered, reply_values, ShowsNumbers}
 use Rattle.office_rows.specs.Office.{AreAccounts, AreKept}
 use Rattle.office_rows.proofs.Listed.{unmapped}

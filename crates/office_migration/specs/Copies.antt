@@ -9,7 +9,7 @@ use Rattle.office_rows.specs.Effects.{is_pair}
 use Rattle.office_rows.specs.Opened.{Numbered, OpenedRows}
 use Rattle.std.specs.List.Sorted.{IsPermutation}
 use Rattle.office_tables.specs.Answers.{RepliesAs}
-use Rattle.office_tables.specs.declared.kept_interchange.Kept.{Kept}
+use Rattle.office_tables.specs.declared.interchanges.Kept.{Kept}
 
 -- whatever interchanges the answer shows, it is the body and the reply of one
 abbrev pub IsOneOf : List Row → Kept → Type 0

@@ -2,7 +2,7 @@
 use Rattle.std.specs.Prelude.{◌≡◌, List}
 use Rattle.sqlite.specs.Tree.{Trees}
 use Rattle.sqlite.specs.Effect.{Database}
-use Rattle.terminal_core.specs.declared.version.Version.{Version}
+use Rattle.terminal_core.specs.declared.change.Version.{Version}
 use Rattle.office_replies.specs.Events.{Event}
 use Rattle.office_setup.specs.Given.{IsGiven}
 use Rattle.office_setup.specs.Setups.{SetupContent}

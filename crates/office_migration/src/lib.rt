@@ -1,8 +1,6 @@
 //! The migration of a store of version 1 or 2 into tables of the newest version.
 #![tactic(auto)]
 
-mod copying;
 mod migrating;
-mod writing;
 
 pub use migrating::migrate;

@@ -1,31 +1,37 @@
-ghost use Rattle.std.specs.Prelude.{◌≡◌, ℕ, List, [], ◌∷◌, ◌++◌, map, take, false, IfErr, IsErrAnd, OnOk, OnErr, IsTrue};
-ghost use Rattle.sqlite.specs.Held.{state};
-ghost use Rattle.sqlite.specs.State.{HasCleanDisk, KeepsCommit, Survives};
-ghost use Rattle.terminal_core.specs.declared.version.Version.{Version};
+ghost use Rattle.std.specs.Prelude.{◌≡◌, ℕ, List, [], ◌∷◌, ◌++◌, map, take, false, IfErr, IsErrAnd, OnOk, OnErr, IsTrue, IfOk};
+ghost use Rattle.office_checks.specs.Contents.{number_content, opened_rows, setting_content, partner_content, place_content};
+ghost use Rattle.office_loading.specs.Older.{FailsToLoadOlder, TellsOlder};
+ghost use Rattle.office_loading.specs.Settings.{HasNoSettings, HasSettings};
+ghost use Rattle.office_migration.specs.Copies.{AreOfPairs, copied_rows, IsOneOf, IsOfPair, without_interchanges};
+ghost use Rattle.office_migration.specs.History.{IsOlderAfter, HoldsAfter, StoresAfter};
+ghost use Rattle.office_migration.specs.Migration.{Copies, IsCopy, Migrates, IsMigration};
 ghost use Rattle.office_replies.specs.Events.{Event, migrated};
-ghost use Rattle.office_setup.specs.Setups.{SetupContent};
-ghost use Rattle.office_rows.specs.Tables.{office_tables, no_schema};
 ghost use Rattle.office_rows.specs.Layouts.{bare_schema};
-ghost use Rattle.office_rows.specs.Rows.{Interchange};
-ghost use Rattle.office_rows.specs.Steps.{Turns};
+ghost use Rattle.office_rows.specs.Opening.{with_interchanges, with_settings, with_partners, with_visits, with_places, with_lines};
+ghost use Rattle.office_rows.specs.Rows.{Interchange, listing_content};
+ghost use Rattle.office_rows.specs.Steps.{Turns, Steps};
 ghost use Rattle.office_rows.specs.Stored.{HasRows, HasEmpty};
+ghost use Rattle.office_rows.specs.Tables.{office_tables, no_schema};
+ghost use Rattle.office_setup.specs.Setups.{SetupContent};
+ghost use Rattle.office_tables.specs.Answers.{RepliesAs};
 ghost use Rattle.office_tables.specs.Faults.{IsOfStore};
 ghost use Rattle.office_tables.specs.Opened.{AreMissing};
 ghost use Rattle.office_tables.specs.Reading.{Reads, ReadsIfOpen};
-ghost use Rattle.office_selecting.specs.Settings.{HasNoSettings, HasSettings};
-ghost use Rattle.office_checks.specs.Contents.{number_content, opened_rows};
-ghost use Rattle.office_loading.specs.Older.{FailsToLoadOlder, TellsOlder};
-ghost use Rattle.office_migration.specs.Copies.{AreOfPairs, copied_rows};
-ghost use Rattle.office_migration.specs.History.{IsOlderAfter, HoldsAfter, StoresAfter};
-ghost use Rattle.office_migration.specs.Migration.{Copies, IsCopy, Migrates, IsMigration};
+ghost use Rattle.office_tables.specs.Writes.{MakesOffice, WritesIfOpen};
+ghost use Rattle.sqlite.specs.Held.{state};
+ghost use Rattle.sqlite.specs.State.{HasCleanDisk, KeepsCommit, Survives};
+ghost use Rattle.terminal_core.specs.Rows.{visit_content};
+ghost use Rattle.terminal_core.specs.declared.change.Version.{Version};
 
-use crate::copying::copy_interchanges;
-use crate::writing::write_tables;
-use office_checks::OpenedTables;
+use office_checks::{NumberRow, OpenedTables, PartnerRow, Setting};
 use office_loading::{load_old, read_older_tables};
-use office_tables::TableFault;
-use sqlite::{Alter, Connection, Transaction};
+use office_tables::{
+    Kept, TableFault, create_tables, insert_account, insert_blocks, insert_interchange,
+    insert_listing, insert_place, insert_setting, insert_visit, read_kept, select_interchange,
+};
+use sqlite::{Alter, Connection, Error, Row, Transaction};
 use std::alloc::Global;
+use terminal_core::{Listing, Place, Visit};
 
 /// Copies a store of version 1 or 2 into a database without tables, as one of the newest version, wholly or not at
 /// all. The old store stays as it is.
@@ -139,4 +145,181 @@ fn write_copy<S: Alter, T: Alter>(
 {
     write_tables(tx, tables)?;
     copy_interchanges(old, tx, &tables.numbers)
+}
+
+/// Copies the interchanges of these numbers, one after the other.
+pub(crate) fn copy_interchanges<S: Alter, T: Alter>(
+    old: &mut Connection<S>,
+    tx: &mut Transaction<'_, T>,
+    numbers: &[NumberRow],
+) -> Result<(), TableFault>
+    ensures same_reference { tx.new.conn.ghost_name ≡ tx.old.conn.ghost_name }
+    ensures steps { HasCleanDisk (state T.Store tx.new.conn.now) →
+        IsTrue (state T.Store tx.old.conn.now).in_transaction → IsTrue (state T.Store tx.old.conn.now).is_open
+        → OnOk result ((copied : List Interchange)
+        × (HasCleanDisk (state S.Store old.new) → (state S.Store old.old).now.schema ≡ bare_schema →
+        AreOfPairs ((state S.Store old.old).now.trees 2) (map number_content numbers.now) copied)
+        × Steps (with_interchanges copied) (state T.Store tx.old.conn.now) (state T.Store tx.new.conn.now)) }
+    ensures keeps { HasCleanDisk (state T.Store tx.new.conn.now) →
+        IsTrue (state T.Store tx.old.conn.now).in_transaction → IsTrue (state T.Store tx.old.conn.now).is_open
+        → KeepsCommit (state T.Store tx.old.conn.now) (state T.Store tx.new.conn.now) }
+    ensures survives { Survives (state T.Store tx.old.conn.now) (state T.Store tx.new.conn.now) (λ _. ⊥) }
+    ensures reads { ReadsIfOpen (state S.Store old.old) (state S.Store old.new) result }
+    ensures fault { IfErr result IsOfStore }
+{
+    for row in numbers {
+        copy_interchange(old, tx, row.partner, row.number)?;
+    }
+    Ok(())
+}
+
+/// Copies the interchange of a partner and a number, with its reply.
+fn copy_interchange<S: Alter, T: Alter>(
+    old: &mut Connection<S>,
+    tx: &mut Transaction<'_, T>,
+    partner: u32,
+    number: u32,
+) -> Result<(), TableFault>
+    ensures same_reference { tx.new.conn.ghost_name ≡ tx.old.conn.ghost_name }
+    ensures steps { HasCleanDisk (state T.Store tx.new.conn.now) →
+        IsTrue (state T.Store tx.old.conn.now).in_transaction
+        → OnOk result ((one : Interchange)
+        × (HasCleanDisk (state S.Store old.new) → (state S.Store old.old).now.schema ≡ bare_schema →
+        IsOfPair ((state S.Store old.old).now.trees 2) partner number one)
+        × Steps (with_interchanges (one ∷ [])) (state T.Store tx.old.conn.now) (state T.Store tx.new.conn.now)) }
+    ensures keeps { HasCleanDisk (state T.Store tx.new.conn.now) →
+        IsTrue (state T.Store tx.old.conn.now).in_transaction → IsTrue (state T.Store tx.old.conn.now).is_open
+        → KeepsCommit (state T.Store tx.old.conn.now) (state T.Store tx.new.conn.now) }
+    ensures survives { Survives (state T.Store tx.old.conn.now) (state T.Store tx.new.conn.now) (λ _. ⊥) }
+    ensures reads { Reads (state S.Store old.old) (state S.Store old.new) result }
+    ensures fault { IfErr result IsOfStore }
+{
+    let rows = select_interchange(old, partner, number)?;
+    let kept = kept_of(&rows)?;
+    let reply = reply_of(&kept);
+    insert_interchange(tx, partner, number, kept.text.as_slice(), reply)
+}
+
+/// The body and the reply that the first row shows.
+fn kept_of(rows: &[Row]) -> Result<Kept, TableFault>
+    ensures one { IfOk result (IsOneOf rows.now) }
+    ensures fault { IfErr result IsOfStore }
+{
+    match rows.first() {
+        None => Err(TableFault::Store(Error::QueryReturnedNoRows)),
+        Some(row) => {
+            let kept = read_kept(row)?;
+            Ok(kept)
+        }
+    }
+}
+
+/// The reply of an interchange as its row has it: empty while it waits.
+fn reply_of(kept: &Kept) -> &str
+    ensures { (text : List ℕ) → RepliesAs kept.now.reply text → text ≡ result.now }
+{
+    match &kept.reply {
+        None => "",
+        Some(reply) => reply.as_str(),
+    }
+}
+
+/// The settings.
+pub(crate) fn write_settings<S: Alter>(
+    tx: &mut Transaction<'_, S>,
+    rows: &[Setting],
+) -> Result<(), TableFault>
+    ensures same_reference { tx.new.conn.ghost_name ≡ tx.old.conn.ghost_name }
+    ensures writes { WritesIfOpen (with_settings (map setting_content rows.now)) (state S.Store tx.old.conn.now)
+        (state S.Store tx.new.conn.now) result }
+{
+    for row in rows {
+        insert_setting(tx, row.name.as_str(), row.value.as_bytes())?;
+    }
+    Ok(())
+}
+
+/// The accounts, each with its next number.
+pub(crate) fn write_partners<S: Alter>(
+    tx: &mut Transaction<'_, S>,
+    rows: &[PartnerRow],
+) -> Result<(), TableFault>
+    ensures same_reference { tx.new.conn.ghost_name ≡ tx.old.conn.ghost_name }
+    ensures writes { WritesIfOpen (with_partners (map partner_content rows.now)) (state S.Store tx.old.conn.now)
+        (state S.Store tx.new.conn.now) result }
+{
+    for row in rows {
+        insert_account(tx, row.id, row.code.as_str(), row.kind, row.next)?;
+    }
+    Ok(())
+}
+
+/// The visits.
+pub(crate) fn write_visits<S: Alter>(
+    tx: &mut Transaction<'_, S>,
+    rows: &[Visit],
+) -> Result<(), TableFault>
+    ensures same_reference { tx.new.conn.ghost_name ≡ tx.old.conn.ghost_name }
+    ensures writes { WritesIfOpen (with_visits (map visit_content rows.now)) (state S.Store tx.old.conn.now)
+        (state S.Store tx.new.conn.now) result }
+{
+    for row in rows {
+        insert_visit(tx, row)?;
+    }
+    Ok(())
+}
+
+/// Where containers stand.
+pub(crate) fn write_places<S: Alter>(
+    tx: &mut Transaction<'_, S>,
+    rows: &[Place],
+) -> Result<(), TableFault>
+    ensures same_reference { tx.new.conn.ghost_name ≡ tx.old.conn.ghost_name }
+    ensures writes { WritesIfOpen (with_places (map place_content rows.now)) (state S.Store tx.old.conn.now)
+        (state S.Store tx.new.conn.now) result }
+{
+    for row in rows {
+        insert_place(tx, row.container, row.visit, row.slot)?;
+    }
+    Ok(())
+}
+
+/// The lines of vessels' lists, each in its state.
+pub(crate) fn write_lines<S: Alter>(
+    tx: &mut Transaction<'_, S>,
+    rows: &[Listing],
+) -> Result<(), TableFault>
+    ensures same_reference { tx.new.conn.ghost_name ≡ tx.old.conn.ghost_name }
+    ensures writes { WritesIfOpen (with_lines (map listing_content rows.now)) (state S.Store tx.old.conn.now)
+        (state S.Store tx.new.conn.now) result }
+{
+    for row in rows {
+        insert_listing(
+            tx,
+            &row.call,
+            row.side,
+            row.container,
+            row.port.as_str(),
+            row.state,
+        )?;
+    }
+    Ok(())
+}
+
+/// Makes the tables, and writes all rows but the interchanges.
+pub(crate) fn write_tables<S: Alter>(
+    tx: &mut Transaction<'_, S>,
+    tables: &OpenedTables,
+) -> Result<(), TableFault>
+    ensures same_reference { tx.new.conn.ghost_name ≡ tx.old.conn.ghost_name }
+    ensures makes { MakesOffice (without_interchanges (opened_rows tables.now))
+        (state S.Store tx.old.conn.now) (state S.Store tx.new.conn.now) result }
+{
+    create_tables(tx)?;
+    write_settings(tx, &tables.settings)?;
+    write_partners(tx, &tables.partners)?;
+    insert_blocks(tx, &tables.blocks)?;
+    write_visits(tx, &tables.visits)?;
+    write_places(tx, &tables.places)?;
+    write_lines(tx, &tables.lines)
 }

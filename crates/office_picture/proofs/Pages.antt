@@ -5,8 +5,8 @@ use Rattle.std.specs.List.{list_all, range_with_len}
 use Rattle.std.proofs.lemmas.Bool.{cases_Bool, true≢false, false≢true}
 use Rattle.box6346.specs.SlotName.{slot_text}
 use Rattle.box6346.specs.declared.slot.Slot.{Slot}
-use Rattle.yard_core.specs.declared.block.Block.{Block}
-use Rattle.office_reports.specs.declared.standing.Standing.{Standing}
+use Rattle.yard_core.specs.declared.plan.Block.{Block}
+use Rattle.office_reports.specs.declared.yard.Standing.{Standing}
 use Rattle.office_reports.specs.Names.{load_name}
 use Rattle.office_picture.specs.Fields.{field_text, joined}
 use Rattle.office_picture.specs.Fixed.{head, shapes, legend}

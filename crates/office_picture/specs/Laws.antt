@@ -1,9 +1,9 @@
 -- What the definitions of the picture mean together.
 use Rattle.std.specs.Prelude.{◌≡◌, ℕ, Bool, List, map}
 use Rattle.box6346.specs.declared.slot.Slot.{Slot}
-use Rattle.yard_core.specs.declared.block.Block.{Block}
+use Rattle.yard_core.specs.declared.plan.Block.{Block}
 use Rattle.terminal_core.specs.State.{TerminalState}
-use Rattle.office_reports.specs.declared.standing.Standing.{Standing}
+use Rattle.office_reports.specs.declared.yard.Standing.{Standing}
 use Rattle.office_picture.specs.Fields.{field_text}
 use Rattle.office_picture.specs.Markup.{Place, Between, behind_all, tags, Shows}
 use Rattle.office_picture.specs.Picture.{IsPicture, page_text}

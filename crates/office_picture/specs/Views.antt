@@ -3,8 +3,8 @@
 use Rattle.std.specs.Prelude.{ℕ, Bool, List, [], ◌∷◌, ◌+◌, ◌*◌, ◌%◌, ◌++◌, ◌==◌, ◌&&◌, nat_lt, length, filter, take, drop, if◌then◌else◌, codes, decimal}
 use Rattle.std.specs.List.{flat_map, range_with_len}
 use Rattle.box6346.specs.SlotName.{slot_text}
-use Rattle.yard_core.specs.declared.block.Block.{Block}
-use Rattle.office_reports.specs.declared.standing.Standing.{Standing}
+use Rattle.yard_core.specs.declared.plan.Block.{Block}
+use Rattle.office_reports.specs.declared.yard.Standing.{Standing}
 use Rattle.office_reports.specs.Names.{load_name}
 use Rattle.office_picture.specs.Fields.{field_text, joined}
 

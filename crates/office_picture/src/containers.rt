@@ -2,10 +2,9 @@ ghost use Rattle.std.specs.Prelude.{◌≡◌, ◌++◌, ◌==◌, ◌&&◌, OnO
 ghost use Rattle.std.specs.List.{flat_map};
 ghost use Rattle.office_picture.specs.Views.{container_view, is_in_row, lettering, shape_name, shape_view, view_in_row};
 
-use crate::counts::{is_forty, is_in_block};
-use crate::places::{middle_of, top_of};
-use crate::texts::{field_text, push_all};
-use crate::title::Title;
+use crate::drawing::{Title, is_forty, is_in_block};
+use crate::fixed::{field_text, push_all};
+use crate::grids::{middle_of, top_of};
 use office_reports::Standing;
 use std::alloc::{AllocError, Global};
 use yard_core::Block;

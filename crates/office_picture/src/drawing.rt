@@ -1,14 +1,16 @@
-ghost use Rattle.std.specs.Prelude.{◌≡◌, ◌++◌, IfOk, OnOk, string_bytes};
+//! How many containers there are, and how many cells they use.
 ghost use Rattle.std.specs.Map.{values_of};
+ghost use Rattle.std.specs.Prelude.{◌≡◌, ◌++◌, IfOk, OnOk, string_bytes, ◌<◌, ◌^◌, ◌*◌, ◌&&◌, filter, length, not};
 ghost use Rattle.office_picture.specs.Picture.{IsPicture, page_head, page_text};
+ghost use Rattle.office_picture.specs.Views.{is_forty, is_in_block, used_cells};
+ghost use Rattle.office_reports.specs.Names.{load_name};
 
-use crate::blocks::{push_blocks, push_index};
-use crate::counts::{empty_count, full_count};
-use crate::fixed::{head, legend, shapes};
-use crate::texts::{field_text, push_all};
+use crate::fixed::{Field, field_text, head, legend, push_all, shapes};
+use crate::grids::{push_blocks, push_index};
 use office_reports::{Standing, yard_standings};
 use std::alloc::{AllocError, Global};
 use std::collections::BTreeMap;
+use std::fmt;
 use terminal_core::Terminal;
 use yard_core::Block;
 
@@ -94,4 +96,106 @@ fn push_page_head(
             "</b> empty</p>\n",
         ],
     )
+}
+
+/// A container's number, size-type, load and slot.
+#[derive(Clone, Copy)]
+pub(crate) struct Title<'a>(pub &'a Standing);
+
+impl fmt::Display for Title<'_> {
+    ghost use Rattle.std.specs.Prelude.{Some};
+    ghost use Rattle.office_picture.specs.Views.{title_text};
+
+    ghost output = { λ title. Some (title_text title.0.now) };
+
+    #[tactic(auto, unfolding(crate::specs::Views::title_text))]
+    fn fmt<W: fmt::Write>(&self, f: &mut fmt::Formatter<W>) -> fmt::Result {
+        let number = self.0.container.text();
+        let size_type = self.0.size_type.text();
+        let slot = self.0.slot.text();
+        let number = Field(&number);
+        let size_type = Field(&size_type);
+        let slot = Field(&slot);
+        let load = load_name(self.0.is_laden);
+        write!(f, "{number} {size_type} {load} {slot}")
+    }
+}
+
+/// Full or empty.
+fn load_name(is_laden: bool) -> &'static str
+    ensures { result.now ≡ load_name is_laden }
+{
+    if is_laden { "FULL" } else { "EMPTY" }
+}
+
+/// A forty stands in an even bay.
+pub(crate) fn is_forty(standing: &Standing) -> bool
+    ensures { result ≡ is_forty standing.now }
+{
+    standing.slot.bay % 2 == 0
+}
+
+pub(crate) fn is_in_block(block: &Block, standing: &Standing) -> bool
+    ensures { result ≡ is_in_block block.now standing.now }
+{
+    standing.slot.block == block.letter
+}
+
+pub(crate) fn full_count(standings: &[Standing]) -> usize
+    ensures { result ≡ length (filter (λ standing. standing.is_laden) standings.now) }
+{
+    standings
+        .iter()
+        .filter(|standing| standing.is_laden)
+        .count()
+}
+
+pub(crate) fn empty_count(standings: &[Standing]) -> usize
+    ensures { result ≡ length (filter (λ standing. not standing.is_laden) standings.now) }
+{
+    standings
+        .iter()
+        .filter(|standing| !standing.is_laden)
+        .count()
+}
+
+/// How many cells of the block the containers use: a forty two.
+pub(crate) fn used_cells(block: &Block, standings: &[Standing]) -> usize
+    ensures { result ≡ used_cells block.now standings.now }
+{
+    in_block_count(block, standings) + forty_count(block, standings)
+}
+
+fn in_block_count(block: &Block, standings: &[Standing]) -> usize
+    ensures count { result ≡ length (filter (λ standing. is_in_block block.now standing) standings.now) }
+    ensures few { result < 2 ^ 63 }
+{
+    standings
+        .iter()
+        .filter(|standing| is_in_block(block, standing))
+        .count()
+}
+
+fn forty_count(block: &Block, standings: &[Standing]) -> usize
+    ensures count { result
+        ≡ length (filter (λ standing. is_in_block block.now standing && is_forty standing) standings.now) }
+    ensures few { result < 2 ^ 63 }
+{
+    standings
+        .iter()
+        .filter(|standing| is_in_block(block, standing) && is_forty(standing))
+        .count()
+}
+
+/// How many cells the block has.
+pub(crate) fn cells_of(block: &Block) -> u32
+    ensures { result ≡ block.now.bays * block.now.rows * block.now.tiers }
+{
+    let Block {
+        bays,
+        rows,
+        tiers,
+        ..
+    } = *block;
+    u32::from(bays) * u32::from(rows) * u32::from(tiers)
 }

@@ -1,7 +1,10 @@
 //! The parts of the page that are the same for every yard.
-
-ghost use Rattle.std.specs.Prelude.{◌≡◌};
+ghost use Rattle.std.specs.Prelude.{◌≡◌, ◌++◌, map, IfOk, OnOk, string_bytes};
+ghost use Rattle.office_picture.specs.Fields.{field_text, joined};
 ghost use Rattle.office_picture.specs.Fixed.{head, shapes, legend};
+
+use std::alloc::{AllocError, Global};
+use std::fmt;
 
 const HEAD: &str = "<!doctype html>\n\
     <html lang='en'>\n\
@@ -93,4 +96,70 @@ pub(crate) fn legend() -> &'static str
     ensures { result.now ≡ legend }
 {
     LEGEND
+}
+
+/// The bytes of a field, written so that no markup comes of them.
+#[derive(Clone, Copy)]
+pub(crate) struct Field<'a>(pub &'a [u8]);
+
+impl fmt::Display for Field<'_> {
+    ghost use Rattle.std.specs.Prelude.{Some};
+    ghost use Rattle.office_picture.specs.Fields.{field_text};
+
+    ghost output = { λ field. Some (field_text field.0.now) };
+
+    fn fmt<W: fmt::Write>(&self, f: &mut fmt::Formatter<W>) -> fmt::Result {
+        for byte in self.0 {
+            let character = Character(*byte);
+            write!(f, "{character}")?;
+        }
+        Ok(())
+    }
+}
+
+/// A byte of a field, written so that no markup comes of it: five characters by their names, and a byte from 0x80 by
+/// its number.
+#[derive(Clone, Copy)]
+pub(crate) struct Character(pub u8);
+
+impl fmt::Display for Character {
+    ghost use Rattle.std.specs.Prelude.{Some};
+    ghost use Rattle.office_picture.specs.Fields.{character_text};
+
+    ghost output = { λ character. Some (character_text character.0) };
+
+    fn fmt<W: fmt::Write>(&self, f: &mut fmt::Formatter<W>) -> fmt::Result {
+        let byte = self.0;
+        match byte {
+            b'&' => write!(f, "&amp;"),
+            b'<' => write!(f, "&lt;"),
+            b'>' => write!(f, "&gt;"),
+            b'"' => write!(f, "&quot;"),
+            b'\'' => write!(f, "&apos;"),
+            128..=255 => write!(f, "&#{byte};"),
+            _ => {
+                let character = char::from(byte);
+                write!(f, "{character}")
+            }
+        }
+    }
+}
+
+/// Appends these pieces, one after the other.
+#[tactic(auto, unfolding(crate::specs::Fields::joined))]
+pub(crate) fn push_all(text: &mut String, pieces: &[&str]) -> Result<(), AllocError>
+    ensures { OnOk result
+        (string_bytes text.new ≡ string_bytes text.old ++ joined (map (λ piece. piece.now) pieces.now)) }
+{
+    for piece in pieces {
+        text.push_str(piece)?;
+    }
+    Ok(())
+}
+
+/// The bytes of a field, written so that no markup comes of them.
+pub(crate) fn field_text(alloc: Global, bytes: &[u8]) -> Result<String, AllocError>
+    ensures { IfOk result (λ text. string_bytes text ≡ field_text bytes.now) }
+{
+    Field(bytes).to_string(alloc)
 }

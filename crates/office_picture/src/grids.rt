@@ -1,8 +1,12 @@
-ghost use Rattle.std.specs.Prelude.{◌≡◌, ◌++◌, OnOk, string_bytes};
-ghost use Rattle.office_picture.specs.Views.{bay_label, bay_labels, cells_view, grid, labels, tier_label, tier_labels};
+//! Where the parts of a view stand: a cell is 64 wide and 40 high.
+ghost use Rattle.std.specs.List.{flat_map, range_with_len};
+ghost use Rattle.std.specs.Prelude.{◌≡◌, ◌++◌, OnOk, string_bytes, ◌+◌, ◌*◌};
+ghost use Rattle.office_picture.specs.Views.{bay_label, bay_labels, cells_view, grid, labels, tier_label, tier_labels, row_head, row_view, block_head, block_link, block_view, index};
 
-use crate::places::{length_of, middle_of, odd_bay, top_of};
-use crate::texts::{field_text, push_all};
+use crate::containers::push_containers;
+use crate::drawing::{cells_of, used_cells};
+use crate::fixed::{field_text, push_all};
+use office_reports::Standing;
 use std::alloc::{AllocError, Global};
 use yard_core::Block;
 
@@ -98,6 +102,207 @@ fn push_tier_label(alloc: Global, text: &mut String, tier: u8) -> Result<(), All
             "' dy='25'>",
             tier.as_str(),
             "</text>",
+        ],
+    )
+}
+
+/// Appends the rows of a block.
+pub(crate) fn push_rows(
+    alloc: Global,
+    text: &mut String,
+    block: &Block,
+    standings: &[Standing],
+) -> Result<(), AllocError>
+    ensures { OnOk result (string_bytes text.new ≡ string_bytes text.old
+        ++ flat_map (λ n. row_view block.now standings.now (n + 1)) (range_with_len 0 block.now.rows)) }
+{
+    for n in 0..block.rows {
+        push_row(alloc, text, block, n + 1, standings)?;
+    }
+    Ok(())
+}
+
+/// Appends a row: its free cells, and the containers over them.
+fn push_row(
+    alloc: Global,
+    text: &mut String,
+    block: &Block,
+    row: u8,
+    standings: &[Standing],
+) -> Result<(), AllocError>
+    ensures { OnOk result
+        (string_bytes text.new ≡ string_bytes text.old ++ row_view block.now standings.now row) }
+{
+    push_row_head(alloc, text, block, row)?;
+    push_containers(alloc, text, block, row, standings)?;
+    text.push_str("</svg></figure>\n")
+}
+
+fn push_row_head(alloc: Global, text: &mut String, block: &Block, row: u8) -> Result<(), AllocError>
+    ensures { OnOk result (string_bytes text.new ≡ string_bytes text.old ++ row_head block.now row) }
+{
+    let row = row.to_string(alloc)?;
+    let top = top_of(block.tiers).to_string(alloc)?;
+    let width = width_of(block.bays).to_string(alloc)?;
+    let height = height_of(block.tiers).to_string(alloc)?;
+    let letter = field_text(alloc, &[block.letter])?;
+    push_all(
+        text,
+        &[
+            "<figure><figcaption>Row ",
+            row.as_str(),
+            "</figcaption><svg viewBox='-22 -",
+            top.as_str(),
+            " ",
+            width.as_str(),
+            " ",
+            height.as_str(),
+            "' width='",
+            width.as_str(),
+            "'><use href='#",
+            letter.as_str(),
+            "'/>\n",
+        ],
+    )
+}
+
+/// Where a bay has its middle.
+pub(crate) fn middle_of(bay: u16) -> u32
+    ensures { result ≡ 32 * bay }
+{
+    32 * u32::from(bay)
+}
+
+/// How high a tier has its top.
+pub(crate) fn top_of(tier: u8) -> u32
+    ensures { result ≡ 40 * tier }
+{
+    40 * u32::from(tier)
+}
+
+/// How long as many odd bays are.
+pub(crate) fn length_of(bays: u8) -> u32
+    ensures { result ≡ 64 * bays }
+{
+    64 * u32::from(bays)
+}
+
+/// How wide the view of as many odd bays is.
+pub(crate) fn width_of(bays: u8) -> u32
+    ensures { result ≡ 64 * bays + 28 }
+{
+    64 * u32::from(bays) + 28
+}
+
+/// How high the view of as many tiers is.
+pub(crate) fn height_of(tiers: u8) -> u32
+    ensures { result ≡ 40 * tiers + 20 }
+{
+    40 * u32::from(tiers) + 20
+}
+
+/// An odd bay, counted from 0.
+pub(crate) fn odd_bay(n: u8) -> u16
+    ensures { result ≡ 2 * n + 1 }
+{
+    2 * u16::from(n) + 1
+}
+
+/// Appends a link to each block, if there is more than one.
+pub(crate) fn push_index(
+    alloc: Global,
+    text: &mut String,
+    blocks: &[Block],
+) -> Result<(), AllocError>
+    ensures { OnOk result (string_bytes text.new ≡ string_bytes text.old ++ index blocks.now) }
+{
+    if 1 < blocks.len() {
+        text.push_str("<nav>\n")?;
+        push_links(alloc, text, blocks)?;
+        text.push_str("</nav>\n")?;
+    }
+    Ok(())
+}
+
+fn push_links(alloc: Global, text: &mut String, blocks: &[Block]) -> Result<(), AllocError>
+    ensures { OnOk result (string_bytes text.new ≡ string_bytes text.old ++ flat_map block_link blocks.now) }
+{
+    for block in blocks {
+        push_link(alloc, text, block)?;
+    }
+    Ok(())
+}
+
+fn push_link(alloc: Global, text: &mut String, block: &Block) -> Result<(), AllocError>
+    ensures { OnOk result (string_bytes text.new ≡ string_bytes text.old ++ block_link block.now) }
+{
+    let letter = field_text(alloc, &[block.letter])?;
+    push_all(
+        text,
+        &[
+            "<a href='#block-",
+            letter.as_str(),
+            "'>Block ",
+            letter.as_str(),
+            "</a>\n",
+        ],
+    )
+}
+
+/// Appends the blocks, each with its rows.
+pub(crate) fn push_blocks(
+    alloc: Global,
+    text: &mut String,
+    blocks: &[Block],
+    standings: &[Standing],
+) -> Result<(), AllocError>
+    ensures { OnOk result
+        (string_bytes text.new ≡ string_bytes text.old ++ flat_map (block_view standings.now) blocks.now) }
+{
+    for block in blocks {
+        push_block(alloc, text, block, standings)?;
+    }
+    Ok(())
+}
+
+fn push_block(
+    alloc: Global,
+    text: &mut String,
+    block: &Block,
+    standings: &[Standing],
+) -> Result<(), AllocError>
+    ensures { OnOk result (string_bytes text.new ≡ string_bytes text.old ++ block_view standings.now block.now) }
+{
+    push_block_head(alloc, text, block, standings)?;
+    push_grid(alloc, text, block)?;
+    text.push_str("<div>\n")?;
+    push_rows(alloc, text, block, standings)?;
+    text.push_str("</div></section>\n")
+}
+
+fn push_block_head(
+    alloc: Global,
+    text: &mut String,
+    block: &Block,
+    standings: &[Standing],
+) -> Result<(), AllocError>
+    ensures { OnOk result (string_bytes text.new ≡ string_bytes text.old ++ block_head standings.now block.now) }
+{
+    let letter = field_text(alloc, &[block.letter])?;
+    let used = used_cells(block, standings).to_string(alloc)?;
+    let cells = cells_of(block).to_string(alloc)?;
+    push_all(
+        text,
+        &[
+            "<section id='block-",
+            letter.as_str(),
+            "'><h2>Block ",
+            letter.as_str(),
+            "<small>",
+            used.as_str(),
+            " of ",
+            cells.as_str(),
+            " cells used</small></h2>\n",
         ],
     )
 }

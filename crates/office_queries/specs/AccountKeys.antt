@@ -3,7 +3,7 @@ use Rattle.std.specs.Prelude.{ℕ, List, Option, option_map, unwrap_or}
 use Rattle.std.specs.Option.{option_and_then}
 use Rattle.office_queries.specs.Escapes.{decoded_part}
 use Rattle.office_queries.specs.Keys.{name_in, parts, two}
-use Rattle.office_queries.specs.declared.account_key.AccountKey.{AccountKey}
+use Rattle.office_queries.specs.declared.keys.AccountKey.{AccountKey}
 
 -- The bytes that a part stands for. One that can't be decoded stands for itself: its `%` is in no code and in no kind.
 abbrev pub named_by : List ℕ → List ℕ

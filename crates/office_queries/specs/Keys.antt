@@ -5,21 +5,21 @@ use Rattle.std.specs.List.{slice_split}
 use Rattle.std.specs.Str.{bytes_eq}
 use Rattle.box6346.specs.ContainerNumber.{number_of as box_of}
 use Rattle.box6346.specs.declared.box_number.BoxNumber.{BoxNumber}
-use Rattle.box6346.specs.declared.number_fault.NumberFault.{NumberFault}
+use Rattle.box6346.specs.declared.box_number.NumberFault.{NumberFault}
 use Rattle.edi_messages.specs.Texts.{is_name}
 use Rattle.edi_messages.specs.declared.call.Call.{Call}
 use Rattle.edi_syntax.specs.Numbers.{number_of, as_control_number}
-use Rattle.terminal_core.specs.declared.side.Side.{Side}
-use Rattle.terminal_core.specs.declared.side.Side.TheVariants.{Load, Discharge}
+use Rattle.terminal_core.specs.declared.lines.Side.{Side}
+use Rattle.terminal_core.specs.declared.lines.Side.TheVariants.{Load, Discharge}
 use Rattle.office_queries.specs.Escapes.{decoded_part}
 use Rattle.office_queries.specs.declared.query.Query.{Query}
 use Rattle.office_queries.specs.declared.query.Query.TheVariants as query
-use Rattle.office_queries.specs.declared.report_kind.ReportKind.{ReportKind}
-use Rattle.office_queries.specs.declared.report_kind.ReportKind.TheVariants as kind
+use Rattle.office_queries.specs.declared.query.ReportKind.{ReportKind}
+use Rattle.office_queries.specs.declared.query.ReportKind.TheVariants as kind
 
 -- what is asked for, with its texts as bytes
 pub data Asked : Type 0 where
-  yard yard_table partners blocks picture health metrics : Asked
+  yard yard_table partners blocks calls picture health metrics : Asked
   visits container : BoxNumber → Asked
   list work : List ℕ → List ℕ → Side → Asked
   ticket reply contrl : List ℕ → ℕ → Asked
@@ -36,6 +36,7 @@ query_asked (query.Container number) = container number
 query_asked (query.Work call side) = work (string_bytes call.vessel) (string_bytes call.voyage) side
 query_asked query.Partners = partners
 query_asked query.Blocks = blocks
+query_asked query.Calls = calls
 query_asked (query.Contrl partner number) = contrl (string_bytes partner) number
 query_asked query.Picture = picture
 query_asked (query.Partner code) = one_partner (string_bytes code)
@@ -146,6 +147,7 @@ query_of kind.Container key = option_map container (container_of key)
 query_of kind.Work key = option_map (λ of. work of.0 of.1 of.2) (list_of key)
 query_of kind.Partners key = if_empty key partners
 query_of kind.Blocks key = if_empty key blocks
+query_of kind.Calls key = if_empty key calls
 query_of kind.Contrl key = option_map (λ of. contrl of.0 of.1) (interchange_of key)
 query_of kind.Picture key = if_empty key picture
 query_of kind.Partner key = option_map one_partner (partner_of key)

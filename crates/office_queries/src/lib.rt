@@ -2,23 +2,8 @@
 //! added and partners that deliver among them; and the number that digits write.
 #![tactic(auto)]
 
-mod account_key;
-mod digits;
-mod escapes;
-mod key_reading;
-mod not_now;
-mod parts;
-mod program;
+mod keys;
 mod query;
-mod report;
-mod report_kind;
-mod values;
 
-pub use account_key::{AccountKey, read_account_key, read_sender_key};
-pub use digits::number_of;
-pub use key_reading::read_query;
-pub use not_now::NotNow;
-pub use program::program_version;
-pub use query::Query;
-pub use report::Report;
-pub use report_kind::ReportKind;
+pub use keys::{AccountKey, number_of, read_account_key, read_query, read_sender_key};
+pub use query::{NotNow, Query, Report, ReportKind, program_version};

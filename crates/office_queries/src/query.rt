@@ -1,5 +1,14 @@
+ghost use Rattle.std.specs.Option.{option_map};
+ghost use Rattle.std.specs.Prelude.{ℕ, List, Option, Result, string_bytes, ◌≡◌};
+ghost use Rattle.std.specs.Result.{result_map_both};
+ghost use Rattle.office_queries.specs.Program.{program_version};
+ghost use Rattle.office_queries.specs.declared.query.NotNow.{NotNow};
+ghost use Rattle.office_queries.specs.declared.query.Query.{Query};
+
 use box6346::BoxNumber;
 use edi_messages::Call;
+use office_replies::Deliver;
+use std::alloc::Global;
 use terminal_core::Side;
 
 /// What is asked for: a report and the key of what it is about.
@@ -45,6 +54,8 @@ pub enum Query {
     Partners,
     /// The blocks of the yard, and how full they are.
     Blocks,
+    /// The vessels' lists, and how far each is.
+    Calls,
     /// The CONTRL that an interchange was answered.
     Contrl {
         /// The code of its sender.
@@ -62,4 +73,63 @@ pub enum Query {
     Health,
     /// How much there is of what, as gauges.
     Metrics,
+}
+
+/// What a report is about.
+#[derive(Clone, Copy, PartialEq, Eq, Debug)]
+pub enum ReportKind {
+    /// The containers in the yard.
+    Yard,
+    /// The yard as comma-separated values.
+    YardTable,
+    /// The visits of a container.
+    Visits,
+    /// A list of a vessel's voyage.
+    List,
+    /// What an interchange brought in and took out.
+    Ticket,
+    /// What an interchange was answered.
+    Reply,
+    /// Where a container is.
+    Container,
+    /// What is left to do of a list of a vessel's voyage.
+    Work,
+    /// The partners: which numbers are expected, and what waits for them.
+    Partners,
+    /// The blocks of the yard, and how full they are.
+    Blocks,
+    /// The vessels' lists, and how far each is.
+    Calls,
+    /// The CONTRL that an interchange was answered.
+    Contrl,
+    /// The yard as a page.
+    Picture,
+    /// A partner: which number is expected, and what waits for it.
+    Partner,
+    /// Whether the office can be asked.
+    Health,
+    /// How much there is of what, as gauges.
+    Metrics,
+}
+
+/// What reports are asked of, besides what is delivered to it.
+pub trait Report: Deliver {
+    /// What looking does: from what this was, by the query and what came of it, to what it is.
+    ghost looks: { Self → Query → Result (Option (List ℕ)) NotNow → Self → Type 0 };
+
+    /// The report, if there is something to tell.
+    fn report(&mut self, alloc: Global, query: &Query) -> Result<Option<String>, NotNow>
+        ensures { looks self.old query.now
+            (result_map_both (option_map string_bytes) (λ refusal. refusal) result) self.new };
+}
+
+/// There was no memory, or the store failed. Nothing has changed, and the same may be asked again.
+#[derive(Clone, Copy, PartialEq, Eq, Debug)]
+pub struct NotNow;
+
+/// The version that the program is known by.
+pub fn program_version() -> &'static str
+    ensures { result.now ≡ program_version }
+{
+    "1.0.0"
 }

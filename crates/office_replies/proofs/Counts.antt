@@ -3,8 +3,8 @@ use Rattle.std.proofs.Common.{◌≡◌, ℕ, suc, ◌+◌, List, [], ◌∷◌,
 use Rattle.serde_json.specs.Data.{Members, no_members}
 use Rattle.serde_json.specs.Events.{items_len, members_len}
 use Rattle.serde_json.specs.View.{items_of}
-use Rattle.office_replies.specs.declared.line_members.LineMembers.{LineMembers}
-use Rattle.office_replies.specs.declared.line_report.LineReport.{LineReport}
+use Rattle.office_replies.specs.declared.message_report.LineMembers.{LineMembers}
+use Rattle.office_replies.specs.declared.message_report.LineReport.{LineReport}
 use Rattle.office_replies.specs.declared.message_report.MessageReport.{MessageReport}
 use Rattle.office_replies.specs.Lines.{lines_from}
 use Rattle.office_replies.specs.Messages.{report_content, report_data}

@@ -4,12 +4,12 @@ use Rattle.serde_json.specs.Data.{Data, number, unsigned, object, member, no_mem
 use Rattle.serde_json.specs.Written.{compact_text}
 use Rattle.office_replies.specs.Members.{text_member}
 use Rattle.office_replies.specs.Refusals.{named_refusal}
-use Rattle.office_replies.specs.declared.account_answer.AccountAnswer.{AccountAnswer}
-use Rattle.office_replies.specs.declared.account_answer.AccountAnswer.TheVariants.{Added, Known, Refused, NotNow}
-use Rattle.office_replies.specs.declared.account_fault.AccountFault.{AccountFault}
-use Rattle.office_replies.specs.declared.account_fault.AccountFault.TheVariants as fault
-use Rattle.office_replies.specs.declared.worst.Worst.{Worst}
-use Rattle.office_replies.specs.declared.worst.Worst.TheVariants as worst
+use Rattle.office_replies.specs.declared.accounts.AccountAnswer.{AccountAnswer}
+use Rattle.office_replies.specs.declared.accounts.AccountAnswer.TheVariants.{Added, Known, Refused, NotNow}
+use Rattle.office_replies.specs.declared.accounts.AccountFault.{AccountFault}
+use Rattle.office_replies.specs.declared.accounts.AccountFault.TheVariants as fault
+use Rattle.office_replies.specs.declared.deliver.Worst.{Worst}
+use Rattle.office_replies.specs.declared.deliver.Worst.TheVariants as worst
 
 abbrev pub account_fault_name : AccountFault → List ℕ
 account_fault_name fault.Partner = codes "Partner"

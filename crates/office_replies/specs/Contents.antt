@@ -2,9 +2,9 @@
 use Rattle.std.specs.Prelude.{◌≡◌, ℕ, List}
 use Rattle.office_replies.specs.Kinds.{AnswerKind, kind_of}
 use Rattle.office_replies.specs.Responses.{status_of, body_of, worst_of}
-use Rattle.office_replies.specs.declared.response.Response.{Response}
-use Rattle.office_replies.specs.declared.response.Response.TheVariants as response
-use Rattle.office_replies.specs.declared.worst.Worst.{Worst}
+use Rattle.office_replies.specs.declared.deliver.Response.{Response}
+use Rattle.office_replies.specs.declared.deliver.Response.TheVariants as response
+use Rattle.office_replies.specs.declared.deliver.Worst.{Worst}
 
 pub record AnswerContent : Type 0 where
   pub kind : AnswerKind

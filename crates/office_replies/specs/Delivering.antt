@@ -1,8 +1,8 @@
 -- Deliveries one after the other.
 use Rattle.std.specs.Prelude.{◌≡◌, ℕ, List, [], ◌∷◌, ◌++◌}
 use Rattle.office_replies.specs.Events.{Event, delivered}
-use Rattle.office_replies.specs.declared.response.Response.{Response}
-use Rattle.office_replies.specs.declared.response.Response.TheVariants.{NotNow}
+use Rattle.office_replies.specs.declared.deliver.Response.{Response}
+use Rattle.office_replies.specs.declared.deliver.Response.TheVariants.{NotNow}
 
 -- the events behind a text and its response: one that was answered NotNow is none
 abbrev pub with_answered : List Event → List ℕ → Response → List Event
@@ -27,6 +27,12 @@ abbrev pub events_behind : List Event → List (List ℕ) → List Response → 
 events_behind es [] responses = es
 events_behind es (text ∷ texts) [] = es
 events_behind es (text ∷ texts) (response ∷ responses) = events_behind (with_answered es text response) texts responses
+
+-- behind those events each text was answered at its place, and this stands then
+pub record Answered {D : Type 0} (stands : List Event → D → Type 0) (answers : List Event → List ℕ → Response → Type 0)
+    (es : List Event) (new : D) (texts : List (List ℕ)) (responses : List Response) : Type 0 where
+  pub each : AnswersEach answers es texts responses
+  pub stands_now : stands (events_behind es texts responses) new
 
 -- those texts, one behind the other and each with its response, lead from what it was to what it is
 abbrev pub LeadsOn : {D : Type 0} → (leads : D → List ℕ → Response → D → Type 0) → D → List (List ℕ) → List Response → D →

@@ -1,7 +1,7 @@
 -- The kinds of answers.
-use Rattle.office_replies.specs.declared.fault.Fault.{Fault}
-use Rattle.office_replies.specs.declared.response.Response.{Response}
-use Rattle.office_replies.specs.declared.response.Response.TheVariants as response
+use Rattle.office_replies.specs.declared.deliver.Fault.{Fault}
+use Rattle.office_replies.specs.declared.deliver.Response.{Response}
+use Rattle.office_replies.specs.declared.deliver.Response.TheVariants as response
 
 -- taken now, or before; waiting; a clash; refused for a fault; not now
 pub data AnswerKind : Type 0 where

@@ -11,5 +11,4 @@ pub mod Events
 pub mod Delivering
 pub mod AccountAnswers
 pub mod Adding
-pub mod Calls
 pub mod Sent

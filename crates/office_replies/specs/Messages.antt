@@ -3,11 +3,11 @@ use Rattle.std.specs.Prelude.{ℕ, List, Option, None, Some, map, string_bytes, 
 use Rattle.serde_json.specs.Data.{Data, array, object, number, unsigned, Members, member, no_members}
 use Rattle.serde_json.specs.View.{items_of}
 use Rattle.serde_json.specs.Written.{compact_text}
-use Rattle.edi_messages.specs.declared.message_fault.MessageFault.{MessageFault}
-use Rattle.office_replies.specs.declared.line_report.LineReport.{LineReport}
+use Rattle.edi_messages.specs.declared.message.MessageFault.{MessageFault}
+use Rattle.office_replies.specs.declared.message_report.LineReport.{LineReport}
 use Rattle.office_replies.specs.declared.message_report.MessageReport.{MessageReport}
-use Rattle.office_replies.specs.declared.message_verdict.MessageVerdict.{MessageVerdict}
-use Rattle.office_replies.specs.declared.message_verdict.MessageVerdict.TheVariants as verdict
+use Rattle.office_replies.specs.declared.message_report.MessageVerdict.{MessageVerdict}
+use Rattle.office_replies.specs.declared.message_report.MessageVerdict.TheVariants as verdict
 use Rattle.office_replies.specs.Names.{message_fault_name}
 use Rattle.office_replies.specs.Members.{text_member}
 use Rattle.office_replies.specs.Lines.{lines_from}

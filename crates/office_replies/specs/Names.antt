@@ -1,13 +1,13 @@
 -- The names that replies give to reasons and faults.
 use Rattle.std.specs.Prelude.{ℕ, List, codes}
-use Rattle.terminal_core.specs.declared.reason.Reason.{Reason}
-use Rattle.terminal_core.specs.declared.reason.Reason.TheVariants.{Form, CheckDigit, Size, Moment, SlotText, AlreadyIn, NotIn, AlreadyListed, NotListed, ListLineDone, Buried, NoSlot, SlotKind, Taken, OnAir, OnEmpty, NoRoom, VisitLimit}
-use Rattle.edi_segments.specs.declared.syntax_fault.SyntaxFault.{SyntaxFault}
-use Rattle.edi_segments.specs.declared.syntax_fault.SyntaxFault.TheVariants as syntax
-use Rattle.office_replies.specs.declared.fault.Fault.{Fault}
-use Rattle.office_replies.specs.declared.fault.Fault.TheVariants as fault
-use Rattle.edi_messages.specs.declared.message_fault.MessageFault.{MessageFault}
-use Rattle.edi_messages.specs.declared.message_fault.MessageFault.TheVariants as message
+use Rattle.terminal_core.specs.declared.change.Reason.{Reason}
+use Rattle.terminal_core.specs.declared.change.Reason.TheVariants.{Form, CheckDigit, Size, Moment, SlotText, AlreadyIn, NotIn, AlreadyListed, NotListed, ListLineDone, Buried, NoSlot, SlotKind, Taken, OnAir, OnEmpty, NoRoom, VisitLimit}
+use Rattle.edi_segments.specs.declared.interchange.SyntaxFault.{SyntaxFault}
+use Rattle.edi_segments.specs.declared.interchange.SyntaxFault.TheVariants as syntax
+use Rattle.office_replies.specs.declared.deliver.Fault.{Fault}
+use Rattle.office_replies.specs.declared.deliver.Fault.TheVariants as fault
+use Rattle.edi_messages.specs.declared.message.MessageFault.{MessageFault}
+use Rattle.edi_messages.specs.declared.message.MessageFault.TheVariants as message
 
 abbrev pub reason_name : Reason → List ℕ
 reason_name Form = codes "Form"

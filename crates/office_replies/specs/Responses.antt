@@ -1,14 +1,14 @@
 -- Answers to deliveries: their status, their body, and how bad they are.
 use Rattle.std.specs.Prelude.{ℕ, List, codes, string_bytes}
-use Rattle.edi_segments.specs.declared.syntax_fault.SyntaxFault.{SyntaxFault}
-use Rattle.edi_segments.specs.declared.syntax_fault.SyntaxFault.TheVariants as syntax
+use Rattle.edi_segments.specs.declared.interchange.SyntaxFault.{SyntaxFault}
+use Rattle.edi_segments.specs.declared.interchange.SyntaxFault.TheVariants as syntax
 use Rattle.office_replies.specs.Refusals.{refusal_text}
-use Rattle.office_replies.specs.declared.fault.Fault.{Fault}
-use Rattle.office_replies.specs.declared.fault.Fault.TheVariants as fault
-use Rattle.office_replies.specs.declared.response.Response.{Response}
-use Rattle.office_replies.specs.declared.response.Response.TheVariants.{Taken, Repeat, Waiting, Clash, Refused, RefusedWithContrl, NotNow}
-use Rattle.office_replies.specs.declared.worst.Worst.{Worst}
-use Rattle.office_replies.specs.declared.worst.Worst.TheVariants as worst
+use Rattle.office_replies.specs.declared.deliver.Fault.{Fault}
+use Rattle.office_replies.specs.declared.deliver.Fault.TheVariants as fault
+use Rattle.office_replies.specs.declared.deliver.Response.{Response}
+use Rattle.office_replies.specs.declared.deliver.Response.TheVariants.{Taken, Repeat, Waiting, Clash, Refused, RefusedWithContrl, NotNow}
+use Rattle.office_replies.specs.declared.deliver.Worst.{Worst}
+use Rattle.office_replies.specs.declared.deliver.Worst.TheVariants as worst
 
 -- 413 for a text that is too long, 400 for every other fault
 abbrev pub syntax_status : SyntaxFault → ℕ

@@ -3,7 +3,7 @@ use Rattle.std.specs.Prelude.{ℕ, List, Option, None, Some, codes, option_map}
 use Rattle.serde.specs.Event.{Log}
 use Rattle.serde_json.specs.Data.{number, unsigned, Members, member, no_members}
 use Rattle.serde_json.specs.Events.{SendsMembers}
-use Rattle.office_replies.specs.declared.line_members.LineMembers.{LineMembers}
+use Rattle.office_replies.specs.declared.message_report.LineMembers.{LineMembers}
 use Rattle.office_replies.specs.Members.{text_member, optional_member}
 
 -- whatever members end an object well from here end it well, behind those that were sent, from the start

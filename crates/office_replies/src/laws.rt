@@ -6,10 +6,10 @@
 
 ghost use Rattle.std.specs.Prelude.{◌≡◌, ◌≢◌, ℕ, List, []};
 ghost use Rattle.serde_json.specs.Written.{compact_text};
-ghost use Rattle.office_replies.specs.declared.fault.Fault.{Fault};
-ghost use Rattle.office_replies.specs.declared.response.Response.TheVariants as response;
-ghost use Rattle.office_replies.specs.declared.account_answer.AccountAnswer.TheVariants as account;
-ghost use Rattle.office_replies.specs.declared.account_fault.AccountFault.{AccountFault};
+ghost use Rattle.office_replies.specs.declared.deliver.Fault.{Fault};
+ghost use Rattle.office_replies.specs.declared.deliver.Response.TheVariants as response;
+ghost use Rattle.office_replies.specs.declared.accounts.AccountAnswer.TheVariants as account;
+ghost use Rattle.office_replies.specs.declared.accounts.AccountFault.{AccountFault};
 ghost use Rattle.office_replies.specs.AccountAnswers.{account_body, account_refusal_data};
 ghost use Rattle.office_replies.specs.Bodies.{not_now_data};
 ghost use Rattle.office_replies.specs.Messages.{ReportContent, reply_content_text};

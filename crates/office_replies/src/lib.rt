@@ -3,38 +3,13 @@
 //! keys.
 #![tactic(auto)]
 
-mod account_answer;
-mod account_body;
-mod account_fault;
-mod add_account;
+mod accounts;
 mod body;
 mod deliver;
-mod fault;
-mod kept;
-mod kept_reply;
 pub mod laws;
-mod line_members;
-mod line_report;
 mod message_report;
-mod message_verdict;
-mod names;
-mod refusal;
-mod response;
-mod sending;
-mod text;
-mod worst;
 
-pub use account_answer::AccountAnswer;
-pub use account_body::{account_added, account_known};
-pub use account_fault::AccountFault;
-pub use add_account::AddAccount;
-pub use body::{answered, clash, refused, waiting};
-pub use deliver::Deliver;
-pub use fault::Fault;
-pub use kept::reply;
-pub use line_report::LineReport;
-pub use message_report::MessageReport;
-pub use message_verdict::MessageVerdict;
-pub use response::Response;
-pub use text::text_of;
-pub use worst::Worst;
+pub use accounts::{AccountAnswer, AccountFault, AddAccount, account_added, account_known};
+pub use body::{answered, clash, refused, reply, text_of, waiting};
+pub use deliver::{Deliver, Fault, Response, Worst};
+pub use message_report::{LineReport, MessageReport, MessageVerdict};

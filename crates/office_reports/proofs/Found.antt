@@ -3,11 +3,11 @@ use Rattle.std.proofs.Common.{◌≡◌, ℕ, List, [], ◌∷◌, ◌++◌, map
 use Rattle.std.specs.Prelude.{◌||◌}
 use Rattle.std.specs.List.{list_any}
 use Rattle.box6346.specs.declared.box_number.BoxNumber.{BoxNumber}
-use Rattle.terminal_core.specs.declared.visit.Visit.{Visit}
+use Rattle.terminal_core.specs.declared.visits.Visit.{Visit}
 use Rattle.terminal_core.specs.Rows.{VisitContent, visit_content}
 use Rattle.terminal_core.specs.State.{TerminalState, is_visit_of}
 use Rattle.office_setup.specs.Setups.{SetupContent}
-use Rattle.terminal_core.specs.declared.source.Source.{Source}
+use Rattle.terminal_core.specs.declared.change.Source.{Source}
 use Rattle.office_reports.specs.Names.{line}
 use Rattle.office_reports.specs.Tickets.{is_told_by, entry_lines, exit_lines, told_lines}
 use Rattle.office_reports.specs.Visits.{visits_text, visit_report}

@@ -9,6 +9,7 @@ use Rattle.std.specs.Ordering.{nat_cmp, eq_by_cmp}
 use Rattle.std.specs.Cmp.Lexicographic.{slice_cmp, texts_ties}
 use Rattle.std.specs.List.Sorted.{IsStrictlySortedBy}
 use Rattle.std.specs.Str.{bytes_eq}
+use Rattle.std.proofs.Math.Bool.{and-false, and-true}
 use Rattle.std.proofs.lemmas.Cmp.{nat_list_cmp_total, eq_by_cmp_equiv}
 use Rattle.std.proofs.lemmas.List.{map-append, take_more, take_all, length-map}
 use Rattle.std.proofs.lemmas.List.Sums.{length-filter}
@@ -17,8 +18,8 @@ use Rattle.std.proofs.lemmas.Map.Keys.{IsDistinct-from_sorted}
 use Rattle.std.proofs.lemmas.Map.Views.{Contains-from_lookup, lookup-from_Contains}
 use Rattle.edi_messages.specs.Purposes.{CallContent}
 use Rattle.box6346.specs.declared.box_number.BoxNumber.{BoxNumber}
-use Rattle.terminal_core.specs.declared.listing.Listing.{Listing}
-use Rattle.terminal_core.specs.declared.side.Side.{Side}
+use Rattle.terminal_core.specs.declared.lines.Listing.{Listing}
+use Rattle.terminal_core.specs.declared.lines.Side.{Side}
 use Rattle.terminal_core.specs.State.{TerminalState, LineContent, LineKey, line_key, line_of}
 use Rattle.terminal_core.specs.Listings.{key_of, line_content, line_entry, lines_of, is_line, is_side}
 use Rattle.terminal_core.specs.Restoring.{AreOnce}
@@ -26,7 +27,7 @@ use Rattle.terminal_core.proofs.Lined.{order, keys_total, same_key, line_tied, f
 use Rattle.terminal_core.proofs.Counted.{none_before_one, some_counted}
 use Rattle.terminal_core.proofs.Boxes.{same_self}
 use Rattle.terminal_core.proofs.Numbered.{contained}
-use Rattle.office_reports.specs.declared.listed_line.ListedLine.{ListedLine}
+use Rattle.office_reports.specs.declared.lists.ListedLine.{ListedLine}
 use Rattle.office_reports.specs.Listed.{AreListed}
 use Rattle.office_reports.specs.Lists.{HasLine, is_on, is_done_line, shown_line, list_contents}
 use Rattle.office_reports.proofs.Standings.{same_text}
@@ -63,20 +64,12 @@ regroup false b c d = refl
 line_on : (call : CallContent) (side : Side) (container : BoxNumber) (row : Listing) → is_line call side container row ≡ (bytes_eq row.container container && is_on call side row)
 line_on call side container row = regroup (bytes_eq row.container container) (is_side row.side side) (bytes_eq (string_bytes row.call.voyage) call.voyage) (bytes_eq (string_bytes row.call.vessel) call.vessel)
 
-and_false : (a : Bool) → (a && false) ≡ false
-and_false true = refl
-and_false false = refl
-
-and_true : (a : Bool) → (a && true) ≡ a
-and_true true = refl
-and_true false = refl
-
 -- an entry more that has another key
 push_other : (es : List (LineKey × LineContent)) (e : LineKey × LineContent) (q : LineKey) → eq_by_cmp order q e.0 ≡ false → finite_map.find order q (es ++ e ∷ []) ≡ finite_map.find order q es
 push_other [] e q other = ap (λ v. cond v (Some e.1) None) other
 push_other (f ∷ es) e q other = ap (cond (eq_by_cmp order q f.0) (Some f.1)) (push_other es e q other)
 
-none_there : {A : Type 0} (p : A → Bool) (xs : List A) → count_by p xs ≡ 0 → (k : ℕ) (x : A) → slice_get xs k ≡ Some x → (v : Bool) → p x ≡ v → v ≡ false
+pub none_there : {A : Type 0} (p : A → Bool) (xs : List A) → count_by p xs ≡ 0 → (k : ℕ) (x : A) → slice_get xs k ≡ Some x → (v : Bool) → p x ≡ v → v ≡ false
 none_there p xs none k x at false is = refl
 none_there p xs none k x at true is = let some : 1 ≤ count_by p xs = some_counted p xs x (contained xs k x at) is in absurd (omega arith)
 
@@ -98,7 +91,7 @@ module _ (call : CallContent) (side : Side) (all : List Listing) (once : AreOnce
     sorted = lists.sorted;
     told = λ container. lists.told container
         ∙ sym (push_other (map line_entry (take i all)) (line_entry row) (line_key call side container)
-        (line_tied call side container row ∙ line_on call side container row ∙ ap (λ v. bytes_eq row.container container && v) off ∙ and_false (bytes_eq row.container container)))
+        (line_tied call side container row ∙ line_on call side container row ∙ ap (λ v. bytes_eq row.container container && v) off ∙ and-false (bytes_eq row.container container)))
         ∙ ap (finite_map.find order (line_key call side container)) longer;
   }
 
@@ -108,8 +101,8 @@ module _ (call : CallContent) (side : Side) (all : List Listing) (once : AreOnce
       → Lists call side (take i all) old.entries → Lists call side (take (i + 1) all) new.entries
   row_on line old new on shows sorted puts lists =
       let tied : (container : List ℕ) → eq_by_cmp order (line_key call side container) (key_of row) ≡ is_at (slice_cmp nat_cmp row.container) container =
-      λ container. line_tied call side container row ∙ line_on call side container row ∙ ap (λ v. bytes_eq row.container container && v) on ∙ and_true (bytes_eq row.container container) ∙ texts_ties row.container container in
-      let its : is_line call side row.container row ≡ true = line_on call side row.container row ∙ ap (λ v. bytes_eq row.container row.container && v) on ∙ and_true (bytes_eq row.container row.container) ∙ same_self row.container in
+      λ container. line_tied call side container row ∙ line_on call side container row ∙ ap (λ v. bytes_eq row.container container && v) on ∙ and-true (bytes_eq row.container container) ∙ texts_ties row.container container in
+      let its : is_line call side row.container row ≡ true = line_on call side row.container row ∙ ap (λ v. bytes_eq row.container row.container && v) on ∙ and-true (bytes_eq row.container row.container) ∙ same_self row.container in
       let key : line_key call side row.container ≡ key_of row = same_key (line_key call side row.container) (key_of row) (line_tied call side row.container row ∙ its) in
       let few : count_by (is_line call side row.container) (take i all) ≡ 0 = none_before_one (is_line call side row.container) all i row (once call side row.container) low is its in
       let none : finite_map.find order (line_key call side row.container) (map line_entry (take i all)) ≡ None =

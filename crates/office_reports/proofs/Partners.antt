@@ -1,7 +1,7 @@
 -- The codes of partners.
 use Rattle.std.proofs.Common.{◌≡◌, ℕ, zero, suc, List, [], ◌∷◌, map, None, Some, refl, sym, ap, ◌∙◌, string_bytes, slice_get, slice_index_or}
 use Rattle.std.proofs.lemmas.Option.{same_Some, none-some}
-use Rattle.office_setup.specs.declared.account.Account.{Account}
+use Rattle.office_setup.specs.declared.setup.Account.{Account}
 use Rattle.office_setup.specs.declared.setup.Setup.{Setup}
 use Rattle.office_setup.specs.Setups.{account_contents, setup_content}
 use Rattle.office_reports.specs.Visits.{code_of}

@@ -1,5 +1,7 @@
 -- Lines of some rows, one row after the other.
 use Rattle.std.proofs.Common.{◌≡◌, ℕ, ◌+◌, ◌<◌, ◌≤◌, List, [], ◌∷◌, ◌++◌, length, map, take, filter, flat_map, cond, Bool, true, false, refl, sym, ap, ◌∙◌, get_or, append_assoc}
+use Rattle.std.proofs.lemmas.Grind.{flat_map-append}
+use Rattle.std.proofs.lemmas.List.Elements.{filter-append}
 use Rattle.std.proofs.lemmas.List.{take_more, take_all, map-append, append-nil}
 
 module _ {Y : Type 0} (p : Y → Bool) (f : Y → List ℕ) where
@@ -7,14 +9,10 @@ module _ {Y : Type 0} (p : Y → Bool) (f : Y → List ℕ) where
   last true y = append-nil (f y)
   last false y = refl
 
-  joins : (b : Bool) (x : Y) (ys zs : List Y) (more : List ℕ) → flat_map f zs ≡ flat_map f ys ++ more → flat_map f (cond b (x ∷ zs) zs) ≡ flat_map f (cond b (x ∷ ys) ys) ++ more
-  joins true x ys zs more e = ap (λ rest. f x ++ rest) e ∙ sym (append_assoc (f x) (flat_map f ys) more)
-  joins false x ys zs more e = e
-
   -- the lines of one row more
   pub one_more : (ys : List Y) (y : Y) → flat_map f (filter p (ys ++ y ∷ [])) ≡ flat_map f (filter p ys) ++ cond (p y) (f y) []
-  one_more [] y = last (p y) y
-  one_more (x ∷ ys) y = joins (p x) x (filter p ys) (filter p (ys ++ y ∷ [])) (cond (p y) (f y) []) (one_more ys y)
+  one_more ys y =
+      ap (flat_map f) (filter-append p ys (y ∷ [])) ∙ flat_map-append f (filter p ys) (filter p (y ∷ [])) ∙ ap (λ more. flat_map f (filter p ys) ++ more) (last (p y) y)
 
   module _ {X : Type 0} (g : X → Y) (before : List ℕ) (xs : List X) where
     -- a text with the lines of the first rows

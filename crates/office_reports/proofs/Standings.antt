@@ -5,9 +5,8 @@ use Rattle.std.specs.Char.{is_ascii_uppercase}
 use Rattle.std.specs.BTreeMap.{BTreeMap, get, is_at}
 use Rattle.std.specs.Map.{lookup, keys_of}
 use Rattle.std.specs.Ordering.{nat_cmp, is_eq}
-use Rattle.std.specs.declared.cmp.Ordering.{Ordering}
-use Rattle.std.specs.declared.cmp.Ordering.TheVariants.{Less, Equal, Greater}
 use Rattle.std.proofs.lemmas.Cmp.{nat_list_cmp_total, tied_itself, eq_by_cmp_equiv}
+use Rattle.std.specs.Cmp.{Equal-is}
 use Rattle.std.specs.Cmp.Lexicographic.{slice_cmp}
 use Rattle.std.specs.List.Sorted.{IsStrictlySortedBy}
 use Rattle.std.specs.Str.{bytes_eq}
@@ -22,22 +21,22 @@ use Rattle.std.proofs.lemmas.List.Sums.{length-filter}
 use Rattle.box6346.specs.SlotName.{slot_of, slot_text, IsNamed}
 use Rattle.box6346.proofs.SlotNames.{names_are_read_again_lem}
 use Rattle.box6346.specs.declared.box_number.BoxNumber.{BoxNumber}
-use Rattle.box6346.specs.declared.length.Length.{Length}
-use Rattle.box6346.specs.declared.length.Length.TheVariants.{Twenty, Forty}
+use Rattle.box6346.specs.declared.size_type.Length.{Length}
+use Rattle.box6346.specs.declared.size_type.Length.TheVariants.{Twenty, Forty}
 use Rattle.box6346.specs.declared.slot.Slot.{Slot}
-use Rattle.yard_core.specs.declared.block.Block.{Block}
-use Rattle.yard_core.specs.declared.placement.Placement.{Placement}
+use Rattle.yard_core.specs.declared.plan.Block.{Block}
+use Rattle.yard_core.specs.declared.placements.Placement.{Placement}
 use Rattle.yard_core.specs.Plan.{IsPlan, InPlan}
 use Rattle.yard_core.specs.YardMap.{placement_of, in_bay, CoversAt, IsKind}
 use Rattle.yard_core.proofs.Exact.{numbered}
-use Rattle.terminal_core.specs.declared.departure.Departure.{Departure}
-use Rattle.terminal_core.specs.declared.visit.Visit.{Visit}
+use Rattle.terminal_core.specs.declared.visits.Departure.{Departure}
+use Rattle.terminal_core.specs.declared.visits.Visit.{Visit}
 use Rattle.terminal_core.specs.Rows.{VisitContent, visit_content}
 use Rattle.terminal_core.specs.State.{TerminalState, is_open_visit, open_visit, IsWhole}
 use Rattle.terminal_core.proofs.Boxes.{same_self, same_bytes}
 use Rattle.terminal_core.proofs.Numbered.{contained, found_at}
 use Rattle.terminal_core.proofs.Counted.{some_of, is_found, found_is, one_passes}
-use Rattle.office_reports.specs.declared.standing.Standing.{Standing}
+use Rattle.office_reports.specs.declared.yard.Standing.{Standing}
 use Rattle.office_reports.specs.Listed.{AreListed}
 use Rattle.office_reports.specs.Yard.{shown, slot_in, StandsAt, standing_if_here, standing_of}
 
@@ -91,14 +90,9 @@ module _ (state : TerminalState) (whole : IsWhole state) where
       let slots : a.slot ≡ b.slot = same_Some a.slot b.slot (sym at.stands ∙ ap (slot_in state) containers ∙ bt.stands) in
       at.is_shown ∙ (λ i. shown (visits i) (slots i)) ∙ sym bt.is_shown
 
-is_equal : (r : Ordering) → is_eq r ≡ true → r ≡ Equal
-is_equal Less e = cc
-is_equal Equal e = refl
-is_equal Greater e = cc
-
 -- one text
 pub same_text : (t q : List ℕ) → is_at (slice_cmp nat_cmp t) q ≡ true → t ≡ q
-same_text t q e = exact_bytes t q (is_equal (slice_cmp nat_cmp t q) e)
+same_text t q e = exact_bytes t q ((Equal-is (slice_cmp nat_cmp t q)).0 e)
 
 not_itself : (t q : List ℕ) → t ≡ q → is_at (slice_cmp nat_cmp t) q ≡ false → ⊥
 not_itself t q e other = let tied : is_at (slice_cmp nat_cmp t) q ≡ true = ap (λ x. is_at (slice_cmp nat_cmp t) x) (sym e) ∙ ap is_eq (tied_itself nat_list_cmp_total t) in let bad : true ≡ false = sym tied ∙ other in cc

@@ -7,7 +7,7 @@ use Rattle.csv.specs.Writing.{default_writer, row_text, writer_setup, writer_und
 use Rattle.csv.specs.declared.writer.Writer.{Writer}
 use Rattle.box6346.specs.SlotName.{slot_text}
 use Rattle.terminal_core.specs.State.{TerminalState}
-use Rattle.office_reports.specs.declared.standing.Standing.{Standing}
+use Rattle.office_reports.specs.declared.yard.Standing.{Standing}
 use Rattle.office_reports.specs.Listed.{AreListed}
 use Rattle.office_reports.specs.Yard.{StandsAt}
 

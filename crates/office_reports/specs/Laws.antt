@@ -3,7 +3,7 @@ use Rattle.std.specs.Prelude.{◌≡◌, ℕ, List, Option}
 use Rattle.box6346.specs.SlotName.{IsNamed, slot_text}
 use Rattle.box6346.specs.declared.slot.Slot.{Slot}
 use Rattle.edi_messages.specs.Purposes.{CallContent}
-use Rattle.terminal_core.specs.declared.side.Side.{Side}
+use Rattle.terminal_core.specs.declared.lines.Side.{Side}
 use Rattle.terminal_core.specs.State.{TerminalState}
 use Rattle.office_reports.specs.Names.{slot_name}
 use Rattle.office_reports.specs.Yard.{IsYardReport}

@@ -2,8 +2,8 @@
 use Rattle.std.specs.Prelude.{ℕ, Bool, List, [], ◌∷◌, ◌++◌, filter, if◌then◌else◌, ◌==◌, ◌&&◌, ◌||◌, codes, decimal, is_some, Option, None, Some}
 use Rattle.std.specs.List.{flat_map, list_any}
 use Rattle.edi_moments.specs.Moments.{CivilMoment, moment_text}
-use Rattle.terminal_core.specs.declared.departure.Departure.{Departure}
-use Rattle.terminal_core.specs.declared.source.Source.{Source}
+use Rattle.terminal_core.specs.declared.visits.Departure.{Departure}
+use Rattle.terminal_core.specs.declared.change.Source.{Source}
 use Rattle.terminal_core.specs.Rows.{VisitContent}
 use Rattle.office_reports.specs.Names.{load_name, slot_name, line}
 

@@ -4,10 +4,10 @@ use Rattle.std.specs.Fmt.{signed_decimal}
 use Rattle.std.specs.List.{flat_map, list_any}
 use Rattle.box6346.specs.declared.box_number.BoxNumber.{BoxNumber}
 use Rattle.edi_moments.specs.Moments.{CivilMoment, day_number, moment_text}
-use Rattle.terminal_core.specs.declared.departure.Departure.{Departure}
-use Rattle.terminal_core.specs.declared.source.Source.{Source}
-use Rattle.terminal_core.specs.declared.way.Way.{Way}
-use Rattle.terminal_core.specs.declared.way.Way.TheVariants.{Gate, Ship}
+use Rattle.terminal_core.specs.declared.visits.Departure.{Departure}
+use Rattle.terminal_core.specs.declared.change.Source.{Source}
+use Rattle.terminal_core.specs.declared.visits.Way.{Way}
+use Rattle.terminal_core.specs.declared.visits.Way.TheVariants.{Gate, Ship}
 use Rattle.terminal_core.specs.Rows.{VisitContent}
 use Rattle.terminal_core.specs.State.{TerminalState, is_visit_of}
 use Rattle.office_setup.specs.Setups.{SetupContent}

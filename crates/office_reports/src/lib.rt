@@ -2,20 +2,14 @@
 //! tickets.
 #![tactic(auto)]
 
-mod export;
 pub mod laws;
-mod listed_line;
 mod lists;
-mod standing;
 pub mod texts;
 mod tickets;
 mod visits;
 pub mod yard;
 
-pub use export::yard_csv;
-pub use listed_line::ListedLine;
-pub use lists::{lines_on, list_name, list_report};
-pub use standing::Standing;
+pub use lists::{ListedLine, lines_on, list_name, list_report};
 pub use tickets::ticket;
 pub use visits::{passage_text, push_stay, visit_report};
-pub use yard::{standings as yard_standings, yard_report};
+pub use yard::{Standing, standings as yard_standings, yard_csv, yard_report};

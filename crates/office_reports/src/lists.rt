@@ -1,19 +1,26 @@
-ghost use Rattle.std.specs.Prelude.{◌≡◌, ◌++◌, count_by, IfOk, OnOk, string_bytes};
 ghost use Rattle.std.specs.List.{flat_map};
 ghost use Rattle.std.specs.Option.{option_map};
+ghost use Rattle.std.specs.Prelude.{◌≡◌, ◌++◌, count_by, IfOk, OnOk, string_bytes};
 ghost use Rattle.edi_messages.specs.Owned.{call_content};
-ghost use Rattle.terminal_core.specs.Listings.{line_content};
 ghost use Rattle.office_reports.specs.Listed.{AreListed};
-ghost use Rattle.office_reports.specs.Lists.{HasLine, IsListReport, list_contents, list_end, list_head, list_line};
-ghost use Rattle.office_reports.specs.Lists.{is_done_line, is_on, list_name, shown_line, state_name};
+ghost use Rattle.office_reports.specs.Lists.{HasLine, IsListReport, list_contents, list_end, list_head, list_line, is_done_line, is_on, list_name, shown_line, state_name};
+ghost use Rattle.terminal_core.specs.Listings.{line_content};
 
-use crate::listed_line::ListedLine;
 use crate::texts::{number_text, push_line};
 use box6346::BoxNumber;
 use edi_messages::Call;
 use std::alloc::{AllocError, Global};
 use std::collections::BTreeMap;
 use terminal_core::{LineState, Listing, Side, Terminal};
+
+/// A line of a vessel's list, as reports show it.
+#[derive(Drop)]
+pub struct ListedLine {
+    /// The port of discharge, empty if none was given.
+    pub port: String,
+    /// Whether the container was loaded, or discharged.
+    pub state: LineState,
+}
 
 /// A call's list, by the containers' numbers: `LOAD LIST VESSEL VOYAGE` or `DISCHARGE LIST VESSEL VOYAGE`, a line
 /// `BOX OPEN` or `BOX DONE` for each with the port behind it if there is one, and `a OPEN b DONE`. Each line ends

@@ -2,8 +2,8 @@
 use Rattle.std.proofs.Common.{◌≡◌, ℕ, zero, suc, ◌+◌, List, [], ◌∷◌, ◌++◌, take, length, slice_get, Some, refl, ap, ◌∙◌, append_assoc, add-zero, arith}
 use Rattle.std.proofs.lemmas.List.{take_more}
 use Rattle.std.proofs.lemmas.Option.{slice_get_within, get_or_from_slice_get}
-use Rattle.edi_messages.specs.declared.partner_kind.PartnerKind.{PartnerKind}
-use Rattle.yard_core.specs.declared.block.Block.{Block}
+use Rattle.edi_messages.specs.declared.codes.PartnerKind.{PartnerKind}
+use Rattle.yard_core.specs.declared.plan.Block.{Block}
 use Rattle.sqlite.specs.State.{State}
 use Rattle.office_rows.specs.Rows.{Partner, Setting}
 use Rattle.office_rows.specs.Opening.{partners_from, setting, settings_named, with_partners, with_settings, with_blocks}

@@ -5,10 +5,10 @@ use Rattle.box6346.specs.declared.slot.Slot.{Slot}
 use Rattle.box6346.specs.SlotName.{slot_text}
 use Rattle.edi_moments.specs.Moments.{moment_digits}
 use Rattle.edi_messages.specs.Purposes.{CallContent}
-use Rattle.yard_core.specs.declared.block.Block.{Block}
-use Rattle.terminal_core.specs.declared.departure.Departure.{Departure}
-use Rattle.terminal_core.specs.declared.line_state.LineState.TheVariants.{Done}
-use Rattle.terminal_core.specs.declared.side.Side.{Side}
+use Rattle.yard_core.specs.declared.plan.Block.{Block}
+use Rattle.terminal_core.specs.declared.visits.Departure.{Departure}
+use Rattle.terminal_core.specs.declared.lines.LineState.TheVariants.{Done}
+use Rattle.terminal_core.specs.declared.lines.Side.{Side}
 use Rattle.terminal_core.specs.Rows.{VisitContent, visit_closed, moved_to, removed_from, line_done, unlisted}
 use Rattle.terminal_core.specs.State.{side_code}
 use Rattle.sqlite.specs.declared.types.Value.TheVariants.{Null, Text, Blob}

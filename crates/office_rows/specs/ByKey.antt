@@ -4,7 +4,7 @@ use Rattle.std.specs.Option.{option_map}
 use Rattle.std.specs.FinMap as finite_map
 use Rattle.box6346.specs.declared.box_number.BoxNumber.{BoxNumber}
 use Rattle.edi_messages.specs.Purposes.{CallContent}
-use Rattle.terminal_core.specs.declared.side.Side.{Side}
+use Rattle.terminal_core.specs.declared.lines.Side.{Side}
 use Rattle.terminal_core.specs.Changes.{Standing, standing_in, TerminalRows}
 use Rattle.terminal_core.specs.State.{LineContent, LineKey, Lines, line_key}
 use Rattle.office_rows.specs.Rows.{PlaceContent, ListingContent, Rows}

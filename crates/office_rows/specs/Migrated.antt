@@ -1,7 +1,7 @@
 -- What a migration makes of the rows of an older version.
 use Rattle.std.specs.Prelude.{List, codes, map, if◌then◌else◌, ◌&&◌, ◌||◌}
 use Rattle.std.specs.Str.{bytes_eq}
-use Rattle.terminal_core.specs.declared.version.Version.TheVariants.{First, Second}
+use Rattle.terminal_core.specs.declared.change.Version.TheVariants.{First, Second}
 use Rattle.office_rows.specs.Rows.{Setting, Rows}
 use Rattle.office_rows.specs.Opening.{version_text, tables_version}
 use Rattle.office_rows.specs.Opened.{OpenedRows}

@@ -2,9 +2,9 @@
 use Rattle.std.specs.Prelude.{◌≡◌, ℕ, ◌+◌, ◌-◌, ◌<◌, ◌≤◌, true, false, List, [], ◌∷◌, ◌++◌, length, map, Contains, Option, None, Some, codes, decimal}
 use Rattle.std.specs.List.{range_with_len}
 use Rattle.edi_syntax.specs.Numbers.{last_number}
-use Rattle.edi_messages.specs.declared.partner_kind.PartnerKind.{PartnerKind}
+use Rattle.edi_messages.specs.declared.codes.PartnerKind.{PartnerKind}
 use Rattle.edi_messages.specs.Codes.{table_texts}
-use Rattle.terminal_core.specs.declared.departure.Departure.{Departure}
+use Rattle.terminal_core.specs.declared.visits.Departure.{Departure}
 use Rattle.terminal_core.specs.Rows.{VisitContent}
 use Rattle.terminal_core.specs.Changes.{TerminalRows, rows_of}
 use Rattle.terminal_core.specs.Forms.{IsWellFormed}

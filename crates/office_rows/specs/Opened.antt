@@ -4,7 +4,7 @@ use Rattle.sqlite.specs.declared.types.Value.TheVariants.{Text}
 use Rattle.sqlite.specs.Order.{Row}
 use Rattle.sqlite.specs.Effect.{Database}
 use Rattle.terminal_core.specs.Rows.{VisitContent}
-use Rattle.yard_core.specs.declared.block.Block.{Block}
+use Rattle.yard_core.specs.declared.plan.Block.{Block}
 use Rattle.office_rows.specs.Tables.{partner, interchange, visit, place, listed, setting, block}
 use Rattle.office_rows.specs.Rows.{Partner, Interchange, PlaceContent, ListingContent, Setting}
 use Rattle.office_rows.specs.Values.{number, partner_values, visit_values, place_values, line_values, setting_values, block_values}

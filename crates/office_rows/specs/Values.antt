@@ -2,14 +2,14 @@
 use Rattle.std.specs.Prelude.{ℕ, pos, Bool, true, false, List, [], ◌∷◌, Option, None, Some}
 use Rattle.box6346.specs.SlotName.{slot_text}
 use Rattle.edi_moments.specs.Moments.{moment_digits}
-use Rattle.edi_messages.specs.declared.partner_kind.PartnerKind.{PartnerKind}
-use Rattle.edi_messages.specs.declared.partner_kind.PartnerKind.TheVariants.{Gate, Line, Quay, Yard}
-use Rattle.yard_core.specs.declared.block.Block.{Block}
-use Rattle.terminal_core.specs.declared.departure.Departure.{Departure}
-use Rattle.terminal_core.specs.declared.line_state.LineState.{LineState}
-use Rattle.terminal_core.specs.declared.line_state.LineState.TheVariants.{Pending, Done}
-use Rattle.terminal_core.specs.declared.way.Way.{Way}
-use Rattle.terminal_core.specs.declared.way.Way.TheVariants as way
+use Rattle.edi_messages.specs.declared.codes.PartnerKind.{PartnerKind}
+use Rattle.edi_messages.specs.declared.codes.PartnerKind.TheVariants.{Gate, Line, Quay, Yard}
+use Rattle.yard_core.specs.declared.plan.Block.{Block}
+use Rattle.terminal_core.specs.declared.visits.Departure.{Departure}
+use Rattle.terminal_core.specs.declared.lines.LineState.{LineState}
+use Rattle.terminal_core.specs.declared.lines.LineState.TheVariants.{Pending, Done}
+use Rattle.terminal_core.specs.declared.visits.Way.{Way}
+use Rattle.terminal_core.specs.declared.visits.Way.TheVariants as way
 use Rattle.terminal_core.specs.Rows.{VisitContent}
 use Rattle.terminal_core.specs.State.{side_code}
 use Rattle.sqlite.specs.declared.types.Value.{Value}

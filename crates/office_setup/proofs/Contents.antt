@@ -1,8 +1,8 @@
 -- What follows where two set-ups say the same.
 use Rattle.std.proofs.Common.{◌≡◌, ℕ, List, map, string_bytes, sym, ap, ◌∙◌}
 use Rattle.std.proofs.lemmas.Simd.{map-map}
-use Rattle.edi_messages.specs.declared.partner_kind.PartnerKind.{PartnerKind}
-use Rattle.office_setup.specs.declared.account.Account.{Account}
+use Rattle.edi_messages.specs.declared.codes.PartnerKind.{PartnerKind}
+use Rattle.office_setup.specs.declared.setup.Account.{Account}
 use Rattle.office_setup.specs.declared.setup.Setup.{Setup}
 use Rattle.office_setup.specs.Parties.{partner_codes, partner_kinds, parties_of}
 use Rattle.office_setup.specs.Setups.{account_contents, setup_content}

@@ -9,10 +9,10 @@ use Rattle.std.proofs.lemmas.Bool.{cases_Bool, cond-true, cond-false}
 use Rattle.std.proofs.lemmas.List.{drop_more, length-map}
 use Rattle.std.proofs.lemmas.List.Elements.{All-head, All-tail}
 use Rattle.std.proofs.lemmas.Slice.Eq.{bytes_eq-Decides}
-use Rattle.edi_messages.specs.declared.partner_kind.PartnerKind.{PartnerKind}
+use Rattle.edi_messages.specs.declared.codes.PartnerKind.{PartnerKind}
 use Rattle.office_setup.specs.PartyCodes.{is_party_code}
 use Rattle.office_setup.specs.Accounts.{account_contents, partner_codes, partner_from, AreCoded, index_in}
-use Rattle.office_setup.specs.declared.account.Account.{Account}
+use Rattle.office_setup.specs.declared.setup.Account.{Account}
 
 equal : (a b : List ℕ) → bytes_eq a b ≡ true → a ≡ b
 equal a b same = (bytes_eq-Decides a b).0 same

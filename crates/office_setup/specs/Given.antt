@@ -3,8 +3,8 @@ use Rattle.std.specs.Prelude.{◌≡◌, ℕ, ◌≤◌, List, length, slice_get
 use Rattle.std.specs.List.Sorted.{IsNonDecreasingBy}
 use Rattle.edi_messages.specs.CodeText.{table_fault}
 use Rattle.edi_messages.specs.Codes.{table_texts}
-use Rattle.edi_messages.specs.declared.partner_kind.PartnerKind.{PartnerKind}
-use Rattle.yard_core.specs.declared.block.Block.{Block}
+use Rattle.edi_messages.specs.declared.codes.PartnerKind.{PartnerKind}
+use Rattle.yard_core.specs.declared.plan.Block.{Block}
 use Rattle.yard_core.specs.Plan.{IsPlan}
 use Rattle.office_setup.specs.Limits.{most_partners, most_visits}
 pub use Rattle.office_setup.specs.PartyCodes.{is_party_byte, is_party_code}

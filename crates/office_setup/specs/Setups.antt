@@ -1,8 +1,8 @@
 -- What a set-up says, whatever memory holds it.
 use Rattle.std.specs.Prelude.{ℕ, List, [], ◌∷◌, ◌++◌, map, string_bytes}
-use Rattle.edi_messages.specs.declared.code_table.CodeTable.{CodeTable}
-use Rattle.edi_messages.specs.declared.partner_kind.PartnerKind.{PartnerKind}
-use Rattle.yard_core.specs.declared.block.Block.{Block}
+use Rattle.edi_messages.specs.declared.code.CodeTable.{CodeTable}
+use Rattle.edi_messages.specs.declared.codes.PartnerKind.{PartnerKind}
+use Rattle.yard_core.specs.declared.plan.Block.{Block}
 pub use Rattle.office_setup.specs.Accounts.{account_contents}
 use Rattle.office_setup.specs.Parties.{Parties}
 use Rattle.office_setup.specs.declared.setup.Setup.{Setup}

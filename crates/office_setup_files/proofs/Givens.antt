@@ -13,11 +13,11 @@ use Rattle.std.proofs.lemmas.List.Elements.{All-nil, All-cons}
 use Rattle.std.proofs.lemmas.List.Sums.{sum_by-cons}
 use Rattle.std.proofs.lemmas.List.Sorted.{All-permutation, sum_by-IsPermutation}
 use Rattle.edi_messages.specs.CodeText.{table_fault}
-use Rattle.edi_messages.specs.declared.partner_kind.PartnerKind.{PartnerKind}
+use Rattle.edi_messages.specs.declared.codes.PartnerKind.{PartnerKind}
 use Rattle.edi_syntax.specs.Numbers.{number_of}
-use Rattle.yard_core.specs.declared.block.Block.{Block}
-use Rattle.yard_core.specs.declared.plan_fault.PlanFault.{PlanFault}
-use Rattle.yard_core.specs.declared.plan_fault.PlanFault.TheVariants.{Blocks, Letter, Twice, Size}
+use Rattle.yard_core.specs.declared.plan.Block.{Block}
+use Rattle.yard_core.specs.declared.plan.PlanFault.{PlanFault}
+use Rattle.yard_core.specs.declared.plan.PlanFault.TheVariants.{Blocks, Letter, Twice, Size}
 use Rattle.yard_core.specs.Plan.{IsPlan, IsFaulty, AreApart, IsSized}
 use Rattle.office_setup.specs.Given.{IsGiven, AreDistinct, is_party_code}
 use Rattle.office_setup.specs.Kinds.{kind_named}

@@ -6,10 +6,10 @@ use Rattle.csv.specs.Records.{AllText}
 use Rattle.office_setup_files.specs.Entries.{Record, Text}
 use Rattle.office_setup_files.specs.Said.{AreCodes}
 use Rattle.office_setup_files.specs.Wrong.{Shows, Brings, AreTexts, BeginsNoText, IsFirstNoText, IsRight, IsWrong}
-use Rattle.office_setup_files.specs.declared.setup_fault.SetupFault.{SetupFault}
-use Rattle.office_setup_files.specs.declared.setup_fault.SetupFault.TheVariants.{Csv, Terminal, Partner, Code, Limit, Block as BlockFault, Memory}
-use Rattle.office_setup_files.specs.declared.setup_file.SetupFile.{SetupFile}
-use Rattle.office_setup_files.specs.declared.setup_file.SetupFile.TheVariants.{Partners, Blocks}
+use Rattle.office_setup_files.specs.declared.setup_reading.SetupFault.{SetupFault}
+use Rattle.office_setup_files.specs.declared.setup_reading.SetupFault.TheVariants.{Csv, Terminal, Partner, Code, Limit, Block as BlockFault, Memory}
+use Rattle.office_setup_files.specs.declared.setup_reading.SetupFile.{SetupFile}
+use Rattle.office_setup_files.specs.declared.setup_reading.SetupFile.TheVariants.{Partners, Blocks}
 
 usual_codes : AreCodes []
 usual_codes = record { named = refl; apart = refl; table = refl }

@@ -7,7 +7,7 @@ use Rattle.csv.specs.Reading.{AreRecords, default_config, strip_bom}
 use Rattle.csv.specs.Records.{AllText, field_at}
 use Rattle.csv.specs.declared.parser.State.TheVariants as state
 use Rattle.edi_syntax.specs.Numbers.{number_of}
-use Rattle.office_setup_files.specs.declared.entry.Entry.{Entry}
+use Rattle.office_setup_files.specs.declared.records.Entry.{Entry}
 
 abbrev pub Text : Type 0
 Text = List ℕ

@@ -6,17 +6,17 @@ use Rattle.std.specs.List.Sorted.{IsNonDecreasingBy, IsPermutation}
 use Rattle.std.specs.Str.{bytes_eq}
 use Rattle.edi_messages.specs.CodeText.{table_fault}
 use Rattle.edi_messages.specs.Codes.{table_texts}
-use Rattle.edi_messages.specs.declared.partner_kind.PartnerKind.{PartnerKind}
+use Rattle.edi_messages.specs.declared.codes.PartnerKind.{PartnerKind}
 use Rattle.edi_syntax.specs.Numbers.{number_of}
-use Rattle.yard_core.specs.declared.block.Block.{Block}
+use Rattle.yard_core.specs.declared.plan.Block.{Block}
 use Rattle.yard_core.specs.Plan.{IsPlan}
 use Rattle.office_setup.specs.Given.{is_party_code}
 use Rattle.office_setup.specs.Kinds.{kind_named}
 use Rattle.office_setup.specs.Limits.{most_partners, most_visits}
 use Rattle.office_setup.specs.Setups.{SetupContent}
 use Rattle.office_setup_files.specs.Entries.{Text, Record, Named, AreFiles, AreRows, field, section, count_said}
-use Rattle.office_setup_files.specs.declared.setup_fault.SetupFault.{SetupFault}
-use Rattle.office_setup_files.specs.declared.setup_fault.SetupFault.TheVariants.{Csv, Terminal, Partner, Code, Limit, Block as BlockFault, Memory}
+use Rattle.office_setup_files.specs.declared.setup_reading.SetupFault.{SetupFault}
+use Rattle.office_setup_files.specs.declared.setup_reading.SetupFault.TheVariants.{Csv, Terminal, Partner, Code, Limit, Block as BlockFault, Memory}
 
 -- no name stands twice
 abbrev pub are_apart : List Text → Bool

@@ -5,12 +5,12 @@ use Rattle.std.specs.Str.{bytes_eq}
 use Rattle.csv.specs.Records.{AllText}
 use Rattle.office_setup_files.specs.Entries.{Text, Record, AreRows, field, is_partner_file, is_block_file, section}
 use Rattle.office_setup_files.specs.Said.{AreCodes, AreNoBlocks, AreNoPartners, limit_said, terminal_said}
-use Rattle.office_setup_files.specs.declared.setup_fault.SetupFault.{SetupFault}
-use Rattle.office_setup_files.specs.declared.setup_fault.SetupFault.TheVariants.{Csv, Terminal, Partner, Code, Limit, Block as BlockFault, Memory}
-use Rattle.office_setup_files.specs.declared.setup_file.SetupFile.{SetupFile}
-use Rattle.office_setup_files.specs.declared.setup_file.SetupFile.TheVariants.{Partners, Blocks}
-use Rattle.office_setup_files.specs.declared.wrong_record.WrongRecord.{WrongRecord}
-use Rattle.office_setup_files.specs.declared.wrong_record.WrongRecord.TheVariants.{OfPartners, OfBlocks}
+use Rattle.office_setup_files.specs.declared.setup_reading.SetupFault.{SetupFault}
+use Rattle.office_setup_files.specs.declared.setup_reading.SetupFault.TheVariants.{Csv, Terminal, Partner, Code, Limit, Block as BlockFault, Memory}
+use Rattle.office_setup_files.specs.declared.setup_reading.SetupFile.{SetupFile}
+use Rattle.office_setup_files.specs.declared.setup_reading.SetupFile.TheVariants.{Partners, Blocks}
+use Rattle.office_setup_files.specs.declared.wrong_records.WrongRecord.{WrongRecord}
+use Rattle.office_setup_files.specs.declared.wrong_records.WrongRecord.TheVariants.{OfPartners, OfBlocks}
 
 -- a record is of a kind, by its first field
 abbrev pub is_of : Text → Record → Bool

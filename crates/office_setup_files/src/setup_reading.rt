@@ -1,28 +1,94 @@
-ghost use Rattle.std.specs.Prelude.{◌≡◌, ℕ, List, IfOk, IfErr, MatchOption, map, codes, string_bytes};
-ghost use Rattle.std.specs.Option.{option_map};
-ghost use Rattle.edi_messages.specs.declared.partner_kind.PartnerKind.{PartnerKind};
 ghost use Rattle.std.specs.List.Sorted.{IsNonDecreasingBy, IsPermutation};
+ghost use Rattle.std.specs.Option.{option_map};
+ghost use Rattle.std.specs.Prelude.{◌≡◌, ℕ, List, IfOk, IfErr, MatchOption, map, codes, string_bytes};
 ghost use Rattle.csv.specs.Records.{fields_of};
 ghost use Rattle.edi_messages.specs.Codes.{table_texts};
-ghost use Rattle.yard_core.specs.declared.block.Block.{Block};
+ghost use Rattle.edi_messages.specs.declared.codes.PartnerKind.{PartnerKind};
 ghost use Rattle.office_setup.specs.Given.{IsGiven};
 ghost use Rattle.office_setup.specs.Setups.{account_contents, setup_content};
 ghost use Rattle.office_setup_files.specs.Entries.{AreFiles, section};
 ghost use Rattle.office_setup_files.specs.Said.{Applies, ArePartners, AreNoPartners, AreCodes, IsLowest, SaysSetup, SayFiles, RefuseFiles, code_texts, limit_said, terminal_said};
+ghost use Rattle.office_setup_files.specs.declared.setup_reading.SetupFault.TheVariants.{Memory};
+ghost use Rattle.yard_core.specs.declared.plan.Block.{Block};
 
-use crate::blocks::blocks_of;
-use crate::codes::codes_of;
-use crate::entry::section;
-use crate::forms::{is_block_file, is_partner_file};
-use crate::partners::partners_of;
-use crate::rows::{read_rows, text_rows};
-use crate::setup_fault::SetupFault;
-use crate::terminal::{limit_of, terminal_of};
+use crate::files::{blocks_of, codes_of, limit_of, partners_of, terminal_of};
+use crate::records::{is_block_file, is_partner_file, read_rows, section, text_rows};
 use csv::{ByteRecord, StringRecord};
 use edi_messages::CodeTable;
 use office_setup::{Accounts, Setup};
 use std::alloc::{AllocError, Global};
+use std::error::Error;
+use std::fmt;
 use yard_core::Block;
+
+/// Why set-up files give no set-up. Of the first six the lowest that applies to both files is answered.
+#[derive(Clone, Copy, Debug)]
+pub enum SetupFault {
+    /// A file has another header, a record of another length, bytes that aren't UTF-8, or a record of another kind.
+    Csv = 1,
+    /// There isn't just one record of the terminal, with a code and nothing more.
+    Terminal,
+    /// There aren't 1 to 999 partners, each with a code of its own and a kind.
+    Partner,
+    /// A record of a code has an unknown or repeated name, or the codes make no table.
+    Code,
+    /// There are two limits, or one that isn't of visits and from 1 to 999,999,999.
+    Limit,
+    /// The blocks make no plan of a yard.
+    Block,
+    /// Memory was refused.
+    Memory,
+}
+
+impl SetupFault {
+    ghost use Rattle.office_setup_files.specs.Said.{fault_name};
+
+    /// Its name.
+    pub fn name(self) -> &'static str
+        ensures { result.now ≡ fault_name self }
+    {
+        match self {
+            SetupFault::Csv => "Csv",
+            SetupFault::Terminal => "Terminal",
+            SetupFault::Partner => "Partner",
+            SetupFault::Code => "Code",
+            SetupFault::Limit => "Limit",
+            SetupFault::Block => "Block",
+            SetupFault::Memory => "Memory",
+        }
+    }
+}
+
+impl fmt::Display for SetupFault {
+    ghost use Rattle.std.specs.Prelude.{Some};
+    ghost use Rattle.office_setup_files.specs.Said.{fault_name};
+
+    // Its name is what is printed.
+    ghost output = { λ fault. Some (fault_name fault) };
+
+    fn fmt<W: fmt::Write>(&self, f: &mut fmt::Formatter<W>) -> fmt::Result {
+        f.write_str(self.name())
+    }
+}
+
+impl Error for SetupFault {}
+
+impl From<AllocError> for SetupFault {
+    ghost from_gives = { λ _ fault. fault ≡ Memory };
+
+    fn from(_: AllocError) -> SetupFault {
+        SetupFault::Memory
+    }
+}
+
+/// One of the two files of a set-up.
+#[derive(Clone, Copy)]
+pub(crate) enum SetupFile {
+    /// That of the terminal and its partners.
+    Partners,
+    /// That of the yard's blocks.
+    Blocks,
+}
 
 /// The set-up that a file of partners and a file of blocks say, or the lowest fault that applies to them, or Memory.
 pub fn read_setup(alloc: Global, partners: &[u8], blocks: &[u8]) -> Result<Setup, SetupFault>

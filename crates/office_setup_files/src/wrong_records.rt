@@ -1,16 +1,22 @@
 ghost use Rattle.std.specs.Prelude.{◌≡◌, ◌<◌, ◌+◌, true, IfOk, IfSome, MatchOption, length, map};
 ghost use Rattle.csv.specs.Records.{fields_of};
 ghost use Rattle.office_setup_files.specs.Wrong.{AreTexts, Brings, IsRight, IsWrong, IsWrongOf, Shows, Tells};
-ghost use Rattle.office_setup_files.specs.declared.setup_fault.SetupFault.TheVariants.{Code, Csv};
-ghost use Rattle.office_setup_files.specs.declared.setup_file.SetupFile.TheVariants.{Partners, Blocks};
+ghost use Rattle.office_setup_files.specs.declared.setup_reading.SetupFault.TheVariants.{Code, Csv};
+ghost use Rattle.office_setup_files.specs.declared.setup_reading.SetupFile.TheVariants.{Partners, Blocks};
 
-use crate::fronts::{is_of, shows};
-use crate::rows::read_rows;
-use crate::setup_fault::SetupFault;
-use crate::setup_file::SetupFile;
-use crate::wrong_record::WrongRecord;
+use crate::records::{is_of, read_rows, shows};
+use crate::setup_reading::{SetupFault, SetupFile};
 use csv::{ByteRecord, StringRecord};
 use std::alloc::{AllocError, Global};
+
+/// A record of a set-up's files by its number, which is 1 for the header.
+#[derive(Clone, Copy)]
+pub enum WrongRecord {
+    /// One of the file of partners.
+    OfPartners(usize),
+    /// One of the file of blocks.
+    OfBlocks(usize),
+}
 
 /// After so many codes a fault of theirs stays: one has no name of a code, or that of another.
 const CODES: u32 = 8;

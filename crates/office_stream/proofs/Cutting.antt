@@ -5,7 +5,7 @@ use Rattle.edi_segments.specs.Advice.{without_breaks}
 use Rattle.edi_segments.specs.Characters.{is_break}
 use Rattle.edi_cutter.specs.Cuts.{is_whole, fault_of, IsInterchange, IsPending, Faults}
 use Rattle.edi_cutter.specs.Positions.{position_after}
-use Rattle.edi_cutter.specs.declared.cut_fault.CutFault.{CutFault}
+use Rattle.edi_cutter.specs.declared.cutter.CutFault.{CutFault}
 use Rattle.edi_cutter.specs.Streams.{CutsFrom}
 use Rattle.office_stream.specs.Pieces.{LeavesOver}
 

@@ -4,12 +4,12 @@ use Rattle.std.proofs.lemmas.Bool.{true≢false, cases_Bool, ltb-true, ltb-false
 use Rattle.std.proofs.lemmas.List.{take_at, take-take, append-nil, append_cancel_left, length-append}
 use Rattle.edi_segments.specs.Advice.{without_breaks}
 use Rattle.edi_cutter.specs.Cuts.{fault_of, IsOpen, IsOpenBefore, IsInterchange, IsPending, Faults}
-use Rattle.edi_cutter.specs.declared.cut_fault.CutFault.{CutFault}
-use Rattle.edi_cutter.specs.declared.cut_fault.CutFault.TheVariants.{TooLong, Service, Segment, Memory}
+use Rattle.edi_cutter.specs.declared.cutter.CutFault.{CutFault}
+use Rattle.edi_cutter.specs.declared.cutter.CutFault.TheVariants.{TooLong, Service, Segment, Memory}
 use Rattle.edi_cutter.proofs.FirstLemmas.{first_is_one}
 use Rattle.office_stream.specs.Streams.{IsCutBy, EndsAs, Cuts, CutsAreOne}
-use Rattle.office_stream.specs.declared.stream_end.StreamEnd.{StreamEnd}
-use Rattle.office_stream.specs.declared.stream_end.StreamEnd.TheVariants.{Whole, Open, Cut}
+use Rattle.office_stream.specs.declared.stream.StreamEnd.{StreamEnd}
+use Rattle.office_stream.specs.declared.stream.StreamEnd.TheVariants.{Whole, Open, Cut}
 use Rattle.office_stream.proofs.Cutting.{some_bytes, some_faulty, no_fault_there, no_front}
 
 -- ---- fronts of the same bytes

@@ -6,10 +6,10 @@ use Rattle.std.proofs.lemmas.Grind.{flat_map-append}
 use Rattle.std.proofs.lemmas.List.{append-nil}
 use Rattle.edi_segments.specs.Advice.{without_breaks}
 use Rattle.edi_cutter.specs.Cuts.{Cutting, is_whole, IsInterchange, IsPending, Answers, Fails, Faults, pending, interchange, HasNoFault}
-use Rattle.edi_cutter.specs.declared.cut_fault.CutFault.{CutFault}
-use Rattle.edi_cutter.specs.declared.cut_fault.CutFault.TheVariants.{TooLong, Service, Segment, Memory}
-use Rattle.office_replies.specs.declared.response.Response.{Response}
-use Rattle.office_replies.specs.declared.worst.Worst.{Worst}
+use Rattle.edi_cutter.specs.declared.cutter.CutFault.{CutFault}
+use Rattle.edi_cutter.specs.declared.cutter.CutFault.TheVariants.{TooLong, Service, Segment, Memory}
+use Rattle.office_replies.specs.declared.deliver.Response.{Response}
+use Rattle.office_replies.specs.declared.deliver.Worst.{Worst}
 use Rattle.office_replies.specs.Responses.{body_of, worst_of, worse_of}
 use Rattle.office_replies.specs.Delivering.{LeadsOn}
 use Rattle.office_stream.specs.Lines.{line, response_lines, worst_of_all}

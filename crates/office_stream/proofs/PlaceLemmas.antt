@@ -9,14 +9,14 @@ use Rattle.edi_segments.specs.Characters.{is_break}
 use Rattle.edi_segments.specs.Reading.{breaks_len}
 use Rattle.edi_cutter.specs.Cuts.{is_nil, IsPending}
 use Rattle.edi_cutter.specs.Streams.{CutsFrom}
-use Rattle.edi_cutter.specs.declared.cut_fault.CutFault.{CutFault}
+use Rattle.edi_cutter.specs.declared.cutter.CutFault.{CutFault}
 use Rattle.office_stream.specs.Pieces.{EndsPiece, LeavesOver}
 use Rattle.office_stream.specs.Places.{counted, with_piece, with_passed, with_whole, cut_by, cut_behind, IsOver, CutsAt, Follows, StopsAt, PassesPiece}
 use Rattle.office_stream.specs.Streams.{EndsAs}
-use Rattle.office_stream.specs.declared.place.Cut.{Cut as StreamCut}
-use Rattle.office_stream.specs.declared.place.Place.{Place}
-use Rattle.office_stream.specs.declared.stream_end.StreamEnd.{StreamEnd}
-use Rattle.office_stream.specs.declared.stream_end.StreamEnd.TheVariants.{Whole, Open, Cut}
+use Rattle.office_stream.specs.declared.line.Cut.{Cut as StreamCut}
+use Rattle.office_stream.specs.declared.line.Place.{Place}
+use Rattle.office_stream.specs.declared.stream.StreamEnd.{StreamEnd}
+use Rattle.office_stream.specs.declared.stream.StreamEnd.TheVariants.{Whole, Open, Cut}
 use Rattle.office_stream.proofs.Cutting.{cuts_join, cuts_weaker, nothing_pending, stripped_some, stripped_twice}
 use Rattle.office_stream.proofs.PieceLemmas.{Used}
 use Rattle.office_stream.proofs.StreamLemmas.{nil_is}

@@ -6,10 +6,10 @@ use Rattle.std.proofs.lemmas.Grind.{flat_map-append}
 use Rattle.std.proofs.lemmas.List.{append-nil}
 use Rattle.std.proofs.lemmas.Bool.{eqb-true}
 use Rattle.edi_cutter.specs.Cuts.{Cutting, pending, is_whole, is_nil, IsPending}
-use Rattle.edi_cutter.specs.declared.cut_fault.CutFault.{CutFault}
-use Rattle.office_replies.specs.declared.response.Response.{Response}
-use Rattle.office_replies.specs.declared.worst.Worst.{Worst}
-use Rattle.office_replies.specs.declared.worst.Worst.TheVariants.{Fine}
+use Rattle.edi_cutter.specs.declared.cutter.CutFault.{CutFault}
+use Rattle.office_replies.specs.declared.deliver.Response.{Response}
+use Rattle.office_replies.specs.declared.deliver.Worst.{Worst}
+use Rattle.office_replies.specs.declared.deliver.Worst.TheVariants.{Fine}
 use Rattle.office_replies.specs.Responses.{worse_of}
 use Rattle.office_replies.specs.Delivering.{LeadsOn}
 use Rattle.office_stream.specs.Fronts.{AppendsFront}
@@ -17,10 +17,10 @@ use Rattle.office_stream.specs.Lines.{response_lines, worst_of_all, end_text, en
 use Rattle.edi_cutter.specs.Streams.{CutsFrom}
 use Rattle.office_stream.specs.Streams.{EndsAs, ReadsTo, GoesOnAnyhow, PortBytes, Streamed, Began, LineCutShort, EndCutShort, Delivered, Streams, port_bytes}
 use Rattle.office_stream.specs.Pieces.{EndsPiece, LeavesOver, PieceAnswered}
-use Rattle.office_stream.specs.declared.stream_fault.StreamFault.{StreamFault}
-use Rattle.office_stream.specs.declared.stream_fault.StreamFault.TheVariants.{Read, Write, Turns}
-use Rattle.office_stream.specs.declared.stream_end.StreamEnd.{StreamEnd}
-use Rattle.office_stream.specs.declared.stream_end.StreamEnd.TheVariants.{Whole, Open, Cut}
+use Rattle.office_stream.specs.declared.stream.StreamFault.{StreamFault}
+use Rattle.office_stream.specs.declared.stream.StreamFault.TheVariants.{Read, Write, Turns}
+use Rattle.office_stream.specs.declared.stream.StreamEnd.{StreamEnd}
+use Rattle.office_stream.specs.declared.stream.StreamEnd.TheVariants.{Whole, Open, Cut}
 use Rattle.office_stream.proofs.Answering.{leads_both, worst_of_both}
 use Rattle.office_stream.proofs.PieceLemmas.{piece_ends}
 use Rattle.office_stream.proofs.Cutting.{cuts_join, cuts_weaker, nothing_pending}

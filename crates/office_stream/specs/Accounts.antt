@@ -2,8 +2,8 @@
 use Rattle.std.specs.Prelude.{◌≡◌, ℕ, List, Option}
 use Rattle.std.specs.Io.KnownBytes.{Appends}
 use Rattle.office_replies.specs.AccountAnswers.{account_body, account_worst}
-use Rattle.office_replies.specs.declared.account_answer.AccountAnswer.{AccountAnswer}
-use Rattle.office_replies.specs.declared.worst.Worst.{Worst}
+use Rattle.office_replies.specs.declared.accounts.AccountAnswer.{AccountAnswer}
+use Rattle.office_replies.specs.declared.deliver.Worst.{Worst}
 use Rattle.office_stream.specs.Fronts.{AppendsFront}
 use Rattle.office_stream.specs.Lines.{line}
 

@@ -2,11 +2,11 @@
 use Rattle.std.specs.Prelude.{◌≡◌, ℕ, List, Option, None, Some}
 use Rattle.std.specs.Io.KnownBytes.{Appends}
 use Rattle.edi_cutter.specs.Cuts.{IsPending}
-use Rattle.edi_cutter.specs.declared.cut_fault.CutFault.{CutFault}
-use Rattle.office_replies.specs.declared.response.Response.{Response}
-use Rattle.office_replies.specs.declared.worst.Worst.{Worst}
+use Rattle.edi_cutter.specs.declared.cutter.CutFault.{CutFault}
+use Rattle.office_replies.specs.declared.deliver.Response.{Response}
+use Rattle.office_replies.specs.declared.deliver.Worst.{Worst}
 use Rattle.office_replies.specs.Responses.{body_of, worst_of, worse_of}
-use Rattle.office_stream.specs.declared.stream_end.StreamEnd.TheVariants.{Cut}
+use Rattle.office_stream.specs.declared.stream.StreamEnd.TheVariants.{Cut}
 use Rattle.office_replies.specs.Delivering.{LeadsOn}
 use Rattle.office_stream.specs.Fronts.{AppendsFront}
 use Rattle.office_stream.specs.Lines.{line, response_lines, worst_of_all}

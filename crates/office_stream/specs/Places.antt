@@ -3,13 +3,13 @@ use Rattle.std.specs.Prelude.{◌≡◌, ◌≢◌, ℕ, ◌+◌, ◌-◌, ◌^�
 use Rattle.std.specs.Io.KnownBytes.{Consumes}
 use Rattle.edi_segments.specs.Reading.{breaks_len}
 use Rattle.edi_cutter.specs.Streams.{CutsFrom}
-use Rattle.edi_cutter.specs.declared.cut_fault.CutFault.{CutFault}
+use Rattle.edi_cutter.specs.declared.cutter.CutFault.{CutFault}
 use Rattle.office_stream.specs.Pieces.{LeavesOver}
 use Rattle.office_stream.specs.Streams.{EndsAs}
-use Rattle.office_stream.specs.declared.place.Cut.{Cut as StreamCut}
-use Rattle.office_stream.specs.declared.place.Place.{Place}
-use Rattle.office_stream.specs.declared.stream_end.StreamEnd.{StreamEnd}
-use Rattle.office_stream.specs.declared.stream_end.StreamEnd.TheVariants.{Whole, Open, Cut}
+use Rattle.office_stream.specs.declared.line.Cut.{Cut as StreamCut}
+use Rattle.office_stream.specs.declared.line.Place.{Place}
+use Rattle.office_stream.specs.declared.stream.StreamEnd.{StreamEnd}
+use Rattle.office_stream.specs.declared.stream.StreamEnd.TheVariants.{Whole, Open, Cut}
 
 abbrev pub counted : ℕ → ℕ
 counted n = min n (2 ^ 64 - 1)

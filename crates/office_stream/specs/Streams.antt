@@ -3,19 +3,17 @@ use Rattle.std.specs.Prelude.{◌≡◌, ◌≢◌, ◌⊎◌, ℕ, List, [], �
 use Rattle.std.specs.Io.KnownBytes.{Consumes, Appends, IsAtEnd}
 use Rattle.edi_cutter.specs.Cuts.{IsPending, Faults, HasNoFault}
 use Rattle.edi_cutter.specs.Streams.{CutsFrom}
-use Rattle.edi_cutter.specs.declared.cut_fault.CutFault.{CutFault}
-use Rattle.edi_cutter.specs.declared.cut_fault.CutFault.TheVariants.{TooLong, Service, Segment, Memory}
-use Rattle.office_replies.specs.declared.response.Response.{Response}
-use Rattle.office_replies.specs.declared.worst.Worst.{Worst}
+use Rattle.edi_cutter.specs.declared.cutter.CutFault.{CutFault}
+use Rattle.edi_cutter.specs.declared.cutter.CutFault.TheVariants.{TooLong, Service, Segment, Memory}
+use Rattle.office_replies.specs.declared.deliver.Response.{Response}
+use Rattle.office_replies.specs.declared.deliver.Worst.{Worst}
 use Rattle.office_replies.specs.Responses.{body_of, worse_of}
-use Rattle.office_replies.specs.Delivering.{AnswersEach, LeadsOn, events_behind}
-use Rattle.office_replies.specs.Events.{Event}
 use Rattle.office_stream.specs.Fronts.{IsFront}
 use Rattle.office_stream.specs.Lines.{line, end_text, end_worst, response_lines, worst_of_all}
-use Rattle.office_stream.specs.declared.stream_end.StreamEnd.{StreamEnd}
-use Rattle.office_stream.specs.declared.stream_end.StreamEnd.TheVariants.{Whole, Open, Cut}
-use Rattle.office_stream.specs.declared.stream_fault.StreamFault.{StreamFault}
-use Rattle.office_stream.specs.declared.stream_fault.StreamFault.TheVariants.{Read, Write, Turns}
+use Rattle.office_stream.specs.declared.stream.StreamEnd.{StreamEnd}
+use Rattle.office_stream.specs.declared.stream.StreamEnd.TheVariants.{Whole, Open, Cut}
+use Rattle.office_stream.specs.declared.stream.StreamFault.{StreamFault}
+use Rattle.office_stream.specs.declared.stream.StreamFault.TheVariants.{Read, Write, Turns}
 
 -- ---- cutting
 
@@ -65,22 +63,6 @@ pub record PortBytes : Type 0 where
 abbrev pub port_bytes : (left left' written written' : Option (List ℕ)) → PortBytes
 port_bytes left left' written written' =
     record { left_before = left; left_after = left'; written_before = written; written_after = written' }
-
--- Behind those events each interchange was answered at its place, and this is the desk then.
-pub record Answered {D : Type 0} (stands : List Event → D → Type 0)
-    (answers : List Event → List ℕ → Response → Type 0)
-    (es : List Event) (desk : D) (texts : List (List ℕ)) (responses : List Response) : Type 0 where
-  pub each : AnswersEach answers es texts responses
-  pub stands_now : stands (events_behind es texts responses) desk
-
-module _ {D Opening : Type 0} (is_sound : D → Type 0) (stands : Opening → List Event → D → Type 0)
-    (answers : Opening → List Event → List ℕ → Response → Type 0) (leads : D → List ℕ → Response → D → Type 0) where
-  -- These texts were delivered, with these responses. Whatever desk it is, they led from what it was to what it is. And
-  -- if its records have told the truth, each was answered at its place, from whatever events it stood at.
-  pub record AreDelivered (old new : D) (texts : List (List ℕ)) (responses : List Response) : Type 0 where
-    pub led : LeadsOn leads old texts responses new
-    pub answered : is_sound new → (opening : Opening) (es : List Event) → stands opening es old →
-        Answered (stands opening) (answers opening) es new texts responses
 
 -- The bytes that were read are cut to their end, each interchange answered by its line, and the end by the cut line.
 pub record Streamed (Done : List (List ℕ) → List Response → Type 0) (ports : PortBytes) (worst : Worst) : Type 0 where

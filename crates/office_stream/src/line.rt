@@ -1,12 +1,16 @@
-ghost use Rattle.std.specs.Prelude.{◌≡◌, true, OnOk, OnErr};
 ghost use Rattle.std.specs.Io.KnownBytes.{Appends};
+ghost use Rattle.std.specs.Prelude.{◌≡◌, true, OnOk, OnErr, ◌≤◌, false, length};
+ghost use Rattle.edi_segments.specs.Reading.{breaks_len};
 ghost use Rattle.office_replies.specs.Responses.{body_of};
 ghost use Rattle.office_stream.specs.Fronts.{AppendsFront};
 ghost use Rattle.office_stream.specs.Lines.{line, end_text, end_worst};
+ghost use Rattle.office_stream.specs.Places.{cut_by, cut_for, with_passed, with_piece, with_whole};
+ghost use Rattle.office_stream.specs.Writes.{WritesOut, WritesPieces, joined};
 
-use crate::port::Port;
-use crate::stream_end::StreamEnd;
+use crate::port::{Gathered, Port, Sink};
+use crate::stream::StreamEnd;
 use edi_cutter::CutFault;
+use edi_segments::characters::is_break;
 use office_replies::{Response, Worst};
 use std::io::{Result, Write};
 
@@ -85,4 +89,122 @@ pub(crate) fn end_worst(end: StreamEnd) -> Worst
             }
         }
     }
+}
+
+impl<W: Sink> Port<W> {
+    /// Writes parts, one behind the other. Up to 4,096 bytes go out in one write. After an error a front of them is
+    /// written.
+    pub fn write_parts(&mut self, parts: &[&[u8]]) -> Result<()>
+        ensures bytes { OnOk result
+            (Appends (W.contents self.old.inner) (W.contents self.new.inner) (joined parts.now)) }
+        ensures front { OnErr result
+            (AppendsFront (W.contents self.old.inner) (W.contents self.new.inner) (joined parts.now)) }
+        ensures writes { WritesPieces W.takes self.old.inner (joined parts.now) result self.new.inner }
+        ensures together { length (joined parts.now) ≤ 4096
+            → WritesOut W.takes self.old.inner (joined parts.now) result self.new.inner }
+        ensures succeeds { OnOk result (self.new.failed ≡ self.old.failed) }
+        ensures fails { OnErr result (self.new.failed ≡ true) }
+        ensures uncounted { self.new.reads ≡ self.old.reads }
+        ensures unflushed { self.new.flushed ≡ false }
+    {
+        let mut gathered = Gathered::new();
+        'parts: for part in parts {
+            if gathered.has_room(part.len()) {
+                gathered.hold(part);
+            } else {
+                self.write_all(gathered.as_slice())?;
+                gathered.clear();
+                self.write_all(part)?;
+            }
+        }
+        self.write_all(gathered.as_slice())
+    }
+}
+
+/// Where a stream could not be cut into interchanges any further.
+#[derive(Clone, Copy, PartialEq, Eq, Debug)]
+pub struct Cut {
+    /// Which interchange that is, from 1: all before it were answered.
+    pub interchange: u64,
+    /// Its first byte, from 1. CR and LF in front of it belong to none.
+    pub byte: u64,
+    /// Why it can't be cut; none, if the stream ended within it.
+    pub fault: Option<CutFault>,
+}
+
+/// Where a stream stands.
+#[derive(Clone, Copy, Debug)]
+pub(crate) struct Place {
+    /// How many interchanges it was cut into.
+    whole: u64,
+    /// How many bytes were passed.
+    passed: u64,
+    /// How many bytes stand before the interchange that is pending, or comes next.
+    begun: u64,
+}
+
+impl Place {
+    /// The beginning.
+    pub(crate) const START: Place = Place {
+        whole: 0,
+        passed: 0,
+        begun: 0,
+    };
+
+    /// A piece comes. If nothing is pending, an interchange begins behind the CR and LF at its front.
+    pub(crate) fn meet(&mut self, piece: &[u8], at_rest: bool)
+        ensures { self.new ≡ with_piece self.old piece.now at_rest }
+    {
+        if at_rest {
+            self.begun = self.passed.saturating_add(len_of_breaks(piece) as u64);
+        }
+    }
+
+    /// So many bytes were passed.
+    pub(crate) fn pass(&mut self, bytes: usize)
+        ensures { self.new ≡ with_passed self.old bytes }
+    {
+        self.passed = self.passed.saturating_add(bytes as u64);
+    }
+
+    /// So many bytes completed an interchange.
+    pub(crate) fn complete(&mut self, bytes: usize)
+        ensures { self.new ≡ with_whole self.old bytes }
+    {
+        self.whole = self.whole.saturating_add(1);
+        self.pass(bytes);
+    }
+
+    /// The cut of a stream that ends so here, if it is cut.
+    pub(crate) fn cut_by(self, end: StreamEnd) -> Option<Cut>
+        ensures { result ≡ cut_by self end }
+    {
+        match end {
+            StreamEnd::Whole => None,
+            StreamEnd::Open => Some(self.cut_for(None)),
+            StreamEnd::Cut(fault) => Some(self.cut_for(Some(fault))),
+        }
+    }
+
+    fn cut_for(self, fault: Option<CutFault>) -> Cut
+        ensures { result ≡ cut_for self fault }
+    {
+        Cut {
+            interchange: self.whole.saturating_add(1),
+            byte: self.begun.saturating_add(1),
+            fault,
+        }
+    }
+}
+
+/// How many CR and LF stand at the front.
+fn len_of_breaks(bytes: &[u8]) -> usize
+    ensures { result ≡ breaks_len bytes.now }
+{
+    for (i, byte) in bytes.iter().enumerate() {
+        if !is_break(*byte) {
+            return i;
+        }
+    }
+    bytes.len()
 }

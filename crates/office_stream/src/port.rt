@@ -1,15 +1,159 @@
-ghost use Rattle.std.specs.Prelude.{◌≡◌, ℕ, ◌+◌, ◌-◌, ◌^◌, ◌≤◌, ◌==◌, min, length, take, true, false};
-ghost use Rattle.std.specs.Prelude.{IfOk, OnOk, OnErr, IsTrue, ◌↔◌};
 ghost use Rattle.std.specs.Io.{ReadsAtMost, WritesAtMost};
 ghost use Rattle.std.specs.Io.KnownBytes.{ReadConsumes, WriteAppends, Keeps, Appends};
 ghost use Rattle.std.specs.IoError.{error_kind};
+ghost use Rattle.std.specs.Prelude.{◌≡◌, ◌≤◌, ◌+◌, ◌++◌, ◌↔◌, [], length, IsTrue, ℕ, ◌-◌, ◌^◌, ◌==◌, min, take, true, false, IfOk, OnOk, OnErr};
 ghost use Rattle.std.specs.declared.io.ErrorKind.TheVariants.{Interrupted};
-ghost use Rattle.office_stream.specs.Writes.{WritesOut};
+ghost use Rattle.arrayvec.specs.ArrayVec.{array_vec_len};
 ghost use Rattle.office_stream.specs.Fronts.{AppendsFront};
+ghost use Rattle.office_stream.specs.Writes.{WritesOut};
 
-use crate::sink::Sink;
-use crate::source::Source;
+use arrayvec::ArrayVec;
 use std::io::{Error, ErrorKind, Read, Result, Write};
+
+/// A reader, and what each read of it does. What holds for every source holds whatever its reads do, and so only of the
+/// reads that are made: each reader is one, and a clause on a source doesn't know what its reads are.
+pub trait Source: Read {
+    ghost use Rattle.std.specs.Prelude.{ℕ, List, Result};
+    ghost use Rattle.std.specs.Io.{ReadsAtMost};
+    ghost use Rattle.std.specs.Io.KnownBytes.{ReadConsumes};
+    ghost use Rattle.std.specs.declared.io.Error.{Error};
+
+    /// A read led from the first to the last, with these bytes in the buffer and that result.
+    ghost gives: { Self → List ℕ → Result ℕ Error → Self → Type 0 };
+
+    /// One read.
+    fn read_once(&mut self, buf: &mut [u8]) -> Result<usize>
+        ensures bound { ReadsAtMost result buf.new }
+        ensures bytes { ReadConsumes (Self.remaining self.old) (Self.remaining self.new) result buf.new }
+        ensures led { gives self.old buf.new result self.new };
+}
+
+impl<R: Read> Source for R {
+    ghost use Rattle.std.specs.Io.KnownBytes.{ReadConsumes};
+
+    ghost gives = { λ old bytes result new. ReadConsumes (R.remaining old) (R.remaining new) result bytes };
+
+    fn read_once(&mut self, buf: &mut [u8]) -> Result<usize> {
+        self.read(buf)
+    }
+}
+
+/// A writer, and what each call of it does. What holds for every sink holds whatever its calls do, and so only of the
+/// calls that are made, as of a `Source`.
+pub trait Sink: Write {
+    ghost use Rattle.std.specs.Prelude.{ℕ, List, Result};
+    ghost use Rattle.std.specs.Io.{WritesAtMost};
+    ghost use Rattle.std.specs.Io.KnownBytes.{Keeps, WriteAppends};
+    ghost use Rattle.std.specs.declared.io.Error.{Error};
+
+    /// A write of these bytes led from the first to the last, with that result.
+    ghost takes: { Self → List ℕ → Result ℕ Error → Self → Type 0 };
+
+    /// A flush led from the first to the last, with that result.
+    ghost flushes: { Self → Result (Unit {0}) Error → Self → Type 0 };
+
+    /// One write.
+    fn write_once(&mut self, buf: &[u8]) -> Result<usize>
+        ensures bound { WritesAtMost result buf.now }
+        ensures bytes { WriteAppends (Self.contents self.old) (Self.contents self.new) result buf.now }
+        ensures led { takes self.old buf.now result self.new };
+
+    /// One flush.
+    fn flush_once(&mut self) -> Result<()>
+        ensures bytes { Keeps (Self.contents self.old) (Self.contents self.new) }
+        ensures led { flushes self.old result self.new };
+}
+
+impl<W: Write> Sink for W {
+    ghost use Rattle.std.specs.Io.KnownBytes.{Keeps, WriteAppends};
+
+    ghost takes = { λ old bytes result new. WriteAppends (W.contents old) (W.contents new) result bytes };
+
+    ghost flushes = { λ old result new. Keeps (W.contents old) (W.contents new) };
+
+    fn write_once(&mut self, buf: &[u8]) -> Result<usize> {
+        self.write(buf)
+    }
+
+    fn flush_once(&mut self) -> Result<()> {
+        self.flush()
+    }
+}
+
+/// Bytes that are gathered to go out in one write, 4,096 at most. It takes no memory.
+#[derive(Drop)]
+pub struct Gathered {
+    held: ArrayVec<u8, 4096>,
+}
+
+impl Gathered {
+    /// Nothing is held.
+    pub fn new() -> Gathered
+        ensures { result.held.items ≡ [] }
+    {
+        Gathered {
+            held: ArrayVec::new(),
+        }
+    }
+
+    /// What is held.
+    pub fn as_slice(&self) -> &[u8]
+        ensures value { result.now ≡ self.now.held.items }
+        ensures fits { length result.now ≤ 4096 }
+    {
+        self.held.as_slice()
+    }
+
+    /// Whether so many bytes more can be held.
+    pub(crate) fn has_room(&self, count: usize) -> bool
+        ensures { IsTrue result ↔ (array_vec_len self.now.held + count ≤ 4096) }
+    {
+        count <= self.held.remaining_capacity()
+    }
+
+    /// Holds more, for which there is room.
+    pub(crate) fn hold(&mut self, bytes: &[u8])
+        requires { array_vec_len self.old.held + length bytes.now ≤ 4096 }
+        ensures { self.new.held.items ≡ self.old.held.items ++ bytes.now }
+    {
+        let Ok(()) = self.held.try_extend_from_slice(bytes) else {
+            unreachable!()
+        };
+    }
+
+    /// Holds nothing any more.
+    pub(crate) fn clear(&mut self)
+        ensures { self.new.held.items ≡ [] }
+    {
+        self.held.clear();
+    }
+}
+
+/// A write is held whole, or refused if there is no room for it.
+impl Write for Gathered {
+    ghost use Rattle.std.specs.Prelude.{◌≡◌, ◌+◌, ◌≤◌, ◌↔◌, length, Some, IsOk};
+    ghost use Rattle.std.specs.Io.{WritesAtMost};
+    ghost use Rattle.std.specs.Io.KnownBytes.{Keeps, WriteAppends};
+    ghost use Rattle.arrayvec.specs.ArrayVec.{array_vec_len};
+
+    ghost contents = { λ gathered. Some gathered.held.items };
+
+    fn write(&mut self, buf: &[u8]) -> Result<usize>
+        ensures bound { WritesAtMost result buf.now }
+        ensures bytes { WriteAppends (Some self.old.held.items) (Some self.new.held.items) result buf.now }
+        ensures room { IsOk result ↔ (array_vec_len self.old.held + length buf.now ≤ 4096) }
+    {
+        if !self.has_room(buf.len()) {
+            return Err(Error::from(ErrorKind::StorageFull));
+        }
+        self.hold(buf);
+        Ok(buf.len())
+    }
+
+    fn flush(&mut self) -> Result<()> {
+        Ok(())
+    }
+}
 
 /// A reader or a writer, whether a read or a write of it has failed, how many reads were made, whether the last of them
 /// found the end, whether one was made behind that, and whether all that was written was flushed.

@@ -1,23 +1,49 @@
-ghost use Rattle.std.specs.Prelude.{◌≡◌, ◌≢◌, ◌+◌, ◌-◌, ◌^◌, ◌≤◌, ◌<◌, min, true, false};
-ghost use Rattle.std.specs.Prelude.{IfOk, IfErr, OnOk, OnErr};
 ghost use Rattle.std.specs.Io.KnownBytes.{Appends};
-ghost use Rattle.office_replies.specs.Responses.{worse_of};
-ghost use Rattle.office_stream.specs.Fronts.{AppendsFront};
-ghost use Rattle.office_stream.specs.Lines.{end_text, end_worst};
-ghost use Rattle.office_stream.specs.Streams.{AreDelivered, Streams, port_bytes};
+ghost use Rattle.std.specs.Prelude.{◌≡◌, ◌≢◌, ◌+◌, ◌-◌, ◌^◌, ◌≤◌, ◌<◌, min, true, false, IfOk, IfErr, OnOk, OnErr, ◌++◌, ℕ, List, None};
+ghost use Rattle.edi_cutter.specs.Cuts.{pending};
+ghost use Rattle.office_replies.specs.AccountAnswers.{account_body};
+ghost use Rattle.office_replies.specs.Delivering.{LeadsOn};
+ghost use Rattle.office_replies.specs.Responses.{worse_of, body_of};
+ghost use Rattle.office_stream.specs.Accounts.{AccountCutShort, AnsweredAccount};
 ghost use Rattle.office_stream.specs.Faults.{MatchFault};
-ghost use Rattle.office_stream.specs.Places.{CutsAt, cut_by};
+ghost use Rattle.office_stream.specs.Fronts.{AppendsFront};
+ghost use Rattle.office_stream.specs.Lines.{end_text, end_worst, line};
+ghost use Rattle.office_stream.specs.Pieces.{AnsweredOne, DeliveredOne, EndsPiece, PieceAnswered};
+ghost use Rattle.office_stream.specs.Places.{CutsAt, cut_by, Follows, PassesPiece};
+ghost use Rattle.office_stream.specs.Streams.{Streams, port_bytes, LineCutShort};
 
-use crate::answer::answer_piece;
-use crate::line::{end_worst, write_end};
-use crate::place::{Cut, Place};
+use crate::line::{Cut, Place, end_worst, write_end, write_line, write_response};
 use crate::port::Port;
-use crate::stream_end::StreamEnd;
-use crate::stream_fault::StreamFault;
-use edi_cutter::Cutter;
-use office_replies::{Deliver, Worst};
+use edi_cutter::{CutFault, Cutter};
+use office_replies::{AccountAnswer, AddAccount, Deliver, Response, Worst};
 use std::alloc::Global;
 use std::io::{self, Read, Write};
+use thiserror::Error;
+
+/// How a stream ended.
+#[derive(Clone, Copy, PartialEq, Eq, Debug)]
+pub(crate) enum StreamEnd {
+    /// With nothing but CR and LF behind its interchanges.
+    Whole,
+    /// Within an interchange.
+    Open,
+    /// It can't be cut further.
+    Cut(CutFault),
+}
+
+/// Why a stream was left before its end. What was delivered before stands.
+#[derive(Clone, Copy, PartialEq, Eq, Debug, Error)]
+pub enum StreamFault {
+    /// A read failed.
+    #[error("a read failed")]
+    Read,
+    /// A write failed: the line of the last interchange may be missing or cut short.
+    #[error("a write failed")]
+    Write,
+    /// So many reads were made without the end.
+    #[error("too many reads were made")]
+    Turns,
+}
 
 /// Delivers each interchange of what a reader gives, in order, and writes the body of its answer and LF, and flushes
 /// them, as soon as it is answered. If the stream ends within an interchange, or can't be cut further, a last line
@@ -34,15 +60,12 @@ pub fn run_stream<R: Read, W: Write, D: Deliver>(
     // What was read is cut into interchanges, each was delivered and is answered by its line, in order. After a failed
     // read, or too many reads, all interchanges of what was read are answered by their lines. After a failed write the
     // lines end where it failed, and nothing was delivered behind it.
-    ensures streams { Streams (AreDelivered D.is_sound D.stands D.answers D.leads desk.old desk.new)
+    ensures streams { Streams (λ texts responses. LeadsOn D.leads desk.old texts responses desk.new)
         (port_bytes (R.remaining reader.old.inner) (R.remaining reader.new.inner)
         (W.contents writer.old.inner) (W.contents writer.new.inner)) result }
 
     // Where it is cut, if it is.
     ensures cut { OnOk result (CutsAt (R.remaining reader.old.inner) (R.remaining reader.new.inner) cut.new) }
-
-    // Nothing is said of the answers of a desk whose records have not told the truth.
-    ensures stays { D.is_sound desk.new → D.is_sound desk.old }
 
     // No read is made behind one that found the end.
     ensures in_time { reader.old.ended ≡ false → reader.new.read_behind_end ≡ reader.old.read_behind_end }
@@ -137,5 +160,134 @@ fn send_end<W: Write>(writer: &mut Port<W>, end: StreamEnd) -> io::Result<()>
     ensures err { OnErr result (writer.new.failed ≡ true) }
 {
     write_end(writer, end)?;
+    writer.flush()
+}
+
+/// Writes the line of a response, and flushes it. After an error a front of it is written.
+fn send_response<W: Write>(writer: &mut Port<W>, response: &Response) -> io::Result<()>
+    ensures ok { OnOk result
+        (Appends (W.contents writer.old.inner) (W.contents writer.new.inner)
+        (line (body_of response.now))) }
+    ensures front { OnErr result
+        (AppendsFront (W.contents writer.old.inner) (W.contents writer.new.inner)
+        (line (body_of response.now))) }
+    ensures kept { OnOk result (writer.new.failed ≡ writer.old.failed) }
+    ensures err { OnErr result (writer.new.failed ≡ true) }
+    ensures flushed { OnOk result (writer.new.flushed ≡ true) }
+{
+    write_response(writer, response)?;
+    writer.flush()
+}
+
+/// Delivers an interchange, and sends the line that answers it.
+fn answer_one<W: Write, D: Deliver>(
+    alloc: Global,
+    text: &[u8],
+    writer: &mut Port<W>,
+    desk: &mut D,
+) -> Result<Worst, StreamFault>
+    ensures ok { IfOk result
+        (λ worst. AnsweredOne D.leads desk.old text.now desk.new worst
+        (W.contents writer.old.inner) (W.contents writer.new.inner)) }
+    ensures kept { OnOk result (writer.new.failed ≡ writer.old.failed) }
+    ensures flushed { OnOk result (writer.new.flushed ≡ true) }
+    ensures err { IfErr result
+        (λ fault. (fault ≡ StreamFault.Write) × (writer.new.failed ≡ true)) }
+    ensures delivered { OnErr result (DeliveredOne D.leads desk.old text.now desk.new
+        (W.contents writer.old.inner) (W.contents writer.new.inner)) }
+{
+    let response = desk.deliver(alloc, text);
+    match send_response(writer, &response) {
+        Ok(()) => Ok(response.worst()),
+        Err(_) => Err(StreamFault::Write),
+    }
+}
+
+/// Answers each interchange that a piece completes. Answers the worst of all answers so far, and the fault by which the
+/// stream can't be cut further, if there is one. `place` follows the stream.
+pub(crate) fn answer_piece<W: Write, D: Deliver>(
+    alloc: Global,
+    cutter: &mut Cutter,
+    piece: &[u8],
+    writer: &mut Port<W>,
+    desk: &mut D,
+    before: Worst,
+    place: &mut Place,
+) -> Result<(Worst, Option<CutFault>), StreamFault>
+    requires { cutter.old.fault ≡ None }
+    ensures ok { IfOk result
+        (λ done. PieceAnswered D.leads desk.old
+        (EndsPiece done.1 (pending cutter.new)) (pending cutter.old ++ piece.now) desk.new before done.0
+        (W.contents writer.old.inner) (W.contents writer.new.inner)) }
+    ensures placed { IfOk result (λ done. (bytes : List ℕ) → Follows place.old bytes (pending cutter.old) →
+        PassesPiece done.1 place.new (bytes ++ piece.now) (pending cutter.new)) }
+    ensures running { IfOk result (λ done. done.1 ≡ None → cutter.new.fault ≡ None) }
+    ensures kept { OnOk result (writer.new.failed ≡ writer.old.failed) }
+    ensures flushed { OnOk result (writer.old.flushed ≡ true → writer.new.flushed ≡ true) }
+    ensures err { IfErr result
+        (λ fault. (fault ≡ StreamFault.Write) × (writer.new.failed ≡ true)) }
+    ensures cut_short { OnErr result
+        (LineCutShort (λ texts responses. LeadsOn D.leads desk.old texts responses desk.new)
+        (pending cutter.old ++ piece.now) (W.contents writer.old.inner) (W.contents writer.new.inner)) }
+{
+    let mut worst = before;
+    let mut rest = piece;
+    'pieces: loop {
+        place.meet(rest, cutter.at_rest());
+        match cutter.feed(rest) {
+            Ok(Some(used)) => {
+                place.complete(used);
+                worst = worst.or(answer_one(alloc, cutter.interchange(), writer, desk)?);
+                rest = &rest[used..];
+            }
+            Ok(None) => {
+                place.pass(rest.len());
+                return Ok((worst, None));
+            }
+            Err(fault) => return Ok((worst, Some(fault))),
+        }
+    }
+}
+
+/// Asks that an account is added, of a code and a kind as they stand, and sends the line that answers it. Answers how bad
+/// the answer is. The fault is Write: what was added stands, and a front of its line is written.
+pub fn answer_account<W: Write, D: AddAccount>(
+    alloc: Global,
+    code: &str,
+    kind: &str,
+    writer: &mut Port<W>,
+    desk: &mut D,
+) -> Result<Worst, StreamFault>
+    ensures ok { IfOk result
+        (λ worst. AnsweredAccount (λ answer. D.enrols desk.old code.now kind.now answer desk.new)
+        worst (W.contents writer.old.inner) (W.contents writer.new.inner)) }
+    ensures kept { OnOk result (writer.new.failed ≡ writer.old.failed) }
+    ensures flushed { OnOk result (writer.new.flushed ≡ true) }
+    ensures err { IfErr result
+        (λ fault. (fault ≡ StreamFault.Write) × (writer.new.failed ≡ true)) }
+    ensures added { OnErr result
+        (AccountCutShort (λ answer. D.enrols desk.old code.now kind.now answer desk.new)
+        (W.contents writer.old.inner) (W.contents writer.new.inner)) }
+{
+    let answer = desk.add_account(alloc, code.as_bytes(), kind.as_bytes());
+    match send_account_answer(writer, &answer) {
+        Ok(()) => Ok(answer.worst()),
+        Err(_) => Err(StreamFault::Write),
+    }
+}
+
+/// Writes the line of an answer, and flushes it. After an error a front of it is written.
+fn send_account_answer<W: Write>(writer: &mut Port<W>, answer: &AccountAnswer) -> io::Result<()>
+    ensures ok { OnOk result
+        (Appends (W.contents writer.old.inner) (W.contents writer.new.inner)
+        (line (account_body answer.now))) }
+    ensures front { OnErr result
+        (AppendsFront (W.contents writer.old.inner) (W.contents writer.new.inner)
+        (line (account_body answer.now))) }
+    ensures kept { OnOk result (writer.new.failed ≡ writer.old.failed) }
+    ensures err { OnErr result (writer.new.failed ≡ true) }
+    ensures flushed { OnOk result (writer.new.flushed ≡ true) }
+{
+    write_line(writer, answer.body())?;
     writer.flush()
 }

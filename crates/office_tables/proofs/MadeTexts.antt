@@ -1,62 +1,38 @@
 -- The texts that make the tables say nothing of a table that is there.
-use Rattle.std.proofs.Common.{◌≡◌, true, refl}
+use Rattle.std.proofs.Common.{◌≡◌, ℕ, List, true, refl}
 use Rattle.sqlite_tied.specs.Compute.{everything}
 use Rattle.sqlite_resolve.specs.Compile.{first}
 use Rattle.office_rows.proofs.Creating as texts
 use Rattle.office_tables.proofs.MadeLemmas.{makes_new, stated}
 
-pub partner_new : makes_new (first texts.create_partner) ≡ true
-unfolding everything
-partner_new = refl
+-- a table is made only where there is none, and its own text is kept
+abbrev pub MakesAnew : List ℕ → Type 0
+MakesAnew text = (makes_new (first text) ≡ true) × (stated text (first text) ≡ text)
 
-pub partner_stated : stated texts.create_partner (first texts.create_partner) ≡ texts.create_partner
+pub partner_anew : MakesAnew texts.create_partner
 unfolding everything
-partner_stated = refl
+partner_anew = (refl, refl)
 
-pub interchange_new : makes_new (first texts.create_interchange) ≡ true
+pub interchange_anew : MakesAnew texts.create_interchange
 unfolding everything
-interchange_new = refl
+interchange_anew = (refl, refl)
 
-pub interchange_stated : stated texts.create_interchange (first texts.create_interchange) ≡ texts.create_interchange
+pub visit_anew : MakesAnew texts.create_visit
 unfolding everything
-interchange_stated = refl
+visit_anew = (refl, refl)
 
-pub visit_new : makes_new (first texts.create_visit) ≡ true
+pub place_anew : MakesAnew texts.create_place
 unfolding everything
-visit_new = refl
+place_anew = (refl, refl)
 
-pub visit_stated : stated texts.create_visit (first texts.create_visit) ≡ texts.create_visit
+pub listed_anew : MakesAnew texts.create_listed
 unfolding everything
-visit_stated = refl
+listed_anew = (refl, refl)
 
-pub place_new : makes_new (first texts.create_place) ≡ true
+pub setting_anew : MakesAnew texts.create_setting
 unfolding everything
-place_new = refl
+setting_anew = (refl, refl)
 
-pub place_stated : stated texts.create_place (first texts.create_place) ≡ texts.create_place
+pub block_anew : MakesAnew texts.create_block
 unfolding everything
-place_stated = refl
-
-pub listed_new : makes_new (first texts.create_listed) ≡ true
-unfolding everything
-listed_new = refl
-
-pub listed_stated : stated texts.create_listed (first texts.create_listed) ≡ texts.create_listed
-unfolding everything
-listed_stated = refl
-
-pub setting_new : makes_new (first texts.create_setting) ≡ true
-unfolding everything
-setting_new = refl
-
-pub setting_stated : stated texts.create_setting (first texts.create_setting) ≡ texts.create_setting
-unfolding everything
-setting_stated = refl
-
-pub block_new : makes_new (first texts.create_block) ≡ true
-unfolding everything
-block_new = refl
-
-pub block_stated : stated texts.create_block (first texts.create_block) ≡ texts.create_block
-unfolding everything
-block_stated = refl
+block_anew = (refl, refl)

@@ -19,6 +19,7 @@ use Rattle.sqlite_catalog.specs.Listing.{automatic}
 use Rattle.sqlite_rules.specs.Cast.{cast_row}
 use Rattle.sqlite_rules.specs.declared.error.Rowids.TheVariants.{Chosen}
 use Rattle.sqlite_rules.specs.Edit.{with_rowid}
+use Rattle.sqlite_tied.proofs.RuleLemmas.{and_true}
 use Rattle.office_rows.specs.Tables.{interchange, office_schema}
 use Rattle.office_rows.specs.Rows.{Interchange, Rows}
 use Rattle.office_rows.specs.Values.{number, interchange_values}
@@ -30,10 +31,6 @@ use Rattle.office_rows.proofs.Writing as texts
 use Rattle.office_rows.proofs.WriteLemmas.{cast_null, cast_int, equal_numbers, inserts}
 use Rattle.office_tables.specs.Kept.{with_kept_reply}
 use Rattle.office_tables.proofs.KeyLemmas.{new_key}
-
-and_true : (b : Bool) → (b && true) ≡ b
-and_true true = refl
-and_true false = refl
 
 any_map : {X Y : Type 0} (p : Y → Bool) (f : X → Y) (xs : List X) → list_any p (map f xs) ≡ list_any (λ x. p (f x)) xs
 any_map p f [] = refl

@@ -13,6 +13,7 @@ use Rattle.sqlite_resolve.specs.Scope.{Name}
 use Rattle.sqlite_resolve.specs.Compile.{first, planned, meaning, returning, command, timed, compiled, with_command, timed_by, returning_by, command_by, small}
 use Rattle.sqlite.specs.Listing.{understood, reads_listing, listing_schema, if_select, is_select}
 use Rattle.office_rows.proofs.WriteLemmas.{same_value}
+use Rattle.office_tables.specs.Reading.{OnlyShows}
 
 abbrev is_query : Statement → Bool
 is_query (written.Select s) = true
@@ -74,3 +75,7 @@ understands_query schema text c query h = elim (cases_Bool (reads_listing schema
   | inl lists ↦ compiles_query listing_schema text c query (selected (compiled listing_schema text) c (rw lists at h))
   | inr other ↦ compiles_query schema text c query (rw other at h)
 ]
+
+-- a text that is a query, whatever tables there are
+pub only_shows : (text : List ℕ) → is_read (first text) ≡ true → OnlyShows text
+only_shows text query schema c = understands_query schema text c query

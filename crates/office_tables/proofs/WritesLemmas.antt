@@ -1,9 +1,12 @@
 -- Calls that write in a transaction, one after the other.
-use Rattle.std.proofs.Common.{◌≡◌, IsTrue, Result, Ok, true, arith}
+use Rattle.std.proofs.Common.{◌≡◌, ℕ, ◌+◌, ◌<◌, ◌++◌, List, [], ◌∷◌, IsTrue, Result, Ok, true, take, get_or, length, map, inl, refl, sym, ap, subst, ◌∙◌, arith}
+use Rattle.std.proofs.lemmas.List.{map-append, take_more}
 use Rattle.sqlite.specs.State.{State, HasCleanDisk, Shows, Survives}
+use Rattle.sqlite.specs.Tree.{Trees}
 use Rattle.office_rows.specs.Rows.{Rows}
 use Rattle.office_rows.specs.Stored.{HasRows}
-use Rattle.office_rows.proofs.StepLemmas.{steps_on, steps_then, steps_same, keep_then, quiet_then, on_ok}
+use Rattle.office_rows.specs.Steps.{Steps}
+use Rattle.office_rows.proofs.StepLemmas.{steps_on, steps_here, steps_then, steps_same, keep_then, quiet_then, on_ok}
 use Rattle.office_tables.specs.declared.table_fault.TableFault.{TableFault}
 use Rattle.office_tables.specs.Writes.{Writes, WritesIfOpen}
 
@@ -78,3 +81,40 @@ writes_if_open change old new result p = record {
   survives = p.survives;
   fault = p.fault;
 }
+
+-- ---- a list, one after the other
+
+pub survives_here : (now : State) (P : Trees → Type 0) → Survives now now P
+survives_here now P = record {
+  clean = omega arith;
+  shield = λ is. is;
+  counts = omega arith;
+  limit = refl;
+  closes = λ clean was. inl was;
+  crash = λ clean db left. inl left;
+}
+
+-- nothing is written yet
+pub none_written : (change : Rows → Rows) (now : State) → ((rows : Rows) → change rows ≡ rows) → WritesIfOpen {T = Unit {0}} change now now (Ok tt)
+none_written change now same = record {
+  steps = λ clean inside was. steps_here change now inside was same;
+  keeps = λ clean inside was. record { was_open = λ was. was; committed = λ was. refl };
+  survives = survives_here now (λ _. ⊥);
+  fault = tt;
+}
+
+-- one more is written
+pub one_more_written : {B : Type 0} (adds : List B → Rows → Rows) → ((done more : List B) (rows : Rows) → adds more (adds done rows) ≡ adds (done ++ more) rows) → (before after : List B) (one : B) → after ≡ before ++ one ∷ [] → (old mid new : State) → WritesIfOpen {T = Unit {0}} (adds before) old mid (Ok tt) → Writes {T = Unit {0}} (adds (one ∷ [])) mid new (Ok tt)
+    → WritesIfOpen {T = Unit {0}} (adds after) old new (Ok tt)
+one_more_written adds joins before after one is old mid new p q =
+    let both = if_open_then (adds before) (adds (one ∷ [])) old mid new tt (Ok tt) p q in
+    record {
+      steps = λ clean inside was. subst (λ l. Steps (adds l) old new) (sym is) (steps_same (λ rows. adds (one ∷ []) (adds before rows)) (adds (before ++ one ∷ [])) old new (joins before (one ∷ [])) (both.steps clean inside was));
+      keeps = both.keeps;
+      survives = both.survives;
+      fault = tt;
+    }
+
+-- what the items say that a loop has come to
+pub taken_more : {A B : Type 0} (content : A → B) (all : List A) (i : ℕ) (item : A) → i < length all → item ≡ get_or all i item → map content (take (i + 1) all) ≡ map content (take i all) ++ content item ∷ []
+taken_more content all i item there is = ap (map content) (take_more all i item there ∙ ap (λ x. take i all ++ x ∷ []) (sym is)) ∙ map-append content (take i all) (item ∷ [])

@@ -16,9 +16,9 @@ ghost use Rattle.office_tables.specs.Answers.{IsKept, IsNextOf, RepliesAs, HasUn
 ghost use Rattle.office_tables.specs.Faults.{IsOfStore, IsOfStoreOr};
 ghost use Rattle.office_tables.specs.Reading.{Reads};
 
-use crate::kept_interchange::Kept;
+use crate::interchanges::Kept;
 use crate::table_fault::TableFault;
-use crate::values::integer;
+use crate::terminal::integer;
 use sqlite::{Alter, Connection, Error, ErrorCode, Row};
 
 /// The interchange that is kept for a partner and a number. It changes nothing.

@@ -1,18 +1,27 @@
-ghost use Rattle.std.specs.Prelude.{◌≡◌, [], ◌∷◌, false, OnOk, IsTrue};
 ghost use Rattle.std.specs.List.{list_any};
-ghost use Rattle.sqlite.specs.Held.{state};
-ghost use Rattle.sqlite.specs.State.{HasCleanDisk};
+ghost use Rattle.std.specs.Prelude.{◌≡◌, [], ◌∷◌, false, OnOk, IsTrue};
 ghost use Rattle.office_rows.specs.Effects.{is_pair, with_kept, with_reply};
 ghost use Rattle.office_rows.specs.Opening.{interchange, with_interchanges};
 ghost use Rattle.office_rows.specs.Rows.{Rows};
 ghost use Rattle.office_rows.specs.Stored.{HasRows};
 ghost use Rattle.office_tables.specs.Kept.{with_kept_reply};
 ghost use Rattle.office_tables.specs.Writes.{Writes};
+ghost use Rattle.sqlite.specs.Held.{state};
+ghost use Rattle.sqlite.specs.State.{HasCleanDisk};
 
 use crate::table_fault::TableFault;
-use crate::values::{characters, integer};
+use crate::terminal::{characters, integer};
 use sqlite::types::ValueRef;
 use sqlite::{Alter, Transaction};
+
+/// An interchange that is kept.
+#[derive(Debug, Drop)]
+pub struct Kept {
+    /// Its text.
+    pub text: Vec<u8>,
+    /// What was answered when it was taken: none while it waits.
+    pub reply: Option<String>,
+}
 
 /// Keeps an interchange that waits.
 pub fn keep<S: Alter>(

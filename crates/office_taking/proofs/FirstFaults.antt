@@ -14,8 +14,8 @@ use Rattle.edi_messages.specs.Faults.{beginning, message_function, is_original, 
 use Rattle.edi_messages.specs.Message.{MessageContent, judged_message, message_of, reading}
 use Rattle.edi_messages.specs.Types.{message_type_of}
 use Rattle.edi_messages.specs.declared.codes.Codes.{Codes}
-use Rattle.edi_messages.specs.declared.message_fault.MessageFault.{MessageFault}
-use Rattle.edi_messages.specs.declared.message_fault.MessageFault.TheVariants.{OtherType, NoBgm, Code, Function, NoTransport, NoEquipment, EquipmentCount, TooMany}
+use Rattle.edi_messages.specs.declared.message.MessageFault.{MessageFault}
+use Rattle.edi_messages.specs.declared.message.MessageFault.TheVariants.{OtherType, NoBgm, Code, Function, NoTransport, NoEquipment, EquipmentCount, TooMany}
 use Rattle.edi_messages.proofs.PurposeLemmas.{purpose_there}
 use Rattle.office_taking.specs.Readings.{unweighed, is_list_replaced, applies_first, FirstVersionRejectsByItsFaults}
 

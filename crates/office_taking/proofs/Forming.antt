@@ -13,26 +13,26 @@ use Rattle.edi_syntax.specs.Faults.{applies, fault_of}
 use Rattle.edi_syntax.specs.Header.{control_reference, control_number, preparation, preparation_date, preparation_time}
 use Rattle.edi_syntax.specs.Messages.{Message}
 use Rattle.edi_syntax.specs.Numbers.{number_of, as_control_number}
-use Rattle.edi_segments.specs.declared.syntax_fault.SyntaxFault.{SyntaxFault}
-use Rattle.edi_segments.specs.declared.syntax_fault.SyntaxFault.TheVariants as syntax
+use Rattle.edi_segments.specs.declared.interchange.SyntaxFault.{SyntaxFault}
+use Rattle.edi_segments.specs.declared.interchange.SyntaxFault.TheVariants as syntax
 use Rattle.edi_messages.specs.Forms.{OrdersWell}
 use Rattle.edi_messages.specs.Message.{LineContent, ordered, refused, MessageContent}
 use Rattle.edi_messages.specs.Purposes.{CallContent}
 use Rattle.edi_messages.specs.declared.codes.Codes.{Codes}
-use Rattle.edi_messages.specs.declared.message_fault.MessageFault.{MessageFault}
-use Rattle.edi_messages.specs.declared.partner_kind.PartnerKind.{PartnerKind}
+use Rattle.edi_messages.specs.declared.message.MessageFault.{MessageFault}
+use Rattle.edi_messages.specs.declared.codes.PartnerKind.{PartnerKind}
 use Rattle.edi_messages.proofs.OrderForms.{IfThere, IsCivil, text_civil, if_civil}
 use Rattle.partner_core.specs.Numbered.{with_number}
 use Rattle.terminal_core.specs.Versions.{newest}
-use Rattle.terminal_core.specs.declared.side.Side.{Side}
-use Rattle.terminal_core.specs.declared.source.Source.{Source}
+use Rattle.terminal_core.specs.declared.lines.Side.{Side}
+use Rattle.terminal_core.specs.declared.change.Source.{Source}
 use Rattle.terminal_core.specs.Forms.{IsSource, IsWellFormed}
 use Rattle.terminal_core.specs.State.{TerminalState, IsWhole}
 use Rattle.terminal_core.proofs.Forming.{formed_step}
 use Rattle.terminal_core.proofs.Dropping.{drop_formed}
 use Rattle.office_setup.specs.Parties.{Parties}
 use Rattle.office_admission.specs.Admission.{admission, by_header, is_for}
-use Rattle.terminal_core.specs.declared.version.Version.{Version}
+use Rattle.terminal_core.specs.declared.change.Version.{Version}
 use Rattle.office_taking.specs.Readings.{reading_by}
 use Rattle.office_taking.specs.Taking.{MachineState, cleared, cleared_for, list_replaced, line_taken_by, lines_taken_by, verdict_on_by, messages_taken_by, codes_for, source_in, nothing_taken, taken_at_by, taken_of_by, interchange_taken_by, interchange_taken}
 use Rattle.office_taking.proofs.Read.{orders_formed_by}

@@ -6,9 +6,9 @@ use Rattle.edi_segments.specs.Text.{Content}
 use Rattle.edi_segments.specs.Interchange.{segments_in}
 use Rattle.edi_syntax.specs.Envelope.{header_of}
 use Rattle.edi_syntax.specs.Header.{preparation}
-use Rattle.edi_messages.specs.declared.partner_kind.PartnerKind.{PartnerKind}
+use Rattle.edi_messages.specs.declared.codes.PartnerKind.{PartnerKind}
 use Rattle.partner_core.specs.Numbered.{with_number}
-use Rattle.terminal_core.specs.declared.version.Version.{Version}
+use Rattle.terminal_core.specs.declared.change.Version.{Version}
 use Rattle.office_admission.specs.Admission.{admission, is_for}
 use Rattle.office_admission.specs.Grown.{with_party}
 use Rattle.office_admission.proofs.Growing.{admitted_still, admitted_told}

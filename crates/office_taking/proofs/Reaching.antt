@@ -7,7 +7,7 @@ use Rattle.edi_segments.specs.Text.{Content}
 use Rattle.edi_segments.specs.Interchange.{segments_in}
 use Rattle.edi_syntax.specs.Envelope.{header_of}
 use Rattle.edi_syntax.specs.Header.{preparation}
-use Rattle.edi_messages.specs.declared.partner_kind.PartnerKind.{PartnerKind}
+use Rattle.edi_messages.specs.declared.codes.PartnerKind.{PartnerKind}
 use Rattle.yard_core.specs.Plan.{IsPlan}
 use Rattle.yard_core.specs.YardMap.{YardMap}
 use Rattle.partner_core.specs.ByPlace.{taken_by_place}
@@ -17,7 +17,7 @@ use Rattle.partner_core.specs.Numbered.{with_number}
 use Rattle.partner_core.specs.Order.{text_under, order, state_after, state}
 use Rattle.terminal_core.specs.State.{TerminalState, empty_state, IsWhole}
 use Rattle.terminal_core.specs.Versions.{newest}
-use Rattle.terminal_core.specs.declared.version.Version.{Version}
+use Rattle.terminal_core.specs.declared.change.Version.{Version}
 use Rattle.terminal_core.proofs.Forming.{empty_formed}
 use Rattle.terminal_core.proofs.Keeping.{empty_whole}
 use Rattle.office_setup.specs.declared.setup.Setup.{Setup}

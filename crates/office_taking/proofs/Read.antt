@@ -7,11 +7,11 @@ use Rattle.edi_messages.specs.Forms.{IsFormedEntry, IsFormedOrder, OrdersWell}
 use Rattle.edi_messages.specs.Message.{LineContent, ordered, refused, MessageContent, reading}
 use Rattle.edi_messages.specs.Orders.{EntryContent, OrderContent, gate_in, gate_out, move, list_discharge, list_load, discharge, load}
 use Rattle.edi_messages.specs.declared.codes.Codes.{Codes}
-use Rattle.edi_messages.specs.declared.message_fault.MessageFault.{MessageFault}
-use Rattle.edi_messages.specs.declared.message_fault.MessageFault.TheVariants.{Function}
+use Rattle.edi_messages.specs.declared.message.MessageFault.{MessageFault}
+use Rattle.edi_messages.specs.declared.message.MessageFault.TheVariants.{Function}
 use Rattle.edi_messages.proofs.OrderForms.{IsCivil, orders_are_formed}
-use Rattle.terminal_core.specs.declared.version.Version.{Version}
-use Rattle.terminal_core.specs.declared.version.Version.TheVariants.{First, Second, Third}
+use Rattle.terminal_core.specs.declared.change.Version.{Version}
+use Rattle.terminal_core.specs.declared.change.Version.TheVariants.{First, Second, Third}
 use Rattle.office_taking.specs.Readings.{unweighed_entry, unweighed_order, unweighed_line, unweighed, is_list_replaced, reading_by}
 
 entry_formed : (entry : EntryContent) → IsFormedEntry entry → IsFormedEntry (unweighed_entry entry)

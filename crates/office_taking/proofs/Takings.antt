@@ -10,14 +10,14 @@ use Rattle.edi_syntax.specs.Messages.{Message}
 use Rattle.edi_messages.specs.ErrorCodes.{message_error}
 use Rattle.edi_messages.specs.Message.{MessageContent, reading}
 use Rattle.edi_messages.specs.declared.codes.Codes.{Codes}
-use Rattle.edi_messages.specs.declared.message_fault.MessageFault.{MessageFault}
-use Rattle.edi_messages.specs.declared.message_fault.MessageFault.TheVariants as message
+use Rattle.edi_messages.specs.declared.message.MessageFault.{MessageFault}
+use Rattle.edi_messages.specs.declared.message.MessageFault.TheVariants as message
 use Rattle.partner_core.specs.Numbered.{with_number}
 use Rattle.terminal_core.specs.State.{TerminalState}
-use Rattle.terminal_core.specs.declared.source.Source.{Source}
+use Rattle.terminal_core.specs.declared.change.Source.{Source}
 use Rattle.office_replies.specs.Messages.{rejected, ReportContent}
-use Rattle.office_replies.specs.declared.fault.Fault.{Fault}
-use Rattle.office_setup.specs.declared.account.Account.{Account}
+use Rattle.office_replies.specs.declared.deliver.Fault.{Fault}
+use Rattle.office_setup.specs.declared.setup.Account.{Account}
 use Rattle.office_setup.specs.declared.setup.Setup.{Setup}
 use Rattle.office_setup.specs.Parties.{partner_kinds, parties_of}
 use Rattle.office_setup.specs.Setups.{setup_content, account_contents}
@@ -26,7 +26,7 @@ use Rattle.std.proofs.lemmas.Option.{none-some}
 use Rattle.office_setup.proofs.Contents.{same_parties, same_kinds}
 use Rattle.office_admission.specs.Admission.{admission, is_for}
 use Rattle.office_admission.specs.Outcomes.{IsAdmitted}
-use Rattle.office_admission.specs.declared.admitted.Admitted.{Admitted}
+use Rattle.office_admission.specs.declared.admission.Admitted.{Admitted}
 use Rattle.edi_syntax.specs.Envelopes.{envelope_segments}
 use Rattle.terminal_core.specs.Rows.{ChangeContent}
 use Rattle.terminal_core.specs.Versions.{newest}

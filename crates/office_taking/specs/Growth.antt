@@ -1,7 +1,7 @@
 -- A machine with an account more.
 use Rattle.std.specs.Prelude.{◌≡◌, ℕ, List, [], ◌∷◌, ◌++◌, length, Ok}
-use Rattle.edi_messages.specs.declared.partner_kind.PartnerKind.{PartnerKind}
-use Rattle.terminal_core.specs.declared.version.Version.{Version}
+use Rattle.edi_messages.specs.declared.codes.PartnerKind.{PartnerKind}
+use Rattle.terminal_core.specs.declared.change.Version.{Version}
 use Rattle.office_admission.specs.Admission.{admission}
 use Rattle.office_admission.specs.Grown.{with_party}
 use Rattle.office_taking.specs.Taking.{MachineState, interchange_taken_by}

@@ -12,7 +12,7 @@ use Rattle.terminal_core.specs.Rows.{ChangeContent}
 use Rattle.terminal_core.specs.State.{empty_state, IsWhole}
 use Rattle.terminal_core.specs.Forms.{IsWellFormed}
 use Rattle.terminal_core.specs.Changes.{rows_of, all_changed, AreApplicable}
-use Rattle.terminal_core.specs.declared.version.Version.{Version}
+use Rattle.terminal_core.specs.declared.change.Version.{Version}
 use Rattle.office_setup.specs.Limits.{most_partners}
 use Rattle.office_setup.specs.declared.setup.Setup.{Setup}
 use Rattle.office_taking.specs.Taking.{MachineState, machine_of, interchange_taken_by, interchange_changes_by, interchange_taken, interchange_changes}

@@ -9,10 +9,10 @@ use Rattle.edi_messages.specs.Faults.{beginning, is_original, names_list, replac
 use Rattle.edi_messages.specs.Message.{LineContent, ordered, refused, MessageContent, reading}
 use Rattle.edi_messages.specs.Orders.{EntryContent, OrderContent, gate_in, discharge}
 use Rattle.edi_messages.specs.declared.codes.Codes.{Codes}
-use Rattle.edi_messages.specs.declared.message_fault.MessageFault.{MessageFault}
-use Rattle.edi_messages.specs.declared.message_fault.MessageFault.TheVariants.{Function}
-use Rattle.terminal_core.specs.declared.version.Version.{Version}
-use Rattle.terminal_core.specs.declared.version.Version.TheVariants.{First, Second, Third}
+use Rattle.edi_messages.specs.declared.message.MessageFault.{MessageFault}
+use Rattle.edi_messages.specs.declared.message.MessageFault.TheVariants.{Function}
+use Rattle.terminal_core.specs.declared.change.Version.{Version}
+use Rattle.terminal_core.specs.declared.change.Version.TheVariants.{First, Second, Third}
 
 -- ---- without weights
 

@@ -1,12 +1,12 @@
 -- The state as a value of models.
 use Rattle.std.specs.Prelude.{ℕ, List, refl}
 use Rattle.std.specs.Coded.{Coded, code_by, coded×, coded_list, coded_ℕ}
-use Rattle.edi_messages.specs.declared.code_table.CodeTable.{CodeTable}
-use Rattle.edi_messages.specs.declared.partner_kind.PartnerKind.{PartnerKind}
-use Rattle.edi_messages.specs.contracts.code_table.CodeTable as tables
-use Rattle.edi_messages.specs.contracts.partner_kind.PartnerKind as kinds
-use Rattle.yard_core.specs.declared.block.Block.{Block}
-use Rattle.yard_core.specs.contracts.block.Block as blocks
+use Rattle.edi_messages.specs.declared.code.CodeTable.{CodeTable}
+use Rattle.edi_messages.specs.declared.codes.PartnerKind.{PartnerKind}
+use Rattle.edi_messages.specs.contracts.code.CodeTable as tables
+use Rattle.edi_messages.specs.contracts.codes.PartnerKind as kinds
+use Rattle.yard_core.specs.declared.plan.Block.{Block}
+use Rattle.yard_core.specs.contracts.plan.Block as blocks
 use Rattle.terminal_core.specs.Codes.{terminal_code}
 use Rattle.terminal_core.specs.State.{TerminalState}
 use Rattle.office_setup.specs.Parties.{Parties}

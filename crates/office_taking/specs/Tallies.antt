@@ -5,16 +5,16 @@ use Rattle.edi_segments.specs.Text.{Content}
 use Rattle.edi_segments.specs.Interchange.{segments_in}
 use Rattle.edi_syntax.specs.Envelope.{header_of, messages_of}
 use Rattle.edi_syntax.specs.Header.{preparation}
-use Rattle.edi_messages.specs.declared.message_fault.MessageFault.{MessageFault}
-use Rattle.edi_messages.specs.declared.message_fault.MessageFault.TheVariants as message
-use Rattle.edi_messages.specs.declared.partner_kind.PartnerKind.{PartnerKind}
+use Rattle.edi_messages.specs.declared.message.MessageFault.{MessageFault}
+use Rattle.edi_messages.specs.declared.message.MessageFault.TheVariants as message
+use Rattle.edi_messages.specs.declared.codes.PartnerKind.{PartnerKind}
 use Rattle.partner_core.specs.Numbered.{with_number}
-use Rattle.terminal_core.specs.declared.outcome.Outcome.{Outcome}
-use Rattle.terminal_core.specs.declared.outcome.Outcome.TheVariants as outcome
-use Rattle.terminal_core.specs.declared.reason.Reason.{Reason}
-use Rattle.terminal_core.specs.declared.reason.Reason.TheVariants as reason
+use Rattle.terminal_core.specs.declared.change.Outcome.{Outcome}
+use Rattle.terminal_core.specs.declared.change.Outcome.TheVariants as outcome
+use Rattle.terminal_core.specs.declared.change.Reason.{Reason}
+use Rattle.terminal_core.specs.declared.change.Reason.TheVariants as reason
 use Rattle.office_replies.specs.Messages.{VerdictContent, accepted, rejected, ReportContent}
-use Rattle.office_replies.specs.declared.line_report.LineReport.{LineReport}
+use Rattle.office_replies.specs.declared.message_report.LineReport.{LineReport}
 use Rattle.office_admission.specs.Admission.{admission, is_for}
 use Rattle.office_taking.specs.Taking.{MachineState, codes_for, messages_taken, source_in}
 use Rattle.office_taking.specs.declared.tally.RefusedLines.{RefusedLines}

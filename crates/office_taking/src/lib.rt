@@ -3,10 +3,7 @@
 #![tactic(auto)]
 
 pub mod laws;
-mod line;
 mod machine;
-mod message;
-mod replacing;
 mod taking;
 mod tally;
 

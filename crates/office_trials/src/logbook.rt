@@ -1,18 +1,13 @@
-ghost use Rattle.std.specs.Prelude.{◌≡◌, ℕ, List, Option, false};
-ghost use Rattle.std.specs.Io.KnownBytes.{Appends};
-ghost use Rattle.office_replies.specs.Delivering.{Delivers};
-ghost use Rattle.office_replies.specs.Events.{Event};
-ghost use Rattle.office_replies.specs.declared.fault.Fault.TheVariants.{UnknownSender};
-ghost use Rattle.office_replies.specs.declared.response.Response.TheVariants.{Refused};
-ghost use Rattle.office_trials.specs.Books.{Enters, texts_in};
+ghost use Rattle.std.specs.Prelude.{◌≡◌};
+ghost use Rattle.office_trials.specs.Books.{Enters};
 
 use office_replies::{Deliver, Fault, Response};
 use office_stream::Port;
 use std::alloc::Global;
 use std::io::Write;
 
-/// The plainest desk that keeps records: it writes each text into a book, and knows no sender. Once a write has failed,
-/// what the book holds isn't known any more.
+/// The plainest desk that keeps records: it writes each text into a book, and knows no sender. Of a text that is answered
+/// NotNow a front is in the book.
 #[derive(Drop)]
 pub struct Logbook<W> {
     pages: Port<W>,
@@ -36,19 +31,6 @@ impl<W: Write> Logbook<W> {
 }
 
 impl<W: Write + Drop> Deliver for Logbook<W> {
-    ghost is_sound = { λ book. book.pages.failed ≡ false };
-
-    // what the book held, if it is known
-    ghost Opening = { Option (List ℕ) };
-
-    // the texts stand behind what the book held
-    ghost stands = { λ opening es book. Appends opening (W.contents book.pages.inner) (texts_in es) };
-
-    ghost answers = { λ opening es text response. response ≡ Refused UnknownSender };
-
-    // it has no accounts
-    ghost added = { λ opening es code kind answer. ⊥ };
-
     ghost leads = { λ old text response new.
         Enters (W.contents old.pages.inner) text response (W.contents new.pages.inner) };
 

@@ -18,16 +18,6 @@ fn long_text(alloc: Global, size: usize) -> Option<String> {
 }
 
 impl Deliver for LongAnswers {
-    ghost is_sound = { λ desk. Unit {0} };
-
-    ghost Opening = { Unit {0} };
-
-    ghost stands = { λ opening es desk. Unit {0} };
-
-    ghost answers = { λ opening es text response. Unit {0} };
-
-    ghost added = { λ opening es code kind answer. Unit {0} };
-
     ghost leads = { λ old text response new. Unit {0} };
 
     fn deliver(&mut self, alloc: Global, _delivered: &[u8]) -> Response {

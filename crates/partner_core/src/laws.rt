@@ -7,8 +7,8 @@
 
 ghost use Rattle.std.specs.Prelude.{◌≡◌, ◌≢◌, ◌↔◌, ℕ, ◌+◌, ◌≤◌, List, [], ◌∷◌, ◌++◌, None};
 ghost use Rattle.std.specs.Prelude.{IsTrue, IsSome, AllPairs, filter};
-ghost use Rattle.partner_core.specs.declared.standing.Standing.TheVariants.{Known, Other};
-ghost use Rattle.partner_core.specs.declared.standing.Standing.TheVariants.{Early, Next};
+ghost use Rattle.partner_core.specs.declared.runs.Standing.TheVariants.{Known, Other};
+ghost use Rattle.partner_core.specs.declared.runs.Standing.TheVariants.{Early, Next};
 ghost use Rattle.partner_core.specs.Deliveries.{Delivery, first_text, run};
 ghost use Rattle.partner_core.specs.Order.{is_of, numbers_above, order, reply_of};
 ghost use Rattle.partner_core.specs.Standings.{is_same_text, standing_at};

@@ -5,17 +5,8 @@
 //! text is refused without the tests.
 #![tactic(auto)]
 
-mod answer;
-mod cascade;
-pub mod diary;
 pub mod laws;
-mod ledger;
-mod machine;
+pub mod ledger;
 mod runs;
-mod standing;
 
-pub use answer::Answer;
-pub use cascade::LAST_NUMBER;
-pub use machine::Machine;
-pub use runs::{MOST_PARTNERS, Runs};
-pub use standing::{Standing, judge};
+pub use runs::{Answer, LAST_NUMBER, MOST_PARTNERS, Machine, Runs, Standing, judge};

@@ -1,13 +1,76 @@
-ghost use Rattle.std.specs.Prelude.{◌≡◌, ℕ, ◌+◌, ◌<◌, ◌≤◌, List, [], IfOk, OnOk, OnErr, IsOk};
+//! Taking the kept texts of one partner, each as it becomes next.
 ghost use Rattle.std.specs.Option.{option_copied};
+ghost use Rattle.std.specs.Prelude.{◌≡◌, IfOk, OnOk, OnErr, ℕ, ◌≤◌, is_none, IsTrue, ◌+◌, ◌<◌, List, [], IsOk, None, Some, is_some, take, vec_len};
+ghost use Rattle.std.specs.String.{string_bytes};
+ghost use Rattle.partner_core.specs.Cascade.{TakesTexts};
 ghost use Rattle.partner_core.specs.Deliveries.{Delivery, delivery, run};
+ghost use Rattle.partner_core.specs.Machine.{Taking};
+ghost use Rattle.partner_core.specs.Numbered.{text_in, reply_in, HasNumbersTo};
 ghost use Rattle.partner_core.specs.Order.{reply_of, state};
 ghost use Rattle.partner_core.specs.Runs.{StandsAt, Answers, NeedsNoMemory, partner_count};
+ghost use Rattle.partner_core.specs.Standings.{standing_of};
 
-use crate::cascade::LAST_NUMBER;
 use crate::ledger::Ledger;
-use crate::{Answer, Machine, Standing, judge};
 use std::alloc::{AllocError, Global};
+use std::collections::BTreeMap;
+
+/// What takes texts, one after another. Its state is what a contract sees of it: a machine that
+/// holds a `Vec` or a `String` has an `impl Model`, since a copy may have another capacity.
+pub trait Machine: Drop {
+    /// The state and the reply after taking a partner's text.
+    ghost taken: { Taking Self };
+
+    /// Takes one text. A step that fails changes nothing.
+    fn step(&mut self, alloc: Global, partner: u16, text: &[u8]) -> Result<String, AllocError>
+        ensures state { OnOk result (self.new ≡ (taken self.old partner text.now).0) }
+        ensures reply { IfOk result (λ reply.
+            string_bytes reply ≡ (taken self.old partner text.now).1) }
+        ensures err { OnErr result (self.new ≡ self.old) };
+
+    /// A machine in the same state.
+    fn copy(&self, alloc: Global) -> Result<Self, AllocError>
+        ensures { IfOk result (λ copy. copy ≡ self.now) };
+}
+
+/// The answer to a delivery.
+#[derive(Debug, PartialEq, Eq, Drop)]
+pub enum Answer {
+    /// The text was taken, with this reply.
+    Taken(String),
+    /// The text was taken before, with this reply.
+    Repeat(String),
+    /// The text is kept until its number is next.
+    Waiting { next: u32 },
+    /// Another text is kept under the number.
+    Clash,
+}
+
+/// How a delivery stands to what is kept for its partner.
+#[derive(Clone, Copy, Debug, PartialEq, Eq)]
+pub enum Standing {
+    /// This text is kept under the number.
+    Known,
+    /// Another text is kept under the number.
+    Other,
+    /// The number is beyond the next one.
+    Early,
+    /// The number is the next one.
+    Next,
+}
+
+/// How a text under a number stands to the partner's next number and to the text that is kept
+/// under its own, if any.
+pub fn judge(next: u32, number: u32, kept: Option<&[u8]>, text: &[u8]) -> Standing
+    requires { IsTrue (is_none kept) → next ≤ number }
+    ensures { result ≡ standing_of next number (option_copied kept.entry) text.now }
+{
+    match kept {
+        Some(kept) if kept == text => Standing::Known,
+        Some(_) => Standing::Other,
+        None if next < number => Standing::Early,
+        None => Standing::Next,
+    }
+}
 
 /// The most partners that `Runs::add` makes.
 pub const MOST_PARTNERS: u16 = 999;
@@ -125,4 +188,97 @@ impl<M: Machine> Runs<M> {
     {
         &self.machine
     }
+}
+
+/// The greatest number that a delivery can have.
+pub const LAST_NUMBER: u32 = 999_999_999;
+
+/// The number after those that have a reply.
+pub(crate) fn next_number(replies: &Vec<String>) -> u32
+    requires { vec_len replies.now ≤ LAST_NUMBER }
+    ensures { result ≡ vec_len replies.now + 1 }
+{
+    replies.len() as u32 + 1
+}
+
+/// Takes each kept text that is next, in turn, and adds its reply. Replies may have been added also
+/// if it fails.
+fn take_texts<M: Machine>(
+    alloc: Global,
+    machine: &mut M,
+    partner: u16,
+    texts: &BTreeMap<u32, Vec<u8>>,
+    replies: &mut Vec<String>,
+) -> Result<(), AllocError>
+    requires numbers { HasNumbersTo LAST_NUMBER texts.now }
+    requires replied { vec_len replies.old ≤ LAST_NUMBER }
+    ensures taken { OnOk result (TakesTexts M.taken partner (text_in texts.now)
+        (vec_len replies.old) (vec_len replies.new)
+        (reply_in replies.old.items) (reply_in replies.new.items) machine.old machine.new) }
+    ensures ends { OnOk result (text_in texts.now (vec_len replies.new + 1) ≡ None) }
+    ensures replied_after { vec_len replies.new ≤ LAST_NUMBER }
+    ensures front { take (vec_len replies.old) replies.new.items ≡ replies.old.items }
+{
+    while let Some(text) = texts.get(&next_number(replies)) {
+        let reply = machine.step(alloc, partner, text)?;
+        replies.push(reply)?;
+    }
+    Ok(())
+}
+
+/// Takes the next text and each that becomes next by it, on a copy of the machine. Replies may have
+/// been added also if it fails.
+fn take_on_copy<M: Machine>(
+    alloc: Global,
+    machine: &M,
+    partner: u16,
+    texts: &BTreeMap<u32, Vec<u8>>,
+    replies: &mut Vec<String>,
+) -> Result<(M, String), AllocError>
+    requires numbers { HasNumbersTo LAST_NUMBER texts.now }
+    requires replied { vec_len replies.old ≤ LAST_NUMBER }
+    requires next { IsTrue (is_some (text_in texts.now (vec_len replies.old + 1))) }
+    ensures taken { IfOk result (λ r. TakesTexts M.taken partner (text_in texts.now)
+        (vec_len replies.old) (vec_len replies.new)
+        (reply_in replies.old.items) (reply_in replies.new.items) machine.now r.0) }
+    ensures reply { IfOk result (λ r.
+        reply_in replies.new.items (vec_len replies.old + 1) ≡ Some (string_bytes r.1)) }
+    ensures ends { OnOk result (text_in texts.now (vec_len replies.new + 1) ≡ None) }
+    ensures replied_after { vec_len replies.new ≤ LAST_NUMBER }
+    ensures front { take (vec_len replies.old) replies.new.items ≡ replies.old.items }
+{
+    let first = replies.len();
+    let mut machine = machine.copy(alloc)?;
+    take_texts(alloc, &mut machine, partner, texts, replies)?;
+    let reply = replies[first].clone()?;
+    Ok((machine, reply))
+}
+
+/// Takes the next text and each that becomes next by it: the machine afterwards, and the reply to
+/// the first of them.
+pub(crate) fn take_next<M: Machine>(
+    alloc: Global,
+    machine: &M,
+    partner: u16,
+    texts: &BTreeMap<u32, Vec<u8>>,
+    replies: &mut Vec<String>,
+) -> Result<(M, String), AllocError>
+    requires numbers { HasNumbersTo LAST_NUMBER texts.now }
+    requires replied { vec_len replies.old ≤ LAST_NUMBER }
+    requires next { IsTrue (is_some (text_in texts.now (vec_len replies.old + 1))) }
+    ensures taken { IfOk result (λ r. TakesTexts M.taken partner (text_in texts.now)
+        (vec_len replies.old) (vec_len replies.new)
+        (reply_in replies.old.items) (reply_in replies.new.items) machine.now r.0) }
+    ensures reply { IfOk result (λ r.
+        reply_in replies.new.items (vec_len replies.old + 1) ≡ Some (string_bytes r.1)) }
+    ensures ends { OnOk result (text_in texts.now (vec_len replies.new + 1) ≡ None) }
+    ensures replied_after { vec_len replies.new ≤ LAST_NUMBER }
+    ensures err { OnErr result (replies.new.items ≡ replies.old.items) }
+{
+    let before = replies.len();
+    let taken = take_on_copy(alloc, machine, partner, texts, replies);
+    if taken.is_err() {
+        replies.truncate(before);
+    }
+    taken
 }

@@ -6,7 +6,7 @@ mod refusals;
 ghost use Rattle.std.specs.Prelude.{◌≡◌, ◌≤◌};
 ghost use Rattle.partner_core.specs.Runs.{partner_count};
 
-use partner_core::diary::Diary;
+use partner_core::ledger::Diary;
 use partner_core::{Answer, LAST_NUMBER, Machine, Runs, Standing, judge, laws};
 use std::alloc::{AllocError, Global};
 use std::process::Abort;

@@ -11,7 +11,7 @@ mod opening;
 mod weights;
 
 use edi_messages::{CodeTable, PartnerKind};
-use office_changes::mark_taken;
+use office_delivery::mark_taken;
 use office_loading::nexts;
 use office_setup::{Account, Accounts, Setup};
 use office_tables::{Kept, TableFault, create, keep, kept, next_of};

@@ -5,9 +5,9 @@ use Rattle.box6346.specs.declared.slot.Slot.{Slot}
 use Rattle.edi_messages.specs.Orders.{EntryContent}
 use Rattle.terminal_core.specs.declared.change.Change.{Change}
 use Rattle.terminal_core.specs.declared.change.Change.TheVariants as change
-use Rattle.terminal_core.specs.declared.source.Source.{Source}
-use Rattle.terminal_core.specs.declared.visit.Visit.{Visit}
-use Rattle.terminal_core.specs.declared.way.Way.{Way}
+use Rattle.terminal_core.specs.declared.change.Source.{Source}
+use Rattle.terminal_core.specs.declared.visits.Visit.{Visit}
+use Rattle.terminal_core.specs.declared.visits.Way.{Way}
 use Rattle.terminal_core.specs.Rows.{VisitContent, visit_content, change_content, visit_opened, placed_at}
 use Rattle.terminal_core.specs.Step.{opened_by}
 

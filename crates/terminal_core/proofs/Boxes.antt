@@ -7,13 +7,13 @@ use Rattle.std.specs.Cmp.{eq_by_cmp_equiv}
 use Rattle.std.specs.Cmp.Lexicographic.{slice_cmp, nat_list_cmp_total, texts_ties}
 use Rattle.std.specs.Str.{bytes_eq}
 use Rattle.box6346.specs.declared.slot.Slot.{Slot}
-use Rattle.yard_core.specs.declared.block.Block.{Block}
+use Rattle.yard_core.specs.declared.plan.Block.{Block}
 use Rattle.yard_core.specs.Decisions.{Refusal, misfit_of}
 use Rattle.yard_core.specs.FitsAndFree.{Stands, IsOpen}
 use Rattle.yard_core.specs.Plan.{IsPlan, InPlan}
 use Rattle.yard_core.specs.YardMap.{Box, Boxes, placed, placement_of, Covers}
-use Rattle.yard_core.specs.declared.placement.Placement.{Placement}
-use Rattle.yard_core.specs.declared.stowed.Stowed.{Stowed}
+use Rattle.yard_core.specs.declared.placements.Placement.{Placement}
+use Rattle.yard_core.specs.declared.placements.Stowed.{Stowed}
 use Rattle.yard_core.proofs.Boxes.{same_box, get-inserted, found_placed}
 use Rattle.yard_core.proofs.Cells.{block_at, covered_tier}
 use Rattle.yard_core.proofs.Fitting.{Judges, misfit_judges}

@@ -2,8 +2,8 @@
 use Rattle.std.proofs.Common.{◌≡◌, ℕ, ◌+◌, ◌≤◌, zero, suc, List, [], ◌∷◌, length, map, Bool, true, false, cond, Some, refl, sym, ap, ◌∙◌, arith}
 use Rattle.std.specs.Prelude.{find, filter, slice_get, slice_set}
 use Rattle.box6346.specs.declared.box_number.BoxNumber.{BoxNumber}
-use Rattle.terminal_core.specs.declared.visit.Visit.{Visit}
-use Rattle.terminal_core.specs.declared.departure.Departure.{Departure}
+use Rattle.terminal_core.specs.declared.visits.Visit.{Visit}
+use Rattle.terminal_core.specs.declared.visits.Departure.{Departure}
 use Rattle.terminal_core.specs.Rows.{VisitContent, visit_content}
 use Rattle.terminal_core.specs.State.{is_open_visit}
 use Rattle.terminal_core.specs.Step.{closed_visit}

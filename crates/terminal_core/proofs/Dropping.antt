@@ -12,9 +12,9 @@ use Rattle.std.specs.Str.{bytes_eq}
 use Rattle.std.specs.Cmp.Lexicographic.{same_text}
 use Rattle.box6346.specs.declared.box_number.BoxNumber.{BoxNumber}
 use Rattle.edi_messages.specs.Purposes.{CallContent}
-use Rattle.terminal_core.specs.declared.side.Side.{Side}
-use Rattle.terminal_core.specs.declared.line_state.LineState.{LineState}
-use Rattle.terminal_core.specs.declared.line_state.LineState.TheVariants.{Pending, Done}
+use Rattle.terminal_core.specs.declared.lines.Side.{Side}
+use Rattle.terminal_core.specs.declared.lines.LineState.{LineState}
+use Rattle.terminal_core.specs.declared.lines.LineState.TheVariants.{Pending, Done}
 use Rattle.terminal_core.specs.Rows.{unlisted}
 use Rattle.terminal_core.specs.State.{TerminalState, LineContent, LineKey, Lines, line_key, line_of, side_code, IsWhole}
 use Rattle.terminal_core.specs.Changes.{TerminalRows, rows_of, all_changed, AreApplicable}

@@ -7,14 +7,14 @@ use Rattle.std.specs.Str.{bytes_eq}
 use Rattle.std.specs.Cmp.Lexicographic.{nat_list_cmp_total}
 use Rattle.std.proofs.lemmas.Option.{none-some}
 use Rattle.box6346.specs.declared.box_number.BoxNumber.{BoxNumber}
-use Rattle.yard_core.specs.declared.block.Block.{Block}
-use Rattle.yard_core.specs.declared.placement.Placement.{Placement}
-use Rattle.yard_core.specs.declared.stowed.Stowed.{Stowed}
+use Rattle.yard_core.specs.declared.plan.Block.{Block}
+use Rattle.yard_core.specs.declared.placements.Placement.{Placement}
+use Rattle.yard_core.specs.declared.placements.Stowed.{Stowed}
 use Rattle.yard_core.specs.YardMap.{placement_of, placed}
 use Rattle.yard_core.proofs.Boxes.{found_placed}
-use Rattle.terminal_core.specs.declared.listing.Listing.{Listing}
-use Rattle.terminal_core.specs.declared.place.Place.{Place}
-use Rattle.terminal_core.specs.declared.visit.Visit.{Visit}
+use Rattle.terminal_core.specs.declared.lines.Listing.{Listing}
+use Rattle.terminal_core.specs.declared.change.Place.{Place}
+use Rattle.terminal_core.specs.declared.visits.Visit.{Visit}
 use Rattle.terminal_core.specs.Rows.{visit_content}
 use Rattle.terminal_core.specs.State.{TerminalState, is_open_visit, open_visit, stowed_by, IsWhole}
 use Rattle.terminal_core.specs.Step.{number_of_visit}

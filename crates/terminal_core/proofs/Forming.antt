@@ -15,26 +15,26 @@ use Rattle.edi_moments.specs.Moments.{CivilMoment}
 use Rattle.edi_messages.specs.Purposes.{CallContent}
 use Rattle.edi_messages.specs.Forms.{IsFormedEntry, IsFormedListing, IsFormedOrder}
 use Rattle.edi_messages.specs.Orders.{EntryContent, OrderContent, gate_in, gate_out, move, list_discharge, list_load, discharge, load}
-use Rattle.yard_core.specs.declared.block.Block.{Block}
-use Rattle.yard_core.specs.declared.placement.Placement.{Placement}
-use Rattle.yard_core.specs.declared.stowed.Stowed.{Stowed}
+use Rattle.yard_core.specs.declared.plan.Block.{Block}
+use Rattle.yard_core.specs.declared.placements.Placement.{Placement}
+use Rattle.yard_core.specs.declared.placements.Stowed.{Stowed}
 use Rattle.yard_core.specs.Plan.{IsPlan}
 use Rattle.yard_core.specs.YardMap.{Boxes, YardMap, placement_of, placed}
 use Rattle.yard_core.specs.FitsAndFree.{IsOpen}
 use Rattle.yard_core.specs.Decisions.{Refusal, misfit_of, yard_without, yard_with_move}
 use Rattle.yard_core.proofs.Exact.{numbered}
-use Rattle.terminal_core.specs.declared.departure.Departure.{Departure}
-use Rattle.terminal_core.specs.declared.line_state.LineState.{LineState}
-use Rattle.terminal_core.specs.declared.line_state.LineState.TheVariants.{Pending, Done as LineIsDone}
-use Rattle.terminal_core.specs.declared.outcome.Outcome.{Outcome}
-use Rattle.terminal_core.specs.declared.outcome.Outcome.TheVariants.{Done, Gone, Listed, Refused}
-use Rattle.terminal_core.specs.declared.reason.Reason.TheVariants.{AlreadyIn, NotIn, VisitLimit}
-use Rattle.terminal_core.specs.declared.side.Side.{Side}
-use Rattle.terminal_core.specs.declared.side.Side.TheVariants.{Load, Discharge}
-use Rattle.terminal_core.specs.declared.source.Source.{Source}
-use Rattle.terminal_core.specs.declared.version.Version.{Version}
-use Rattle.terminal_core.specs.declared.way.Way.{Way}
-use Rattle.terminal_core.specs.declared.way.Way.TheVariants.{Gate, Ship}
+use Rattle.terminal_core.specs.declared.visits.Departure.{Departure}
+use Rattle.terminal_core.specs.declared.lines.LineState.{LineState}
+use Rattle.terminal_core.specs.declared.lines.LineState.TheVariants.{Pending, Done as LineIsDone}
+use Rattle.terminal_core.specs.declared.change.Outcome.{Outcome}
+use Rattle.terminal_core.specs.declared.change.Outcome.TheVariants.{Done, Gone, Listed, Refused}
+use Rattle.terminal_core.specs.declared.change.Reason.TheVariants.{AlreadyIn, NotIn, VisitLimit}
+use Rattle.terminal_core.specs.declared.lines.Side.{Side}
+use Rattle.terminal_core.specs.declared.lines.Side.TheVariants.{Load, Discharge}
+use Rattle.terminal_core.specs.declared.change.Source.{Source}
+use Rattle.terminal_core.specs.declared.change.Version.{Version}
+use Rattle.terminal_core.specs.declared.visits.Way.{Way}
+use Rattle.terminal_core.specs.declared.visits.Way.TheVariants.{Gate, Ship}
 use Rattle.terminal_core.specs.Rows.{VisitContent}
 use Rattle.terminal_core.specs.State.{TerminalState, LineContent, Lines, line_key, line_of, is_in, is_open_visit, empty_state, IsWhole}
 use Rattle.terminal_core.specs.Versions.{spares}

@@ -6,14 +6,14 @@ use Rattle.std.proofs.lemmas.Option.{same_Some}
 use Rattle.std.specs.FinMap as finite_map
 use Rattle.box6346.specs.SizeCode.{length_of}
 use Rattle.box6346.specs.declared.box_number.BoxNumber.{BoxNumber}
-use Rattle.box6346.specs.declared.length.Length.{Length}
+use Rattle.box6346.specs.declared.size_type.Length.{Length}
 use Rattle.box6346.specs.declared.slot.Slot.{Slot}
 use Rattle.edi_moments.specs.Moments.{CivilMoment}
 use Rattle.edi_messages.specs.Purposes.{CallContent}
 use Rattle.edi_messages.specs.Orders.{EntryContent, OrderContent, gate_in, gate_out, move, list_discharge, list_load, discharge, load}
-use Rattle.yard_core.specs.declared.block.Block.{Block}
-use Rattle.yard_core.specs.declared.placement.Placement.{Placement}
-use Rattle.yard_core.specs.declared.stowed.Stowed.{Stowed}
+use Rattle.yard_core.specs.declared.plan.Block.{Block}
+use Rattle.yard_core.specs.declared.placements.Placement.{Placement}
+use Rattle.yard_core.specs.declared.placements.Stowed.{Stowed}
 use Rattle.yard_core.specs.Calls.{PutsBack}
 use Rattle.yard_core.specs.Decisions.{Refusal, present, misfit_of, first_fit, blocker_of, unless_buried, with_misfit, with_slot as with_first_slot, yard_without, removed_at, yard_with_move, shifted_at, is_same_slot}
 use Rattle.yard_core.specs.FitsAndFree.{Stands, IsFree}
@@ -24,18 +24,18 @@ use Rattle.yard_core.proofs.Boxes.{Drops-remove, insert-remove, get-removed}
 use Rattle.yard_core.proofs.Fitting.{Blocks, blocker_tells}
 use Rattle.yard_core.proofs.Placings.{stands_open, kept_empty}
 use Rattle.yard_core.proofs.Sounds.{IsSound-dropped}
-use Rattle.terminal_core.specs.declared.departure.Departure.{Departure}
-use Rattle.terminal_core.specs.declared.line_state.LineState.{LineState}
-use Rattle.terminal_core.specs.declared.line_state.LineState.TheVariants.{Pending, Done as LineIsDone}
-use Rattle.terminal_core.specs.declared.outcome.Outcome.{Outcome}
-use Rattle.terminal_core.specs.declared.outcome.Outcome.TheVariants.{Done, Gone, Listed, Refused}
-use Rattle.terminal_core.specs.declared.reason.Reason.TheVariants.{AlreadyIn, NotIn, VisitLimit}
-use Rattle.terminal_core.specs.declared.side.Side.{Side}
-use Rattle.terminal_core.specs.declared.side.Side.TheVariants.{Load, Discharge}
-use Rattle.terminal_core.specs.declared.source.Source.{Source}
-use Rattle.terminal_core.specs.declared.version.Version.{Version}
-use Rattle.terminal_core.specs.declared.way.Way.{Way}
-use Rattle.terminal_core.specs.declared.way.Way.TheVariants.{Gate, Ship}
+use Rattle.terminal_core.specs.declared.visits.Departure.{Departure}
+use Rattle.terminal_core.specs.declared.lines.LineState.{LineState}
+use Rattle.terminal_core.specs.declared.lines.LineState.TheVariants.{Pending, Done as LineIsDone}
+use Rattle.terminal_core.specs.declared.change.Outcome.{Outcome}
+use Rattle.terminal_core.specs.declared.change.Outcome.TheVariants.{Done, Gone, Listed, Refused}
+use Rattle.terminal_core.specs.declared.change.Reason.TheVariants.{AlreadyIn, NotIn, VisitLimit}
+use Rattle.terminal_core.specs.declared.lines.Side.{Side}
+use Rattle.terminal_core.specs.declared.lines.Side.TheVariants.{Load, Discharge}
+use Rattle.terminal_core.specs.declared.change.Source.{Source}
+use Rattle.terminal_core.specs.declared.change.Version.{Version}
+use Rattle.terminal_core.specs.declared.visits.Way.{Way}
+use Rattle.terminal_core.specs.declared.visits.Way.TheVariants.{Gate, Ship}
 use Rattle.terminal_core.specs.State.{TerminalState, LineContent, line_of, is_in, empty_state, IsWhole}
 use Rattle.terminal_core.specs.Versions.{spares}
 use Rattle.terminal_core.specs.Step.{Stepped, with_refusal, step_by, yard_with_entry, settled_in, with_slot, is_full, visit_of, after_entry, entered_at, after_departure, departed_at, departure_by, moved_at, listed_at, then_line_done_at, by_line, by_state}

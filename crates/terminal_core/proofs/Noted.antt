@@ -12,9 +12,9 @@ use Rattle.box6346.specs.declared.box_number.BoxNumber.{BoxNumber}
 use Rattle.edi_messages.specs.Purposes.{CallContent}
 use Rattle.edi_messages.specs.Owned.{call_content}
 use Rattle.edi_messages.specs.declared.call.Call.{Call}
-use Rattle.terminal_core.specs.declared.listing.Listing.{Listing}
-use Rattle.terminal_core.specs.declared.side.Side.{Side}
-use Rattle.terminal_core.specs.declared.side.Side.TheVariants.{Load, Discharge}
+use Rattle.terminal_core.specs.declared.lines.Listing.{Listing}
+use Rattle.terminal_core.specs.declared.lines.Side.{Side}
+use Rattle.terminal_core.specs.declared.lines.Side.TheVariants.{Load, Discharge}
 use Rattle.terminal_core.specs.State.{LineContent, LineKey, line_key, side_code}
 use Rattle.terminal_core.specs.Listings.{key_of, line_content, line_entry, lines_of, is_line, NoneBefore, IsFirstAt}
 use Rattle.terminal_core.specs.LineIndexes.{CallIndexes, AllIndexes, is_call, is_key, indexes_of, index_by, index_in, is_same_line, SameIndexes, NotesIndex, AreNoted}

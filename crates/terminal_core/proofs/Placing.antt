@@ -9,15 +9,15 @@ use Rattle.std.proofs.lemmas.Option.{none-some, same_Some}
 use Rattle.std.proofs.lemmas.List.{take_more, get_or-take, get_or_default, length-take-le}
 use Rattle.std.proofs.lemmas.List.Elements.{Contains-append_left, Contains-push, Contains-push_cases}
 use Rattle.std.proofs.lemmas.List.Sorted.{IsPermutation-sym, Contains-permutation, sum_by-IsPermutation}
-use Rattle.box6346.specs.declared.length.Length.{Length}
-use Rattle.box6346.specs.declared.length.Length.TheVariants.{Twenty, Forty}
+use Rattle.box6346.specs.declared.size_type.Length.{Length}
+use Rattle.box6346.specs.declared.size_type.Length.TheVariants.{Twenty, Forty}
 use Rattle.box6346.specs.declared.slot.Slot.{Slot}
 use Rattle.box6346.specs.declared.box_number.BoxNumber.{BoxNumber}
-use Rattle.yard_core.specs.declared.block.Block.{Block}
-use Rattle.yard_core.specs.declared.placement.Placement.{Placement}
-use Rattle.yard_core.specs.declared.stowed.Stowed.{Stowed}
-use Rattle.yard_core.specs.declared.yard_fault.YardFault.{YardFault}
-use Rattle.yard_core.specs.declared.yard_fault.YardFault.TheVariants as yard
+use Rattle.yard_core.specs.declared.plan.Block.{Block}
+use Rattle.yard_core.specs.declared.placements.Placement.{Placement}
+use Rattle.yard_core.specs.declared.placements.Stowed.{Stowed}
+use Rattle.yard_core.specs.declared.yard.YardFault.{YardFault}
+use Rattle.yard_core.specs.declared.yard.YardFault.TheVariants as yard
 use Rattle.yard_core.specs.Plan.{IsSized, IsPlan}
 use Rattle.yard_core.specs.YardMap.{Box, Boxes, YardMap, placement, placement_of, placed, in_bay, below}
 use Rattle.yard_core.specs.SoundYard.{Has, IsCarried, IsSound}
@@ -26,9 +26,9 @@ use Rattle.yard_core.specs.Calls.{RefusesPutBack}
 use Rattle.yard_core.proofs.Boxes.{box_cases, get-inserted, get-others, found_placed}
 use Rattle.yard_core.proofs.Cells.{block_at}
 use Rattle.yard_core.proofs.Refusals.{misfits_not_open}
-use Rattle.terminal_core.specs.declared.restore_fault.RestoreFault.{RestoreFault}
-use Rattle.terminal_core.specs.declared.restore_fault.RestoreFault.TheVariants.{Unsound, Memory}
-use Rattle.terminal_core.specs.declared.place.Place.{Place}
+use Rattle.terminal_core.specs.declared.restoring.RestoreFault.{RestoreFault}
+use Rattle.terminal_core.specs.declared.restoring.RestoreFault.TheVariants.{Unsound, Memory}
+use Rattle.terminal_core.specs.declared.change.Place.{Place}
 use Rattle.terminal_core.specs.Rows.{VisitContent}
 use Rattle.terminal_core.specs.State.{stowed_by, AreNumbered}
 use Rattle.terminal_core.specs.Restoring.{Names, Stands, ArePlacesOf, IsPut, RefusesPut, RefusesPlaces, cause_of}

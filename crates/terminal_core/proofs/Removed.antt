@@ -8,8 +8,8 @@ use Rattle.std.specs.Ordering.{eq_by_cmp}
 use Rattle.box6346.specs.declared.box_number.BoxNumber.{BoxNumber}
 use Rattle.edi_messages.specs.Purposes.{CallContent}
 use Rattle.edi_messages.specs.Owned.{call_content}
-use Rattle.terminal_core.specs.declared.listing.Listing.{Listing}
-use Rattle.terminal_core.specs.declared.side.Side.{Side}
+use Rattle.terminal_core.specs.declared.lines.Listing.{Listing}
+use Rattle.terminal_core.specs.declared.lines.Side.{Side}
 use Rattle.terminal_core.specs.State.{LineContent, LineKey, Lines, line_key}
 use Rattle.terminal_core.specs.Listings.{key_of, line_content, line_entry, lines_of, IsFirstAt}
 use Rattle.terminal_core.specs.LineIndexes.{AllIndexes, index_in, is_same_line, NotesIndex, AreNoted, IsWithout}

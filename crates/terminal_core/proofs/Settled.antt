@@ -1,16 +1,16 @@
 -- The yard's calls as what an order decides.
 use Rattle.std.proofs.Common.{◌≡◌, true, None, Some, sym, ap, subst, ◌∙◌}
 use Rattle.box6346.specs.SizeCode.{length_of}
-use Rattle.box6346.specs.declared.length.Length.{Length}
+use Rattle.box6346.specs.declared.size_type.Length.{Length}
 use Rattle.box6346.specs.declared.slot.Slot.{Slot}
 use Rattle.edi_messages.specs.Orders.{EntryContent}
 use Rattle.yard_core.specs.YardMap.{YardMap, placement, stowed}
 use Rattle.yard_core.specs.Calls.{Places, PlacesFirst, RefusesPlace, RefusesFirst}
 use Rattle.yard_core.specs.Decisions.{yard_with, placed_first}
 use Rattle.yard_core.specs.Exact.{IsYard}
-use Rattle.yard_core.specs.declared.yard_fault.YardFault.{YardFault}
+use Rattle.yard_core.specs.declared.yard.YardFault.{YardFault}
 use Rattle.yard_core.proofs.Exact.{place_is_decided_lem, place_first_is_decided_lem}
-use Rattle.terminal_core.specs.declared.reason.Reason.{Reason}
+use Rattle.terminal_core.specs.declared.change.Reason.{Reason}
 use Rattle.terminal_core.specs.Versions.{newest}
 use Rattle.terminal_core.specs.Step.{settled_in, with_slot}
 use Rattle.terminal_core.specs.Calls.{IsReasonFor, Settles, Unsettled}

@@ -4,12 +4,12 @@ use Rattle.std.specs.FinMap as finite_map
 use Rattle.std.specs.Str.{bytes_eq}
 use Rattle.std.proofs.lemmas.Option.{slice_get_within}
 use Rattle.box6346.specs.declared.box_number.BoxNumber.{BoxNumber}
-use Rattle.box6346.specs.declared.length.Length.{Length}
-use Rattle.box6346.specs.declared.length.Length.TheVariants.{Twenty, Forty}
+use Rattle.box6346.specs.declared.size_type.Length.{Length}
+use Rattle.box6346.specs.declared.size_type.Length.TheVariants.{Twenty, Forty}
 use Rattle.box6346.specs.declared.slot.Slot.{Slot}
-use Rattle.yard_core.specs.declared.block.Block.{Block}
-use Rattle.yard_core.specs.declared.placement.Placement.{Placement}
-use Rattle.yard_core.specs.declared.stowed.Stowed.{Stowed}
+use Rattle.yard_core.specs.declared.plan.Block.{Block}
+use Rattle.yard_core.specs.declared.placements.Placement.{Placement}
+use Rattle.yard_core.specs.declared.placements.Stowed.{Stowed}
 use Rattle.yard_core.specs.Plan.{IsPlan}
 use Rattle.yard_core.specs.YardMap.{Boxes, placement, placement_of, placed, in_bay, CoversAt, IsKind}
 use Rattle.yard_core.specs.FitsAndFree.{IsOpen}

@@ -12,21 +12,21 @@ use Rattle.yard_core.specs.YardMap.{YardMap}
 use Rattle.yard_core.specs.Decisions.{Refusal}
 use Rattle.yard_core.specs.Calls.{Removes, Shifts, RefusesRemove, RefusesShift}
 use Rattle.yard_core.specs.Exact.{IsYard}
-use Rattle.yard_core.specs.declared.placement.Placement.{Placement}
-use Rattle.yard_core.specs.declared.stowed.Stowed.{Stowed}
-use Rattle.yard_core.specs.declared.yard_fault.YardFault.{YardFault}
+use Rattle.yard_core.specs.declared.placements.Placement.{Placement}
+use Rattle.yard_core.specs.declared.placements.Stowed.{Stowed}
+use Rattle.yard_core.specs.declared.yard.YardFault.{YardFault}
 use Rattle.yard_core.proofs.Exact.{remove_is_decided_lem, shift_is_decided_lem}
-use Rattle.terminal_core.specs.declared.outcome.Outcome.{Outcome}
-use Rattle.terminal_core.specs.declared.outcome.Outcome.TheVariants.{Done, Gone, Listed, Refused}
-use Rattle.terminal_core.specs.declared.reason.Reason.{Reason}
-use Rattle.terminal_core.specs.declared.reason.Reason.TheVariants.{AlreadyIn, NotIn, VisitLimit}
-use Rattle.terminal_core.specs.declared.line_state.LineState.{LineState}
-use Rattle.terminal_core.specs.declared.line_state.LineState.TheVariants.{Pending, Done as LineIsDone}
-use Rattle.terminal_core.specs.declared.side.Side.{Side}
-use Rattle.terminal_core.specs.declared.side.Side.TheVariants.{Load, Discharge}
-use Rattle.terminal_core.specs.declared.source.Source.{Source}
-use Rattle.terminal_core.specs.declared.way.Way.{Way}
-use Rattle.terminal_core.specs.declared.way.Way.TheVariants.{Ship}
+use Rattle.terminal_core.specs.declared.change.Outcome.{Outcome}
+use Rattle.terminal_core.specs.declared.change.Outcome.TheVariants.{Done, Gone, Listed, Refused}
+use Rattle.terminal_core.specs.declared.change.Reason.{Reason}
+use Rattle.terminal_core.specs.declared.change.Reason.TheVariants.{AlreadyIn, NotIn, VisitLimit}
+use Rattle.terminal_core.specs.declared.lines.LineState.{LineState}
+use Rattle.terminal_core.specs.declared.lines.LineState.TheVariants.{Pending, Done as LineIsDone}
+use Rattle.terminal_core.specs.declared.lines.Side.{Side}
+use Rattle.terminal_core.specs.declared.lines.Side.TheVariants.{Load, Discharge}
+use Rattle.terminal_core.specs.declared.change.Source.{Source}
+use Rattle.terminal_core.specs.declared.visits.Way.{Way}
+use Rattle.terminal_core.specs.declared.visits.Way.TheVariants.{Ship}
 use Rattle.terminal_core.specs.Rows.{VisitContent, ChangeContent, visit_opened, visit_closed, placed_at, moved_to, removed_from, line_done}
 use Rattle.terminal_core.specs.State.{TerminalState, LineContent, Lines, is_in, line_key, line_of, IsWhole, open_visit}
 use Rattle.terminal_core.specs.Versions.{newest}

@@ -6,14 +6,14 @@ use Rattle.std.specs.FinMap as finite_map
 use Rattle.std.specs.Str.{bytes_eq}
 use Rattle.box6346.specs.declared.box_number.BoxNumber.{BoxNumber}
 use Rattle.box6346.specs.declared.slot.Slot.{Slot}
-use Rattle.yard_core.specs.declared.block.Block.{Block}
-use Rattle.yard_core.specs.declared.placement.Placement.{Placement}
-use Rattle.yard_core.specs.declared.stowed.Stowed.{Stowed}
+use Rattle.yard_core.specs.declared.plan.Block.{Block}
+use Rattle.yard_core.specs.declared.placements.Placement.{Placement}
+use Rattle.yard_core.specs.declared.placements.Stowed.{Stowed}
 use Rattle.yard_core.specs.YardMap.{Boxes, YardMap, placement_of}
 use Rattle.yard_core.specs.Plan.{IsPlan, InPlan}
 use Rattle.yard_core.specs.SoundYard.{IsSound}
 use Rattle.yard_core.specs.Calls.{Adds, Places, Removes, Shifts}
-use Rattle.terminal_core.specs.declared.departure.Departure.{Departure}
+use Rattle.terminal_core.specs.declared.visits.Departure.{Departure}
 use Rattle.terminal_core.specs.Rows.{VisitContent}
 use Rattle.terminal_core.specs.State.{TerminalState, Lines, is_in, open_visit, is_open_visit, stowed_by, IsWhole}
 use Rattle.terminal_core.specs.Step.{closed_visit}

@@ -4,15 +4,15 @@ use Rattle.box6346.specs.SizeCode.{length_of}
 use Rattle.box6346.specs.declared.box_number.BoxNumber.{BoxNumber}
 use Rattle.box6346.specs.declared.slot.Slot.{Slot}
 use Rattle.edi_messages.specs.Orders.{EntryContent}
-use Rattle.yard_core.specs.declared.block.Block.{Block}
+use Rattle.yard_core.specs.declared.plan.Block.{Block}
 use Rattle.yard_core.specs.Plan.{InPlan}
 use Rattle.yard_core.specs.YardMap.{YardMap, placement, stowed}
 use Rattle.yard_core.specs.Calls.{Places}
-use Rattle.yard_core.specs.declared.yard_fault.YardFault.{YardFault}
+use Rattle.yard_core.specs.declared.yard.YardFault.{YardFault}
 use Rattle.yard_core.specs.Decisions.{Refusal, fault_of}
-use Rattle.terminal_core.specs.declared.outcome.Outcome.{Outcome}
-use Rattle.terminal_core.specs.declared.outcome.Outcome.TheVariants.{Done, Gone, Listed, Refused}
-use Rattle.terminal_core.specs.declared.reason.Reason.{Reason}
+use Rattle.terminal_core.specs.declared.change.Outcome.{Outcome}
+use Rattle.terminal_core.specs.declared.change.Outcome.TheVariants.{Done, Gone, Listed, Refused}
+use Rattle.terminal_core.specs.declared.change.Reason.{Reason}
 use Rattle.terminal_core.specs.Rows.{VisitContent, ChangeContent}
 use Rattle.terminal_core.specs.State.{TerminalState, is_open_visit}
 use Rattle.terminal_core.specs.Versions.{newest}

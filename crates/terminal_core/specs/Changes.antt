@@ -8,10 +8,10 @@ use Rattle.box6346.specs.declared.box_number.BoxNumber.{BoxNumber}
 use Rattle.box6346.specs.declared.slot.Slot.{Slot}
 use Rattle.edi_messages.specs.Orders.{OrderContent}
 use Rattle.yard_core.specs.YardMap.{placement_of}
-use Rattle.terminal_core.specs.declared.departure.Departure.{Departure}
-use Rattle.terminal_core.specs.declared.line_state.LineState.TheVariants.{Pending, Done as LineIsDone}
-use Rattle.terminal_core.specs.declared.source.Source.{Source}
-use Rattle.terminal_core.specs.declared.version.Version.{Version}
+use Rattle.terminal_core.specs.declared.visits.Departure.{Departure}
+use Rattle.terminal_core.specs.declared.lines.LineState.TheVariants.{Pending, Done as LineIsDone}
+use Rattle.terminal_core.specs.declared.change.Source.{Source}
+use Rattle.terminal_core.specs.declared.change.Version.{Version}
 use Rattle.terminal_core.specs.Rows.{VisitContent, ChangeContent, visit_opened, visit_closed, placed_at, moved_to, removed_from, listed_on, line_done, unlisted}
 use Rattle.terminal_core.specs.State.{TerminalState, LineContent, LineKey, Lines, line_key, open_visit, IsWhole}
 use Rattle.terminal_core.specs.Step.{number_of_visit, step_by}

@@ -5,12 +5,12 @@ use Rattle.std.specs.FinMap as finite_map
 use Rattle.box6346.specs.declared.box_number.BoxNumber.{BoxNumber}
 use Rattle.box6346.specs.declared.size_type.SizeType.{SizeType}
 use Rattle.yard_core.specs.YardMap.{YardMap, yard_code}
-use Rattle.terminal_core.specs.declared.arrival.Arrival.{Arrival}
-use Rattle.terminal_core.specs.declared.departure.Departure.{Departure}
-use Rattle.terminal_core.specs.declared.line_state.LineState.{LineState}
-use Rattle.terminal_core.specs.contracts.arrival.Arrival as arrivals
-use Rattle.terminal_core.specs.contracts.departure.Departure as departures
-use Rattle.terminal_core.specs.contracts.line_state.LineState as line_states
+use Rattle.terminal_core.specs.declared.visits.Arrival.{Arrival}
+use Rattle.terminal_core.specs.declared.visits.Departure.{Departure}
+use Rattle.terminal_core.specs.declared.lines.LineState.{LineState}
+use Rattle.terminal_core.specs.contracts.visits.Arrival as arrivals
+use Rattle.terminal_core.specs.contracts.visits.Departure as departures
+use Rattle.terminal_core.specs.contracts.lines.LineState as line_states
 use Rattle.terminal_core.specs.Rows.{VisitContent}
 use Rattle.terminal_core.specs.State.{LineContent, Lines, TerminalState}
 

@@ -11,12 +11,12 @@ use Rattle.edi_messages.specs.Purposes.{CallContent}
 use Rattle.edi_messages.specs.Forms.{is_name_if_any, IsFormedCall, IsFormedOrder}
 use Rattle.edi_messages.specs.Orders.{OrderContent}
 use Rattle.yard_core.specs.YardMap.{YardMap, placement_of}
-use Rattle.yard_core.specs.declared.placement.Placement.{Placement}
-use Rattle.terminal_core.specs.declared.departure.Departure.{Departure}
-use Rattle.terminal_core.specs.declared.side.Side.{Side}
-use Rattle.terminal_core.specs.declared.side.Side.TheVariants.{Load, Discharge}
-use Rattle.terminal_core.specs.declared.source.Source.{Source}
-use Rattle.terminal_core.specs.declared.version.Version.{Version}
+use Rattle.yard_core.specs.declared.placements.Placement.{Placement}
+use Rattle.terminal_core.specs.declared.visits.Departure.{Departure}
+use Rattle.terminal_core.specs.declared.lines.Side.{Side}
+use Rattle.terminal_core.specs.declared.lines.Side.TheVariants.{Load, Discharge}
+use Rattle.terminal_core.specs.declared.change.Source.{Source}
+use Rattle.terminal_core.specs.declared.change.Version.{Version}
 use Rattle.terminal_core.specs.Rows.{VisitContent}
 use Rattle.terminal_core.specs.State.{TerminalState, LineContent, line_of, empty_state, IsWhole}
 use Rattle.terminal_core.specs.Step.{step_by}

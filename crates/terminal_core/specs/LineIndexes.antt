@@ -9,8 +9,8 @@ use Rattle.box6346.specs.declared.box_number.BoxNumber.{BoxNumber}
 use Rattle.edi_messages.specs.Purposes.{CallContent}
 use Rattle.edi_messages.specs.Owned.{call_content}
 use Rattle.edi_messages.specs.declared.call.Call.{Call}
-use Rattle.terminal_core.specs.declared.listing.Listing.{Listing}
-use Rattle.terminal_core.specs.declared.side.Side.{Side}
+use Rattle.terminal_core.specs.declared.lines.Listing.{Listing}
+use Rattle.terminal_core.specs.declared.lines.Side.{Side}
 use Rattle.terminal_core.specs.State.{side_code}
 
 -- indexes of a call's lines, by list and container

@@ -3,10 +3,10 @@ use Rattle.std.specs.Prelude.{◌≡◌, ℕ, ◌≤◌, List, map, find, Option
 use Rattle.std.specs.Option.{option_map}
 use Rattle.std.specs.Str.{bytes_eq}
 use Rattle.box6346.specs.declared.box_number.BoxNumber.{BoxNumber}
-use Rattle.yard_core.specs.declared.block.Block.{Block}
-use Rattle.terminal_core.specs.declared.listing.Listing.{Listing}
-use Rattle.terminal_core.specs.declared.place.Place.{Place}
-use Rattle.terminal_core.specs.declared.visit.Visit.{Visit}
+use Rattle.yard_core.specs.declared.plan.Block.{Block}
+use Rattle.terminal_core.specs.declared.lines.Listing.{Listing}
+use Rattle.terminal_core.specs.declared.change.Place.{Place}
+use Rattle.terminal_core.specs.declared.visits.Visit.{Visit}
 use Rattle.terminal_core.specs.Rows.{visit_content}
 use Rattle.terminal_core.specs.State.{TerminalState, IsWhole}
 use Rattle.terminal_core.specs.Listings.{lines_of}

@@ -5,10 +5,10 @@ use Rattle.box6346.specs.declared.size_type.SizeType.{SizeType}
 use Rattle.box6346.specs.declared.slot.Slot.{Slot}
 use Rattle.edi_messages.specs.Purposes.{CallContent}
 use Rattle.edi_messages.specs.Owned.{call_content}
-use Rattle.terminal_core.specs.declared.arrival.Arrival.{Arrival}
-use Rattle.terminal_core.specs.declared.departure.Departure.{Departure}
-use Rattle.terminal_core.specs.declared.side.Side.{Side}
-use Rattle.terminal_core.specs.declared.visit.Visit.{Visit}
+use Rattle.terminal_core.specs.declared.visits.Arrival.{Arrival}
+use Rattle.terminal_core.specs.declared.visits.Departure.{Departure}
+use Rattle.terminal_core.specs.declared.lines.Side.{Side}
+use Rattle.terminal_core.specs.declared.visits.Visit.{Visit}
 use Rattle.terminal_core.specs.declared.change.Change.{Change}
 use Rattle.terminal_core.specs.declared.change.Change.TheVariants as change
 

@@ -10,20 +10,20 @@ use Rattle.edi_messages.specs.Purposes.{CallContent}
 use Rattle.edi_messages.specs.Orders.{EntryContent, OrderContent, gate_in, gate_out, move, list_discharge, list_load, discharge, load}
 use Rattle.yard_core.specs.YardMap.{YardMap}
 use Rattle.yard_core.specs.Decisions.{Refusal, present, absent, buried, no_slot, slot_kind, taken, on_air, on_empty, no_room, yard_with, placed_first, yard_without, yard_with_move}
-use Rattle.yard_core.specs.declared.placement.Placement.{Placement}
-use Rattle.terminal_core.specs.declared.departure.Departure.{Departure}
-use Rattle.terminal_core.specs.declared.line_state.LineState.{LineState}
-use Rattle.terminal_core.specs.declared.line_state.LineState.TheVariants.{Pending, Done as LineIsDone}
-use Rattle.terminal_core.specs.declared.outcome.Outcome.{Outcome}
-use Rattle.terminal_core.specs.declared.outcome.Outcome.TheVariants.{Done, Gone, Listed, Refused}
-use Rattle.terminal_core.specs.declared.reason.Reason.{Reason}
-use Rattle.terminal_core.specs.declared.reason.Reason.TheVariants.{AlreadyIn, NotIn, AlreadyListed, NotListed, ListLineDone, Buried, NoSlot, SlotKind, Taken, OnAir, OnEmpty, NoRoom, VisitLimit}
-use Rattle.terminal_core.specs.declared.side.Side.{Side}
-use Rattle.terminal_core.specs.declared.side.Side.TheVariants.{Load, Discharge}
-use Rattle.terminal_core.specs.declared.source.Source.{Source}
-use Rattle.terminal_core.specs.declared.version.Version.{Version}
-use Rattle.terminal_core.specs.declared.way.Way.{Way}
-use Rattle.terminal_core.specs.declared.way.Way.TheVariants.{Gate, Ship}
+use Rattle.yard_core.specs.declared.placements.Placement.{Placement}
+use Rattle.terminal_core.specs.declared.visits.Departure.{Departure}
+use Rattle.terminal_core.specs.declared.lines.LineState.{LineState}
+use Rattle.terminal_core.specs.declared.lines.LineState.TheVariants.{Pending, Done as LineIsDone}
+use Rattle.terminal_core.specs.declared.change.Outcome.{Outcome}
+use Rattle.terminal_core.specs.declared.change.Outcome.TheVariants.{Done, Gone, Listed, Refused}
+use Rattle.terminal_core.specs.declared.change.Reason.{Reason}
+use Rattle.terminal_core.specs.declared.change.Reason.TheVariants.{AlreadyIn, NotIn, AlreadyListed, NotListed, ListLineDone, Buried, NoSlot, SlotKind, Taken, OnAir, OnEmpty, NoRoom, VisitLimit}
+use Rattle.terminal_core.specs.declared.lines.Side.{Side}
+use Rattle.terminal_core.specs.declared.lines.Side.TheVariants.{Load, Discharge}
+use Rattle.terminal_core.specs.declared.change.Source.{Source}
+use Rattle.terminal_core.specs.declared.change.Version.{Version}
+use Rattle.terminal_core.specs.declared.visits.Way.{Way}
+use Rattle.terminal_core.specs.declared.visits.Way.TheVariants.{Gate, Ship}
 use Rattle.terminal_core.specs.Rows.{VisitContent, ChangeContent, visit_opened, visit_closed, placed_at, moved_to, removed_from, listed_on, line_done}
 use Rattle.terminal_core.specs.Versions.{newest, spares}
 use Rattle.terminal_core.specs.State.{TerminalState, LineContent, line_key, line_of, is_in, is_open_visit, open_visit}

@@ -4,8 +4,8 @@ use Rattle.std.specs.FinMap as finite_map
 use Rattle.edi_messages.specs.Orders.{OrderContent}
 use Rattle.yard_core.specs.Plan.{IsPlan}
 use Rattle.yard_core.specs.YardMap.{YardMap}
-use Rattle.terminal_core.specs.declared.source.Source.{Source}
-use Rattle.terminal_core.specs.declared.version.Version.{Version}
+use Rattle.terminal_core.specs.declared.change.Source.{Source}
+use Rattle.terminal_core.specs.declared.change.Version.{Version}
 use Rattle.terminal_core.specs.State.{TerminalState, empty_state, IsWhole}
 use Rattle.terminal_core.specs.Step.{step_by}
 

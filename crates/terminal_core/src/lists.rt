@@ -8,13 +8,8 @@ ghost use Rattle.terminal_core.specs.Drop.{is_pending, is_open_row, open_contain
 ghost use Rattle.terminal_core.specs.LineIndexes.{AreNoted, IsWithout};
 ghost use Rattle.terminal_core.specs.Restoring.{AreOnce, RefusesLines};
 
-use crate::line_indexes::{LineIndexes, note, noted, renote};
-use crate::line_state::LineState;
-use crate::lines::copied_lines;
-use crate::listing::Listing;
-use crate::restore_fault::RestoreFault;
-use crate::rows::append;
-use crate::side::Side;
+use crate::lines::{LineIndexes, LineState, Listing, Side, copied_lines, note, noted, renote};
+use crate::restoring::{RestoreFault, append};
 use box6346::BoxNumber;
 use edi_messages::Call;
 use std::alloc::{AllocError, Global};

@@ -1,19 +1,48 @@
-ghost use Rattle.std.specs.Prelude.{◌≡◌, ◌≢◌, ◌≤◌, ◌<◌, ◌+◌, ◌==◌, ℕ, [], ◌↔◌, IsTrue, IfOk, IfErr, OnOk, MatchOption, MatchResult, Contains, map, length, is_none, slice_get, slice_index_or, true, false, Some};
 ghost use Rattle.std.specs.List.{list_any};
 ghost use Rattle.std.specs.List.Sorted.{IsPermutation, IsNonDecreasingBy};
+ghost use Rattle.std.specs.Prelude.{◌≡◌, ◌+◌, ◌<◌, ◌≤◌, [], ◌∷◌, ◌++◌, vec_len, vec_capacity, ◌≢◌, ◌==◌, ℕ, ◌↔◌, IsTrue, IfOk, IfErr, OnOk, MatchOption, MatchResult, Contains, map, length, is_none, slice_get, slice_index_or, true, false, Some};
+ghost use Rattle.terminal_core.specs.Restoring.{cause_of, Names, AreNamed, IsPut, RefusesPut, IsYardOf, RefusesYard, RefusesPlaces, ArePlacesOf};
+ghost use Rattle.terminal_core.specs.Rows.{VisitContent, visit_content};
+ghost use Rattle.terminal_core.specs.State.{AreNumbered};
+ghost use Rattle.terminal_core.specs.declared.restoring.RestoreFault.TheVariants.{Memory};
 ghost use Rattle.yard_core.specs.Plan.{IsPlan};
 ghost use Rattle.yard_core.specs.SoundYard.{IsSound};
 ghost use Rattle.yard_core.specs.YardMap.{placement_of};
-ghost use Rattle.terminal_core.specs.Rows.{VisitContent, visit_content};
-ghost use Rattle.terminal_core.specs.State.{AreNumbered};
-ghost use Rattle.terminal_core.specs.Restoring.{cause_of, Names, AreNamed, IsPut, RefusesPut, IsYardOf, RefusesYard, RefusesPlaces, ArePlacesOf};
 
-use crate::place::Place;
-use crate::restore_fault::RestoreFault;
-use crate::visit::Visit;
-use crate::visits::is_open;
+use crate::change::Place;
+use crate::visits::{Visit, is_open};
 use std::alloc::{AllocError, Global};
+use thiserror::Error;
 use yard_core::{Plan, Yard, YardFault};
+
+/// Appends a row if there is room for it.
+pub(crate) fn append<T: Drop>(rows: &mut Vec<T>, row: T)
+    requires { vec_len rows.old < vec_capacity rows.old }
+    ensures rows { rows.new.items ≡ rows.old.items ++ row ∷ [] }
+    ensures len { vec_len rows.new ≡ vec_len rows.old + 1 }
+    ensures capacity { vec_capacity rows.old ≤ vec_capacity rows.new }
+{
+    let _ = rows.push(row);
+}
+
+/// Why rows were not restored.
+#[derive(Clone, Copy, PartialEq, Eq, Debug, Error)]
+pub enum RestoreFault {
+    /// They are the rows of no whole state.
+    #[error("the rows are those of no whole state")]
+    Unsound,
+    /// Memory was refused.
+    #[error("memory was refused")]
+    Memory,
+}
+
+impl From<AllocError> for RestoreFault {
+    ghost from_gives = { λ _ e. e ≡ Memory };
+
+    fn from(_e: AllocError) -> RestoreFault {
+        RestoreFault::Memory
+    }
+}
 
 /// The yard of a plan, visits and places: Unsound if the visits are not numbered within the limit, or the places are
 /// not those of the open visits in a sound yard.

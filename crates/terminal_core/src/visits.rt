@@ -1,26 +1,75 @@
-ghost use Rattle.std.specs.Prelude.{◌≡◌, ◌++◌, ◌∷◌, [], ◌≤◌, ◌<◌, ◌-◌, ◌^◌, map, find, filter, reverse, length, is_some, IfOk, OnOk, OnErr, None, true, false, string_bytes, vec_len, vec_capacity};
 ghost use Rattle.std.specs.Option.{option_map};
+ghost use Rattle.std.specs.Prelude.{◌≡◌, ◌++◌, ◌∷◌, [], ◌≤◌, ◌<◌, ◌-◌, ◌^◌, map, find, filter, reverse, length, is_some, IfOk, OnOk, OnErr, None, true, false, string_bytes, vec_len, vec_capacity};
 ghost use Rattle.box6346.specs.declared.box_number.BoxNumber.{BoxNumber};
 ghost use Rattle.edi_messages.specs.Owned.{entry_content};
+ghost use Rattle.terminal_core.specs.Calls.{HasOneVisit};
+ghost use Rattle.terminal_core.specs.Index.{AreIndexed, AreLastIndexed, HasRoom};
 ghost use Rattle.terminal_core.specs.Rows.{visit_content, change_content, visit_closed};
 ghost use Rattle.terminal_core.specs.State.{is_open_visit, is_visit_of};
 ghost use Rattle.terminal_core.specs.Step.{closed_visit, number_of_visit, opened_by, departure_by};
-ghost use Rattle.terminal_core.specs.Calls.{HasOneVisit};
-ghost use Rattle.terminal_core.specs.Index.{AreIndexed, AreLastIndexed, HasRoom};
 
-use crate::arrival::Arrival;
-use crate::change::Change;
-use crate::departure::Departure;
-use crate::rows::append;
-use crate::source::Source;
-use crate::visit::Visit;
-use crate::way::Way;
-use box6346::{BoxNumber, Slot};
+use crate::change::{Change, Source};
+use crate::restoring::append;
+use box6346::{BoxNumber, SizeType, Slot};
 use edi_messages::Entry;
 use edi_moments::Moment;
 use std::alloc::{AllocError, Global};
 use std::collections::HashMap;
 use std::marker::Model;
+
+/// By which way a container came or went.
+#[derive(Clone, Copy, PartialEq, Eq, Debug)]
+pub enum Way {
+    /// By the gate.
+    Gate,
+    /// By a ship.
+    Ship,
+}
+
+/// How a container came.
+#[derive(Clone, Copy, Debug)]
+pub struct Arrival {
+    /// By gate or by ship.
+    pub way: Way,
+    /// The interchange that said so.
+    pub source: Source,
+    /// When it came, as the interchange says.
+    pub moment: Moment,
+    /// The slot that it was placed in.
+    pub slot: Slot,
+}
+
+/// How a container went.
+#[derive(Clone, Copy, Debug)]
+pub struct Departure {
+    /// By gate or by ship.
+    pub way: Way,
+    /// The interchange that said so.
+    pub source: Source,
+    /// When it went, as the interchange says.
+    pub moment: Moment,
+}
+
+/// A container's stay at the terminal.
+#[derive(Debug, Drop)]
+pub struct Visit {
+    /// Visits are numbered 1, 2, .. as they are opened.
+    pub number: u32,
+    /// The container's number (ISO 6346).
+    pub container: BoxNumber,
+    /// Its size-type (ISO 6346).
+    pub size_type: SizeType,
+    /// Whether it is full.
+    pub is_laden: bool,
+    /// The booking, empty if none was given.
+    pub booking: String,
+    /// How and when it came, and where it was placed.
+    pub arrival: Arrival,
+    /// None while the container is here.
+    pub departure: Option<Departure>,
+    /// Its gross weight in kilograms, at most 999,999, and 0 if none was given.
+    pub kilos: u32,
+}
 
 /// Every visit, as they were opened. A container's open visit and its last one are found at once, however many there
 /// were.

@@ -1,7 +1,7 @@
 -- What stands on a container is what its columns have above it.
 use Rattle.std.proofs.Common.{◌≡◌, ℕ, ◌+◌, ◌⊎◌, List, Option, None, Some, MatchOption, sym}
-use Rattle.yard_core.specs.declared.block.Block.{Block}
-use Rattle.yard_core.specs.declared.placement.Placement.{Placement}
+use Rattle.yard_core.specs.declared.plan.Block.{Block}
+use Rattle.yard_core.specs.declared.placements.Placement.{Placement}
 use Rattle.yard_core.specs.YardMap.{Box, Boxes, placement_of}
 use Rattle.yard_core.specs.Columns.{IsKept, IsSite, level}
 use Rattle.yard_core.specs.Decisions.{blocker_of}

@@ -5,12 +5,12 @@ use Rattle.std.proofs.lemmas.Bool.Decides.{nat_tests}
 use Rattle.std.proofs.lemmas.List.{length-append, get_or-take, get_or-drop, length-take-le, length-drop, length-replicate, length-map, length-set}
 use Rattle.std.proofs.lemmas.List.Elements.{All-from_get_or, All-get_or, All-map, All-set}
 use Rattle.std.proofs.lemmas.Option.{get_or_from_slice_get, slice_get_within, slice_get_read, slice_get-map, none-some, same_Some}
-use Rattle.box6346.specs.declared.length.Length.{Length}
-use Rattle.box6346.specs.declared.length.Length.TheVariants.{Twenty, Forty}
+use Rattle.box6346.specs.declared.size_type.Length.{Length}
+use Rattle.box6346.specs.declared.size_type.Length.TheVariants.{Twenty, Forty}
 use Rattle.box6346.specs.declared.slot.Slot.{Slot}
-use Rattle.yard_core.specs.declared.block.Block.{Block}
-use Rattle.yard_core.specs.declared.least_height.LeastHeight.{LeastHeight}
-use Rattle.yard_core.specs.declared.placement.Placement.{Placement}
+use Rattle.yard_core.specs.declared.plan.Block.{Block}
+use Rattle.yard_core.specs.declared.columns.LeastHeight.{LeastHeight}
+use Rattle.yard_core.specs.declared.placements.Placement.{Placement}
 use Rattle.yard_core.specs.Plan.{block_of, InBlock, IsSized}
 use Rattle.yard_core.specs.YardMap.{Box, placement}
 use Rattle.yard_core.specs.FitsAndFree.{IsOpen}

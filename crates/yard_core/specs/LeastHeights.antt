@@ -1,7 +1,7 @@
 -- The least heights of the blocks' columns: what the code relies on, and no caller has to read.
 use Rattle.std.specs.Prelude.{◌≡◌, ℕ, ◌+◌, ◌*◌, ◌<◌, ◌≤◌, List, Some, All, length, slice_get}
-use Rattle.yard_core.specs.declared.block.Block.{Block}
-use Rattle.yard_core.specs.declared.least_height.LeastHeight.{LeastHeight}
+use Rattle.yard_core.specs.declared.plan.Block.{Block}
+use Rattle.yard_core.specs.declared.columns.LeastHeight.{LeastHeight}
 use Rattle.yard_core.specs.Plan.{IsSized}
 use Rattle.yard_core.specs.YardMap.{Box}
 use Rattle.yard_core.specs.Columns.{column_at}

@@ -1,5 +1,5 @@
 //! What follows from the definitions alone, and says that the answers of a yard's calls are exact.
-
+ghost use Rattle.yard_core.specs.Exact.{PlaceIsDecided, PutBackIsDecided, PlaceFirstIsDecided, RemoveIsDecided, ShiftIsDecided};
 ghost use Rattle.yard_core.specs.Laws.{MisfitsDoNotFit, FreeBoxFitsAtHome, BelowCarries, OneBlocker, OneFirstFit, PlaceHasOneAnswer, PutBackHasOneAnswer, PlaceFirstHasOneAnswer, RemoveHasOneAnswer, ShiftHasOneAnswer};
 
 /// If NoSlot, SlotKind, Taken or OnAir applies, the yard is not sound with the container there.
@@ -51,4 +51,31 @@ pub fn remove_has_one_answer()
 /// No two answers of `shift` hold of one yard.
 pub fn shift_has_one_answer()
     ensures { ShiftHasOneAnswer }
+{}
+
+// The answers of a yard's calls, which their contracts tell by relations, are those of functions over the map.
+
+/// What `place` does and answers is what is decided by a search over all boxes.
+pub fn place_is_decided()
+    ensures { PlaceIsDecided }
+{}
+
+/// What `put_back` does and answers is what is decided by a search over all boxes, with no look at loads.
+pub fn put_back_is_decided()
+    ensures { PutBackIsDecided }
+{}
+
+/// What `place_first` does and answers is what is decided by a search over all slots and boxes.
+pub fn place_first_is_decided()
+    ensures { PlaceFirstIsDecided }
+{}
+
+/// What `remove` does and answers is what is decided by a search over all boxes.
+pub fn remove_is_decided()
+    ensures { RemoveIsDecided }
+{}
+
+/// What `shift` does and answers is what is decided by a search over all boxes.
+pub fn shift_is_decided()
+    ensures { ShiftIsDecided }
 {}

@@ -1,13 +1,34 @@
-ghost use Rattle.std.specs.Prelude.{◌≡◌, Some, IsSome, OnOk, OnErr, IfOk};
-ghost use Rattle.std.specs.FinMap as finite_map;
 ghost use Rattle.std.specs.HashMap.{get, Updates};
+ghost use Rattle.std.specs.Prelude.{◌≡◌, Some, IsSome, OnOk, OnErr, IfOk, ◌↔◌, ◌*◌, ◌<◌, ◌≤◌, IsTrue, All, length};
 ghost use Rattle.std.specs.Str.{bytes_eq};
+ghost use Rattle.yard_core.specs.Columns.{first_cell, last_cell, IsSite};
+ghost use Rattle.yard_core.specs.Plan.{InPlan, IsSized};
+ghost use Rattle.yard_core.specs.YardMap.{IsKind};
+ghost use Rattle.std.specs.FinMap as finite_map;
 
-use crate::stowed::Stowed;
-use box6346::BoxNumber;
+use crate::plan::Plan;
+use box6346::{BoxNumber, Length, Slot};
 use std::alloc::{AllocError, Global};
 use std::collections::HashMap;
 use std::marker::Model;
+
+/// How long a container is and in which slot it stands.
+#[derive(Clone, Copy, PartialEq, Eq, Debug)]
+pub struct Placement {
+    /// Twenty or forty foot.
+    pub length: Length,
+    /// Its slot, whose bay is odd for a twenty and even for a forty.
+    pub slot: Slot,
+}
+
+/// How a container of the yard is placed, and whether it is full.
+#[derive(Clone, Copy, PartialEq, Eq, Debug)]
+pub struct Stowed {
+    /// Its length and its slot.
+    pub placement: Placement,
+    /// Whether it is full, and not empty.
+    pub is_laden: bool,
+}
 
 /// How each container of a yard stands, seen as the map.
 #[derive(Drop)]
@@ -80,5 +101,65 @@ fn write(by_text: &mut HashMap<[u8; 11], Stowed>, text: [u8; 11], stowed: Stowed
 {
     if let Some(kept) = by_text.get_mut(&text) {
         *kept = stowed;
+    }
+}
+
+/// Where a placement's cells are: the columns of its two ends, which are one for a twenty, and how many
+/// tiers are below.
+#[derive(Clone, Copy)]
+pub(crate) struct Site {
+    pub near: usize,
+    pub far: usize,
+    pub height: usize,
+}
+
+pub(crate) fn site_of(plan: &Plan, placement: Placement) -> Site
+    requires sized { All IsSized plan.now }
+    requires in_plan { InPlan plan.now placement.slot }
+    requires kind { IsKind placement.length placement.slot }
+    ensures site { IsSite plan.now placement result.near result.far result.height }
+    ensures near { result.near < 480 * length plan.now }
+    ensures far { result.far < 480 * length plan.now }
+{
+    Site {
+        near: plan.column_of(first_cell(placement)),
+        far: plan.column_of(last_cell(placement)),
+        height: placement.slot.tier as usize - 1,
+    }
+}
+
+/// A twenty stands in an odd bay, a forty in an even one.
+pub(crate) fn is_kind(length: Length, slot: Slot) -> bool
+    ensures { IsTrue result ↔ IsKind length slot }
+{
+    match length {
+        Length::Twenty => slot.bay % 2 == 1,
+        Length::Forty => slot.bay % 2 == 0,
+    }
+}
+
+fn first_cell(placement: Placement) -> Slot
+    requires { 1 ≤ placement.slot.bay }
+    ensures { result ≡ first_cell placement.length placement.slot }
+{
+    match placement.length {
+        Length::Twenty => placement.slot,
+        Length::Forty => Slot {
+            bay: placement.slot.bay - 1,
+            ..placement.slot
+        },
+    }
+}
+
+fn last_cell(placement: Placement) -> Slot
+    requires { placement.slot.bay < 80 }
+    ensures { result ≡ last_cell placement.length placement.slot }
+{
+    match placement.length {
+        Length::Twenty => placement.slot,
+        Length::Forty => Slot {
+            bay: placement.slot.bay + 1,
+            ..placement.slot
+        },
     }
 }

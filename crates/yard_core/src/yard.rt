@@ -1,20 +1,50 @@
 ghost use Rattle.std.specs.Prelude.{◌≡◌, None, Some};
-ghost use Rattle.yard_core.specs.declared.placement.Placement.{Placement};
-ghost use Rattle.yard_core.specs.declared.stowed.Stowed.{Stowed};
+ghost use Rattle.yard_core.specs.declared.placements.Placement.{Placement};
+ghost use Rattle.yard_core.specs.declared.placements.Stowed.{Stowed};
 
-use crate::block::Block;
 use crate::columns::Columns;
-use crate::first_fit::first_fit;
-use crate::placement::Placement;
-use crate::placements::Placements;
-use crate::plan::Plan;
-use crate::site::site_of;
-use crate::stowed::Stowed;
-use crate::support::{blocker_on, is_wary, lift, misfit};
-use crate::yard_fault::YardFault;
+use crate::placements::{Placement, Placements, Stowed, site_of};
+use crate::plan::{Block, Plan};
+use crate::support::{blocker_on, first_fit, is_wary, lift, misfit};
 use box6346::{BoxNumber, Length, Slot};
 use std::alloc::{AllocError, Global};
 use std::marker::Model;
+use thiserror::Error;
+
+/// Why a call on a yard was refused. The first that applies, in this order, is the answer.
+#[derive(Clone, Copy, PartialEq, Eq, Debug, Error)]
+pub enum YardFault {
+    /// The container stands in the yard already.
+    #[error("the container stands in the yard already")]
+    Present,
+    /// The container isn't in the yard.
+    #[error("the container isn't in the yard")]
+    Absent,
+    /// This container stands on it.
+    #[error("another container stands on it")]
+    Buried(BoxNumber),
+    /// The plan has no such slot.
+    #[error("the plan has no such slot")]
+    NoSlot,
+    /// 20 foot in an even bay, or 40 foot in an odd one.
+    #[error("20 foot in an even bay, or 40 foot in an odd one")]
+    SlotKind,
+    /// A container covers a cell of the slot.
+    #[error("a container covers a cell of the slot")]
+    Taken,
+    /// Nothing that may carry the container stands below the slot.
+    #[error("nothing that may carry the container stands below the slot")]
+    OnAir,
+    /// The container is full, and an empty one stands below the slot.
+    #[error("the container is full, and an empty one stands below the slot")]
+    OnEmpty,
+    /// No slot of the plan fits.
+    #[error("no slot of the plan fits")]
+    NoRoom,
+    /// Memory was refused.
+    #[error("memory was refused")]
+    Memory,
+}
 
 /// The containers of a yard, seen as its plan and the map from each container to its length and slot, and
 /// whether it is full. The map is always sound. A call that answers a fault changes nothing.
@@ -45,7 +75,7 @@ impl Yard {
     ghost use Rattle.std.specs.Option.{option_map};
     ghost use Rattle.std.specs.FinMap as finite_map;
     ghost use Rattle.yard_core.specs.Plan.{block_of, IsPlan, IsSized};
-    ghost use Rattle.box6346.specs.declared.length.Length.{Length};
+    ghost use Rattle.box6346.specs.declared.size_type.Length.{Length};
     ghost use Rattle.yard_core.specs.YardMap.{Boxes, placement, stowed, placement_of};
     ghost use Rattle.yard_core.specs.SoundYard.{IsSound};
     ghost use Rattle.yard_core.specs.Search.{IsInBlock, IsOpenTo, NoneOpen};

@@ -4,7 +4,7 @@ ghost use Rattle.std.specs.Prelude.{◌≡◌, ◌+◌, ◌<◌, ◌≤◌, IfOk
 ghost use Rattle.partner_core.specs.Runs.{partner_count};
 
 use super::{Told, assert_said, said};
-use partner_core::diary::Diary;
+use partner_core::ledger::Diary;
 use partner_core::{LAST_NUMBER, MOST_PARTNERS, Machine, Runs};
 use std::alloc::{AllocError, Global};
 use std::process::Abort;

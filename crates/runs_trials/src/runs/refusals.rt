@@ -4,7 +4,7 @@ ghost use Rattle.std.specs.Prelude.{List, ℕ, ◌≤◌};
 ghost use Rattle.partner_core.specs.Runs.{partner_count};
 
 use super::{Told, assert_said};
-use partner_core::diary::Diary;
+use partner_core::ledger::Diary;
 use partner_core::{Machine, Runs};
 use std::alloc::{AllocError, Global};
 use std::cell::Cell;

@@ -3,7 +3,7 @@
 use super::made;
 use box6346::{BoxNumber, SizeType, Slot};
 use edi_moments::Moment;
-use office_changes::apply;
+use office_delivery::apply;
 use office_loading::load;
 use sqlite::{Alter, Connection};
 use std::alloc::Global;

@@ -6,7 +6,7 @@ use Rattle.edi_segments.specs.Written.{with_segments}
 use Rattle.edi_syntax.specs.Messages.{Message}
 use Rattle.edi_syntax.specs.Frames.{messages_left}
 use Rattle.edi_messages.specs.Contrl.{ucm}
-use Rattle.edi_messages.specs.declared.verdict.Verdict.{Verdict}
+use Rattle.edi_messages.specs.declared.message.Verdict.{Verdict}
 use Rattle.edi_messages.proofs.contrl.write_message_responses.Goals as goal
 
 no_messages : (verdicts : List Verdict) → map ucm (zip verdicts []) ≡ []

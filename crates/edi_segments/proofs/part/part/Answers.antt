@@ -4,7 +4,7 @@ use Rattle.std.specs.Option.{option_map_or}
 use Rattle.std.proofs.lemmas.List.{get_or_past}
 use Rattle.edi_segments.specs.Parts.{parts_of}
 use Rattle.edi_segments.proofs.PartLemmas.{parts_split}
-use Rattle.edi_segments.specs.declared.service.Service.{Service}
+use Rattle.edi_segments.specs.declared.characters.Service.{Service}
 use Rattle.edi_segments.specs.Parts.{split_of}
 use Rattle.edi_segments.proofs.part.part.Goals as goal
 

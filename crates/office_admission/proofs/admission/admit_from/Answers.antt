@@ -3,7 +3,7 @@ use Rattle.std.proofs.lemmas.Option.{slice_get-get_or}
 use Rattle.edi_segments.specs.Segment.{value}
 use Rattle.edi_syntax.specs.Heads.{head_segments}
 use Rattle.office_setup.specs.Parties.{parties_of}
-use Rattle.office_setup.specs.declared.account.Account.{Account}
+use Rattle.office_setup.specs.declared.setup.Account.{Account}
 use Rattle.office_admission.proofs.Admitting.{syntax_refused, stray_refused, text_admitted, body_fault_is, recipient_is, kind_there}
 use Rattle.office_admission.proofs.admission.admit_from.Goals as goal
 

@@ -1,5 +1,5 @@
 use Rattle.std.proofs.Common.{false, refl, get_or}
-use Rattle.office_checks.specs.declared.number_row.NumberRow.{NumberRow}
+use Rattle.office_checks.specs.declared.numbers.NumberRow.{NumberRow}
 use Rattle.office_checks.proofs.Kept.{taken_more, taken_not}
 use Rattle.office_checks.proofs.numbers.are_taken.Goals as goal
 

@@ -1,9 +1,9 @@
 use Rattle.std.proofs.Common.{List, false, map, refl, sym, subst, get_or}
 use Rattle.office_rows.specs.Office.{AreWaiting}
 use Rattle.office_checks.specs.Contents.{number_content}
-use Rattle.office_checks.specs.declared.number_row.NumberRow.{NumberRow}
+use Rattle.office_checks.specs.declared.numbers.NumberRow.{NumberRow}
 use Rattle.office_checks.proofs.Kept.{waits_more, waits_not}
-use Rattle.office_checks.proofs.Lists.{none_from}
+use Rattle.std.proofs.lemmas.List.{drop_all}
 use Rattle.office_checks.proofs.numbers.are_waiting.Goals as goal
 
 abbrev none : NumberRow
@@ -24,6 +24,6 @@ loop-row-preserved c =
 pub returns : goal.returns
 returns c = (
   λ t. (let P : List NumberRow → Type 0 = λ rows. AreWaiting c.args.partner c.loop-row.above (map number_content rows) in
-      c.loop-row.invariant.1 (subst P (sym (none_from c.args.numbers.now c.loop-row.row-index c.loop-row-test.false)) tt)),
+      c.loop-row.invariant.1 (subst P (sym (drop_all c.loop-row.row-index c.args.numbers.now c.loop-row-test.false)) tt)),
   λ all. refl,
 )

@@ -1,14 +1,14 @@
 use Rattle.std.proofs.Common.{rules, ◌≡◌, ℕ, List, length, map, true, sym, ap, ◌∙◌, refl, subst}
-use Rattle.yard_core.specs.declared.block.Block.{Block}
+use Rattle.yard_core.specs.declared.plan.Block.{Block}
 use Rattle.office_rows.specs.Office.{AreKept}
 use Rattle.office_checks.specs.Accounts.{AreWholeAccounts}
 use Rattle.office_checks.specs.Contents.{partner_content, number_content, setting_content, opened_rows}
 use Rattle.office_checks.specs.Formed.{AreByLetter, AreTerminal, RefusesTerminal}
 use Rattle.office_checks.specs.Refusals.{RefusesTables}
 use Rattle.office_checks.specs.Said.{set_up_with, AreSettings}
-use Rattle.office_checks.specs.declared.number_row.NumberRow.{NumberRow}
-use Rattle.office_checks.specs.declared.partner_row.PartnerRow.{PartnerRow}
-use Rattle.office_checks.specs.declared.setting.Setting.{Setting}
+use Rattle.office_checks.specs.declared.numbers.NumberRow.{NumberRow}
+use Rattle.office_checks.specs.declared.numbers.PartnerRow.{PartnerRow}
+use Rattle.office_checks.specs.declared.settings.Setting.{Setting}
 use Rattle.office_checks.proofs.Offices.{accounts_of_office, by_letter_of_office, tables_refused, office_of}
 use Rattle.office_checks.proofs.restoring.restore.Goals as goal
 

@@ -4,8 +4,8 @@ use Rattle.clap.specs.Simple.{is_simple}
 use Rattle.clap.specs.Words.{App, Row, Text, subcommand_of, subcommand_rows_of, kind_of, fault_of, IsAmong, is_simple_and_free}
 use Rattle.office_command_line.specs.Commands.{office_app, init_app, deliver_app, serve_app, report_app, account_app, migrate_app, demo_app}
 use Rattle.office_command_line.specs.Requests.{request_asked, met_asks, words_ask, RefusesMet, RefusesWords, WordsAsk}
-use Rattle.office_command_line.specs.declared.command_fault.CommandFault.{CommandFault}
-use Rattle.office_command_line.specs.declared.command_fault.CommandFault.TheVariants.{Words, Values, Memory}
+use Rattle.office_command_line.specs.declared.command_reading.CommandFault.{CommandFault}
+use Rattle.office_command_line.specs.declared.command_reading.CommandFault.TheVariants.{Words, Values, Memory}
 use Rattle.office_command_line.proofs.command_reading.read_command.Goals as goal
 
 refuses : (words : List Text) → fault_of office_app words ≡ [] → (fault : CommandFault) → RefusesMet (subcommand_of office_app words) fault →

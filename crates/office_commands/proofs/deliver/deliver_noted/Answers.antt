@@ -14,6 +14,6 @@ returns-clause-ends g c =
       told = ends.told;
       ports_are = ends.ports_are;
       left = streams_as _ _
-          (delivered_by (λ noted. noted.desk) g.D.Deliver.is_sound g.D.Deliver.stands g.D.Deliver.answers g.D.Deliver.leads before after c.args.desk c.into_desk.result c.new-noted.ensures c.into_desk.ensures)
+          (delivered_by (λ noted. noted.desk) g.D.Deliver.leads before after c.args.desk c.into_desk.result c.new-noted.ensures c.into_desk.ensures)
           _ ends.outcome ends.left;
     }

@@ -1,5 +1,6 @@
-use Rattle.std.proofs.Common.{◌≡◌, Ok, Err}
-use Rattle.office_commands.proofs.Leaving.{answered_in_memory, left_by, failed_by}
+use Rattle.std.proofs.Common.{◌≡◌, Ok, Err, arith}
+use Rattle.office_commands.specs.Ending.{most_turns}
+use Rattle.office_commands.proofs.Leaving.{answered_in_memory, left_by, left_for_turns, failed_by}
 use Rattle.office_commands.proofs.demo.run_demo.Goals as goal
 
 -- The opening is the desk as it was opened, to which nothing has been delivered. A store in memory is clean.
@@ -21,3 +22,6 @@ returns-clause-err g c =
 
 pub returns-clause-failed : goal.returns-clause-failed
 returns-clause-failed g c = failed_by _ _ _ _ c.in-Err-run_stream.fault _ _ c.in-Err-run_stream.ensures.failed
+
+pub returns-clause-turns : goal.returns-clause-turns
+returns-clause-turns g c is = left_for_turns c.in-Err-run_stream.fault most_turns (omega arith) _ _ _ _ _ _ c.in-Err-run_stream.ensures.failed is

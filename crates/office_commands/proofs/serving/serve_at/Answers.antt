@@ -14,11 +14,11 @@ returns-in-Some g c =
     let listens = c.in-Some.ensures.listens in
     ends_by c.args.service.port c.args.service.count old mid new (g.W.Write.contents old.inner) (g.W.Write.contents mid.inner) (g.W.Write.contents new.inner)
     (Tells heard.failed (g.E.Write.contents c.args.errors.now.inner) (g.E.Write.contents heard.inner))
-    (λ most. AtMost g.D.Deliver.is_sound g.D.Deliver.stands g.D.Deliver.answers g.D.Deliver.added g.D.Deliver.leads g.D.AddAccount.enrols g.D.Report.looks most c.args.desk.now c.serve_on.new.desk)
+    (λ most. AtMost g.D.Deliver.leads g.D.AddAccount.enrols g.D.Report.looks most c.args.desk.now c.serve_on.new.desk)
     _ _ (c.as_str.ensures.value ∙ listens.0) listens.1 listens.2
     (tells_none g.E.Write.contents c.args.errors.now heard listens.3) c.serve_on.ensures.steps c.print.ensures
 
 -- it can't listen, or printing failed
 pub returns-in-None : goal.returns-in-None
 returns-in-None g c =
-    inr (inr (refl, c.in-None.ensures.deaf refl, none_yet g.D.Deliver.is_sound g.D.Deliver.stands g.D.Deliver.answers g.D.Deliver.added g.D.Deliver.leads g.D.AddAccount.enrols g.D.Report.looks 0 c.args.desk.now))
+    inr (inr (refl, c.in-None.ensures.deaf refl, none_yet g.D.Deliver.leads g.D.AddAccount.enrols g.D.Report.looks 0 c.args.desk.now))

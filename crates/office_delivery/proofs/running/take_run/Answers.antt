@@ -7,7 +7,7 @@ use Rattle.office_rows.specs.Stored.{HasRows}
 use Rattle.office_history.specs.Cascade.{text_in, texts_with}
 use Rattle.office_delivery.specs.Reading.{IsSame}
 use Rattle.office_delivery.specs.Taken.{taken_contents}
-use Rattle.office_delivery.specs.declared.taken.Taken.{Taken}
+use Rattle.office_delivery.specs.declared.running.Taken.{Taken}
 use Rattle.office_delivery.proofs.ReadLemmas.{nothing_read, only_on, only_stopped, only_then, was_clean}
 use Rattle.office_delivery.proofs.RunLemmas.{first_pushed, more_pushed, all_taken, texts_behind, below_last}
 use Rattle.office_delivery.proofs.running.take_run.Goals as goal

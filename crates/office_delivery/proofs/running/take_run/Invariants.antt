@@ -9,7 +9,7 @@ use Rattle.office_history.specs.Cascade.{texts_with}
 use Rattle.office_delivery.specs.Reading.{OnlyReads}
 use Rattle.office_delivery.specs.Taken.{taken_contents}
 use Rattle.office_delivery.specs.Taking.{IsNumbered}
-use Rattle.office_delivery.specs.declared.taken.Taken.{Taken}
+use Rattle.office_delivery.specs.declared.running.Taken.{Taken}
 use Rattle.office_delivery.proofs.RunLemmas.{AreTakenTo}
 use Rattle.office_delivery.proofs.running.take_run.Given as goal
 

@@ -1,4 +1,4 @@
-use Rattle.office_history.proofs.Loads.{state_given}
+use Rattle.office_history.proofs.Offices.{state_given}
 use Rattle.office_history.proofs.laws.loading_gives_state.Goals as goal
 
 pub returns : goal.returns

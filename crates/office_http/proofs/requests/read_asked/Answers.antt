@@ -4,9 +4,9 @@ use Rattle.httparse.specs.Spans.{name_and_value}
 use Rattle.office_http.specs.Deciding.{body_size, wanted_at, wanted_behind}
 use Rattle.office_http.specs.Fields.{body_length}
 use Rattle.office_http.specs.Routes.{endpoint_of, path_of}
-use Rattle.office_http.specs.declared.endpoint.Endpoint.{Endpoint}
-use Rattle.office_http.specs.declared.endpoint.Endpoint.TheVariants.{Interchanges, PartnerInterchanges, Accounts}
-use Rattle.office_http.specs.declared.refusal.Refusal.{Refusal}
+use Rattle.office_http.specs.declared.routes.Endpoint.{Endpoint}
+use Rattle.office_http.specs.declared.routes.Endpoint.TheVariants.{Interchanges, PartnerInterchanges, Accounts}
+use Rattle.office_http.specs.declared.response.Refusal.{Refusal}
 use Rattle.office_http.proofs.Asking.{ok_not_err, all_of_some, report_asked}
 use Rattle.office_http.proofs.requests.read_asked.Goals as goal
 

@@ -1,6 +1,6 @@
 use Rattle.std.proofs.Common.{◌≡◌, ◌++◌, length, None, codes, sym, ◌∙◌, arith, length-append}
 use Rattle.std.proofs.lemmas.Result.{on_ok_weaker}
-use Rattle.office_http.specs.declared.content_type.ContentType.TheVariants.{Json}
+use Rattle.office_http.specs.declared.head.ContentType.TheVariants.{Json}
 use Rattle.office_http.proofs.Pieces.{in_three}
 use Rattle.office_http.proofs.response.write_early_apart.Goals as goal
 

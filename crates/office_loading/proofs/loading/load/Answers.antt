@@ -5,7 +5,7 @@ use Rattle.office_setup.specs.declared.setup.Setup.{Setup}
 use Rattle.office_checks.specs.Contents.{opened_rows}
 use Rattle.office_loading.proofs.OfficeLemmas.{restoring_fails, restoring_tells, tables_fail}
 use Rattle.office_loading.proofs.VersionLemmas.{fault_tells}
-use Rattle.office_loading.specs.Tables.{fault_of_restoring}
+use Rattle.office_loading.specs.Tables.{NamesVersion, fault_of_restoring}
 use Rattle.office_loading.proofs.loading.load.Goals as goal
 
 pub returns-in_err-tables-clause-refused : goal.returns-in_err-tables-clause-refused
@@ -38,7 +38,7 @@ returns-in-Ok-clause-version g c clean tree has = c.in_ok-tables.ensures.version
 
 pub returns-in-Err-clause-version : goal.returns-in-Err-clause-version
 returns-in-Err-clause-version g c clean tree has =
-    rw c.fault_of_restoring.ensures (fault_tells (Setup × TerminalState) ((state g.S.Store c.args.conn.now).now.trees tree) (fault_of_restoring c.in-Err.fault) (c.in_ok-tables.ensures.version clean tree has) (restoring_tells c.in-Err.fault))
+    rw c.fault_of_restoring.ensures (fault_tells (Setup × TerminalState) (NamesVersion ((state g.S.Store c.args.conn.now).now.trees tree)) (fault_of_restoring c.in-Err.fault) (c.in_ok-tables.ensures.version clean tree has) (restoring_tells c.in-Err.fault))
 
 pub returns-in-Ok-clause-missing : goal.returns-in-Ok-clause-missing
 returns-in-Ok-clause-missing g c clean none = absurd (c.in_ok-tables.ensures.missing clean none)

@@ -8,7 +8,8 @@ use Rattle.office_rows.specs.Office.{IsOffice}
 use Rattle.office_checks.specs.Refusals.{RefusesTables}
 use Rattle.office_loading.proofs.OlderOffice.{older_restoring_fails, older_tables_fail}
 use Rattle.office_loading.proofs.OfficeLemmas.{restoring_tells}
-use Rattle.office_loading.proofs.OlderLemmas.{fault_tells_older}
+use Rattle.office_loading.proofs.VersionLemmas.{fault_tells}
+use Rattle.office_loading.specs.Older.{NamesOlder}
 use Rattle.office_loading.specs.Tables.{fault_of_restoring}
 use Rattle.office_loading.proofs.older.load_old.Goals as goal
 
@@ -40,7 +41,7 @@ returns-in-Ok-clause-version g c clean tree has = c.in_ok-tables.ensures.version
 
 pub returns-in-Err-clause-version : goal.returns-in-Err-clause-version
 returns-in-Err-clause-version g c clean tree has =
-    rw c.fault_of_restoring.ensures (fault_tells_older (Setup × TerminalState) ((state g.S.Store c.args.conn.now).now.trees tree) (fault_of_restoring c.in-Err.fault) (c.in_ok-tables.ensures.version clean tree has) (restoring_tells c.in-Err.fault))
+    rw c.fault_of_restoring.ensures (fault_tells (Setup × TerminalState) (NamesOlder ((state g.S.Store c.args.conn.now).now.trees tree)) (fault_of_restoring c.in-Err.fault) (c.in_ok-tables.ensures.version clean tree has) (restoring_tells c.in-Err.fault))
 
 pub returns-in-Ok-clause-missing : goal.returns-in-Ok-clause-missing
 returns-in-Ok-clause-missing g c clean none = absurd (c.in_ok-tables.ensures.missing clean none)

@@ -1,6 +1,6 @@
 use Rattle.std.proofs.Common.{[], ◌∷◌, refl}
 use Rattle.sqlite.specs.Held.{state}
-use Rattle.terminal_core.specs.declared.visit.Visit.{Visit}
+use Rattle.terminal_core.specs.declared.visits.Visit.{Visit}
 use Rattle.terminal_core.specs.Rows.{visit_content}
 use Rattle.office_rows.specs.Tables.{visit}
 use Rattle.office_rows.specs.Bare.{with_weights}
@@ -9,7 +9,7 @@ use Rattle.office_rows.specs.Shown.{ShowsTable}
 use Rattle.office_rows.specs.Values.{visit_values}
 use Rattle.office_rows.proofs.BareReading as texts
 use Rattle.office_rows.proofs.Listed.{lists_bare_visit}
-use Rattle.office_selecting.proofs.QueryTexts.{bare_visit_shows}
+use Rattle.office_loading.proofs.QueryTexts.{bare_visit_shows}
 use Rattle.office_loading.specs.Columns.{SaysVisit}
 use Rattle.office_loading.specs.Decoded.{Said}
 use Rattle.office_loading.specs.Fits.{FitsVisit}

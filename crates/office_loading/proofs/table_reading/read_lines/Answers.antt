@@ -1,6 +1,6 @@
 use Rattle.std.proofs.Common.{[], ◌∷◌, refl}
 use Rattle.sqlite.specs.Held.{state}
-use Rattle.terminal_core.specs.declared.listing.Listing.{Listing}
+use Rattle.terminal_core.specs.declared.lines.Listing.{Listing}
 use Rattle.office_rows.specs.Rows.{listing_content}
 use Rattle.office_rows.specs.Tables.{listed}
 use Rattle.office_rows.specs.Bare.{weighed_in}
@@ -8,7 +8,7 @@ use Rattle.office_rows.specs.Shown.{ShowsTable}
 use Rattle.office_rows.specs.Values.{line_values}
 use Rattle.office_rows.proofs.Reading as texts
 use Rattle.office_rows.proofs.Listed.{lists_listed}
-use Rattle.office_selecting.proofs.QueryTexts.{listed_shows}
+use Rattle.office_loading.proofs.QueryTexts.{listed_shows}
 use Rattle.office_loading.specs.Columns.{SaysLine}
 use Rattle.office_loading.specs.Decoded.{Said}
 use Rattle.office_loading.specs.Fits.{FitsLine}

@@ -1,14 +1,14 @@
 use Rattle.std.proofs.Common.{[], ◌∷◌, refl}
 use Rattle.sqlite.specs.Held.{state}
 use Rattle.office_checks.specs.Contents.{number_content}
-use Rattle.office_checks.specs.declared.number_row.NumberRow.{NumberRow}
+use Rattle.office_checks.specs.declared.numbers.NumberRow.{NumberRow}
 use Rattle.office_rows.specs.Tables.{interchange}
 use Rattle.office_rows.specs.Bare.{weighed_in}
 use Rattle.office_rows.specs.Opened.{ShowsNumbers}
 use Rattle.office_rows.specs.Shown.{ShowsTable}
 use Rattle.office_rows.proofs.Reading as texts
 use Rattle.office_rows.proofs.Listed.{lists_interchange}
-use Rattle.office_selecting.proofs.QueryTexts.{interchange_shows}
+use Rattle.office_loading.proofs.QueryTexts.{interchange_shows}
 use Rattle.office_loading.specs.Columns.{SaysNumbered}
 use Rattle.office_loading.specs.Decoded.{Said}
 use Rattle.office_loading.specs.Fits.{FitsNumber}

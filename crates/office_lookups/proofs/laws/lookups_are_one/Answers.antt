@@ -1,6 +1,6 @@
 use Rattle.std.proofs.Common.{ℕ, List, sym, ap, ◌∙◌}
 use Rattle.std.specs.Map.{values_of}
-use Rattle.office_reports.specs.declared.standing.Standing.{Standing}
+use Rattle.office_reports.specs.declared.yard.Standing.{Standing}
 use Rattle.office_reports.specs.Lists.{HasLine}
 use Rattle.office_reports.specs.Yard.{StandsAt}
 use Rattle.office_reports.proofs.Once.{one_list}

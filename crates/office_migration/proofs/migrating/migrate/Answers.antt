@@ -1,25 +1,27 @@
 use Rattle.std.proofs.Common.{◌≡◌, Ok, Err, OnOk, not, sym, ap, subst, ◌∙◌, arith, rules}
-use Rattle.std.proofs.lemmas.Result.{err_from_is_err_and}
+use Rattle.std.proofs.lemmas.Result.{IfErr-weaker, err_from_is_err_and}
 use Rattle.sqlite.specs.State.{HasCleanDisk}
 use Rattle.sqlite.specs.Held.{state}
 use Rattle.sqlite.specs.Effect.{Database}
+use Rattle.sqlite.proofs.StateLemmas.{survives_weaker}
 use Rattle.sqlite.specs.Schema.{Schema}
 use Rattle.office_setup.specs.Setups.{setup_content}
 use Rattle.office_rows.specs.Layouts.{bare_schema}
 use Rattle.office_rows.specs.Opened.{OpenedRows}
 use Rattle.office_rows.specs.Stored.{HasRows}
 use Rattle.office_rows.proofs.StepLemmas.{on_ok}
-use Rattle.office_selecting.specs.Settings.{HasSettings}
+use Rattle.office_loading.specs.Settings.{HasSettings}
 use Rattle.office_checks.specs.Contents.{opened_rows}
-use Rattle.office_checks.specs.declared.opened_tables.OpenedTables.{OpenedTables}
-use Rattle.office_loading.specs.Older.{ReadsOlderTables, FailsOlderTables, TellsOlder}
+use Rattle.office_checks.specs.declared.restoring.OpenedTables.{OpenedTables}
+use Rattle.office_loading.specs.Older.{NamesOlder, ReadsOlderTables, FailsOlderTables, TellsOlder}
+use Rattle.office_tables.proofs.FaultLemmas.{of_store_or}
 use Rattle.office_tables.proofs.ReadingLemmas.{◌then◌, clean_first, then_if_open, reads_stopped}
-use Rattle.office_loading.proofs.OlderLemmas.{told_older}
+use Rattle.office_tables.proofs.WritesLemmas.{survives_here}
+use Rattle.office_loading.proofs.VersionLemmas.{result_tells, told}
 use Rattle.office_loading.proofs.OlderOffice.{older_one, older_tables_fail}
 use Rattle.office_migration.specs.Copies.{AreOfPairs, copied_rows}
 use Rattle.office_migration.specs.Migration.{Copies, IsCopy, IsMigration}
-use Rattle.office_migration.proofs.StayLemmas.{if_err, survives_here, survives_as}
-use Rattle.office_migration.proofs.MigratedLemmas.{has_migrated, migrated_whole, of_store_fails, copy_tells}
+use Rattle.office_migration.proofs.MigratedLemmas.{has_migrated, migrated_whole, of_store_fails}
 use Rattle.office_migration.proofs.HistoryLemmas.{never_refused, holds_after, migration_holds}
 use Rattle.office_migration.proofs.migrating.migrate.Goals as goal
 
@@ -80,9 +82,9 @@ returns-in_err-tables-clause-version g c here tree has =
     let clean1 : HasCleanDisk s1 = clean_first c.read_older_tables.ensures.reads here in
     let now1 : s1.now ≡ s0.now = (c.in_ok-load_old.ensures.reads.unchanged clean1).0.now_is in
     let has1 : HasSettings s1.now.schema tree = subst (λ (s : Schema). HasSettings s tree) (sym (ap (λ (d : Database). d.schema) now1)) has in
-    let told = told_older OpenedTables (Unit {0}) (s1.now.trees tree) fault (c.in_err-tables.ensures.version here tree has1) in
+    let same = told OpenedTables (Unit {0}) (NamesOlder (s1.now.trees tree)) fault (c.in_err-tables.ensures.version here tree has1) in
     let p = err_from_is_err_and c.from_residual-in_err-tables.result c.from_residual-in_err-tables.ensures.1 in
-    rw (p.1, p.2) (subst (λ (d : Database). TellsOlder {X = Unit {0}} (d.trees tree) (Err fault)) now1 told)
+    rw (p.1, p.2) (subst (λ (d : Database). TellsOlder {X = Unit {0}} (d.trees tree) (Err fault)) now1 same)
 
 -- ---- what is copied
 
@@ -126,7 +128,7 @@ returns-clause-crash g c here =
     let now1 : s1.now ≡ s0.now = (c.in_ok-load_old.ensures.reads.unchanged clean1).0.now_is in
     let now2 : s2.now ≡ s0.now = (c.in_ok-tables.ensures.reads.unchanged clean2).0.now_is ∙ now1 in
     let tables = opened_rows c.in_ok-tables.tables in
-    survives_as (state g.T.Store c.args.new.now) (state g.T.Store c.copy_tables.new.new) (IsCopy s2.now tables before) (IsMigration s0.now before) (λ db copy none own has.
+    survives_weaker (state g.T.Store c.args.new.now) (state g.T.Store c.copy_tables.new.new) (IsCopy s2.now tables before) (IsMigration s0.now before) (λ clean db copy none own has.
     let is = has.schema in
     let is1 : s1.now.schema ≡ bare_schema = ap (λ (d : Database). d.schema) now1 ∙ is in
     let loads = c.in_ok-load_old.ensures.loaded clean1 is in
@@ -140,10 +142,10 @@ returns-clause-crash g c here =
     migrated_whole s0.now before rows content terminal office read.3 db copied none own has) (c.copy_tables.ensures.crash here)
 
 pub returns-clause-refused : goal.returns-clause-refused
-returns-clause-refused g c here is = if_err c.copy_tables.result (of_store_fails (state g.S.Store c.args.old.now).now) c.copy_tables.ensures.fault
+returns-clause-refused g c here is = IfErr-weaker c.copy_tables.result _ _ (of_store_fails (state g.S.Store c.args.old.now).now) c.copy_tables.ensures.fault
 
 pub returns-clause-untouched : goal.returns-clause-untouched
-returns-clause-untouched g c = if_err c.copy_tables.result (λ fault is other. absurd (other is)) c.copy_tables.ensures.fault
+returns-clause-untouched g c = IfErr-weaker c.copy_tables.result _ _ (λ fault is other. absurd (other is)) c.copy_tables.ensures.fault
 
 pub returns-clause-reads : goal.returns-clause-reads
 returns-clause-reads g c = then_if_open (c.in_ok-load_old.ensures.reads then c.in_ok-tables.ensures.reads) c.copy_tables.ensures.reads
@@ -157,7 +159,7 @@ pub returns-clause-version : goal.returns-clause-version
 returns-clause-version g c here tree has =
     let clean2 : HasCleanDisk (state g.S.Store c.read_older_tables.new.conn) = omega (arith, c.copy_tables.ensures.reads.survives.clean) in
     let named = c.in_ok-load_old.ensures.version (clean_first c.read_older_tables.ensures.reads clean2) tree has in
-    copy_tells _ ((state g.S.Store c.args.old.now).now.trees tree) c.copy_tables.result named c.copy_tables.ensures.fault
+    result_tells (Unit {0}) (NamesOlder ((state g.S.Store c.args.old.now).now.trees tree)) c.copy_tables.result named (IfErr-weaker c.copy_tables.result _ _ (of_store_or (Unit {0})) c.copy_tables.ensures.fault)
 
 -- ---- events
 
@@ -196,4 +198,4 @@ pub returns-clause-stops : goal.returns-clause-stops
 returns-clause-stops g c here none version content es it =
     let from = (state g.S.Store c.args.old.now).now in
     let before = (state g.T.Store c.args.new.now).committed in
-    survives_as (state g.T.Store c.args.new.now) (state g.T.Store c.copy_tables.new.new) (IsMigration from before) _ (λ db made. migration_holds version content es from it before db made none) (returns-clause-crash g c here)
+    survives_weaker (state g.T.Store c.args.new.now) (state g.T.Store c.copy_tables.new.new) (IsMigration from before) _ (λ clean db made. migration_holds version content es from it before db made none) (returns-clause-crash g c here)

@@ -3,7 +3,7 @@ use Rattle.std.specs.BTreeMap.{BTreeMap, get, is_at}
 use Rattle.std.specs.Ordering.{nat_cmp}
 use Rattle.std.specs.Cmp.Lexicographic.{slice_cmp}
 use Rattle.terminal_core.specs.Rows.{visit_content}
-use Rattle.office_reports.specs.declared.standing.Standing.{Standing}
+use Rattle.office_reports.specs.declared.yard.Standing.{Standing}
 use Rattle.office_reports.proofs.Standings.{Holds, holds_none, row_left, row_stands, are_listed}
 use Rattle.office_reports.proofs.yard.standings.Goals as goal
 use Rattle.office_reports.proofs.yard.standings.Goals.{in-Some+in_ok-insert, in_default}

@@ -1,6 +1,6 @@
 use Rattle.std.proofs.Common.{MatchOption, Option, Vec, Global, map, subst}
 use Rattle.office_setup.specs.Accounts.{account_contents}
-use Rattle.office_setup.specs.declared.account.Account.{Account}
+use Rattle.office_setup.specs.declared.setup.Account.{Account}
 use Rattle.office_setup_files.specs.Entries.{entry_content}
 use Rattle.office_setup_files.specs.Said.{ArePartners, AreNoPartners}
 use Rattle.office_setup_files.proofs.Givens.{all_coded}

@@ -1,7 +1,7 @@
 use Rattle.std.proofs.Common.{◌≤◌, map}
 use Rattle.csv.specs.Records.{fields_of}
 use Rattle.office_setup_files.specs.Wrong.{Brings, Shows}
-use Rattle.office_setup_files.specs.declared.setup_fault.SetupFault.TheVariants.{Code}
+use Rattle.office_setup_files.specs.declared.setup_reading.SetupFault.TheVariants.{Code}
 use Rattle.office_setup_files.proofs.wrong_records.last_code.Given as goal
 
 abbrev pub invariant-loop-index : goal.invariant-loop-index

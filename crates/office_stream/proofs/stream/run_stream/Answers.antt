@@ -1,14 +1,11 @@
-use Rattle.std.proofs.Common.{◌≡◌, ◌≢◌, ◌⊎◌, ◌++◌, [], None, Some, Err, inl, inr, refl, sym, ◌∙◌, arith, take}
+use Rattle.std.proofs.Common.{◌≡◌, ◌≢◌, ◌⊎◌, ◌++◌, [], None, Some, inl, inr, refl, sym, ◌∙◌, arith, take}
 use Rattle.std.proofs.KnownBytes.{Consumes-trans}
 use Rattle.std.proofs.lemmas.Bool.{ne_eqb}
 use Rattle.edi_cutter.specs.Cuts.{pending}
-use Rattle.office_stream.specs.declared.stream_end.StreamEnd.TheVariants.{Whole, Open, Cut}
-use Rattle.office_stream.specs.declared.stream_fault.StreamFault.TheVariants.{Read, Turns}
-use Rattle.office_replies.specs.Calls.{IsDelivered}
-use Rattle.office_stream.proofs.Answering.{are_delivered}
+use Rattle.office_stream.specs.declared.stream.StreamEnd.TheVariants.{Whole, Open, Cut}
 use Rattle.office_stream.proofs.PlaceLemmas.{read_nothing, read_more, stopped, cut_at_end, cut_at_fault}
 use Rattle.office_stream.proofs.Writing.{on_ok}
-use Rattle.office_stream.proofs.StreamLemmas.{same_bytes, nothing_read, sofar_more, began, began_now, cut_short, piece_at, input_ends, stream_cut, finished, passed_on, streams_as, nil_is, nil_is_not, err_weaker, is_err_and, starts_running, starts_empty, nothing_taken}
+use Rattle.office_stream.proofs.StreamLemmas.{same_bytes, nothing_read, sofar_more, began, began_now, cut_short, piece_at, input_ends, stream_cut, finished, passed_on, nil_is, nil_is_not, err_weaker, is_err_and, starts_running, starts_empty, nothing_taken}
 use Rattle.office_stream.proofs.stream.run_stream.Goals as goal
 use Rattle.office_stream.proofs.stream.run_stream.Goals.{then-at_rest, else-at_rest}
 
@@ -23,18 +20,16 @@ reads-init g c = record {
   ended = λ going. going;
   most = omega arith;
   least = omega arith;
-  stays = λ clean. clean;
-  sofar = nothing_read (IsDelivered g.D.Deliver.is_sound g.D.Deliver.stands g.D.Deliver.answers g.D.Deliver.leads) c.args.desk.now _ (pending c.new-cutter.result) _ (starts_empty c.new-cutter.result c.new-cutter.ensures);
+  sofar = nothing_read g.D.Deliver.leads c.args.desk.now _ (pending c.new-cutter.result) _ (starts_empty c.new-cutter.result c.new-cutter.ensures);
   placed = read_nothing (g.R.Read.remaining c.args.reader.now.inner) _ (pending c.new-cutter.result) refl (starts_empty c.new-cutter.result c.new-cutter.ensures);
 }
 
 pub reads-preserved : goal.reads-preserved
 reads-preserved g c =
-    let call = IsDelivered g.D.Deliver.is_sound g.D.Deliver.stands g.D.Deliver.answers g.D.Deliver.leads in
     let piece = take c.in-Ok.count c.read.new.buf in
     let q = pending c.reads.cutter in
     let q' = pending c.answer_piece.new.cutter in
-    let done = piece_at call c.reads.desk c.in_ok-worst_now.fault None q' _ c.answer_piece.new.desk c.reads.worst c.in_ok-worst_now.worst_now _ _ c.in_default.is c.in_ok-worst_now.ensures.ok in
+    let done = piece_at g.D.Deliver.leads c.reads.desk c.in_ok-worst_now.fault None q' _ c.answer_piece.new.desk c.reads.worst c.in_ok-worst_now.worst_now _ _ c.in_default.is c.in_ok-worst_now.ensures.ok in
     record {
       running = c.in_ok-worst_now.ensures.running c.in_default.is;
       reader = c.in-Ok.ensures.succeeds ∙ c.reads.invariant.reader;
@@ -45,8 +40,7 @@ reads-preserved g c =
       ended = λ going. c.in-Ok.ensures.ended ∙ ne_eqb c.in-Ok.count 0 c.if-count-eq0.false;
       most = omega (arith, c.in-Ok.ensures.counted, c.reads.invariant.most);
       least = omega (arith, c.in-Ok.ensures.counted, c.reads.invariant.least);
-      stays = λ clean. c.reads.invariant.stays (c.in_ok-worst_now.ensures.stays clean);
-      sofar = sofar_more call c.args.desk.now _ _ _ q q' piece c.reads.desk c.answer_piece.new.desk c.reads.worst c.in_ok-worst_now.worst_now _ _ _
+      sofar = sofar_more g.D.Deliver.leads c.args.desk.now _ _ _ q q' piece c.reads.desk c.answer_piece.new.desk c.reads.worst c.in_ok-worst_now.worst_now _ _ _
           c.reads.invariant.sofar c.in-Ok.ensures.bytes.0 done;
       placed = read_more _ _ _ c.reads.place c.answer_piece.new.place q q' piece c.in_ok-worst_now.fault c.reads.invariant.placed c.in-Ok.ensures.bytes.0 c.in_default.is
           (λ bytes. c.in_ok-worst_now.ensures.placed bytes);
@@ -56,50 +50,41 @@ reads-preserved g c =
 
 pub returns-in-Err-clause-streams : goal.returns-in-Err-clause-streams
 returns-in-Err-clause-streams g c =
-    let call = IsDelivered g.D.Deliver.is_sound g.D.Deliver.stands g.D.Deliver.answers g.D.Deliver.leads in
-    streams_as _ _ (are_delivered g.D.Deliver.is_sound g.D.Deliver.stands g.D.Deliver.answers g.D.Deliver.leads c.args.desk.now c.reads.desk) _ (Err Read)
-    (began call c.args.desk.now _ _ _ (pending c.reads.cutter) c.reads.desk c.reads.worst _ _ c.reads.invariant.sofar c.in-Err.ensures.bytes)
+    began g.D.Deliver.leads c.args.desk.now _ _ _ (pending c.reads.cutter) c.reads.desk c.reads.worst _ _ c.reads.invariant.sofar c.in-Err.ensures.bytes
 
 pub returns-then-count-eq0-clause-streams : goal.returns-then-count-eq0-clause-streams
 returns-then-count-eq0-clause-streams g c =
-    let call = IsDelivered g.D.Deliver.is_sound g.D.Deliver.stands g.D.Deliver.answers g.D.Deliver.leads in
     let reads = c.in-Ok.ensures.bytes in
     let none = c.if-count-eq0.true in
     let how : ((c.if-at_rest.end ≡ Whole) × (pending c.reads.cutter ≡ [])) ⊎ ((c.if-at_rest.end ≡ Open) × (pending c.reads.cutter ≢ [])) = elim c.if-at_rest.branch [
       | then-at_rest w ↦ inl (w.end-is, nil_is (pending c.reads.cutter) (sym c.at_rest.ensures ∙ w.if-at_rest.true))
       | else-at_rest w ↦ inr (w.end-is, nil_is_not (pending c.reads.cutter) (sym c.at_rest.ensures ∙ w.if-at_rest.false))
     ] in
-    streams_as _ _ (are_delivered g.D.Deliver.is_sound g.D.Deliver.stands g.D.Deliver.answers g.D.Deliver.leads c.args.desk.now c.reads.desk) _ c.finish.result
-    (finished call c.args.desk.now _ _ c.if-at_rest.end c.reads.desk c.reads.worst _ _ _ c.finish.result _
-    (input_ends call c.args.desk.now _ _ _ (pending c.reads.cutter) c.if-at_rest.end c.reads.desk c.reads.worst _ _
+    finished g.D.Deliver.leads c.args.desk.now _ _ c.if-at_rest.end c.reads.desk c.reads.worst _ _ _ c.finish.result _
+    (input_ends g.D.Deliver.leads c.args.desk.now _ _ _ (pending c.reads.cutter) c.if-at_rest.end c.reads.desk c.reads.worst _ _
     c.reads.invariant.sofar (nothing_taken _ _ c.in-Ok.count c.read.new.buf none reads.0) (reads.1 none (omega (arith, c.read.auto.buf))) how)
-    c.finish.ensures.ok c.finish.ensures.writes c.finish.ensures.err)
+    c.finish.ensures.ok c.finish.ensures.writes c.finish.ensures.err
 
 pub returns-in_err-worst_now-clause-streams : goal.returns-in_err-worst_now-clause-streams
 returns-in_err-worst_now-clause-streams g c =
-    let call = IsDelivered g.D.Deliver.is_sound g.D.Deliver.stands g.D.Deliver.answers g.D.Deliver.leads in
-    streams_as _ _ (are_delivered g.D.Deliver.is_sound g.D.Deliver.stands g.D.Deliver.answers g.D.Deliver.leads c.args.desk.now c.answer_piece.new.desk) _ c.from_residual.result
-    (passed_on call c.args.desk.now _ c.answer_piece.new.desk c.from_residual.result _ c.in_err-worst_now.ensures.err.0 c.from_residual.ensures.1
-    (cut_short call c.args.desk.now _ _ _ (pending c.reads.cutter) (take c.in-Ok.count c.read.new.buf) c.reads.desk c.answer_piece.new.desk c.reads.worst _ _ _
-    c.reads.invariant.sofar c.in-Ok.ensures.bytes.0 c.in_err-worst_now.ensures.cut_short))
+    passed_on g.D.Deliver.leads c.args.desk.now _ c.answer_piece.new.desk c.from_residual.result _ c.in_err-worst_now.ensures.err.0 c.from_residual.ensures.1
+    (cut_short g.D.Deliver.leads c.args.desk.now _ _ _ (pending c.reads.cutter) (take c.in-Ok.count c.read.new.buf) c.reads.desk c.answer_piece.new.desk c.reads.worst _ _ _
+    c.reads.invariant.sofar c.in-Ok.ensures.bytes.0 c.in_err-worst_now.ensures.cut_short)
 
 pub returns-in-Some-clause-streams : goal.returns-in-Some-clause-streams
 returns-in-Some-clause-streams g c =
-    let call = IsDelivered g.D.Deliver.is_sound g.D.Deliver.stands g.D.Deliver.answers g.D.Deliver.leads in
     let piece = take c.in-Ok.count c.read.new.buf in
     let q = pending c.reads.cutter in
     let q' = pending c.answer_piece.new.cutter in
-    let done = piece_at call c.reads.desk c.in_ok-worst_now.fault (Some c.in-Some.fault) q' _ c.answer_piece.new.desk c.reads.worst c.in_ok-worst_now.worst_now _ _ c.in-Some.is c.in_ok-worst_now.ensures.ok in
-    streams_as _ _ (are_delivered g.D.Deliver.is_sound g.D.Deliver.stands g.D.Deliver.answers g.D.Deliver.leads c.args.desk.now c.answer_piece.new.desk) _ c.finish-in-Some.result
-    (finished call c.args.desk.now _ _ (Cut c.in-Some.fault) c.answer_piece.new.desk c.in_ok-worst_now.worst_now _ _ _ c.finish-in-Some.result _
-    (stream_cut call c.args.desk.now _ _ _ q q' piece c.in-Some.fault c.reads.desk c.answer_piece.new.desk c.reads.worst c.in_ok-worst_now.worst_now _ _ _
+    let done = piece_at g.D.Deliver.leads c.reads.desk c.in_ok-worst_now.fault (Some c.in-Some.fault) q' _ c.answer_piece.new.desk c.reads.worst c.in_ok-worst_now.worst_now _ _ c.in-Some.is c.in_ok-worst_now.ensures.ok in
+    finished g.D.Deliver.leads c.args.desk.now _ _ (Cut c.in-Some.fault) c.answer_piece.new.desk c.in_ok-worst_now.worst_now _ _ _ c.finish-in-Some.result _
+    (stream_cut g.D.Deliver.leads c.args.desk.now _ _ _ q q' piece c.in-Some.fault c.reads.desk c.answer_piece.new.desk c.reads.worst c.in_ok-worst_now.worst_now _ _ _
     c.reads.invariant.sofar c.in-Ok.ensures.bytes.0 done)
-    c.finish-in-Some.ensures.ok c.finish-in-Some.ensures.writes c.finish-in-Some.ensures.err)
+    c.finish-in-Some.ensures.ok c.finish-in-Some.ensures.writes c.finish-in-Some.ensures.err
 
 pub returns-clause-streams : goal.returns-clause-streams
 returns-clause-streams g c =
-    streams_as _ _ (are_delivered g.D.Deliver.is_sound g.D.Deliver.stands g.D.Deliver.answers g.D.Deliver.leads c.args.desk.now c.reads.desk) _ (Err Turns)
-    (began_now (IsDelivered g.D.Deliver.is_sound g.D.Deliver.stands g.D.Deliver.answers g.D.Deliver.leads) c.args.desk.now _ _ (pending c.reads.cutter) c.reads.desk c.reads.worst _ _ c.reads.invariant.sofar)
+    began_now g.D.Deliver.leads c.args.desk.now _ _ (pending c.reads.cutter) c.reads.desk c.reads.worst _ _ c.reads.invariant.sofar
 
 -- ---- where it is cut
 

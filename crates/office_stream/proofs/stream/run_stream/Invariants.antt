@@ -1,6 +1,5 @@
 use Rattle.std.proofs.Common.{◌≡◌, ◌+◌, ◌-◌, ◌^◌, ◌≤◌, ◌<◌, min, None, false, true}
 use Rattle.edi_cutter.specs.Cuts.{pending}
-use Rattle.office_replies.specs.Calls.{IsDelivered}
 use Rattle.office_stream.proofs.PlaceLemmas.{ReadSofar}
 use Rattle.office_stream.proofs.StreamLemmas.{Sofar}
 use Rattle.office_stream.proofs.stream.run_stream.Given as goal
@@ -16,8 +15,7 @@ invariant-reads g l = record {
   ended : l.fn.reader.ended ≡ false → l.reader.ended ≡ false;
   most : l.reader.reads ≤ l.fn.reader.reads + l.counter;
   least : min (l.fn.reader.reads + l.counter) (2 ^ 64 - 1) ≤ l.reader.reads;
-  stays : g.D.Deliver.is_sound l.desk → g.D.Deliver.is_sound l.fn.desk;
-  sofar : Sofar (IsDelivered g.D.Deliver.is_sound g.D.Deliver.stands g.D.Deliver.answers g.D.Deliver.leads) l.fn.desk (g.R.Read.remaining l.fn.reader.inner) (g.R.Read.remaining l.reader.inner)
+  sofar : Sofar g.D.Deliver.leads l.fn.desk (g.R.Read.remaining l.fn.reader.inner) (g.R.Read.remaining l.reader.inner)
       (pending l.cutter) l.desk l.worst (g.W.Write.contents l.fn.writer.inner) (g.W.Write.contents l.writer.inner);
   placed : ReadSofar (g.R.Read.remaining l.fn.reader.inner) (g.R.Read.remaining l.reader.inner) l.place (pending l.cutter);
 }

@@ -7,7 +7,7 @@ use Rattle.office_rows.proofs.Created.{created_block}
 use Rattle.office_rows.proofs.Creating as texts
 use Rattle.office_tables.proofs.CreatesLemmas.{creates_of}
 use Rattle.office_tables.proofs.MadeLemmas.{makes_one}
-use Rattle.office_tables.proofs.MadeTexts.{block_new, block_stated}
+use Rattle.office_tables.proofs.MadeTexts.{block_anew}
 use Rattle.office_tables.proofs.creating.create_block.Goals as goal
 
 pub returns-clause-creates : goal.returns-clause-creates
@@ -16,4 +16,4 @@ returns-clause-creates g c =
     let new = state g.S.Store c.execute.new.self.conn.now in
     creates_of (block ∷ []) (HasEmpty (take 6 office_tables)) (HasRows no_rows) old new _ c.execute.ensures.survives (λ clean inside.
     let ran = c.in_ok-execute.ensures.runs clean inside in
-    (ran.1, (λ has. created_block old new c.in_ok-execute.field-0 has ran.0), makes_one texts.create_block block block_new block_stated texts.block_defined old new c.in_ok-execute.field-0 ran.0))
+    (ran.1, (λ has. created_block old new c.in_ok-execute.field-0 has ran.0), makes_one texts.create_block block block_anew.0 block_anew.1 texts.block_defined old new c.in_ok-execute.field-0 ran.0))

@@ -6,7 +6,7 @@ use Rattle.office_rows.proofs.Created.{created_interchange}
 use Rattle.office_rows.proofs.Creating as texts
 use Rattle.office_tables.proofs.CreatesLemmas.{creates_of}
 use Rattle.office_tables.proofs.MadeLemmas.{makes_one}
-use Rattle.office_tables.proofs.MadeTexts.{interchange_new, interchange_stated}
+use Rattle.office_tables.proofs.MadeTexts.{interchange_anew}
 use Rattle.office_tables.proofs.creating.create_interchange.Goals as goal
 
 pub returns-clause-creates : goal.returns-clause-creates
@@ -15,4 +15,4 @@ returns-clause-creates g c =
     let new = state g.S.Store c.execute.new.self.conn.now in
     creates_of (interchange ∷ []) (HasEmpty (take 1 office_tables)) (HasEmpty (take 2 office_tables)) old new _ c.execute.ensures.survives (λ clean inside.
     let ran = c.in_ok-execute.ensures.runs clean inside in
-    (ran.1, (λ has. created_interchange old new c.in_ok-execute.field-0 has ran.0), makes_one texts.create_interchange interchange interchange_new interchange_stated texts.interchange_defined old new c.in_ok-execute.field-0 ran.0))
+    (ran.1, (λ has. created_interchange old new c.in_ok-execute.field-0 has ran.0), makes_one texts.create_interchange interchange interchange_anew.0 interchange_anew.1 texts.interchange_defined old new c.in_ok-execute.field-0 ran.0))

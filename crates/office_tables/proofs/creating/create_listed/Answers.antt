@@ -6,7 +6,7 @@ use Rattle.office_rows.proofs.Created.{created_listed}
 use Rattle.office_rows.proofs.Creating as texts
 use Rattle.office_tables.proofs.CreatesLemmas.{creates_of}
 use Rattle.office_tables.proofs.MadeLemmas.{makes_one}
-use Rattle.office_tables.proofs.MadeTexts.{listed_new, listed_stated}
+use Rattle.office_tables.proofs.MadeTexts.{listed_anew}
 use Rattle.office_tables.proofs.creating.create_listed.Goals as goal
 
 pub returns-clause-creates : goal.returns-clause-creates
@@ -15,4 +15,4 @@ returns-clause-creates g c =
     let new = state g.S.Store c.execute.new.self.conn.now in
     creates_of (listed ∷ []) (HasEmpty (take 4 office_tables)) (HasEmpty (take 5 office_tables)) old new _ c.execute.ensures.survives (λ clean inside.
     let ran = c.in_ok-execute.ensures.runs clean inside in
-    (ran.1, (λ has. created_listed old new c.in_ok-execute.field-0 has ran.0), makes_one texts.create_listed listed listed_new listed_stated texts.listed_defined old new c.in_ok-execute.field-0 ran.0))
+    (ran.1, (λ has. created_listed old new c.in_ok-execute.field-0 has ran.0), makes_one texts.create_listed listed listed_anew.0 listed_anew.1 texts.listed_defined old new c.in_ok-execute.field-0 ran.0))

@@ -6,7 +6,7 @@ use Rattle.office_rows.proofs.Created.{created_setting}
 use Rattle.office_rows.proofs.Creating as texts
 use Rattle.office_tables.proofs.CreatesLemmas.{creates_of}
 use Rattle.office_tables.proofs.MadeLemmas.{makes_one}
-use Rattle.office_tables.proofs.MadeTexts.{setting_new, setting_stated}
+use Rattle.office_tables.proofs.MadeTexts.{setting_anew}
 use Rattle.office_tables.proofs.creating.create_setting.Goals as goal
 
 pub returns-clause-creates : goal.returns-clause-creates
@@ -15,4 +15,4 @@ returns-clause-creates g c =
     let new = state g.S.Store c.execute.new.self.conn.now in
     creates_of (setting ∷ []) (HasEmpty (take 5 office_tables)) (HasEmpty (take 6 office_tables)) old new _ c.execute.ensures.survives (λ clean inside.
     let ran = c.in_ok-execute.ensures.runs clean inside in
-    (ran.1, (λ has. created_setting old new c.in_ok-execute.field-0 has ran.0), makes_one texts.create_setting setting setting_new setting_stated texts.setting_defined old new c.in_ok-execute.field-0 ran.0))
+    (ran.1, (λ has. created_setting old new c.in_ok-execute.field-0 has ran.0), makes_one texts.create_setting setting setting_anew.0 setting_anew.1 texts.setting_defined old new c.in_ok-execute.field-0 ran.0))

@@ -6,7 +6,7 @@ use Rattle.office_rows.proofs.Created.{created_visit}
 use Rattle.office_rows.proofs.Creating as texts
 use Rattle.office_tables.proofs.CreatesLemmas.{creates_of}
 use Rattle.office_tables.proofs.MadeLemmas.{makes_one}
-use Rattle.office_tables.proofs.MadeTexts.{visit_new, visit_stated}
+use Rattle.office_tables.proofs.MadeTexts.{visit_anew}
 use Rattle.office_tables.proofs.creating.create_visit.Goals as goal
 
 pub returns-clause-creates : goal.returns-clause-creates
@@ -15,4 +15,4 @@ returns-clause-creates g c =
     let new = state g.S.Store c.execute.new.self.conn.now in
     creates_of (visit ∷ []) (HasEmpty (take 2 office_tables)) (HasEmpty (take 3 office_tables)) old new _ c.execute.ensures.survives (λ clean inside.
     let ran = c.in_ok-execute.ensures.runs clean inside in
-    (ran.1, (λ has. created_visit old new c.in_ok-execute.field-0 has ran.0), makes_one texts.create_visit visit visit_new visit_stated texts.visit_defined old new c.in_ok-execute.field-0 ran.0))
+    (ran.1, (λ has. created_visit old new c.in_ok-execute.field-0 has ran.0), makes_one texts.create_visit visit visit_anew.0 visit_anew.1 texts.visit_defined old new c.in_ok-execute.field-0 ran.0))

@@ -2,7 +2,7 @@ use Rattle.std.proofs.Common.{List, sym, ◌∙◌, arith, length, subst, take}
 use Rattle.std.proofs.lemmas.List.{take_all}
 use Rattle.std.proofs.lemmas.Option.{MatchOption-at_some, MatchOption-at_none}
 use Rattle.edi_messages.specs.Owned.{call_content}
-use Rattle.terminal_core.specs.declared.listing.Listing.{Listing}
+use Rattle.terminal_core.specs.declared.lines.Listing.{Listing}
 use Rattle.terminal_core.specs.Listings.{NoneBefore, IsFirstAt}
 use Rattle.terminal_core.specs.LineIndexes.{AreNoted}
 use Rattle.terminal_core.specs.Restoring.{AreOnce}

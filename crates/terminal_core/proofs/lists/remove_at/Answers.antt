@@ -3,7 +3,7 @@ use Rattle.std.specs.Prelude.{slice_get}
 use Rattle.std.proofs.lemmas.Option.{slice_get-get_or, slice_get_within}
 use Rattle.std.proofs.lemmas.Bool.{ltb-true, lt-ltb}
 use Rattle.std.specs.Prelude.{nat_lt as ltb}
-use Rattle.terminal_core.specs.declared.listing.Listing.{Listing}
+use Rattle.terminal_core.specs.declared.lines.Listing.{Listing}
 use Rattle.terminal_core.proofs.Removed.{swapped_out, noted_last, noted_moved}
 use Rattle.terminal_core.proofs.lists.remove_at.Goals as goal
 

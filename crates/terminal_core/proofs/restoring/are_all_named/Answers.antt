@@ -1,6 +1,6 @@
 use Rattle.std.proofs.Common.{◌≡◌, ℕ, List, Bool, true, false, get_or, Some, is_none, sym, subst}
 use Rattle.std.specs.Prelude.{slice_get}
-use Rattle.terminal_core.specs.declared.visit.Visit.{Visit}
+use Rattle.terminal_core.specs.declared.visits.Visit.{Visit}
 use Rattle.terminal_core.proofs.Marked.{named_where_marked, marked_where_named}
 use Rattle.terminal_core.proofs.restoring.are_all_named.Goals as goal
 

@@ -1,6 +1,6 @@
 use Rattle.std.proofs.Common.{◌≡◌, ℕ, ◌+◌, ◌<◌, Some}
 use Rattle.std.specs.Prelude.{slice_get}
-use Rattle.terminal_core.specs.declared.visit.Visit.{Visit}
+use Rattle.terminal_core.specs.declared.visits.Visit.{Visit}
 use Rattle.terminal_core.proofs.restoring.are_numbered.Given as goal
 
 abbrev pub invariant-loop-index : goal.invariant-loop-index

@@ -1,9 +1,9 @@
 use Rattle.std.proofs.Common.{sym, subst}
 use Rattle.std.specs.Prelude.{map}
-use Rattle.box6346.specs.declared.length.Length.{Length}
+use Rattle.box6346.specs.declared.size_type.Length.{Length}
 use Rattle.yard_core.specs.Calls.{RefusesPutBack}
 use Rattle.yard_core.specs.YardMap.{placement, stowed}
-use Rattle.terminal_core.specs.declared.restore_fault.RestoreFault.{RestoreFault}
+use Rattle.terminal_core.specs.declared.restoring.RestoreFault.{RestoreFault}
 use Rattle.terminal_core.specs.Rows.{visit_content}
 use Rattle.terminal_core.specs.Restoring.{RefusesPut}
 use Rattle.terminal_core.proofs.Placing.{refused_put}

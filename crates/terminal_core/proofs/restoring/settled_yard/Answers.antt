@@ -1,7 +1,7 @@
 use Rattle.std.proofs.Common.{List, ◌∙◌, arith, subst}
 use Rattle.std.specs.Prelude.{map}
 use Rattle.std.proofs.lemmas.Result.{err_from_is_err_and}
-use Rattle.yard_core.specs.declared.block.Block.{Block}
+use Rattle.yard_core.specs.declared.plan.Block.{Block}
 use Rattle.yard_core.specs.Plan.{IsPlan}
 use Rattle.terminal_core.specs.Rows.{visit_content}
 use Rattle.terminal_core.proofs.Placing.{none_taken, one_more_taken, refuses_places}

@@ -3,7 +3,7 @@ use Rattle.std.specs.Prelude.{map}
 use Rattle.std.specs.Str.{bytes_eq}
 use Rattle.std.specs.Map.{lookup}
 use Rattle.std.proofs.lemmas.List.{take_all}
-use Rattle.terminal_core.specs.declared.visit.Visit.{Visit}
+use Rattle.terminal_core.specs.declared.visits.Visit.{Visit}
 use Rattle.terminal_core.specs.Rows.{visit_content}
 use Rattle.terminal_core.specs.Index.{AreIndexed}
 use Rattle.terminal_core.proofs.Indexed.{none_indexed, open_row_indexed, closed_row_indexed, stays_tested, went_tested}

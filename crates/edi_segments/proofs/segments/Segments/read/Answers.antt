@@ -5,7 +5,7 @@ use Rattle.edi_segments.specs.Text.{Content}
 use Rattle.edi_segments.specs.Advice.{service_at}
 use Rattle.edi_segments.specs.Reading.{are_segments, segments_of}
 use Rattle.edi_segments.specs.Interchange.{InterchangeText, segments_in, is_segment_text}
-use Rattle.edi_segments.specs.declared.service.Service.{Service}
+use Rattle.edi_segments.specs.declared.characters.Service.{Service}
 use Rattle.edi_segments.proofs.SegmentsLemmas.{length-segments}
 use Rattle.edi_segments.proofs.AdviceLemmas.{interchange_sound, interchange_complete}
 use Rattle.edi_segments.proofs.segments.Segments.read.Goals as goal

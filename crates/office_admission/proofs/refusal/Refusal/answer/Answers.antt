@@ -3,7 +3,7 @@ use Rattle.edi_segments.specs.Interchange.{segments_in}
 use Rattle.edi_syntax.specs.Envelope.{header_of}
 use Rattle.edi_syntax.specs.Heads.{head_segments}
 use Rattle.office_replies.specs.Contents.{GivesOrNotNow}
-use Rattle.office_replies.specs.declared.response.Response.TheVariants.{Refused}
+use Rattle.office_replies.specs.declared.deliver.Response.TheVariants.{Refused}
 use Rattle.office_setup.specs.Parties.{parties_of}
 use Rattle.office_admission.specs.Admission.{sender_of}
 use Rattle.office_admission.specs.Outcomes.{IsRefused, fault_in}

@@ -5,8 +5,8 @@ use Rattle.sqlite.specs.State.{HasCleanDisk}
 use Rattle.office_admission.specs.Accounts.{AccountPair, account_answer, added_as, by_number, content_after, known_as, refused_for}
 use Rattle.office_replies.specs.AccountAnswers.{account_added_text, account_known_text}
 use Rattle.office_replies.specs.Events.{Event, added}
-use Rattle.office_replies.specs.declared.account_answer.AccountAnswer.TheVariants.{Added, Known, Refused, NotNow}
-use Rattle.office_replies.specs.declared.account_fault.AccountFault.TheVariants.{Partner}
+use Rattle.office_replies.specs.declared.accounts.AccountAnswer.TheVariants.{Added, Known, Refused, NotNow}
+use Rattle.office_replies.specs.declared.accounts.AccountFault.TheVariants.{Partner}
 use Rattle.office_rows.specs.Effects.{with_partner}
 use Rattle.office_rows.specs.Rows.{Rows}
 use Rattle.office_rows.specs.Stored.{HasRows, StoresRows}

@@ -4,7 +4,7 @@ use Rattle.edi_segments.specs.Interchange.{interchange_of}
 use Rattle.edi_syntax.specs.Envelope.{header_of}
 use Rattle.edi_syntax.specs.Heads.{head_segments}
 use Rattle.edi_syntax.proofs.FaultLemmas.{control_number_within}
-use Rattle.office_replies.specs.declared.response.Response.TheVariants.{NotNow}
+use Rattle.office_replies.specs.declared.deliver.Response.TheVariants.{NotNow}
 use Rattle.office_admission.specs.Refusals.{RefusedSurely}
 use Rattle.office_setup.specs.Parties.{parties_of}
 use Rattle.office_setup.specs.Setups.{setup_content}

@@ -1,7 +1,7 @@
 use Rattle.std.proofs.Common.{◌≡◌, ℕ, List, [], ◌∷◌, ◌++◌, length, vec_len, None, sym, ap, ◌∙◌, rules, subst}
 use Rattle.std.specs.FinMap as finite_map
 use Rattle.edi_messages.specs.Owned.{call_content}
-use Rattle.terminal_core.specs.declared.listing.Listing.{Listing}
+use Rattle.terminal_core.specs.declared.lines.Listing.{Listing}
 use Rattle.terminal_core.specs.State.{Lines}
 use Rattle.terminal_core.specs.Listings.{key_of, line_content, lines_of}
 use Rattle.terminal_core.specs.LineIndexes.{AreNoted, NotesIndex}

@@ -1,7 +1,7 @@
 use Rattle.std.proofs.Common.{◌≡◌, List, sym, ap, ◌∙◌, subst}
 use Rattle.std.specs.Prelude.{map}
-use Rattle.terminal_core.specs.declared.listing.Listing.{Listing}
-use Rattle.terminal_core.specs.declared.restore_fault.RestoreFault.{RestoreFault}
+use Rattle.terminal_core.specs.declared.lines.Listing.{Listing}
+use Rattle.terminal_core.specs.declared.restoring.RestoreFault.{RestoreFault}
 use Rattle.terminal_core.specs.Listings.{line_entry}
 use Rattle.terminal_core.specs.Restoring.{AreOnce, RefusesLines}
 use Rattle.terminal_core.proofs.Noted.{copy_noted, once_noted}

@@ -1,8 +1,8 @@
 use Rattle.std.proofs.Common.{◌∙◌, Some, sym, ap}
 use Rattle.edi_messages.specs.Owned.{call_content, entry_content}
-use Rattle.terminal_core.specs.declared.line_state.LineState.TheVariants.{Pending}
-use Rattle.terminal_core.specs.declared.side.Side.TheVariants.{Discharge}
-use Rattle.terminal_core.specs.declared.way.Way.TheVariants.{Ship}
+use Rattle.terminal_core.specs.declared.lines.LineState.TheVariants.{Pending}
+use Rattle.terminal_core.specs.declared.lines.Side.TheVariants.{Discharge}
+use Rattle.terminal_core.specs.declared.visits.Way.TheVariants.{Ship}
 use Rattle.terminal_core.specs.State.{Lines, line_of, line_key}
 use Rattle.terminal_core.specs.Versions.{newest}
 use Rattle.terminal_core.specs.Step.{after_entry}

@@ -2,7 +2,7 @@ use Rattle.std.proofs.Common.{◌+◌, length, refl, ap, ◌∙◌, arith, subst
 use Rattle.std.specs.Prelude.{map}
 use Rattle.std.proofs.lemmas.Result.{MatchResult-at_ok}
 use Rattle.edi_messages.specs.Owned.{entry_content}
-use Rattle.terminal_core.specs.declared.outcome.Outcome.TheVariants.{Done}
+use Rattle.terminal_core.specs.declared.change.Outcome.TheVariants.{Done}
 use Rattle.terminal_core.specs.Rows.{visit_content, change_content}
 use Rattle.terminal_core.specs.State.{TerminalState}
 use Rattle.terminal_core.specs.Versions.{newest}

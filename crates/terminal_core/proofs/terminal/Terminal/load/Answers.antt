@@ -1,8 +1,8 @@
 use Rattle.std.proofs.Common.{◌≡◌, ◌∙◌, Some, sym, ap, true}
 use Rattle.edi_messages.specs.Owned.{call_content}
-use Rattle.terminal_core.specs.declared.line_state.LineState.TheVariants.{Pending}
-use Rattle.terminal_core.specs.declared.side.Side.TheVariants.{Load}
-use Rattle.terminal_core.specs.declared.way.Way.TheVariants.{Ship}
+use Rattle.terminal_core.specs.declared.lines.LineState.TheVariants.{Pending}
+use Rattle.terminal_core.specs.declared.lines.Side.TheVariants.{Load}
+use Rattle.terminal_core.specs.declared.visits.Way.TheVariants.{Ship}
 use Rattle.terminal_core.specs.State.{Lines, line_of, line_key, is_in}
 use Rattle.terminal_core.specs.Step.{after_departure}
 use Rattle.std.specs.FinMap as finite_map

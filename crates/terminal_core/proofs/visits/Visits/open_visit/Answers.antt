@@ -3,7 +3,7 @@ use Rattle.std.specs.Prelude.{map, find, slice_get}
 use Rattle.std.specs.Str.{bytes_eq}
 use Rattle.std.specs.Map.{lookup}
 use Rattle.std.proofs.lemmas.Option.{none-some, same_Some}
-use Rattle.terminal_core.specs.declared.visit.Visit.{Visit}
+use Rattle.terminal_core.specs.declared.visits.Visit.{Visit}
 use Rattle.terminal_core.specs.Rows.{visit_content}
 use Rattle.terminal_core.specs.State.{is_open_visit}
 use Rattle.terminal_core.specs.Index.{VisitBook}

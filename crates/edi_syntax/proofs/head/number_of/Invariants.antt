@@ -1,0 +1,16 @@
+use Rattle.std.proofs.Common.{◌≡◌, ◌++◌, ◌≤◌, ◌<◌, ◌^◌, length, true}
+use Rattle.std.specs.List.{list_all}
+use Rattle.std.specs.Str.Parse.{digits_value}
+use Rattle.edi_segments.specs.Characters.{is_digit}
+use Rattle.edi_segments.specs.Segment.{value, bytes_left}
+use Rattle.edi_syntax.proofs.head.number_of.Given as goal
+
+abbrev pub invariant-loop-byte : goal.invariant-loop-byte
+invariant-loop-byte l = record {
+  passed : value l.fn.component ≡ l.yielded ++ bytes_left l.byte-iterator;
+  counted : length l.yielded ≡ l.len;
+  few : l.len ≤ l.limit;
+  digits : list_all is_digit l.yielded ≡ true;
+  number : l.number ≡ digits_value 10 l.yielded;
+  small : l.number < 10 ^ l.len;
+}

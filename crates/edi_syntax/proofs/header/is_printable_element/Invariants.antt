@@ -1,9 +1,0 @@
-use Rattle.std.proofs.Common.{◌≡◌}
-use Rattle.std.specs.List.{list_all}
-use Rattle.edi_segments.specs.Characters.{is_printable}
-use Rattle.edi_segments.specs.Segment.{content, components_left}
-use Rattle.edi_syntax.specs.Header.{is_printable_element}
-use Rattle.edi_syntax.proofs.header.is_printable_element.Given as goal
-
-abbrev pub invariant-loop-component : goal.invariant-loop-component
-invariant-loop-component l = is_printable_element (content l.segment) l.element ≡ list_all (list_all is_printable) (components_left l.component-iterator)

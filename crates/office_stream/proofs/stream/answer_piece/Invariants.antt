@@ -1,0 +1,20 @@
+use Rattle.std.proofs.Common.{◌≡◌, ◌++◌, ℕ, List, None, length, true}
+use Rattle.edi_cutter.specs.Cuts.{pending}
+use Rattle.office_stream.specs.Pieces.{PieceAnswered}
+use Rattle.office_stream.specs.Places.{Follows}
+use Rattle.office_stream.proofs.PieceLemmas.{IsLeft}
+use Rattle.office_stream.proofs.PlaceLemmas.{Followed}
+use Rattle.office_stream.proofs.stream.answer_piece.Given as goal
+
+abbrev pub invariant-pieces : goal.invariant-pieces
+invariant-pieces g l = record {
+  running : l.cutter.fault ≡ None;
+  kept : l.writer.failed ≡ l.fn.writer.failed;
+  flushed : l.fn.writer.flushed ≡ true → l.writer.flushed ≡ true;
+  done : PieceAnswered g.D.Deliver.leads l.fn.desk (IsLeft (pending l.cutter) l.rest)
+      (pending l.fn.cutter ++ l.piece) l.desk l.fn.before l.worst (g.W.Write.contents l.fn.writer.inner) (g.W.Write.contents l.writer.inner);
+  placed : (bytes : List ℕ) → Follows l.fn.place bytes (pending l.fn.cutter) → Followed l.place bytes l.piece l.rest (pending l.cutter);
+}
+
+abbrev pub decreases-pieces : goal.decreases-pieces
+decreases-pieces g l = length l.rest
