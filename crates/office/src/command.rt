@@ -1,24 +1,18 @@
-ghost use Rattle.std.specs.Prelude.{◌≡◌, false};
-
 use crate::causes::{
     is_looked_at, tell_not_now, tell_store, tell_store_cause, tell_unread, tell_unread_cause,
     tell_with,
 };
-use crate::init::{Store, init};
+use crate::init::init;
 use crate::request_log::RequestLog;
 use crate::watch::DeliveryWatch;
 use office_command_line::{CommandFault, REPORT_KINDS, Request, read_command};
 use office_commands::{
-    COMMAND_LINE, DONE, FAILED, Service, account_over, deliver_over, demonstrate, open_found,
-    open_there, print, report_over, serve_over, tell,
+    COMMAND_LINE, DONE, FAILED, MigrationFault, Service, account_over, deliver_over, demonstrate,
+    migrate_over, print, report_over, serve_over, tell,
 };
-use office_loading::load_old;
-use office_migration::migrate as migrate_tables;
 use office_queries::ReportKind;
 use office_stream::Port;
-use office_tables::TableFault;
-use sqlite::{Alter, Connection, Unknown};
-use std::alloc::Global;
+use sqlite::Unknown;
 use std::fs::File;
 use std::io::{Read, Write};
 
@@ -184,46 +178,14 @@ pub(crate) fn migrate<W: Write, E: Write>(
     writer: &mut Port<W>,
     errors: &mut Port<E>,
 ) -> u8 {
-    let mut older = match open_older(rt, old) {
-        Ok(conn) => conn,
-        Err(fault) => return tell_store(rt, errors, old, &fault),
-    };
-    match fill(rt, &mut older, new) {
-        Ok(()) => print(writer, "ready\n", DONE),
-        Err(fault) => tell_store(rt, errors, new, &fault),
+    match migrate_over(rt, (old, Unknown), (new, Unknown), writer) {
+        Ok(ended) => match ended.outcome {
+            Ok(status) => status,
+            Err(fault) => tell_store(rt, errors, new, &fault),
+        },
+        Err(MigrationFault::Old(fault)) => tell_store(rt, errors, old, &fault),
+        Err(MigrationFault::New(fault)) => tell_store(rt, errors, new, &fault),
     }
-}
-
-/// A connection to the store at a path, which holds an office of an older version.
-fn open_older(rt: &HostRuntime, path: &str) -> Result<Connection<Store>, TableFault> {
-    let mut conn = open_there(rt, path, Unknown)?;
-    load_old(rt.alloc(), &mut conn)?;
-    Ok(conn)
-}
-
-/// Makes the store at a path with what the older one keeps, wholly or not at all. A file that isn't there is made.
-fn fill<S: Alter>(
-    rt: &HostRuntime,
-    older: &mut Connection<S>,
-    path: &str,
-) -> Result<(), TableFault> {
-    let newer = open_found(rt, path, Unknown)?;
-    fill_store(rt.alloc(), older, newer)
-}
-
-/// Makes the tables of a store with what an older one keeps. Over stores of any kind, so that what is said of them stays
-/// short where a file is known to be one.
-fn fill_store<S: Alter, T: Alter + Drop>(
-    alloc: Global,
-    older: &mut Connection<S>,
-    newer: Connection<T>,
-) -> Result<(), TableFault>
-    requires { newer.in_transaction ≡ false }
-{
-    let mut newer = newer;
-    let is_idle = newer.is_autocommit();
-    prove!(is_idle);
-    migrate_tables(alloc, older, &mut newer)
 }
 
 /// `serve DB PORT COUNT [--log] [--ahead N]`: serves so many connections at a port of this machine, one after the other. It

@@ -4,13 +4,10 @@ use office_setup::{MOST_PARTNERS, Setup};
 use office_setup_files::{SetupFault, WrongRecord, first_wrong, read_setup};
 use office_stream::Port;
 use office_tables::TableFault;
-use sqlite::{File, FileStore, Unknown};
+use sqlite::Unknown;
 use std::alloc::{AllocError, Global};
 use std::fs;
 use std::io::Write;
-
-/// A store in a file of the operating system.
-pub(crate) type Store = FileStore<File>;
 
 /// Makes the tables of a store with the rows of a set-up, wholly or not at all. A file that isn't there is made.
 pub(crate) fn make_store(rt: &HostRuntime, path: &str, setup: &Setup) -> Result<(), TableFault> {

@@ -7,3 +7,4 @@ mod ReportLemmas
 mod AccountLemmas
 mod LookingLemmas
 mod ServingLemmas
+mod MigratingLemmas

@@ -1,10 +1,11 @@
 //! How the program opens a store in files, and what it does with it over whatever is read and written: it takes
-//! interchanges, adds accounts, prints reports and serves requests. And the demonstration, which takes interchanges to a
-//! terminal whose tables are in memory.
+//! interchanges, adds accounts, prints reports, serves requests and migrates. And the demonstration, which takes
+//! interchanges to a terminal whose tables are in memory.
 #![tactic(auto)]
 
 mod deliver;
 pub mod demo;
+mod migration;
 mod notes;
 pub mod opening;
 mod serving;
@@ -12,6 +13,7 @@ mod telling;
 
 pub use deliver::{TURNS, account_over, deliver_over, deliver_to, report_on, report_over};
 pub use demo::{DemoFault, run_demo};
+pub use migration::{Migrated, MigrationFault, migrate_over};
 pub use notes::{AccountNote, DeliveryNote, Notes, Sender, WhyNotNow};
 pub use opening::{
     NO_STORE, Named, Names, StoreFile, make_store, open_found, open_store, open_there,

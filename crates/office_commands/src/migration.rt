@@ -1,0 +1,163 @@
+ghost use Rattle.std.specs.Prelude.{◌≡◌, List, [], ◌∷◌, ◌++◌, false, IfOk, IfErr, OnOk, OnErr, IsTrue};
+ghost use Rattle.sqlite.specs.Held.{state};
+ghost use Rattle.sqlite.specs.State.{HasCleanDisk, Survives};
+ghost use Rattle.sqlite.specs.WalFiles.{image_at};
+ghost use Rattle.terminal_core.specs.declared.change.Version.{Version};
+ghost use Rattle.office_replies.specs.Events.{Event, migrated};
+ghost use Rattle.office_setup.specs.Setups.{SetupContent};
+ghost use Rattle.office_rows.specs.Layouts.{bare_schema};
+ghost use Rattle.office_rows.specs.Tables.{no_schema};
+ghost use Rattle.office_tables.specs.Faults.{IsOfStore};
+ghost use Rattle.office_tables.specs.Reading.{Reads};
+ghost use Rattle.office_migration.specs.History.{HoldsAfter, IsOlderAfter, StoresAfter};
+ghost use Rattle.office_migration.specs.Migration.{IsMigration, Migrates};
+ghost use Rattle.office_commands.specs.Ending.{Prints};
+ghost use Rattle.office_commands.specs.Migrating.{IsJudged, IsLookedAt, IsMigratedOver, MigratesBetween, TellsReady};
+
+use crate::opening::{open_found, open_there};
+use crate::telling::{DONE, print};
+use office_loading::load_old;
+use office_migration::migrate;
+use office_stream::Port;
+use office_tables::TableFault;
+use sqlite::{Alter, Connection, FileFrom, FileStore, Start};
+use std::alloc::Global;
+use std::io::Write;
+use thiserror::Error;
+
+/// Which of the two stores of a migration did not open, and why.
+#[derive(Drop, Debug, Error)]
+pub enum MigrationFault {
+    /// The old one did not open, or it holds no office of version 1 or 2. The new one was not opened.
+    #[error("the old store")]
+    Old(TableFault),
+    /// The new one did not open.
+    #[error("the new store")]
+    New(TableFault),
+}
+
+/// How a migration came out, with both stores as it left them.
+#[derive(Drop)]
+pub struct Migrated<S: Alter, T: Alter> {
+    /// The exit status, 0, or 3 if printing failed; or the fault for which the new store was not made.
+    pub outcome: Result<u8, TableFault>,
+    /// The old store.
+    pub old: Connection<S>,
+    /// The new one.
+    pub new: Connection<T>,
+}
+
+/// Makes the store in the file at one path of what the older one in the file at another keeps, and prints `ready`; if the
+/// new one was not made, nothing is printed.
+///
+/// A fault of the whole is that of the old store, before the new one is opened, or that of opening the new one. No clause
+/// ties what the new one holds to its path: that it is opened last is to be read in this body.
+pub fn migrate_over<S: Start, T: Start, W: Write>(
+    rt: &HostRuntime,
+    old: (&str, S),
+    new: (&str, T),
+    writer: &mut Port<W>,
+) -> Result<Migrated<FileStore<FileFrom<S>>, FileStore<FileFrom<T>>>, MigrationFault>
+    // From whatever events the old files held the rows, the new store goes on from these and the migration, and what a
+    // crash leaves.
+    ensures ok { IfOk result (λ ended.
+        IsMigratedOver (image_at S.Start) (image_at T.Start) ended.outcome ended.old ended.new) }
+    ensures printed { IfOk result (λ ended. TellsReady (writer.new ≡ writer.old)
+        (Prints writer.old.failed writer.new.failed writer.new.flushed
+        (W.contents writer.old.inner) (W.contents writer.new.inner)) ended.outcome) }
+    ensures err { OnErr result (writer.new ≡ writer.old) }
+{
+    let older = match open_older(rt, old.0, old.1) {
+        Ok(conn) => conn,
+        Err(fault) => return Err(MigrationFault::Old(fault)),
+    };
+    let newer = match open_found(rt, new.0, new.1) {
+        Ok(conn) => conn,
+        Err(fault) => return Err(MigrationFault::New(fault)),
+    };
+    Ok(migrate_between(rt.alloc(), older, newer, writer))
+}
+
+/// A connection to the store in the file at a path, which holds an office of version 1 or 2.
+fn open_older<S: Start>(
+    rt: &HostRuntime,
+    path: &str,
+    start: S,
+) -> Result<Connection<FileStore<FileFrom<S>>>, TableFault>
+    ensures judged { IfOk result (IsJudged (image_at S.Start)) }
+{
+    let conn = open_there(rt, path, start)?;
+    look_at(rt.alloc(), conn)
+}
+
+/// A connection to a store of any kind, if it holds an office of version 1 or 2.
+fn look_at<S: Alter + Drop>(
+    alloc: Global,
+    conn: Connection<S>,
+) -> Result<Connection<S>, TableFault>
+    requires idle { conn.in_transaction ≡ false }
+    ensures looked { IfOk result (IsLookedAt S.Store conn) }
+{
+    let mut conn = conn;
+    let is_idle = conn.is_autocommit();
+    prove!(is_idle);
+    load_old(alloc, &mut conn)?;
+    Ok(conn)
+}
+
+/// Makes the tables of a store with what an older one keeps, prints that they are ready, and gives both back. Over stores
+/// of any kind, so that what is said of them stays short where a file is known to be one.
+fn migrate_between<S: Alter + Drop, T: Alter + Drop, W: Write>(
+    alloc: Global,
+    older: Connection<S>,
+    newer: Connection<T>,
+    writer: &mut Port<W>,
+) -> Migrated<S, T>
+    requires idle { newer.in_transaction ≡ false }
+    ensures migrates { MigratesBetween S.Store T.Store older newer result.outcome result.old result.new }
+    ensures printed { TellsReady (writer.new ≡ writer.old)
+        (Prints writer.old.failed writer.new.failed writer.new.flushed
+        (W.contents writer.old.inner) (W.contents writer.new.inner)) result.outcome }
+{
+    let mut old = older;
+    let mut new = newer;
+    let outcome = fill(alloc, &mut old, &mut new, writer);
+    Migrated { outcome, old, new }
+}
+
+/// Makes the tables of a store with what an older one keeps, and prints that they are ready.
+fn fill<S: Alter, T: Alter, W: Write>(
+    alloc: Global,
+    older: &mut Connection<S>,
+    newer: &mut Connection<T>,
+    writer: &mut Port<W>,
+) -> Result<u8, TableFault>
+    requires idle { newer.old.in_transaction ≡ false }
+    ensures ok { HasCleanDisk (state T.Store newer.new) → HasCleanDisk (state S.Store older.new) →
+        (state S.Store older.old).now.schema ≡ bare_schema →
+        OnOk result (Migrates (state S.Store older.old).now (state T.Store newer.old) (state T.Store newer.new)) }
+    ensures goes_on { HasCleanDisk (state T.Store newer.new) → HasCleanDisk (state S.Store older.new) →
+        (state T.Store newer.old).committed.schema ≡ no_schema → (version : Version) (content : SetupContent)
+        (es : List Event) → IsOlderAfter version content es (state S.Store older.old).now →
+        OnOk result (HoldsAfter content (es ++ migrated version ∷ []) (state T.Store newer.new).committed) }
+    ensures stops { HasCleanDisk (state S.Store older.new) → (state T.Store newer.old).committed.schema ≡ no_schema →
+        (version : Version) (content : SetupContent) (es : List Event) →
+        IsOlderAfter version content es (state S.Store older.old).now →
+        Survives (state T.Store newer.old) (state T.Store newer.new)
+        (StoresAfter content (es ++ migrated version ∷ [])) }
+    ensures no_damage { HasCleanDisk (state S.Store older.new) → (version : Version) (content : SetupContent)
+        (es : List Event) → IsOlderAfter version content es (state S.Store older.old).now → IfErr result IsOfStore }
+    ensures crash { HasCleanDisk (state S.Store older.new) → Survives (state T.Store newer.old) (state T.Store newer.new)
+        (IsMigration (state S.Store older.old).now (state T.Store newer.old).committed) }
+    ensures err { HasCleanDisk (state T.Store newer.new) → IsTrue (state T.Store newer.new).is_open →
+        OnErr result ((state T.Store newer.new).committed ≡ (state T.Store newer.old).committed) }
+    ensures reads { Reads (state S.Store older.old) (state S.Store older.new) result }
+    ensures printed { TellsReady (writer.new ≡ writer.old)
+        (Prints writer.old.failed writer.new.failed writer.new.flushed
+        (W.contents writer.old.inner) (W.contents writer.new.inner)) result }
+{
+    let is_idle = newer.is_autocommit();
+    prove!(is_idle);
+    migrate(alloc, older, newer)?;
+    Ok(print(writer, "ready\n", DONE))
+}
