@@ -25,7 +25,7 @@ use Rattle.office_migration.specs.Migration.{IsSettled}
 use Rattle.office_desk.proofs.CrashLemmas.{committed_leaves}
 use Rattle.office_desk.specs.Crashes.{IsAfter}
 use Rattle.office_commands.specs.Migrating.{GoesOnFrom, HoldsBare, HoldsOlder, IsJudged, IsMigratedOver, MigratesBetween}
-use Rattle.office_commands.specs.Opening.{ShowsHeld}
+use Rattle.office_commands.specs.Opening.{HoldsNoTables, ShowsHeld}
 
 -- what follows of two facts of a result
 ok_both : {X E : Type 0} {P Q R : Type 0} (r : Result X E) → (P → Q → R) → OnOk r P → OnOk r Q → OnOk r R
@@ -57,7 +57,7 @@ left_by content es Before db (inr made) = inr (record { rows = made.rows; are = 
 
 -- what is said of two connections, of the files behind them
 pub migrated_over : {D E : Type 0} {g : DiskGhosts D} {h : DiskGhosts E} (old_image new_image : Image) (judged : Held (FileStore D g)) (found : Held (FileStore E h)) (outcome : Result ℕ TableFault) (older : Held (FileStore D g)) (newer : Held (FileStore E h))
-    → IsJudged old_image judged → (HasCleanDisk (file_state found) → ShowsHeld new_image found) → (HasCleanDisk (file_state found) → new_image.db ≡ [] → (file_state found).committed.schema ≡ no_schema)
+    → IsJudged old_image judged → (HasCleanDisk (file_state found) → ShowsHeld new_image found) → (HasCleanDisk (file_state found) → HoldsNoTables new_image → (file_state found).committed.schema ≡ no_schema)
     → MigratesBetween over_files over_files judged found outcome older newer → IsMigratedOver old_image new_image outcome older newer
 migrated_over old_image new_image judged found outcome older newer is shows empty does =
     let was = λ (clean : HasCleanDisk (file_state older)). (clean_first does.reads clean) in

@@ -8,7 +8,7 @@ use Rattle.sqlite_trees.specs.Props.{Trees-set}
 use Rattle.sqlite_trees.specs.Sound.{is_sound_list}
 use Rattle.sqlite_trees.specs.Objects.{catalog_tree}
 use Rattle.sqlite_schema.specs.Names.{same_name}
-use Rattle.sqlite.specs.Effect.{IsDatabase}
+use Rattle.sqlite.specs.Effect.{Database, IsDatabase}
 use Rattle.sqlite.specs.Files.{IsOpened, file_state}
 use Rattle.sqlite.specs.Held.{Held}
 use Rattle.sqlite.specs.Recovery.{Image}
@@ -17,7 +17,7 @@ use Rattle.sqlite.specs.Tree.{Trees}
 use Rattle.sqlite.specs.declared.FileStore.{FileStore}
 use Rattle.office_rows.specs.Tables.{no_schema, office_schema, office_tables}
 use Rattle.office_tables.specs.Opened.{AreMissing}
-use Rattle.office_commands.specs.Opening.{ShowsHeld}
+use Rattle.office_commands.specs.Opening.{HoldsNoTables, ShowsHeld}
 
 -- The trees list one schema at most, so the connection has that one.
 pub shows_held : {D : Type 0} {g : Ghosts D} (image : Image) (conn : Held (FileStore D g)) → IsOpened conn → FindsIn image (file_state conn) → ShowsHeld image conn
@@ -43,6 +43,11 @@ shows_none image conn opened found none =
       | inr nothing ↦ nothing.1.1
     ] in
     lists_once [] committed.schema no_schema (subst (λ rows. Lists rows committed.schema) empty sound.lists) lists_none
+
+-- nor has a connection to files that hold none
+pub shows_no_tables : {D : Type 0} {g : Ghosts D} (image : Image) (conn : Held (FileStore D g)) → (image.db ≡ [] → (file_state conn).committed.schema ≡ no_schema) → ShowsHeld image conn → HoldsNoTables image → (file_state conn).committed.schema ≡ no_schema
+shows_no_tables image conn empty shows (inl none) = empty none
+shows_no_tables image conn empty shows (inr (db, held, lists)) = ap (λ (d : Database). d.schema) (shows db no_schema held lists)
 
 -- the office's own tables are in its schema
 pub never_missing : AreMissing office_tables office_schema → ⊥

@@ -26,7 +26,7 @@ use Rattle.office_tables.specs.declared.table_fault.TableFault.{TableFault}
 use Rattle.office_migration.specs.History.{HoldsAfter, IsOlderAfter, StoresAfter}
 use Rattle.office_migration.specs.Migration.{IsMigration, Migrates}
 use Rattle.office_desk.specs.Crashes.{IsAfter, Leaves}
-use Rattle.office_commands.specs.Opening.{ShowsHeld}
+use Rattle.office_commands.specs.Opening.{HoldsNoTables, ShowsHeld}
 
 -- ---- between two stores of any kind
 
@@ -82,7 +82,7 @@ abbrev pub GoesOnFrom : SetupContent → List Event → State → Type 0
 GoesOnFrom content es s = HoldsAfter content es s.committed × Leaves content es s
 
 -- The new store was made of what the old one keeps, or there is a fault, and it was not. The old store was only read. Said
--- if both disks have told the truth, of a new database file that was empty: the new store has the old rows, so changed; it
+-- if both disks have told the truth, of new files that held no table: the new store has the old rows, so changed; it
 -- goes on from the events of the old one and the migration; a crash leaves what it would have left before, or that whole;
 -- and what comes of events is refused only for the store.
 pub record IsMigratedOver {D E : Type 0} {g : DiskGhosts D} {h : DiskGhosts E} (old_image new_image : Image)
@@ -96,12 +96,12 @@ pub record IsMigratedOver {D E : Type 0} {g : DiskGhosts D} {h : DiskGhosts E} (
       OnErr outcome ((file_state newer).committed ≡ (file_state found).committed)
   pub refused : HasCleanDisk (file_state older) → (version : Version) (content : SetupContent) (es : List Event) →
       HoldsOlder old_image version content es → IfErr outcome IsOfStore
-  pub rows : HasCleanDisk (file_state older) → HasCleanDisk (file_state newer) → new_image.db ≡ [] → (rows : Rows) →
+  pub rows : HasCleanDisk (file_state older) → HasCleanDisk (file_state newer) → HoldsNoTables new_image → (rows : Rows) →
       HoldsBare old_image rows → OnOk outcome (HasRows (migrated_rows rows) (file_state newer).committed)
-  pub goes_on : HasCleanDisk (file_state older) → HasCleanDisk (file_state newer) → new_image.db ≡ [] →
+  pub goes_on : HasCleanDisk (file_state older) → HasCleanDisk (file_state newer) → HoldsNoTables new_image →
       (version : Version) (content : SetupContent) (es : List Event) → HoldsOlder old_image version content es →
       OnOk outcome (GoesOnFrom content (es ++ migrated version ∷ []) (file_state newer))
-  pub crash : HasCleanDisk (file_state older) → HasCleanDisk (file_state newer) → new_image.db ≡ [] →
+  pub crash : HasCleanDisk (file_state older) → HasCleanDisk (file_state newer) → HoldsNoTables new_image →
       (version : Version) (content : SetupContent) (es : List Event) → HoldsOlder old_image version content es →
       (db : Trees) → (file_state newer).may_leave db →
       (file_state found).may_leave db ⊎ IsAfter content (es ++ migrated version ∷ []) db

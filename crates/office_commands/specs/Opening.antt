@@ -1,5 +1,5 @@
 -- How the office opens: over tables in memory, and over files.
-use Rattle.std.specs.Prelude.{◌≡◌, List, []}
+use Rattle.std.specs.Prelude.{◌≡◌, ◌⊎◌, List, []}
 use Rattle.sqlite_disk.specs.declared.Disk.{Ghosts}
 use Rattle.sqlite_catalog.specs.Listing.{Lists}
 use Rattle.sqlite_trees.specs.Objects.{catalog_tree}
@@ -13,7 +13,7 @@ use Rattle.sqlite.specs.Tree.{Trees}
 use Rattle.sqlite.specs.declared.FileStore.{FileStore}
 use Rattle.office_setup.specs.Setups.{SetupContent, setup_content}
 use Rattle.office_replies.specs.Events.{Event}
-use Rattle.office_rows.specs.Tables.{office_schema}
+use Rattle.office_rows.specs.Tables.{office_schema, no_schema}
 use Rattle.office_history.specs.After.{SaysSame}
 use Rattle.office_desk.specs.Crashes.{IsAfter}
 use Rattle.office_desk.specs.Desks.{StandsFor}
@@ -37,6 +37,10 @@ pub record OpensEmpty (content : SetupContent) (desk : MemoryDesk) : Type 0 wher
 pub record HoldsTables (image : Image) (db : Trees) : Type 0 where
   pub held : ∥ HoldsDatabase image db ∥₁
   pub lists : Lists (db catalog_tree) office_schema
+
+-- the database file is empty, or the files hold a database without tables
+abbrev pub HoldsNoTables : Image → Type 0
+HoldsNoTables image = (image.db ≡ []) ⊎ ((db : Trees) × ∥ HoldsDatabase image db ∥₁ × Lists (db catalog_tree) no_schema)
 
 -- the files hold a database with the rows after those events
 pub record HoldsAfter (image : Image) (content : SetupContent) (es : List Event) : Type 0 where

@@ -5,6 +5,7 @@
 
 mod deliver;
 pub mod demo;
+mod first_page;
 mod migration;
 mod notes;
 pub mod opening;

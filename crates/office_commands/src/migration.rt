@@ -14,7 +14,7 @@ ghost use Rattle.office_migration.specs.Migration.{IsMigration, Migrates};
 ghost use Rattle.office_commands.specs.Ending.{Prints};
 ghost use Rattle.office_commands.specs.Migrating.{IsJudged, IsLookedAt, IsMigratedOver, MigratesBetween, TellsReady};
 
-use crate::opening::{open_found, open_there};
+use crate::opening::{open_new, open_there};
 use crate::telling::{DONE, print};
 use office_loading::load_old;
 use office_migration::migrate;
@@ -71,7 +71,7 @@ pub fn migrate_over<S: Start, T: Start, W: Write>(
         Ok(conn) => conn,
         Err(fault) => return Err(MigrationFault::Old(fault)),
     };
-    let newer = match open_found(rt, new.0, new.1) {
+    let newer = match open_new(rt, new.0, new.1) {
         Ok(conn) => conn,
         Err(fault) => return Err(MigrationFault::New(fault)),
     };

@@ -1,5 +1,5 @@
 ghost use Rattle.std.specs.Prelude.{◌≡◌, ◌≤◌, ℕ, List, [], length, false, IfOk, not};
-ghost use Rattle.office_commands.specs.Opening.{HoldsAfter, HoldsTables, OpensOver, ShowsHeld, OpensEmpty};
+ghost use Rattle.office_commands.specs.Opening.{HoldsAfter, HoldsNoTables, HoldsTables, OpensOver, ShowsHeld, OpensEmpty};
 ghost use Rattle.office_commands.specs.Serving.{EnrolsWhile, LeadsWhile};
 ghost use Rattle.office_desk.specs.Crashes.{Leaves};
 ghost use Rattle.office_desk.specs.Desks.{IsSound, OpensAt};
@@ -13,6 +13,7 @@ ghost use Rattle.sqlite.specs.State.{HasCleanDisk};
 ghost use Rattle.sqlite.specs.Tree.{Trees};
 ghost use Rattle.sqlite.specs.WalFiles.{image_at};
 
+use crate::first_page::begin_file;
 use crate::telling::{Faults, Tallied};
 use office_desk::Desk;
 use office_queries::{NotNow, Query, Report};
@@ -64,8 +65,8 @@ pub fn open_there<S: Start>(
 }
 
 /// Makes the tables of a store with the rows of a set-up, wholly or not at all, and answers the connection to them. A
-/// file that isn't there is made, and one with an office is refused. If the file was empty, a crash behind this leaves the
-/// rows after no event.
+/// file that isn't there is made, and one with an office is refused. If the files that were opened held no table, a crash
+/// after this leaves the rows after no event.
 pub fn make_store<S: Start>(
     rt: &HostRuntime,
     path: &str,
@@ -73,20 +74,37 @@ pub fn make_store<S: Start>(
     setup: &Setup,
 ) -> Result<Connection<FileStore<FileFrom<S>>>, TableFault>
     requires few { length setup.now.partners.items ≤ most_partners }
-    ensures made { IfOk result (λ conn. HasCleanDisk (file_state conn) → (image_at S.Start).db ≡ [] →
+    ensures made { IfOk result (λ conn. HasCleanDisk (file_state conn) → HoldsNoTables (image_at S.Start) →
         Leaves (setup_content setup.now) [] (file_state conn)) }
 
     // The files held no office.
     ensures new { IfOk result (λ conn. HasCleanDisk (file_state conn) → (db : Trees) →
         HoldsTables (image_at S.Start) db → ⊥) }
 {
-    let mut conn = open_found(rt, path, start)?;
+    let mut conn = open_new(rt, path, start)?;
     create(&mut conn, setup)?;
     Ok(conn)
 }
 
-/// A connection to the files at a path, which shows the database that they held, and no tables where the database file
-/// was empty. A file that isn't there is made.
+/// A connection to the files at a path for a new store, as `open_found` makes it. A file that isn't there is begun first,
+/// so that it has small pages: `S` stands for what the files hold after that. That the page which begins it is a database
+/// without tables is tested.
+pub(crate) fn open_new<S: Start>(
+    rt: &HostRuntime,
+    path: &str,
+    start: S,
+) -> Result<Connection<FileStore<FileFrom<S>>>, TableFault>
+    ensures idle { IfOk result (λ conn. conn.in_transaction ≡ false) }
+    ensures found { IfOk result (λ conn. HasCleanDisk (file_state conn) → ShowsHeld (image_at S.Start) conn) }
+    ensures empty { IfOk result (λ conn. HasCleanDisk (file_state conn) → HoldsNoTables (image_at S.Start) →
+        (file_state conn).committed.schema ≡ no_schema) }
+{
+    begin_file(rt, path);
+    open_found(rt, path, start)
+}
+
+/// A connection to the files at a path, which shows the database that they held, and no tables where they held none or the
+/// database file was empty. A file that isn't there is made.
 pub fn open_found<S: Start>(
     rt: &HostRuntime,
     path: &str,
@@ -94,7 +112,7 @@ pub fn open_found<S: Start>(
 ) -> Result<Connection<FileStore<FileFrom<S>>>, TableFault>
     ensures idle { IfOk result (λ conn. conn.in_transaction ≡ false) }
     ensures found { IfOk result (λ conn. HasCleanDisk (file_state conn) → ShowsHeld (image_at S.Start) conn) }
-    ensures empty { IfOk result (λ conn. HasCleanDisk (file_state conn) → (image_at S.Start).db ≡ [] →
+    ensures empty { IfOk result (λ conn. HasCleanDisk (file_state conn) → HoldsNoTables (image_at S.Start) →
         (file_state conn).committed.schema ≡ no_schema) }
 {
     match Connection::open_from(rt, path, false, start) {

@@ -1,4 +1,4 @@
-use Rattle.office_commands.proofs.OpenedLemmas.{shows_held, shows_none}
+use Rattle.office_commands.proofs.OpenedLemmas.{shows_held, shows_none, shows_no_tables}
 use Rattle.office_commands.proofs.opening.open_found.Goals as goal
 
 pub returns-in-Ok-clause-found : goal.returns-in-Ok-clause-found
@@ -7,4 +7,6 @@ returns-in-Ok-clause-found g c clean db schema =
 
 pub returns-in-Ok-clause-empty : goal.returns-in-Ok-clause-empty
 returns-in-Ok-clause-empty g c clean =
-    shows_none _ c.in-Ok.conn (c.in-Ok.ensures.opened clean) (c.in-Ok.ensures.found clean)
+    shows_no_tables _ c.in-Ok.conn
+    (shows_none _ c.in-Ok.conn (c.in-Ok.ensures.opened clean) (c.in-Ok.ensures.found clean))
+    (shows_held _ c.in-Ok.conn (c.in-Ok.ensures.opened clean) (c.in-Ok.ensures.found clean))
