@@ -3,6 +3,7 @@
 
 ghost use Rattle.partner_core.specs.Machine.{Taking};
 ghost use Rattle.office_journal.specs.Kept.{KeptAdds, KeptAreFirst, KeptDecides};
+ghost use Rattle.office_journal.specs.TextPages.{TextsHaveOnePage};
 
 use partner_core::Machine;
 
@@ -20,4 +21,9 @@ pub fn kept_are_first()
 /// and after whatever comes later.
 pub fn kept_decides<M: Machine>()
     ensures { KeptDecides M.taken }
+{}
+
+/// Whatever the limit, texts have a page, and only one.
+pub fn texts_have_one_page()
+    ensures { TextsHaveOnePage }
 {}
