@@ -1,5 +1,5 @@
 -- Lists of deliveries with the same texts kept and the same order come to the same.
-use Rattle.std.proofs.Common.{◌≡◌, ℕ, ◌+◌, List, [], ◌∷◌, ◌++◌, Bool, true, false, cond, Option, None, Some, is_some, refl, sym, ap, subst, ◌∙◌, append_assoc}
+use Rattle.std.proofs.Common.{◌≡◌, ℕ, ◌+◌, List, [], ◌∷◌, ◌++◌, length, ◌≤◌, arith, Bool, true, false, cond, Option, None, Some, is_some, refl, sym, ap, subst, ◌∙◌, append_assoc}
 use Rattle.std.specs.Prelude.{nat_le, if◌then◌else◌}
 use Rattle.std.specs.Option.{option_or, unwrap_or}
 use Rattle.std.specs.List.{AllByRecursion}
@@ -14,7 +14,7 @@ use Rattle.partner_core.proofs.Unbroken.{used_within_run, free_after_run, run_is
 use Rattle.partner_core.proofs.Orders.{order-append}
 use Rattle.partner_core.proofs.Firsts.{first-new, none_of}
 use Rattle.partner_core.proofs.Growths.{adds_nothing, under_self}
-use Rattle.office_journal.specs.Kept.{kept_after, kept, IsFirst, KeptAreFirst, DecidesSame, KeptDecides}
+use Rattle.office_journal.specs.Kept.{kept_after, kept, IsFirst, KeptAdds, KeptAreFirst, DecidesSame, KeptDecides}
 
 pub record Alike (ds es : List Delivery) : Type 0 where
   pub firsts : (q j : ℕ) → first_text ds q j ≡ first_text es q j
@@ -52,10 +52,13 @@ alike-more ds es a d = record {
   orders = order-append ds d ∙ (λ i. a.orders i ++ made_next-alike ds es a d i) ∙ sym (order-append es d);
 }
 
-alike-self : (ds : List Delivery) → Alike ds ds
+pub alike-self : (ds : List Delivery) → Alike ds ds
 alike-self ds = record { firsts = λ q j. refl; orders = refl }
 
-alike-trans : (ds es fs : List Delivery) → Alike ds es → Alike es fs → Alike ds fs
+pub alike-back : (ds es : List Delivery) → Alike ds es → Alike es ds
+alike-back ds es a = record { firsts = λ q j. sym (a.firsts q j); orders = sym a.orders }
+
+pub alike-trans : (ds es fs : List Delivery) → Alike ds es → Alike es fs → Alike ds fs
 alike-trans ds es fs a b = record { firsts = λ q j. a.firsts q j ∙ b.firsts q j; orders = a.orders ∙ b.orders }
 
 alike-nothing : (ds : List Delivery) (d : Delivery) → is_used ds d.partner d.number ≡ true → Alike ds (ds ++ d ∷ [])
@@ -132,21 +135,56 @@ kept_decides taken opening ds later = decides_alike taken opening (kept ds ++ la
 
 -- ---- one more
 
-kept_after-append : (before ds : List Delivery) (d : Delivery) →
-    kept_after before (ds ++ d ∷ []) ≡ kept_after before ds ++ kept_after (before ++ ds) (d ∷ [])
-kept_after-append before [] d = ap (λ b. kept_after b (d ∷ [])) (sym (append-nil before))
-kept_after-append before (e ∷ ds) d =
-    on (is_used before e.partner e.number) (kept_after-append (before ++ e ∷ []) ds d ∙ ap (λ b. kept_after (before ++ e ∷ []) ds ++ kept_after b (d ∷ [])) (append_assoc before (e ∷ []) ds))
+pub kept_after-append : (before ds es : List Delivery) → kept_after before (ds ++ es) ≡ kept_after before ds ++ kept_after (before ++ ds) es
+kept_after-append before [] es = ap (λ b. kept_after b es) (sym (append-nil before))
+kept_after-append before (d ∷ ds) es =
+    on (is_used before d.partner d.number) (kept_after-append (before ++ d ∷ []) ds es ∙ ap (λ b. kept_after (before ++ d ∷ []) ds ++ kept_after b es) (append_assoc before (d ∷ []) ds))
   where
-    on : (b : Bool) → kept_after (before ++ e ∷ []) (ds ++ d ∷ []) ≡ kept_after (before ++ e ∷ []) ds ++ kept_after (before ++ e ∷ ds) (d ∷ [])
-        → cond b (kept_after (before ++ e ∷ []) (ds ++ d ∷ [])) (e ∷ kept_after (before ++ e ∷ []) (ds ++ d ∷ []))
-        ≡ cond b (kept_after (before ++ e ∷ []) ds) (e ∷ kept_after (before ++ e ∷ []) ds) ++ kept_after (before ++ e ∷ ds) (d ∷ [])
+    on : (b : Bool) → kept_after (before ++ d ∷ []) (ds ++ es) ≡ kept_after (before ++ d ∷ []) ds ++ kept_after (before ++ d ∷ ds) es
+        → cond b (kept_after (before ++ d ∷ []) (ds ++ es)) (d ∷ kept_after (before ++ d ∷ []) (ds ++ es))
+        ≡ cond b (kept_after (before ++ d ∷ []) ds) (d ∷ kept_after (before ++ d ∷ []) ds) ++ kept_after (before ++ d ∷ ds) es
     on true h = h
-    on false h = ap (λ xs. e ∷ xs) h
+    on false h = ap (λ xs. d ∷ xs) h
 
-pub kept_one_more : (ds : List Delivery) (d : Delivery) → kept (ds ++ d ∷ []) ≡ kept ds ++ (if is_used ds d.partner d.number then [] else d ∷ [])
+pub kept-append : (ds es : List Delivery) → kept (ds ++ es) ≡ kept ds ++ kept_after ds es
 unfolding kept
-kept_one_more ds d = kept_after-append [] ds d
+kept-append ds es = kept_after-append [] ds es
+
+pub kept_adds : KeptAdds
+kept_adds ds d = kept-append ds (d ∷ [])
+
+-- of one delivery one is kept at most
+pub kept_one : (before : List Delivery) (d : Delivery) → length (kept_after before (d ∷ [])) ≤ 1
+kept_one before d = on (is_used before d.partner d.number)
+  where
+    on : (b : Bool) → length (cond b [] (d ∷ [])) ≤ 1
+    on true = omega arith
+    on false = omega arith
+
+-- ---- what is kept keeps itself
+
+kept_again : (there before ds : List Delivery) → Alike there before → kept_after there (kept_after before ds) ≡ kept_after before ds
+kept_again there before [] a = refl
+kept_again there before (d ∷ ds) a =
+    on (is_used before d.partner d.number) refl
+    (λ used. kept_again there (before ++ d ∷ []) ds (alike-trans there before (before ++ d ∷ []) a (alike-nothing before d used)))
+    (kept_again (there ++ d ∷ []) (before ++ d ∷ []) ds (alike-more there before a d))
+  where
+    later : List Delivery
+    later = kept_after (before ++ d ∷ []) ds
+
+    on : (b : Bool) → is_used before d.partner d.number ≡ b
+        → (is_used before d.partner d.number ≡ true → kept_after there later ≡ later)
+        → kept_after (there ++ d ∷ []) later ≡ later
+        → kept_after there (cond b later (d ∷ later)) ≡ cond b later (d ∷ later)
+    on true used passed kept_too = passed used
+    on false free passed kept_too =
+        let new : is_used there d.partner d.number ≡ false = ap is_some (a.firsts d.partner d.number) ∙ free in
+        ap (λ b. cond b (kept_after (there ++ d ∷ []) later) (d ∷ kept_after (there ++ d ∷ []) later)) new ∙ ap (λ xs. d ∷ xs) kept_too
+
+pub kept_twice : (ds : List Delivery) → kept (kept ds) ≡ kept ds
+unfolding kept
+kept_twice ds = kept_again [] [] ds (alike-self [])
 
 -- ---- each is the first under its number
 

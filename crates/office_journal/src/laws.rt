@@ -3,6 +3,10 @@
 
 ghost use Rattle.partner_core.specs.Machine.{Taking};
 ghost use Rattle.office_journal.specs.Kept.{KeptAdds, KeptAreFirst, KeptDecides};
+ghost use Rattle.office_journal.specs.Journal.{KeptTextsAreEntries, JournalGrows, FrontsWereJournals};
+ghost use Rattle.office_journal.specs.Rebuilding.{JournalDecides, Rebuilding, Following};
+ghost use Rattle.office_journal.specs.InOrder.{BodiesAreJournal, OpeningIsInOrder, RefusedStaysInOrder, UsedStaysInOrder};
+ghost use Rattle.office_journal.specs.InOrder.{EarlyAddsInOrder, NextAddsInOrder, AccountStaysInOrder, MigrationStaysInOrder};
 ghost use Rattle.office_journal.specs.TextPages.{TextsHaveOnePage};
 
 use partner_core::Machine;
@@ -21,6 +25,80 @@ pub fn kept_are_first()
 /// and after whatever comes later.
 pub fn kept_decides<M: Machine>()
     ensures { KeptDecides M.taken }
+{}
+
+/// Each text that is kept is the first under its number, has no CR and LF at its ends, and the accounts so far admit it.
+pub fn kept_texts_are_entries()
+    ensures { KeptTextsAreEntries }
+{}
+
+/// A text that is admitted under a free number adds itself to the journal as the last. A refused text, one under a used
+/// number, an account and a migration add nothing.
+pub fn journal_grows()
+    ensures { JournalGrows }
+{}
+
+/// Each front of the journal was the whole journal at some place of the events.
+pub fn fronts_were_journals()
+    ensures { FrontsWereJournals }
+{}
+
+/// Two offices with the same set-up, accounts and journal have the same rows, terminal and answers, now and after
+/// whatever comes later.
+pub fn journal_decides()
+    ensures { JournalDecides }
+{}
+
+/// The kept texts, delivered in the order of arrival to a new office of the same set-up and accounts, make the same
+/// office, now and after whatever comes later.
+pub fn rebuilding()
+    ensures { Rebuilding }
+{}
+
+/// An office that has the accounts so far and the first texts of the journal is the first office as it was at some
+/// place of its events, with the accounts so far.
+pub fn following()
+    ensures { Following }
+{}
+
+/// The bodies of rows in order are the journal.
+pub fn bodies_are_journal()
+    ensures { BodiesAreJournal }
+{}
+
+/// The rows that opening a store writes are in order.
+pub fn opening_is_in_order()
+    ensures { OpeningIsInOrder }
+{}
+
+/// A text that is not admitted leaves the rows in order.
+pub fn refused_stays_in_order()
+    ensures { RefusedStaysInOrder }
+{}
+
+/// A text under a used number leaves the rows in order.
+pub fn used_stays_in_order()
+    ensures { UsedStaysInOrder }
+{}
+
+/// A text before its time is kept as the last.
+pub fn early_adds_in_order()
+    ensures { EarlyAddsInOrder }
+{}
+
+/// The text that is next is kept as the last, and taking it and those that become next by it moves no interchange.
+pub fn next_adds_in_order()
+    ensures { NextAddsInOrder }
+{}
+
+/// An account that is added moves no interchange.
+pub fn account_stays_in_order()
+    ensures { AccountStaysInOrder }
+{}
+
+/// A migration that leaves the interchanges as they stood leaves them in order.
+pub fn migration_stays_in_order()
+    ensures { MigrationStaysInOrder }
 {}
 
 /// Whatever the limit, texts have a page, and only one.

@@ -1,0 +1,213 @@
+-- The journal, delivered again.
+use Rattle.std.proofs.Common.{◌≡◌, ℕ, ◌+◌, ◌≤◌, List, [], ◌∷◌, ◌++◌, length, map, Option, None, Some, refl, sym, ap, subst, ◌∙◌}
+use Rattle.std.specs.Prelude.{take}
+use Rattle.std.specs.List.{AllByRecursion}
+use Rattle.std.proofs.lemmas.List.{append-nil}
+use Rattle.edi_segments.specs.Interchange.{interchange_of}
+use Rattle.partner_core.specs.Machine.{Taking}
+use Rattle.partner_core.specs.Deliveries.{Delivery, delivery}
+use Rattle.partner_core.specs.Order.{state}
+use Rattle.partner_core.specs.Answers.{answer_of}
+use Rattle.terminal_core.specs.Changes.{rows_of}
+use Rattle.terminal_core.specs.Versions.{newest}
+use Rattle.terminal_core.specs.declared.change.Version.{Version}
+use Rattle.office_replies.specs.Events.{Event, delivered, migrated, added}
+use Rattle.office_setup.specs.Setups.{SetupContent, parties_in}
+use Rattle.office_admission.specs.Accounts.{content_with, content_after}
+use Rattle.office_admission.specs.Admission.{admission}
+use Rattle.office_admission.specs.Deliveries.{with_delivery, deliveries_of}
+use Rattle.office_admission.proofs.Adding.{content_on, deliveries_on}
+use Rattle.office_taking.specs.Taking.{MachineState, interchange_taken_by}
+use Rattle.office_rows.specs.Rows.{Rows}
+use Rattle.office_history.specs.After.{opening_of, behind, migration_in, taking_in, machine_after, accounts_from, AreRowsOf, AreAfter}
+use Rattle.office_history.specs.Laws.{HasNoMigration, told_of}
+use Rattle.office_history.proofs.Places.{taking_unmigrated}
+use Rattle.office_journal.specs.Kept.{kept}
+use Rattle.office_journal.specs.Journal.{text_of, kept_texts, delivered_all, IsEntry}
+use Rattle.office_journal.specs.Rebuilding.{IsSameOffice, HasSameJournal, JournalDecides, Rebuilding, accounts_in, Follows, Following}
+use Rattle.office_journal.proofs.Alike.{Alike, run-alike, alike-all, alike-back, alike-trans, kept_alike, kept_twice, decides_alike}
+use Rattle.office_journal.proofs.Entries.{all_entries, texts_on, fronts_were_journals}
+
+-- ---- the texts are admitted again, as they were
+
+module _ (content : SetupContent) (es : List Event) where
+  abbrev now : SetupContent
+  now = content_after content es
+
+  again_from : (others : List Delivery) → AllByRecursion (IsEntry content es) others → deliveries_of now (delivered_all (map text_of others)) ≡ others
+  again_from [] entries = refl
+  again_from (d ∷ others) entries =
+      let later = deliveries_of now (delivered_all (map text_of others)) in
+      ap (λ s. with_delivery s (admission (parties_in now) s) later) entries.0.stripped
+      ∙ ap (λ f. with_delivery d.text f later) entries.0.admitted
+      ∙ ap (λ r. d ∷ r) (again_from others entries.1)
+
+  pub again : deliveries_of now (delivered_all (kept_texts content es)) ≡ kept (deliveries_of content es)
+  again = again_from (kept (deliveries_of content es)) (all_entries content es)
+
+pub delivered_content : (texts : List (List ℕ)) (content : SetupContent) → content_after content (delivered_all texts) ≡ content
+delivered_content [] content = refl
+delivered_content (text ∷ texts) content = delivered_content texts content
+
+-- the journal decides what is kept
+same_kept : (one other : SetupContent) (es fs : List Event) → HasSameJournal one es other fs → kept (deliveries_of one es) ≡ kept (deliveries_of other fs)
+same_kept one other es fs same =
+    sym (again one es) ∙ (λ i. deliveries_of (same.setup i) (delivered_all (same.texts i))) ∙ again other fs
+
+-- ---- no migration
+
+none_behind : (event : Event) (o : Option (Version × List Event)) → behind event o ≡ None → o ≡ None
+none_behind event None e = refl
+none_behind event (Some migration) e = cc
+
+later_none : (es later : List Event) → migration_in (es ++ later) ≡ None → migration_in later ≡ None
+later_none [] later none = none
+later_none (delivered text ∷ es) later none = later_none es later (none_behind (delivered text) (migration_in (es ++ later)) none)
+later_none (migrated version ∷ es) later none = cc
+later_none (added code kind ∷ es) later none = later_none es later (none_behind (added code kind) (migration_in (es ++ later)) none)
+
+again_none : (texts : List (List ℕ)) (later : List Event) → migration_in later ≡ None → migration_in (delivered_all texts ++ later) ≡ None
+again_none [] later none = none
+again_none (text ∷ texts) later none = ap (behind (delivered text)) (again_none texts later none)
+
+-- ---- the rows
+
+rows_alike : (taking : Taking MachineState) (now : SetupContent) (ds es : List Delivery) (rows : Rows) → Alike ds es → AreRowsOf newest taking now ds rows → AreRowsOf newest taking now es rows
+rows_alike taking now ds es rows a are =
+    let same = decides_alike taking (opening_of now) ds es a in
+    record {
+      partners = are.partners ∙ (λ i. accounts_from 1 (λ p. run-alike ds es a p i + 1) now.partners);
+      texts = λ p k. are.texts p k ∙ a.firsts p k;
+      replies = λ p k. are.replies p k ∙ same.comes.replies p k;
+      kept_once = are.kept_once;
+      terminal = are.terminal ∙ ap (λ (m : MachineState). rows_of m.terminal) same.comes.state_is;
+      placed_once = are.placed_once;
+      listed_once = are.listed_once;
+      settings = are.settings;
+      blocks = are.blocks;
+    }
+
+-- offices of the same rules and accounts, over deliveries that come to the same
+same_office : (one other : SetupContent) (es fs : List Event) (taking : Taking MachineState) (now : SetupContent) (ds ds' : List Delivery)
+    → taking_in newest one es ≡ taking → taking_in newest other fs ≡ taking → content_after one es ≡ now → content_after other fs ≡ now
+    → deliveries_of one es ≡ ds → deliveries_of other fs ≡ ds' → Alike ds ds' → IsSameOffice one es other fs
+same_office one other es fs taking now ds ds' t t' c c' d d' a =
+    let same = decides_alike taking (opening_of now) ds ds' a in
+    let here : (rows : Rows) → AreAfter one es rows ≡ AreRowsOf newest taking now ds rows = λ rows i. AreRowsOf newest (t i) (c i) (d i) rows in
+    let there : (rows : Rows) → AreAfter other fs rows ≡ AreRowsOf newest taking now ds' rows = λ rows i. AreRowsOf newest (t' i) (c' i) (d' i) rows in
+    record {
+      rows = λ rows are. subst (λ X. X) (sym (there rows)) (rows_alike taking now ds ds' rows a (subst (λ X. X) (here rows) are));
+      back = λ rows are. subst (λ X. X) (sym (here rows)) (rows_alike taking now ds' ds rows (alike-back ds ds' a) (subst (λ X. X) (there rows) are));
+      machine = (λ i. state (t i) (opening_of (c i)) (d i)) ∙ same.comes.state_is ∙ sym (λ i. state (t' i) (opening_of (c' i)) (d' i));
+      answers = λ partner number sent.
+          (λ i. answer_of (t i) (opening_of (c i)) (d i) (delivery partner number (interchange_of sent)))
+          ∙ same.answers (delivery partner number (interchange_of sent))
+          ∙ sym (λ i. answer_of (t' i) (opening_of (c' i)) (d' i) (delivery partner number (interchange_of sent)));
+    }
+
+pub journal_decides : JournalDecides
+journal_decides one other es fs later none none' same =
+    let now = content_after one es in
+    let ds = deliveries_of one es in
+    let ds' = deliveries_of other fs in
+    let more = deliveries_of now later in
+    let kept_same : Alike (kept ds) ds' = subst (λ k. Alike k ds') (sym (same_kept one other es fs same)) (kept_alike ds') in
+    same_office one other (es ++ later) (fs ++ later) (interchange_taken_by newest) (content_after now later)
+    (ds ++ more) (ds' ++ more)
+    (taking_unmigrated newest one (es ++ later) none)
+    (taking_unmigrated newest other (fs ++ later) none')
+    (content_on es later one)
+    (content_on fs later other ∙ ap (λ c. content_after c later) (sym same.setup))
+    (deliveries_on es later one)
+    (deliveries_on fs later other ∙ ap (λ c. ds' ++ deliveries_of c later) (sym same.setup))
+    (alike-all ds ds' more (alike-trans ds (kept ds) ds' (alike-back (kept ds) ds (kept_alike ds)) kept_same))
+
+-- ---- rebuilding
+
+-- a new office has the journal that was delivered to it
+texts_again : (content : SetupContent) (es : List Event) → kept_texts (content_after content es) (delivered_all (kept_texts content es)) ≡ kept_texts content es
+texts_again content es =
+    ap (λ ds. map text_of (kept ds)) (again content es) ∙ ap (map text_of) (kept_twice (deliveries_of content es))
+
+pub rebuilding : Rebuilding
+rebuilding content es later none =
+    let now = content_after content es in
+    let texts = kept_texts content es in
+    journal_decides content now es (delivered_all texts) later none
+    (again_none texts later (later_none es later none))
+    (record { setup = sym (delivered_content texts now); texts = sym (texts_again content es) })
+
+-- ---- following
+
+accounts_content : (es : List Event) (content : SetupContent) → content_after content (accounts_in es) ≡ content_after content es
+accounts_content [] content = refl
+accounts_content (delivered text ∷ es) content = accounts_content es content
+accounts_content (migrated version ∷ es) content = accounts_content es content
+accounts_content (added code kind ∷ es) content = accounts_content es (content_with content (added code kind))
+
+accounts_deliver : (es : List Event) (content : SetupContent) → deliveries_of content (accounts_in es) ≡ []
+accounts_deliver [] content = refl
+accounts_deliver (delivered text ∷ es) content = accounts_deliver es content
+accounts_deliver (migrated version ∷ es) content = accounts_deliver es content
+accounts_deliver (added code kind ∷ es) content = accounts_deliver es (content_with content (added code kind))
+
+accounts_none : (es : List Event) → migration_in (accounts_in es) ≡ None
+accounts_none [] = refl
+accounts_none (delivered text ∷ es) = accounts_none es
+accounts_none (migrated version ∷ es) = accounts_none es
+accounts_none (added code kind ∷ es) = ap (behind (added code kind)) (accounts_none es)
+
+none_joined : (es later : List Event) → migration_in es ≡ None → migration_in later ≡ None → migration_in (es ++ later) ≡ None
+none_joined [] later none none' = none'
+none_joined (delivered text ∷ es) later none none' =
+    ap (behind (delivered text)) (none_joined es later (none_behind (delivered text) (migration_in es) none) none')
+none_joined (migrated version ∷ es) later none none' = cc
+none_joined (added code kind ∷ es) later none none' =
+    ap (behind (added code kind)) (none_joined es later (none_behind (added code kind) (migration_in es) none) none')
+
+earlier_none : (es later : List Event) → migration_in (es ++ later) ≡ None → migration_in es ≡ None
+earlier_none [] later none = refl
+earlier_none (delivered text ∷ es) later none =
+    ap (behind (delivered text)) (earlier_none es later (none_behind (delivered text) (migration_in (es ++ later)) none))
+earlier_none (migrated version ∷ es) later none = cc
+earlier_none (added code kind ∷ es) later none =
+    ap (behind (added code kind)) (earlier_none es later (none_behind (added code kind) (migration_in (es ++ later)) none))
+
+-- Accounts keep the journal, so an office with those of now has the journal of the earlier events.
+module _ (content : SetupContent) (earlier later : List Event) where
+  abbrev there : List Event
+  there = earlier ++ accounts_in later
+
+  ahead_content : content_after content there ≡ content_after content (earlier ++ later)
+  ahead_content = content_on earlier (accounts_in later) content ∙ accounts_content later (content_after content earlier) ∙ sym (content_on earlier later content)
+
+  ahead_texts : kept_texts content there ≡ kept_texts content earlier
+  ahead_texts =
+      ap (λ ds. map text_of (kept ds))
+      (deliveries_on earlier (accounts_in later) content
+      ∙ ap (λ ds. deliveries_of content earlier ++ ds) (accounts_deliver later (content_after content earlier))
+      ∙ append-nil (deliveries_of content earlier))
+
+  ahead_none : migration_in (earlier ++ later) ≡ None → migration_in there ≡ None
+  ahead_none none = none_joined earlier (accounts_in later) (earlier_none earlier later none) (accounts_none later)
+
+pub following : Following
+following content es count none high =
+    let was = fronts_were_journals content es count high in
+    let now = content_after content es in
+    let texts = take count (kept_texts content es) in
+    let place = was.earlier ++ accounts_in was.later in
+    let setup : content_after content place ≡ now = ahead_content content was.earlier was.later ∙ ap (content_after content) (sym was.parts) in
+    let journal : kept_texts content place ≡ texts = ahead_texts content was.earlier was.later ∙ was.texts_are in
+    let place_none : migration_in place ≡ None = ahead_none content was.earlier was.later (subst (λ es. migration_in es ≡ None) was.parts none) in
+    let again_same : kept_texts now (delivered_all texts) ≡ texts =
+    (λ i. kept_texts (sym setup i) (delivered_all (sym journal i))) ∙ texts_again content place ∙ journal in
+    record {
+      earlier = was.earlier;
+      later = was.later;
+      parts = was.parts;
+      same = λ more none'.
+          journal_decides content now place (delivered_all texts) more (none_joined place more place_none none')
+          (again_none texts more none')
+          (record { setup = setup ∙ sym (delivered_content texts now); texts = journal ∙ sym again_same });
+    }

@@ -1,0 +1,154 @@
+-- What the journal has, and what an event adds to it.
+use Rattle.std.proofs.Common.{◌≡◌, ℕ, ◌+◌, ◌≤◌, Bool, true, false, cond, ◌⊎◌, inl, inr, List, [], ◌∷◌, ◌++◌, length, map, Result, Ok, Err, None, Some, refl, sym, ap, subst, ◌∙◌, arith, append_assoc}
+use Rattle.std.specs.Prelude.{take, Option}
+use Rattle.std.specs.List.{AllByRecursion}
+use Rattle.std.proofs.lemmas.Bool.{cases_order}
+use Rattle.std.proofs.lemmas.List.{append-nil, map-append, length-append, length-map, take_at, take_all}
+use Rattle.std.proofs.lemmas.List.Elements.{All-from_recursion}
+use Rattle.edi_segments.specs.Interchange.{interchange_of}
+use Rattle.partner_core.specs.Deliveries.{Delivery, delivery, first_text, is_under, is_used}
+use Rattle.terminal_core.specs.declared.change.Version.{Version}
+use Rattle.office_replies.specs.Events.{Event, delivered, migrated, added}
+use Rattle.office_replies.specs.declared.deliver.Fault.{Fault}
+use Rattle.office_setup.specs.Setups.{SetupContent, parties_in}
+use Rattle.office_admission.specs.Accounts.{content_with, content_after}
+use Rattle.office_admission.specs.Admission.{admission}
+use Rattle.office_admission.specs.Deliveries.{with_delivery, deliveries_of}
+use Rattle.office_admission.proofs.Adding.{deliveries_on, account_adds, migration_adds, first_admitted}
+use Rattle.office_journal.specs.Kept.{kept, kept_after, IsFirst}
+use Rattle.office_journal.specs.Journal.{text_of, kept_texts, delivered_all, IsEntry, KeptTextsAreEntries, JournalGrows, WasJournal, FrontsWereJournals}
+use Rattle.office_journal.proofs.Alike.{kept-append, kept_adds, kept_one, firsts_are_kept}
+use Rattle.office_journal.proofs.Stripped.{interchange_twice}
+
+-- ---- a kept text has no CR and LF at its ends
+
+pub first_stripped : (es : List Event) (content : SetupContent) (p k : ℕ) (text : List ℕ) → first_text (deliveries_of content es) p k ≡ Some text → interchange_of text ≡ text
+first_stripped [] content p k text e = cc
+first_stripped (delivered before ∷ es) content p k text e =
+    on (admission (parties_in content) (interchange_of before)) e (first_stripped es content p k text)
+  where
+    pick : (b : Bool) → cond b (Some (interchange_of before)) (first_text (deliveries_of content es) p k) ≡ Some text
+        → (first_text (deliveries_of content es) p k ≡ Some text → interchange_of text ≡ text) → interchange_of text ≡ text
+    pick true e rest = let same : interchange_of before ≡ text = cc in subst (λ t. interchange_of t ≡ t) same (interchange_twice before)
+    pick false e rest = rest e
+
+    on : (found : Result (ℕ × ℕ) Fault) → first_text (with_delivery (interchange_of before) found (deliveries_of content es)) p k ≡ Some text
+        → (first_text (deliveries_of content es) p k ≡ Some text → interchange_of text ≡ text) → interchange_of text ≡ text
+    on (Err fault) e rest = rest e
+    on (Ok is) e rest = pick (is_under (delivery is.0 is.1 (interchange_of before)) p k) e rest
+first_stripped (migrated version ∷ es) content p k text e = first_stripped es content p k text e
+first_stripped (added code kind ∷ es) content p k text e = first_stripped es (content_with content (added code kind)) p k text e
+
+module _ (content : SetupContent) (es : List Event) where
+  entry : (d : Delivery) → IsFirst (deliveries_of content es) d → IsEntry content es d
+  entry d first = record {
+    first = first;
+    stripped = first_stripped es content d.partner d.number d.text first;
+    admitted = first_admitted es content d.partner d.number d.text first;
+  }
+
+  entries : (ds : List Delivery) → AllByRecursion (IsFirst (deliveries_of content es)) ds → AllByRecursion (IsEntry content es) ds
+  entries [] firsts = tt
+  entries (d ∷ ds) firsts = (entry d firsts.0, entries ds firsts.1)
+
+  pub all_entries : AllByRecursion (IsEntry content es) (kept (deliveries_of content es))
+  all_entries = entries (kept (deliveries_of content es)) (firsts_are_kept (deliveries_of content es))
+
+pub kept_texts_are_entries : KeptTextsAreEntries
+kept_texts_are_entries content es = All-from_recursion (IsEntry content es) (kept (deliveries_of content es)) (all_entries content es)
+
+-- ---- what an event adds
+
+texts_if : (b : Bool) (d : Delivery) → map text_of (cond b [] (d ∷ [])) ≡ cond b [] (text_of d ∷ [])
+texts_if true d = refl
+texts_if false d = refl
+
+admitted_adds : (content : SetupContent) (es : List Event) (sent : List ℕ) (partner number : ℕ)
+    → admission (parties_in (content_after content es)) (interchange_of sent) ≡ Ok (partner, number)
+    → kept_texts content (es ++ delivered sent ∷ [])
+    ≡ kept_texts content es ++ cond (is_used (deliveries_of content es) partner number) [] (interchange_of sent ∷ [])
+admitted_adds content es sent partner number is =
+    let d = delivery partner number (interchange_of sent) in
+    let ds = deliveries_of content es in
+    let more : deliveries_of content (es ++ delivered sent ∷ []) ≡ ds ++ d ∷ [] =
+    deliveries_on es (delivered sent ∷ []) content ∙ ap (λ found. ds ++ with_delivery (interchange_of sent) found []) is in
+    ap (λ ds. map text_of (kept ds)) more
+    ∙ ap (map text_of) (kept_adds ds d)
+    ∙ map-append text_of (kept ds) (cond (is_used ds partner number) [] (d ∷ []))
+    ∙ ap (λ texts. map text_of (kept ds) ++ texts) (texts_if (is_used ds partner number) d)
+
+refused_adds : (content : SetupContent) (es : List Event) (sent : List ℕ) (fault : Fault)
+    → admission (parties_in (content_after content es)) (interchange_of sent) ≡ Err fault
+    → kept_texts content (es ++ delivered sent ∷ []) ≡ kept_texts content es
+refused_adds content es sent fault is =
+    ap (λ ds. map text_of (kept ds))
+    (deliveries_on es (delivered sent ∷ []) content ∙ ap (λ found. deliveries_of content es ++ with_delivery (interchange_of sent) found []) is ∙ append-nil (deliveries_of content es))
+
+pub journal_grows : JournalGrows
+journal_grows = record {
+  admitted = admitted_adds;
+  refused = refused_adds;
+  account = λ content es code kind. ap (λ ds. map text_of (kept ds)) (account_adds es content code kind);
+  migration = λ content es version. ap (λ ds. map text_of (kept ds)) (migration_adds es content version);
+}
+
+-- ---- fronts
+
+module _ (content : SetupContent) where
+  -- what later events add
+  added_by : List Event → List Event → List (List ℕ)
+  added_by earlier later = map text_of (kept_after (deliveries_of content earlier) (deliveries_of (content_after content earlier) later))
+
+  pub texts_on : (earlier later : List Event) → kept_texts content (earlier ++ later) ≡ kept_texts content earlier ++ added_by earlier later
+  texts_on earlier later =
+      let ds = deliveries_of content earlier in
+      let more = deliveries_of (content_after content earlier) later in
+      ap (λ ds. map text_of (kept ds)) (deliveries_on earlier later content)
+      ∙ ap (map text_of) (kept-append ds more) ∙ map-append text_of (kept ds) (kept_after ds more)
+
+  one_at_most : (before : List Delivery) (now : SetupContent) (event : Event) → length (map text_of (kept_after before (deliveries_of now (event ∷ [])))) ≤ 1
+  one_at_most before now (delivered sent) = on (admission (parties_in now) (interchange_of sent))
+    where
+      on : (found : Result (ℕ × ℕ) Fault) → length (map text_of (kept_after before (with_delivery (interchange_of sent) found []))) ≤ 1
+      on (Err fault) = omega arith
+      on (Ok is) =
+          let d = delivery is.0 is.1 (interchange_of sent) in
+          let one = kept_one before d in
+          let same : length (map text_of (kept_after before (d ∷ []))) ≡ length (kept_after before (d ∷ [])) = length-map (kept_after before (d ∷ [])) text_of in
+          omega arith
+  one_at_most before now (migrated version) = omega arith
+  one_at_most before now (added code kind) = omega arith
+
+  front_at : (count : ℕ) (earlier later : List Event) → length (kept_texts content earlier) ≤ count → count ≤ length (kept_texts content (earlier ++ later))
+      → WasJournal content (earlier ++ later) (take count (kept_texts content (earlier ++ later)))
+  front_at count earlier [] low high =
+      let all : kept_texts content (earlier ++ []) ≡ kept_texts content earlier = ap (kept_texts content) (append-nil earlier) in
+      let as_long : length (kept_texts content (earlier ++ [])) ≡ length (kept_texts content earlier) = ap length all in
+      record {
+        earlier = earlier;
+        later = [];
+        parts = refl;
+        texts_are = sym (take_all count (kept_texts content (earlier ++ [])) (omega arith) ∙ all);
+      }
+  front_at count earlier (event ∷ later) low high = elim (cases_order (length (kept_texts content earlier)) count) [
+    | inl same ↦ record {
+      earlier = earlier;
+      later = event ∷ later;
+      parts = refl;
+      texts_are = sym (ap (take count) (texts_on earlier (event ∷ later)) ∙ take_at (kept_texts content earlier) (added_by earlier (event ∷ later)) count same);
+    }
+    | inr o ↦ elim o [
+      | inl below ↦
+          let whole : (earlier ++ event ∷ []) ++ later ≡ earlier ++ event ∷ later = append_assoc earlier (event ∷ []) later in
+          let one = one_at_most (deliveries_of content earlier) (content_after content earlier) event in
+          let more : length (kept_texts content (earlier ++ event ∷ [])) ≡ length (kept_texts content earlier) + length (added_by earlier (event ∷ [])) =
+          ap length (texts_on earlier (event ∷ [])) ∙ length-append (kept_texts content earlier) (added_by earlier (event ∷ [])) in
+          subst (λ es. WasJournal content es (take count (kept_texts content es))) whole
+          (front_at count (earlier ++ event ∷ []) later (omega arith) (subst (λ es. count ≤ length (kept_texts content es)) (sym whole) high))
+      | inr above ↦ absurd (omega arith)
+    ]
+  ]
+
+pub fronts_were_journals : FrontsWereJournals
+unfolding kept
+fronts_were_journals content es count high = front_at content count [] es (omega arith) high

@@ -1,0 +1,58 @@
+-- An office that is made again, or followed, by its journal.
+use Rattle.std.specs.Prelude.{◌≡◌, ℕ, ◌≤◌, List, [], ◌∷◌, ◌++◌, length, take}
+use Rattle.office_replies.specs.Events.{Event, delivered, migrated, added}
+use Rattle.office_setup.specs.Setups.{SetupContent}
+use Rattle.office_admission.specs.Accounts.{content_after}
+use Rattle.office_rows.specs.Rows.{Rows}
+use Rattle.office_history.specs.After.{machine_after, AreAfter}
+use Rattle.office_history.specs.Laws.{HasNoMigration, told_of}
+use Rattle.office_journal.specs.Journal.{kept_texts, delivered_all}
+
+-- Two offices, each of a set-up and events: the same rows, machine and answers.
+pub record IsSameOffice (one : SetupContent) (es : List Event) (other : SetupContent) (fs : List Event) : Type 0 where
+  pub rows : (rows : Rows) → AreAfter one es rows → AreAfter other fs rows
+  pub back : (rows : Rows) → AreAfter other fs rows → AreAfter one es rows
+  pub machine : machine_after one es ≡ machine_after other fs
+  pub answers : (partner number : ℕ) (sent : List ℕ) →
+      told_of one es partner number sent ≡ told_of other fs partner number sent
+
+-- two offices with the same set-up and accounts so far, and the same journal
+pub record HasSameJournal (one : SetupContent) (es : List Event) (other : SetupContent) (fs : List Event) : Type 0 where
+  pub setup : content_after one es ≡ content_after other fs
+  pub texts : kept_texts one es ≡ kept_texts other fs
+
+-- are the same office, now and after whatever comes later
+abbrev pub JournalDecides : Type 0
+JournalDecides =
+    (one other : SetupContent) (es fs later : List Event) →
+    HasNoMigration (es ++ later) → HasNoMigration (fs ++ later) → HasSameJournal one es other fs
+    → IsSameOffice one (es ++ later) other (fs ++ later)
+
+-- Whatever came, and whatever comes later: a new office, set up with the accounts so far, to which the journal is
+-- delivered, is the same.
+abbrev pub Rebuilding : Type 0
+Rebuilding =
+    (content : SetupContent) (es later : List Event) → HasNoMigration (es ++ later)
+    → IsSameOffice content (es ++ later) (content_after content es) (delivered_all (kept_texts content es) ++ later)
+
+-- the accounts that events add, without anything that was delivered
+abbrev pub accounts_in : List Event → List Event
+accounts_in [] = []
+accounts_in (delivered text ∷ es) = accounts_in es
+accounts_in (migrated version ∷ es) = accounts_in es
+accounts_in (added code kind ∷ es) = added code kind ∷ accounts_in es
+
+-- An office that has the accounts so far, and to which only these first texts of the journal were delivered, is the
+-- first one as it was after some of its events, with the accounts so far. So it goes on as that one would.
+pub record Follows (content : SetupContent) (es : List Event) (texts : List (List ℕ)) : Type 0 where
+  pub earlier : List Event
+  pub later : List Event
+  pub parts : es ≡ earlier ++ later
+  pub same : (more : List Event) → HasNoMigration more →
+      IsSameOffice content ((earlier ++ accounts_in later) ++ more)
+      (content_after content es) (delivered_all texts ++ more)
+
+abbrev pub Following : Type 0
+Following =
+    (content : SetupContent) (es : List Event) (count : ℕ) → HasNoMigration es → count ≤ length (kept_texts content es)
+    → Follows content es (take count (kept_texts content es))
