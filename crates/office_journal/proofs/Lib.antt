@@ -4,3 +4,8 @@ pub mod Entries
 pub mod Again
 pub mod Orders
 pub mod Pages
+pub mod Advised
+pub mod Ends
+pub mod CutWhole
+pub mod Lines
+pub mod JournalLines

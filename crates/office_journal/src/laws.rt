@@ -8,6 +8,7 @@ ghost use Rattle.office_journal.specs.Rebuilding.{JournalDecides, Rebuilding, Fo
 ghost use Rattle.office_journal.specs.InOrder.{BodiesAreJournal, OpeningIsInOrder, RefusedStaysInOrder, UsedStaysInOrder};
 ghost use Rattle.office_journal.specs.InOrder.{EarlyAddsInOrder, NextAddsInOrder, AccountStaysInOrder, MigrationStaysInOrder};
 ghost use Rattle.office_journal.specs.TextPages.{TextsHaveOnePage};
+ghost use Rattle.office_journal.specs.Cutting.{FaultlessIsInterchange, LinesAreCut, JournalIsCut};
 
 use partner_core::Machine;
 
@@ -104,4 +105,19 @@ pub fn migration_stays_in_order()
 /// Whatever the limit, texts have a page, and only one.
 pub fn texts_have_one_page()
     ensures { TextsHaveOnePage }
+{}
+
+/// A text without a syntax fault, and without CR and LF at its ends, is one interchange of a stream.
+pub fn faultless_is_interchange()
+    ensures { FaultlessIsInterchange }
+{}
+
+/// The lines of such texts are cut into just these texts.
+pub fn lines_are_cut()
+    ensures { LinesAreCut }
+{}
+
+/// The lines of any part of the journal are cut into just its texts.
+pub fn journal_is_cut()
+    ensures { JournalIsCut }
 {}
