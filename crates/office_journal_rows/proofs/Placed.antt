@@ -14,7 +14,7 @@ use Rattle.sqlite_rules.specs.declared.error.Rowids.TheVariants.{Chosen}
 use Rattle.sqlite_rules.specs.Edit.{id_in, next_rowid, is_chosen, at_least, with_rowid}
 use Rattle.office_journal_rows.specs.Places.{ArePlaced, AddsLast}
 
-less : (m n : ℕ) → m < n → value_cmp (Int (pos m)) (Int (pos n)) ≡ Less
+pub less : (m n : ℕ) → m < n → value_cmp (Int (pos m)) (Int (pos n)) ≡ Less
 less m n l = let below : int_cmp (pos m) (pos n) ≡ Less = rw (lt-ltb m n l) refl in value_cmp-Int (pos m) (pos n) ∙ below
 
 next_from : (from : ℕ) (rows : List Row) → ArePlaced from rows → fold (λ _ r. id_in (rowid r) +ℤ pos 1) (pos from) rows ≡ pos (from + length rows)
