@@ -17,6 +17,11 @@ use Rattle.office_admission.specs.Admission.{admission}
 use Rattle.office_admission.specs.Deliveries.{deliveries_of}
 use Rattle.office_admission.proofs.Adding.{account_adds, migration_adds}
 use Rattle.office_taking.specs.Taking.{MachineState}
+use Rattle.sqlite.specs.declared.types.Value.TheVariants.{Blob}
+use Rattle.sqlite.specs.Order.{Row, column}
+use Rattle.office_rows.specs.Tables.{interchange}
+use Rattle.office_rows.specs.Values.{interchange_values}
+use Rattle.office_rows.specs.Stored.{columns_of}
 use Rattle.office_rows.specs.Rows.{Interchange, Rows}
 use Rattle.office_rows.specs.Effects.{is_pair, with_kept, with_reply, with_change}
 use Rattle.office_history.specs.Cascade.{text_in, TakenContent, with_changes, with_interchange, with_interchanges, texts_with, with_run, AreTakenFrom}
@@ -28,7 +33,7 @@ use Rattle.office_history.proofs.Growing.{account_adds_row}
 use Rattle.office_history.proofs.Migrating.{migration_goes_on}
 use Rattle.office_journal.specs.Kept.{kept}
 use Rattle.office_journal.specs.Journal.{text_of, kept_texts}
-use Rattle.office_journal.specs.InOrder.{as_delivery, AreInOrder, AreAfterInOrder, BodiesAreJournal, OpeningIsInOrder, RefusedStaysInOrder, UsedStaysInOrder, EarlyAddsInOrder, NextAddsInOrder, AccountStaysInOrder, MigrationStaysInOrder}
+use Rattle.office_journal.specs.InOrder.{as_delivery, AreInOrder, AreAfterInOrder, BodiesAreJournal, StoredIsJournal, OpeningIsInOrder, RefusedStaysInOrder, UsedStaysInOrder, EarlyAddsInOrder, NextAddsInOrder, AccountStaysInOrder, MigrationStaysInOrder}
 use Rattle.office_journal.proofs.Alike.{kept_adds}
 
 -- ---- the journal
@@ -39,6 +44,20 @@ bodies_by (i ∷ interchanges) = ap (λ bodies. i.body ∷ bodies) (bodies_by in
 
 pub bodies_are_journal : BodiesAreJournal
 bodies_are_journal content es rows are = bodies_by rows.interchanges ∙ ap (map text_of) are.in_order
+
+shown_bodies : (interchanges : List Interchange) → map (λ c. column c 2) (map interchange_values interchanges) ≡ map Blob (map (λ (i : Interchange). i.body) interchanges)
+shown_bodies [] = refl
+shown_bodies (i ∷ interchanges) = ap (λ bodies. Blob i.body ∷ bodies) (shown_bodies interchanges)
+
+stored_bodies : (stored : List Row) → map (λ c. column c 2) (map (columns_of interchange) stored) ≡ map (λ r. column r 3) stored
+stored_bodies [] = refl
+stored_bodies (r ∷ stored) = ap (λ bodies. column r 3 ∷ bodies) (stored_bodies stored)
+
+pub stored_is_journal : StoredIsJournal
+stored_is_journal content es rows stored are held = (
+  held.placed,
+  sym (stored_bodies stored) ∙ ap (map (λ c. column c 2)) (sym held.same) ∙ shown_bodies rows.interchanges ∙ ap (map Blob) (bodies_are_journal content es rows are),
+)
 
 -- ---- what taking leaves
 

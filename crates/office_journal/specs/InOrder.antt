@@ -13,6 +13,10 @@ use Rattle.office_admission.specs.Accounts.{content_after, account_answer, added
 use Rattle.office_admission.specs.Admission.{admission}
 use Rattle.office_admission.specs.Deliveries.{deliveries_of}
 use Rattle.office_taking.specs.Taking.{MachineState}
+use Rattle.sqlite.specs.declared.types.Value.TheVariants.{Blob}
+use Rattle.sqlite.specs.Order.{Row, column}
+use Rattle.office_rows.specs.Tables.{interchange}
+use Rattle.office_rows.specs.Values.{interchange_values}
 use Rattle.office_rows.specs.Rows.{Interchange, Rows}
 use Rattle.office_rows.specs.Effects.{with_kept, with_partner}
 use Rattle.office_rows.specs.Opening.{opening_rows}
@@ -20,6 +24,8 @@ use Rattle.office_rows.specs.Migrated.{migrated_rows}
 use Rattle.office_history.specs.Cascade.{text_in, TakenContent, texts_with, with_run, AreTakenFrom}
 use Rattle.office_history.specs.After.{machine_after, AreAfterBy, AreAfter}
 use Rattle.office_history.specs.Laws.{IsFor, HasNoMigration}
+use Rattle.office_journal_rows.specs.Places.{ArePlaced}
+use Rattle.office_journal_rows.specs.InPlace.{AreInPlace}
 use Rattle.office_journal.specs.Kept.{kept}
 use Rattle.office_journal.specs.Journal.{kept_texts}
 
@@ -43,6 +49,14 @@ abbrev pub BodiesAreJournal : Type 0
 BodiesAreJournal =
     (content : SetupContent) (es : List Event) (rows : Rows) → AreAfterInOrder content es rows
     → map (λ (i : Interchange). i.body) rows.interchanges ≡ kept_texts content es
+
+-- Where a table has the interchanges in place, its rows from rowid 1 on have the journal for their bodies: the row with
+-- the rowid n has the n-th text.
+abbrev pub StoredIsJournal : Type 0
+StoredIsJournal =
+    (content : SetupContent) (es : List Event) (rows : Rows) (stored : List Row) → AreAfterInOrder content es rows
+    → AreInPlace interchange interchange_values rows.interchanges stored
+    → ArePlaced 1 stored × (map (λ r. column r 3) stored ≡ map Blob (kept_texts content es))
 
 -- the rows that opening a store writes
 abbrev pub OpeningIsInOrder : Type 0

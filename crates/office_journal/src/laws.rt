@@ -5,7 +5,7 @@ ghost use Rattle.partner_core.specs.Machine.{Taking};
 ghost use Rattle.office_journal.specs.Kept.{KeptAdds, KeptAreFirst, KeptDecides};
 ghost use Rattle.office_journal.specs.Journal.{KeptTextsAreEntries, JournalGrows, FrontsWereJournals};
 ghost use Rattle.office_journal.specs.Rebuilding.{JournalDecides, Rebuilding, Following};
-ghost use Rattle.office_journal.specs.InOrder.{BodiesAreJournal, OpeningIsInOrder, RefusedStaysInOrder, UsedStaysInOrder};
+ghost use Rattle.office_journal.specs.InOrder.{BodiesAreJournal, StoredIsJournal, OpeningIsInOrder, RefusedStaysInOrder, UsedStaysInOrder};
 ghost use Rattle.office_journal.specs.InOrder.{EarlyAddsInOrder, NextAddsInOrder, AccountStaysInOrder, MigrationStaysInOrder};
 ghost use Rattle.office_journal.specs.TextPages.{TextsHaveOnePage};
 ghost use Rattle.office_journal.specs.Cutting.{FaultlessIsInterchange, LinesAreCut, JournalIsCut};
@@ -65,6 +65,11 @@ pub fn following()
 /// The bodies of rows in order are the journal.
 pub fn bodies_are_journal()
     ensures { BodiesAreJournal }
+{}
+
+/// Where a table has the interchanges in place, the row with the rowid n has the n-th text of the journal.
+pub fn stored_is_journal()
+    ensures { StoredIsJournal }
 {}
 
 /// The rows that opening a store writes are in order.

@@ -208,4 +208,4 @@ replies_in_place old new rows count partner number_of reply it h =
     }
 
 pub others_keep_places : OthersKeepPlaces
-others_keep_places old new edit applies other = applies.tables.1.0 (λ e. other (sym e))
+others_keep_places old new edit applies other = let (partners, interchanges, others) = applies.tables in interchanges (λ e. other (sym e))
