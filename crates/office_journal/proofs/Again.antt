@@ -1,8 +1,8 @@
 -- The journal, delivered again.
-use Rattle.std.proofs.Common.{◌≡◌, ℕ, ◌+◌, ◌≤◌, List, [], ◌∷◌, ◌++◌, length, map, Option, None, Some, refl, sym, ap, subst, ◌∙◌}
-use Rattle.std.specs.Prelude.{take}
+use Rattle.std.proofs.Common.{◌≡◌, ℕ, ◌+◌, ◌≤◌, List, [], ◌∷◌, ◌++◌, length, map, Option, None, Some, refl, sym, ap, subst, ◌∙◌, append_assoc}
+use Rattle.std.specs.Prelude.{take, drop}
 use Rattle.std.specs.List.{AllByRecursion}
-use Rattle.std.proofs.lemmas.List.{append-nil}
+use Rattle.std.proofs.lemmas.List.{append-nil, drop_at}
 use Rattle.edi_segments.specs.Interchange.{interchange_of}
 use Rattle.partner_core.specs.Machine.{Taking}
 use Rattle.partner_core.specs.Deliveries.{Delivery, delivery}
@@ -19,13 +19,13 @@ use Rattle.office_admission.specs.Deliveries.{with_delivery, deliveries_of}
 use Rattle.office_admission.proofs.Adding.{content_on, deliveries_on}
 use Rattle.office_taking.specs.Taking.{MachineState, interchange_taken_by}
 use Rattle.office_rows.specs.Rows.{Rows}
-use Rattle.office_history.specs.After.{opening_of, behind, migration_in, taking_in, machine_after, accounts_from, AreRowsOf, AreAfter}
+use Rattle.office_history.specs.After.{opening_of, behind, migration_in, taking_by, taking_in, machine_after, accounts_from, AreRowsOf, AreAfter}
 use Rattle.office_history.specs.Laws.{HasNoMigration, told_of}
 use Rattle.office_history.proofs.Places.{taking_unmigrated}
-use Rattle.office_journal.specs.Kept.{kept}
+use Rattle.office_journal.specs.Kept.{kept_after, kept}
 use Rattle.office_journal.specs.Journal.{text_of, kept_texts, delivered_all, IsEntry}
-use Rattle.office_journal.specs.Rebuilding.{IsSameOffice, HasSameJournal, JournalDecides, Rebuilding, accounts_in, Follows, Following}
-use Rattle.office_journal.proofs.Alike.{Alike, run-alike, alike-all, alike-back, alike-trans, kept_alike, kept_twice, decides_alike}
+use Rattle.office_journal.specs.Rebuilding.{IsSameOffice, HasSameJournal, JournalDecides, Rebuilding, accounts_in, Follows, Following, texts_since, CopiesCatchUp}
+use Rattle.office_journal.proofs.Alike.{Alike, run-alike, alike-all, alike-self, alike-back, alike-trans, alike-kept, kept_alike, kept-append, kept_twice, decides_alike}
 use Rattle.office_journal.proofs.Entries.{all_entries, texts_on, fronts_were_journals}
 
 -- ---- the texts are admitted again, as they were
@@ -211,3 +211,96 @@ following content es count none high =
           (again_none texts more none')
           (record { setup = setup ∙ sym (delivered_content texts now); texts = journal ∙ sym again_same });
     }
+
+-- ---- a copy
+
+-- what comes after the first migration, or where there is none, leaves the rules as they are
+first_stays : (earlier later : List Event) → migration_in later ≡ None → migration_in (earlier ++ later) ≡ migration_in earlier
+first_stays [] later none = none
+first_stays (delivered text ∷ earlier) later none = ap (behind (delivered text)) (first_stays earlier later none)
+first_stays (migrated version ∷ earlier) later none = refl
+first_stays (added code kind ∷ earlier) later none = ap (behind (added code kind)) (first_stays earlier later none)
+
+rules_stay : (content : SetupContent) (earlier later : List Event) → migration_in later ≡ None → taking_in newest content (earlier ++ later) ≡ taking_in newest content earlier
+unfolding taking_in
+rules_stay content earlier later none = ap (taking_by newest content) (first_stays earlier later none)
+
+right_entries : (content : SetupContent) (es : List Event) (left right : List Delivery) → AllByRecursion (IsEntry content es) (left ++ right) → AllByRecursion (IsEntry content es) right
+right_entries content es [] right all = all
+right_entries content es (d ∷ left) right all = right_entries content es left right all.1
+
+module _ (content : SetupContent) (earlier since : List Event) where
+  abbrev at_copy : SetupContent
+  at_copy = content_after content earlier
+
+  abbrev ds : List Delivery
+  ds = deliveries_of content earlier
+
+  abbrev more : List Delivery
+  more = deliveries_of at_copy since
+
+  abbrev new : List Delivery
+  new = kept_after ds more
+
+  since_texts : texts_since content earlier since ≡ map text_of new
+  since_texts =
+      ap (drop (length (kept_texts content earlier))) (texts_on content earlier since)
+      ∙ drop_at (kept_texts content earlier) (map text_of new) (length (kept_texts content earlier)) refl
+
+  new_entries : AllByRecursion (IsEntry content (earlier ++ since)) new
+  new_entries =
+      right_entries content (earlier ++ since) (kept ds) new
+      (subst (AllByRecursion (IsEntry content (earlier ++ since))) (ap kept (deliveries_on earlier since content) ∙ kept-append ds more) (all_entries content (earlier ++ since)))
+
+  -- they are admitted as they were
+  new_again : deliveries_of (content_after at_copy since) (delivered_all (texts_since content earlier since)) ≡ new
+  new_again =
+      (λ i. deliveries_of (sym (content_on earlier since content) i) (delivered_all (since_texts i)))
+      ∙ again_from content (earlier ++ since) new new_entries
+
+  abbrev caught_up : List Event
+  caught_up = accounts_in since ++ delivered_all (texts_since content earlier since)
+
+  caught_content : content_after at_copy caught_up ≡ content_after at_copy since
+  caught_content =
+      content_on (accounts_in since) (delivered_all (texts_since content earlier since)) at_copy
+      ∙ delivered_content (texts_since content earlier since) (content_after at_copy (accounts_in since))
+      ∙ accounts_content since at_copy
+
+  caught_deliveries : deliveries_of at_copy caught_up ≡ new
+  caught_deliveries =
+      deliveries_on (accounts_in since) (delivered_all (texts_since content earlier since)) at_copy
+      ∙ (λ i. accounts_deliver since at_copy i ++ deliveries_of (accounts_content since at_copy i) (delivered_all (texts_since content earlier since)))
+      ∙ new_again
+
+  all_content : (es later : List Event) → content_after at_copy es ≡ content_after at_copy since → content_after content (earlier ++ (es ++ later)) ≡ content_after (content_after at_copy since) later
+  all_content es later same = content_on earlier (es ++ later) content ∙ content_on es later at_copy ∙ ap (λ c. content_after c later) same
+
+  all_deliveries : (es later : List Event) (own : List Delivery) → content_after at_copy es ≡ content_after at_copy since → deliveries_of at_copy es ≡ own
+      → deliveries_of content (earlier ++ (es ++ later)) ≡ (ds ++ own) ++ deliveries_of (content_after at_copy since) later
+  all_deliveries es later own same is =
+      deliveries_on earlier (es ++ later) content
+      ∙ ap (λ l. ds ++ l) (deliveries_on es later at_copy ∙ (λ i. is i ++ deliveries_of (same i) later))
+      ∙ sym (append_assoc ds own (deliveries_of (content_after at_copy since) later))
+
+pub copies_catch_up : CopiesCatchUp
+copies_catch_up content earlier since later none =
+    let at_copy = content_after content earlier in
+    let ds = deliveries_of content earlier in
+    let more = deliveries_of at_copy since in
+    let new = kept_after ds more in
+    let texts = texts_since content earlier since in
+    let caught_up = accounts_in since ++ delivered_all texts in
+    let behind_all = deliveries_of (content_after at_copy since) later in
+    let none' : migration_in (caught_up ++ later) ≡ None =
+    subst (λ es. migration_in es ≡ None) (sym (append_assoc (accounts_in since) (delivered_all texts) later))
+    (none_joined (accounts_in since) (delivered_all texts ++ later) (accounts_none since) (again_none texts later (later_none since later none))) in
+    same_office content content (earlier ++ (since ++ later)) (earlier ++ (caught_up ++ later)) (taking_in newest content earlier) (content_after (content_after at_copy since) later)
+    ((ds ++ more) ++ behind_all) ((ds ++ new) ++ behind_all)
+    (rules_stay content earlier (since ++ later) none)
+    (rules_stay content earlier (caught_up ++ later) none')
+    (all_content content earlier since since later refl)
+    (all_content content earlier since caught_up later (caught_content content earlier since))
+    (all_deliveries content earlier since since later more refl refl)
+    (all_deliveries content earlier since caught_up later new (caught_content content earlier since) (caught_deliveries content earlier since))
+    (alike-all (ds ++ more) (ds ++ new) behind_all (alike-back (ds ++ new) (ds ++ more) (alike-kept ds ds more (alike-self ds))))

@@ -75,7 +75,7 @@ alike-all ds es (d ∷ later) a =
     let f = append_assoc es (d ∷ []) later in
     rw (e, f) at h
 
-alike-kept : (there before ds : List Delivery) → Alike there before → Alike (there ++ kept_after before ds) (before ++ ds)
+pub alike-kept : (there before ds : List Delivery) → Alike there before → Alike (there ++ kept_after before ds) (before ++ ds)
 alike-kept there before [] a = alike-all there before [] a
 alike-kept there before (d ∷ ds) a =
     on (is_used before d.partner d.number) refl

@@ -1,11 +1,14 @@
 -- What the journal has, and what an event adds to it.
-use Rattle.std.proofs.Common.{◌≡◌, ℕ, ◌+◌, ◌≤◌, Bool, true, false, cond, ◌⊎◌, inl, inr, List, [], ◌∷◌, ◌++◌, length, map, Result, Ok, Err, None, Some, refl, sym, ap, subst, ◌∙◌, arith, append_assoc}
-use Rattle.std.specs.Prelude.{take, Option}
-use Rattle.std.specs.List.{AllByRecursion}
-use Rattle.std.proofs.lemmas.Bool.{cases_order}
+use Rattle.std.proofs.Common.{◌≡◌, ℕ, zero, suc, Bool, true, false, inl, inr, cond, ◌&&◌, List, [], ◌∷◌, refl, sym, ap, ◌∙◌, ◌+◌, ◌≤◌, ◌⊎◌, ◌++◌, length, map, Result, Ok, Err, None, Some, subst, arith, append_assoc}
+use Rattle.std.specs.Prelude.{drop, take, Option}
+use Rattle.std.specs.List.{list_all, AllByRecursion}
+use Rattle.std.proofs.lemmas.Bool.{cases_Bool, cond-true, cond-false, cases_order}
+use Rattle.edi_segments.specs.Characters.{is_break}
+use Rattle.edi_segments.specs.Reading.{breaks_len}
+use Rattle.edi_segments.specs.Advice.{without_breaks}
+use Rattle.edi_segments.specs.Interchange.{without_breaks_at_end, interchange_of}
 use Rattle.std.proofs.lemmas.List.{append-nil, map-append, length-append, length-map, take_at, take_all}
 use Rattle.std.proofs.lemmas.List.Elements.{All-from_recursion}
-use Rattle.edi_segments.specs.Interchange.{interchange_of}
 use Rattle.partner_core.specs.Deliveries.{Delivery, delivery, first_text, is_under, is_used}
 use Rattle.terminal_core.specs.declared.change.Version.{Version}
 use Rattle.office_replies.specs.Events.{Event, delivered, migrated, added}
@@ -18,7 +21,59 @@ use Rattle.office_admission.proofs.Adding.{deliveries_on, account_adds, migratio
 use Rattle.office_journal.specs.Kept.{kept, kept_after, IsFirst}
 use Rattle.office_journal.specs.Journal.{text_of, kept_texts, delivered_all, IsEntry, KeptTextsAreEntries, JournalGrows, WasJournal, FrontsWereJournals}
 use Rattle.office_journal.proofs.Alike.{kept-append, kept_adds, kept_one, firsts_are_kept}
-use Rattle.office_journal.proofs.Stripped.{interchange_twice}
+
+at_end_none : (b : ℕ) (bytes : List ℕ) → list_all is_break (b ∷ bytes) ≡ true → without_breaks_at_end (b ∷ bytes) ≡ []
+at_end_none b bytes e = cond-true (list_all is_break (b ∷ bytes)) [] (b ∷ without_breaks_at_end bytes) e
+
+at_end_some : (b : ℕ) (bytes : List ℕ) → list_all is_break (b ∷ bytes) ≡ false → without_breaks_at_end (b ∷ bytes) ≡ b ∷ without_breaks_at_end bytes
+at_end_some b bytes e = cond-false (list_all is_break (b ∷ bytes)) [] (b ∷ without_breaks_at_end bytes) e
+
+all_left : (bytes : List ℕ) → list_all is_break (without_breaks_at_end bytes) ≡ list_all is_break bytes
+all_left [] = refl
+all_left (b ∷ bytes) = elim (cases_Bool (list_all is_break (b ∷ bytes))) [
+  | inl e ↦ ap (list_all is_break) (at_end_none b bytes e) ∙ sym e
+  | inr e ↦ ap (list_all is_break) (at_end_some b bytes e) ∙ ap (λ v. is_break b && v) (all_left bytes)
+]
+
+stays_at_end : (bytes : List ℕ) → without_breaks_at_end (without_breaks_at_end bytes) ≡ without_breaks_at_end bytes
+stays_at_end [] = refl
+stays_at_end (b ∷ bytes) = elim (cases_Bool (list_all is_break (b ∷ bytes))) [
+  | inl e ↦ ap without_breaks_at_end (at_end_none b bytes e) ∙ sym (at_end_none b bytes e)
+  | inr e ↦
+      ap without_breaks_at_end (at_end_some b bytes e)
+      ∙ at_end_some b (without_breaks_at_end bytes) (ap (λ v. is_break b && v) (all_left bytes) ∙ e)
+      ∙ ap (λ t. b ∷ t) (stays_at_end bytes) ∙ sym (at_end_some b bytes e)
+]
+
+front_stays : (bytes : List ℕ) → breaks_len (without_breaks bytes) ≡ 0
+front_stays [] = refl
+front_stays (b ∷ bytes) = elim (cases_Bool (is_break b)) [
+  | inl e ↦
+      let more : without_breaks (b ∷ bytes) ≡ without_breaks bytes = rw e refl in
+      ap breaks_len more ∙ front_stays bytes
+  | inr e ↦
+      let none : without_breaks (b ∷ bytes) ≡ b ∷ bytes = rw e refl in
+      ap breaks_len none ∙ cond-false (is_break b) (suc (breaks_len bytes)) 0 e
+]
+
+end_keeps_front : (bytes : List ℕ) → breaks_len bytes ≡ 0 → breaks_len (without_breaks_at_end bytes) ≡ 0
+end_keeps_front [] h = refl
+end_keeps_front (b ∷ bytes) h = elim (cases_Bool (list_all is_break (b ∷ bytes))) [
+  | inl e ↦ ap breaks_len (at_end_none b bytes e)
+  | inr e ↦ ap breaks_len (at_end_some b bytes e) ∙ on (is_break b) (breaks_len bytes) (breaks_len (without_breaks_at_end bytes)) h
+]
+  where
+    on : (x : Bool) (m n : ℕ) → cond x (suc m) 0 ≡ 0 → cond x (suc n) 0 ≡ 0
+    on true m n h = cc
+    on false m n h = refl
+
+without_nothing : (bytes : List ℕ) → breaks_len bytes ≡ 0 → without_breaks bytes ≡ bytes
+without_nothing bytes h = ap (λ n. drop n bytes) h
+
+pub interchange_twice : (bytes : List ℕ) → interchange_of (interchange_of bytes) ≡ interchange_of bytes
+interchange_twice bytes =
+    ap without_breaks_at_end (without_nothing (interchange_of bytes) (end_keeps_front (without_breaks bytes) (front_stays bytes)))
+    ∙ stays_at_end (without_breaks bytes)
 
 -- ---- a kept text has no CR and LF at its ends
 

@@ -1,11 +1,8 @@
 pub mod Alike
-pub mod Stripped
 pub mod Entries
 pub mod Again
 pub mod Orders
 pub mod Pages
 pub mod Advised
 pub mod Ends
-pub mod CutWhole
-pub mod Lines
-pub mod JournalLines
+pub mod Cut

@@ -1,5 +1,5 @@
 -- An office that is made again, or followed, by its journal.
-use Rattle.std.specs.Prelude.{◌≡◌, ℕ, ◌≤◌, List, [], ◌∷◌, ◌++◌, length, take}
+use Rattle.std.specs.Prelude.{◌≡◌, ℕ, ◌≤◌, List, [], ◌∷◌, ◌++◌, length, take, drop}
 use Rattle.office_replies.specs.Events.{Event, delivered, migrated, added}
 use Rattle.office_setup.specs.Setups.{SetupContent}
 use Rattle.office_admission.specs.Accounts.{content_after}
@@ -56,3 +56,16 @@ abbrev pub Following : Type 0
 Following =
     (content : SetupContent) (es : List Event) (count : ℕ) → HasNoMigration es → count ≤ length (kept_texts content es)
     → Follows content es (take count (kept_texts content es))
+
+-- what the journal got by later events
+abbrev pub texts_since : SetupContent → List Event → List Event → List (List ℕ)
+texts_since content earlier since =
+    drop (length (kept_texts content earlier)) (kept_texts content (earlier ++ since))
+
+-- A copy of an office, made after some of its events, gets the accounts and the texts that came since: then it is the
+-- same office as the first. The events before the copy may have a migration.
+abbrev pub CopiesCatchUp : Type 0
+CopiesCatchUp =
+    (content : SetupContent) (earlier since later : List Event) → HasNoMigration (since ++ later)
+    → IsSameOffice content (earlier ++ (since ++ later)) content
+    (earlier ++ ((accounts_in since ++ delivered_all (texts_since content earlier since)) ++ later))

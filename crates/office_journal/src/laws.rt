@@ -4,7 +4,7 @@
 ghost use Rattle.partner_core.specs.Machine.{Taking};
 ghost use Rattle.office_journal.specs.Kept.{KeptAdds, KeptAreFirst, KeptDecides};
 ghost use Rattle.office_journal.specs.Journal.{KeptTextsAreEntries, JournalGrows, FrontsWereJournals};
-ghost use Rattle.office_journal.specs.Rebuilding.{JournalDecides, Rebuilding, Following};
+ghost use Rattle.office_journal.specs.Rebuilding.{JournalDecides, Rebuilding, Following, CopiesCatchUp};
 ghost use Rattle.office_journal.specs.InOrder.{BodiesAreJournal, StoredIsJournal, OpeningIsInOrder, RefusedStaysInOrder, UsedStaysInOrder};
 ghost use Rattle.office_journal.specs.InOrder.{EarlyAddsInOrder, NextAddsInOrder, AccountStaysInOrder, MigrationStaysInOrder};
 ghost use Rattle.office_journal.specs.TextPages.{TextsHaveOnePage};
@@ -60,6 +60,12 @@ pub fn rebuilding()
 /// place of its events, with the accounts so far.
 pub fn following()
     ensures { Following }
+{}
+
+/// A copy of an office that gets the accounts and the texts that came since is the same office, with a migration before
+/// the copy or without.
+pub fn copies_catch_up()
+    ensures { CopiesCatchUp }
 {}
 
 /// The bodies of rows in order are the journal.

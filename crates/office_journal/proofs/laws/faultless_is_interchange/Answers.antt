@@ -1,4 +1,4 @@
-use Rattle.office_journal.proofs.CutWhole.{faultless_is_interchange}
+use Rattle.office_journal.proofs.Cut.{faultless_is_interchange}
 use Rattle.office_journal.proofs.laws.faultless_is_interchange.Goals as goal
 
 pub returns : goal.returns

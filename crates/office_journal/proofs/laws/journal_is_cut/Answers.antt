@@ -1,4 +1,4 @@
-use Rattle.office_journal.proofs.JournalLines.{journal_is_cut}
+use Rattle.office_journal.proofs.Cut.{journal_is_cut}
 use Rattle.office_journal.proofs.laws.journal_is_cut.Goals as goal
 
 pub returns : goal.returns

@@ -1,4 +1,4 @@
-use Rattle.office_journal.proofs.Lines.{lines_are_cut}
+use Rattle.office_journal.proofs.Cut.{lines_are_cut}
 use Rattle.office_journal.proofs.laws.lines_are_cut.Goals as goal
 
 pub returns : goal.returns

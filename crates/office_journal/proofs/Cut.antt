@@ -1,6 +1,6 @@
--- A text without fault is one interchange of a stream.
-use Rattle.std.proofs.Common.{◌≡◌, ◌⊎◌, ℕ, zero, suc, ◌+◌, ◌-◌, ◌<◌, ◌≤◌, Bool, true, false, cond, not, nat_le, ◌&&◌, nat_eq, List, [], ◌∷◌, ◌++◌, length, take, drop, codes, None, refl, sym, ap, subst, ◌∙◌, inl, inr, arith, append_assoc}
-use Rattle.std.specs.List.{list_all}
+-- A text without fault is one interchange of a stream, and the lines of such texts are cut into these texts.
+use Rattle.std.proofs.Common.{◌≡◌, ◌⊎◌, ℕ, zero, suc, ◌+◌, ◌-◌, ◌<◌, ◌≤◌, Bool, true, false, cond, not, nat_le, ◌&&◌, nat_eq, List, [], ◌∷◌, ◌++◌, length, take, drop, codes, None, refl, sym, ap, subst, ◌∙◌, inl, inr, arith, append_assoc, map, Option, Some, Result, Ok, Err}
+use Rattle.std.specs.List.{list_all, AllByRecursion}
 use Rattle.std.proofs.lemmas.Bool.{and_parts, cases_Bool, true≢false, eqb-true}
 use Rattle.std.proofs.lemmas.List.{append-nil, length-append, length-drop, take-append-drop}
 use Rattle.std.proofs.lemmas.Slice.Eq.{bytes_eq-Decides}
@@ -14,7 +14,6 @@ use Rattle.edi_segments.proofs.SegmentsLemmas.{segments_sound, breaks_at, no_bre
 use Rattle.edi_syntax.specs.Envelope.{header_of, last_of, trailer_of, has_envelope}
 use Rattle.edi_syntax.specs.Faults.{fault_of}
 use Rattle.edi_cutter.specs.Positions.{position_after, is_refused, GoesOn, Closes, SegmentsBehindBreaks}
-use Rattle.edi_cutter.specs.Cuts as cuts
 use Rattle.edi_cutter.specs.Cuts.{past_advice, position_of, is_whole, breaks_advice, IsOpen, IsOpenBefore, IsInterchange}
 use Rattle.edi_cutter.specs.declared.position.Position.{Position}
 use Rattle.edi_cutter.specs.declared.position.Position.TheVariants.{Between, First, Second, Tagged, Inside, Refused}
@@ -22,7 +21,25 @@ use Rattle.edi_cutter.proofs.CutLemmas.{no_fault}
 use Rattle.edi_cutter.proofs.PositionLemmas.{refused_where_nothing_goes_on, closed_where_a_trailer_ends}
 use Rattle.office_journal.proofs.Advised.{IsRead, read_front}
 use Rattle.office_journal.proofs.Ends.{HasNoFault, faultless, begins_unbroken, none_at_end, all_breaks, Goes, one_goes, segment_unbroken, without_all, unbroken_more, all_go, trailer_last, EndsBy, ends_of}
-use Rattle.office_journal.specs.Cutting.{FaultlessIsInterchange}
+use Rattle.office_journal.specs.Cutting.{FaultlessIsInterchange, IsFaultless, LinesAreCut, JournalIsCut}
+use Rattle.std.specs.Prelude.{All}
+use Rattle.std.proofs.lemmas.List.Elements.{recursion_from_All, All-map, All-take, All-drop, All-weaker}
+use Rattle.edi_segments.specs.Bytes.{line_feed}
+use Rattle.edi_cutter.specs.Streams.{HasNone, AreCuts}
+use Rattle.edi_cutter.proofs.FeedLemmas.{nothing_open}
+use Rattle.office_journal.specs.TextPages.{lines_of}
+use Rattle.edi_segments.specs.declared.interchange.SyntaxFault.{SyntaxFault}
+use Rattle.partner_core.specs.Deliveries.{Delivery}
+use Rattle.office_setup.specs.Parties.{Parties}
+use Rattle.office_admission.specs.Admission.{by_header, admission}
+use Rattle.office_admission.specs.Deliveries.{deliveries_of}
+use Rattle.office_replies.specs.Events.{Event}
+use Rattle.office_setup.specs.Setups.{SetupContent, parties_in}
+use Rattle.office_admission.specs.Accounts.{content_after}
+use Rattle.office_journal.specs.Kept.{kept}
+use Rattle.office_journal.specs.Journal.{text_of, kept_texts, IsEntry}
+use Rattle.office_journal.proofs.Entries.{kept_texts_are_entries}
+use Rattle.edi_cutter.specs.Cuts as cuts
 
 closed_is : (p : Position) → cuts.is_closed p ≡ true → p ≡ Between true
 closed_is (Between true) e = refl
@@ -173,3 +190,63 @@ module _ (text : List ℕ) (none : fault_of text ≡ None) (stripped : interchan
 
 pub faultless_is_interchange : FaultlessIsInterchange
 faultless_is_interchange text is = one_interchange text is.no_fault is.stripped
+
+nothing_is_none : IsInterchange [] → ⊥
+nothing_is_none (good, whole, before) = let wrong : true ≡ false = sym whole ∙ nothing_open in cc
+
+none_in_nothing : HasNone []
+none_in_nothing zero is = nothing_is_none is
+none_in_nothing (suc n) is = nothing_is_none is
+
+front_unbroken : (text behind : List ℕ) → IsInterchange text → breaks_len text ≡ 0 → without_breaks (text ++ behind) ≡ text ++ behind
+front_unbroken [] behind is none = absurd (nothing_is_none is)
+front_unbroken (b ∷ text) behind is none = on (is_break b) none
+  where
+    on : (v : Bool) → cond v (suc (breaks_len text)) 0 ≡ 0 → drop (cond v (suc (breaks_len (text ++ behind))) 0) (b ∷ text ++ behind) ≡ b ∷ text ++ behind
+    on true e = cc
+    on false e = refl
+
+-- the lines, and the lines behind an LF
+record AreCutTwice (texts : List (List ℕ)) : Type 0 where
+  at_once : AreCuts (lines_of texts) texts []
+  behind_feed : AreCuts (line_feed ∷ lines_of texts) texts []
+
+cut_all : (texts : List (List ℕ)) → AllByRecursion IsFaultless texts → AreCutTwice texts
+cut_all [] all = record { at_once = (refl, none_in_nothing); behind_feed = (refl, none_in_nothing) }
+cut_all (text ∷ texts) (this, others) =
+    let is = faultless_is_interchange text this in
+    let later = (cut_all texts others).behind_feed in
+    let whole : lines_of (text ∷ texts) ≡ text ++ line_feed ∷ lines_of texts = append_assoc text (line_feed ∷ []) (lines_of texts) in
+    let begins : without_breaks (lines_of (text ∷ texts)) ≡ text ++ line_feed ∷ lines_of texts =
+    ap without_breaks whole ∙ front_unbroken text (line_feed ∷ lines_of texts) is (begins_unbroken text this.stripped) in
+    record {
+      at_once = (line_feed ∷ lines_of texts, is, begins, later);
+      behind_feed = (line_feed ∷ lines_of texts, is, begins, later);
+    }
+
+pub lines_are_cut : LinesAreCut
+lines_are_cut texts all = (cut_all texts (recursion_from_All IsFaultless texts all)).at_once
+
+-- an admitted text has no syntax fault
+admitted_faultless : (parties : Parties) (text : List ℕ) (found : ℕ × ℕ) → admission parties text ≡ Ok found → fault_of text ≡ None
+admitted_faultless parties text found is = on (fault_of text) is
+  where
+    on : (o : Option SyntaxFault) → by_header parties (header_of (segments_in text)) o ≡ Ok found → o ≡ None
+    on None e = refl
+    on (Some fault) e = cc
+
+entry_faultless : (content : SetupContent) (es : List Event) (d : Delivery) → IsEntry content es d → IsFaultless d.text
+entry_faultless content es d entry = record {
+  no_fault = admitted_faultless (parties_in (content_after content es)) d.text (d.partner, d.number) entry.admitted;
+  stripped = entry.stripped;
+}
+
+all_faultless : (content : SetupContent) (es : List Event) → All IsFaultless (kept_texts content es)
+all_faultless content es =
+    All-map IsFaultless text_of (kept (deliveries_of content es))
+    (All-weaker (IsEntry content es) (λ d. IsFaultless (text_of d)) (entry_faultless content es) (kept (deliveries_of content es)) (kept_texts_are_entries content es))
+
+pub journal_is_cut : JournalIsCut
+journal_is_cut content es from count =
+    lines_are_cut (take count (drop from (kept_texts content es)))
+    (All-take IsFaultless count (drop from (kept_texts content es)) (All-drop IsFaultless from (kept_texts content es) (all_faultless content es)))
