@@ -1,7 +1,7 @@
 //! The laws of rowids. Each function has an empty body, and its contract is the law.
 
 ghost use Rattle.office_journal_rows.specs.Places.{InsertAddsLast, RowsHaveOneOrder};
-ghost use Rattle.office_journal_rows.specs.InPlace.{KeepsInPlace, CopiesInPlace, RepliesInPlace, OthersKeepPlaces};
+ghost use Rattle.office_journal_rows.specs.InPlace.{AddsInPlace, RepliesInPlace, OthersKeepPlaces};
 
 /// A row that is inserted without a rowid is the last, under the next number.
 pub fn insert_adds_last()
@@ -13,14 +13,9 @@ pub fn rows_have_one_order()
     ensures { RowsHaveOneOrder }
 {}
 
-/// An interchange that is kept is the last row of its table, under the next rowid.
-pub fn keeps_in_place()
-    ensures { KeepsInPlace }
-{}
-
-/// So is one that is copied with its reply.
-pub fn copies_in_place()
-    ensures { CopiesInPlace }
+/// An interchange that is inserted is the last row of its table, under the next rowid.
+pub fn adds_in_place()
+    ensures { AddsInPlace }
 {}
 
 /// An interchange that gets its reply stays under its rowid, and so do all others.
