@@ -1,13 +1,16 @@
 -- The journal, delivered again.
-use Rattle.std.proofs.Common.{◌≡◌, ℕ, ◌+◌, ◌≤◌, List, [], ◌∷◌, ◌++◌, length, map, Option, None, Some, refl, sym, ap, subst, ◌∙◌, append_assoc}
-use Rattle.std.specs.Prelude.{take, drop}
+use Rattle.std.proofs.Common.{◌≡◌, ◌⊎◌, inl, inr, ℕ, suc, ◌+◌, ◌≤◌, Bool, true, false, cond, arith, List, [], ◌∷◌, ◌++◌, length, map, Option, None, Some, refl, sym, ap, subst, ◌∙◌, append_assoc}
+use Rattle.std.specs.Prelude.{take, drop, nat_le}
 use Rattle.std.specs.List.{AllByRecursion}
-use Rattle.std.proofs.lemmas.List.{append-nil, drop_at}
+use Rattle.std.proofs.lemmas.Bool.{cases_Bool, cond-true, cond-false, lt-leb, false_from_ne_true}
+use Rattle.std.proofs.lemmas.List.{append-nil, length-append, drop_at}
 use Rattle.edi_segments.specs.Interchange.{interchange_of}
 use Rattle.partner_core.specs.Machine.{Taking}
-use Rattle.partner_core.specs.Deliveries.{Delivery, delivery}
-use Rattle.partner_core.specs.Order.{state}
-use Rattle.partner_core.specs.Answers.{answer_of}
+use Rattle.partner_core.specs.Deliveries.{Delivery, delivery, first_text, is_used, run}
+use Rattle.partner_core.specs.Order.{state, reply_of}
+use Rattle.partner_core.specs.Answers.{answer_of, is_other, Taken, Repeat, Waiting, Clash}
+use Rattle.partner_core.proofs.Firsts.{none_of}
+use Rattle.partner_core.proofs.Unbroken.{beyond_run}
 use Rattle.terminal_core.specs.Changes.{rows_of}
 use Rattle.terminal_core.specs.Versions.{newest}
 use Rattle.terminal_core.specs.declared.change.Version.{Version}
@@ -22,32 +25,12 @@ use Rattle.office_rows.specs.Rows.{Rows}
 use Rattle.office_history.specs.After.{opening_of, behind, migration_in, taking_by, taking_in, machine_after, accounts_from, AreRowsOf, AreAfter}
 use Rattle.office_history.specs.Laws.{HasNoMigration, told_of}
 use Rattle.office_history.proofs.Places.{taking_unmigrated}
+use Rattle.office_history.proofs.Telling.{delivered_within}
 use Rattle.office_journal.specs.Kept.{kept_after, kept}
-use Rattle.office_journal.specs.Journal.{text_of, kept_texts, delivered_all, IsEntry}
-use Rattle.office_journal.specs.Rebuilding.{IsSameOffice, HasSameJournal, JournalDecides, Rebuilding, accounts_in, Follows, Following, texts_since, CopiesCatchUp}
-use Rattle.office_journal.proofs.Alike.{Alike, run-alike, alike-all, alike-self, alike-back, alike-trans, alike-kept, kept_alike, kept-append, kept_twice, decides_alike}
-use Rattle.office_journal.proofs.Entries.{all_entries, texts_on, fronts_were_journals}
-
--- ---- the texts are admitted again, as they were
-
-module _ (content : SetupContent) (es : List Event) where
-  abbrev now : SetupContent
-  now = content_after content es
-
-  again_from : (others : List Delivery) → AllByRecursion (IsEntry content es) others → deliveries_of now (delivered_all (map text_of others)) ≡ others
-  again_from [] entries = refl
-  again_from (d ∷ others) entries =
-      let later = deliveries_of now (delivered_all (map text_of others)) in
-      ap (λ s. with_delivery s (admission (parties_in now) s) later) entries.0.stripped
-      ∙ ap (λ f. with_delivery d.text f later) entries.0.admitted
-      ∙ ap (λ r. d ∷ r) (again_from others entries.1)
-
-  pub again : deliveries_of now (delivered_all (kept_texts content es)) ≡ kept (deliveries_of content es)
-  again = again_from (kept (deliveries_of content es)) (all_entries content es)
-
-pub delivered_content : (texts : List (List ℕ)) (content : SetupContent) → content_after content (delivered_all texts) ≡ content
-delivered_content [] content = refl
-delivered_content (text ∷ texts) content = delivered_content texts content
+use Rattle.office_journal.specs.Journal.{text_of, kept_texts, texts_since, delivered_all, accounts_in, IsEntry}
+use Rattle.office_journal.specs.Rebuilding.{IsSameOffice, HasSameJournal, JournalDecides, Rebuilding, EachIsNew, Follows, Following, CopiesCatchUp}
+use Rattle.office_journal.proofs.Alike.{Alike, run-alike, alike-all, alike-self, alike-back, alike-trans, alike-kept, kept_alike, kept-append, kept_twice, new_among, answered, decides_alike}
+use Rattle.office_journal.proofs.Entries.{all_entries, left_entries, right_entries, texts_on, fronts_were_journals, again_from, again, delivered_content, texts_again, accounts_content, accounts_deliver}
 
 -- the journal decides what is kept
 same_kept : (one other : SetupContent) (es fs : List Event) → HasSameJournal one es other fs → kept (deliveries_of one es) ≡ kept (deliveries_of other fs)
@@ -124,11 +107,6 @@ journal_decides one other es fs later none none' same =
 
 -- ---- rebuilding
 
--- a new office has the journal that was delivered to it
-texts_again : (content : SetupContent) (es : List Event) → kept_texts (content_after content es) (delivered_all (kept_texts content es)) ≡ kept_texts content es
-texts_again content es =
-    ap (λ ds. map text_of (kept ds)) (again content es) ∙ ap (map text_of) (kept_twice (deliveries_of content es))
-
 pub rebuilding : Rebuilding
 rebuilding content es later none =
     let now = content_after content es in
@@ -137,19 +115,26 @@ rebuilding content es later none =
     (again_none texts later (later_none es later none))
     (record { setup = sym (delivered_content texts now); texts = sym (texts_again content es) })
 
+-- ---- each text is new
+
+pub each_is_new : EachIsNew
+each_is_new content es before later d all =
+    let now = content_after content es in
+    let fs = delivered_all (map text_of before) in
+    let entries = subst (AllByRecursion (IsEntry content es)) all (all_entries content es) in
+    let this : IsEntry content es d = (right_entries content es before (d ∷ later) entries).0 in
+    let delivered_before : deliveries_of now fs ≡ before = again_from content es before (left_entries content es before (d ∷ later) entries) in
+    let free : first_text before d.partner d.number ≡ None =
+    none_of (first_text before d.partner d.number) (new_among before later d (ap kept (sym all) ∙ kept_twice (deliveries_of content es) ∙ all)) in
+    let within = delivered_within content es d.partner d.number d.text this.first in
+    let same : told_of now fs d.partner d.number d.text ≡ answer_of (taking_in newest now fs) (opening_of (content_after now fs)) before d =
+    λ i. answer_of (taking_in newest now fs) (opening_of (content_after now fs)) (delivered_before i) (delivery d.partner d.number (this.stripped i)) in
+    elim (answered (taking_in newest now fs) (opening_of (content_after now fs)) before d within.2 free) [
+      | inl taken ↦ inl (taken.0, same ∙ taken.1)
+      | inr waits ↦ inr (same ∙ waits)
+    ]
+
 -- ---- following
-
-accounts_content : (es : List Event) (content : SetupContent) → content_after content (accounts_in es) ≡ content_after content es
-accounts_content [] content = refl
-accounts_content (delivered text ∷ es) content = accounts_content es content
-accounts_content (migrated version ∷ es) content = accounts_content es content
-accounts_content (added code kind ∷ es) content = accounts_content es (content_with content (added code kind))
-
-accounts_deliver : (es : List Event) (content : SetupContent) → deliveries_of content (accounts_in es) ≡ []
-accounts_deliver [] content = refl
-accounts_deliver (delivered text ∷ es) content = accounts_deliver es content
-accounts_deliver (migrated version ∷ es) content = accounts_deliver es content
-accounts_deliver (added code kind ∷ es) content = accounts_deliver es (content_with content (added code kind))
 
 accounts_none : (es : List Event) → migration_in (accounts_in es) ≡ None
 accounts_none [] = refl
@@ -224,10 +209,6 @@ first_stays (added code kind ∷ earlier) later none = ap (behind (added code ki
 rules_stay : (content : SetupContent) (earlier later : List Event) → migration_in later ≡ None → taking_in newest content (earlier ++ later) ≡ taking_in newest content earlier
 unfolding taking_in
 rules_stay content earlier later none = ap (taking_by newest content) (first_stays earlier later none)
-
-right_entries : (content : SetupContent) (es : List Event) (left right : List Delivery) → AllByRecursion (IsEntry content es) (left ++ right) → AllByRecursion (IsEntry content es) right
-right_entries content es [] right all = all
-right_entries content es (d ∷ left) right all = right_entries content es left right all.1
 
 module _ (content : SetupContent) (earlier since : List Event) where
   abbrev at_copy : SetupContent

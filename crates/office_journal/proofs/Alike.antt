@@ -1,16 +1,17 @@
 -- Lists of deliveries with the same texts kept and the same order come to the same.
-use Rattle.std.proofs.Common.{◌≡◌, ℕ, ◌+◌, List, [], ◌∷◌, ◌++◌, length, ◌≤◌, arith, Bool, true, false, cond, Option, None, Some, is_some, refl, sym, ap, subst, ◌∙◌, append_assoc}
+use Rattle.std.proofs.Common.{◌≡◌, ◌⊎◌, inl, inr, ℕ, suc, ◌+◌, List, [], ◌∷◌, ◌++◌, length, ◌≤◌, arith, Bool, true, false, cond, Option, None, Some, is_some, refl, sym, ap, subst, ◌∙◌, append_assoc}
 use Rattle.std.specs.Prelude.{nat_le, if◌then◌else◌}
+use Rattle.std.proofs.lemmas.Bool.{cases_Bool, cond-true, cond-false, lt-leb, false_from_ne_true}
 use Rattle.std.specs.Option.{option_or, unwrap_or}
 use Rattle.std.specs.List.{AllByRecursion}
-use Rattle.std.proofs.lemmas.List.{append-nil}
+use Rattle.std.proofs.lemmas.List.{append-nil, length-append}
 use Rattle.std.proofs.lemmas.List.Elements.{All-from_recursion}
 use Rattle.partner_core.specs.Machine.{Taking}
 use Rattle.partner_core.specs.Deliveries.{Delivery, first_text, is_under, is_used, run}
 use Rattle.partner_core.specs.Order.{numbers_between, made_next, order, text_under, state_after, reply_among, state, reply_of}
 use Rattle.partner_core.specs.Answers.{answer_of, is_other, Taken, Repeat, Waiting, Clash}
 use Rattle.partner_core.specs.Growth.{ComesToSame}
-use Rattle.partner_core.proofs.Unbroken.{used_within_run, free_after_run, run_is}
+use Rattle.partner_core.proofs.Unbroken.{used_within_run, free_after_run, beyond_run, run_is}
 use Rattle.partner_core.proofs.Orders.{order-append}
 use Rattle.partner_core.proofs.Firsts.{first-new, none_of}
 use Rattle.partner_core.proofs.Growths.{adds_nothing, under_self}
@@ -186,6 +187,30 @@ pub kept_twice : (ds : List Delivery) → kept (kept ds) ≡ kept ds
 unfolding kept
 kept_twice ds = kept_again [] [] ds (alike-self [])
 
+-- ---- no number twice
+
+kept_shorter : (before ds : List Delivery) → length (kept_after before ds) ≤ length ds
+kept_shorter before [] = omega arith
+kept_shorter before (d ∷ ds) = on (is_used before d.partner d.number) (kept_shorter (before ++ d ∷ []) ds)
+  where
+    on : (b : Bool) → length (kept_after (before ++ d ∷ []) ds) ≤ length ds → length (cond b (kept_after (before ++ d ∷ []) ds) (d ∷ kept_after (before ++ d ∷ []) ds)) ≤ suc (length ds)
+    on true h = omega arith
+    on false h = omega arith
+
+-- no number stands twice among what is kept
+pub new_among : (before later : List Delivery) (d : Delivery) → kept (before ++ d ∷ later) ≡ before ++ d ∷ later → is_used before d.partner d.number ≡ false
+unfolding kept
+new_among before later d all = false_from_ne_true (is_used before d.partner d.number) (λ used.
+    let left = kept_after (before ++ d ∷ []) later in
+    let passed : kept_after before (d ∷ later) ≡ left = ap (λ b. cond b left (d ∷ left)) used in
+    let parts : kept_after [] before ++ left ≡ before ++ d ∷ later = ap (λ l. kept_after [] before ++ l) (sym passed) ∙ sym (kept_after-append [] before (d ∷ later)) ∙ all in
+    let low = kept_shorter [] before in
+    let short = kept_shorter (before ++ d ∷ []) later in
+    let one : length (kept_after [] before ++ left) ≡ length (kept_after [] before) + length left = length-append (kept_after [] before) left in
+    let two : length (before ++ d ∷ later) ≡ length before + suc (length later) = length-append before (d ∷ later) in
+    let same : length (kept_after [] before ++ left) ≡ length (before ++ d ∷ later) = ap length parts in
+    omega arith)
+
 -- ---- each is the first under its number
 
 first-here : (before ds : List Delivery) (d : Delivery) → is_used before d.partner d.number ≡ false → first_text (before ++ d ∷ ds) d.partner d.number ≡ Some d.text
@@ -211,3 +236,21 @@ firsts_are_kept ds = firsts-after [] ds
 
 pub kept_are_first : KeptAreFirst
 kept_are_first ds = All-from_recursion (IsFirst ds) (kept ds) (firsts_are_kept ds)
+
+-- ---- the answer to what is new
+
+module _ {S : Type 0} (taken : Taking S) (opening : S) where
+  pub answered : (before : List Delivery) (d : Delivery) → 1 ≤ d.number → first_text before d.partner d.number ≡ None
+      → ((reply : Option (List ℕ)) × (answer_of taken opening before d ≡ Taken reply)) ⊎ (answer_of taken opening before d ≡ Waiting (run before d.partner + 1))
+  unfolding answer_of
+  answered before d low free =
+      let beyond : run before d.partner + 1 ≤ d.number = beyond_run before d.partner d.number low free in
+      let not_yet : nat_le d.number (run before d.partner) ≡ false = lt-leb d.number (run before d.partner) (omega arith) in
+      let reply = reply_of taken opening (before ++ d ∷ []) d.partner d.number in
+      let told : answer_of taken opening before d ≡ cond (nat_le d.number (run (before ++ d ∷ []) d.partner)) (Taken reply) (Waiting (run before d.partner + 1)) =
+      (λ i. cond (is_other (free i) d.text) Clash
+      (cond (not_yet i) (Repeat (reply_of taken opening before d.partner d.number)) (cond (nat_le d.number (run (before ++ d ∷ []) d.partner)) (Taken reply) (Waiting (run before d.partner + 1))))) in
+      elim (cases_Bool (nat_le d.number (run (before ++ d ∷ []) d.partner))) [
+        | inl reached ↦ inl (reply, told ∙ cond-true _ (Taken reply) (Waiting (run before d.partner + 1)) reached)
+        | inr waits ↦ inr (told ∙ cond-false _ (Taken reply) (Waiting (run before d.partner + 1)) waits)
+      ]

@@ -19,8 +19,8 @@ use Rattle.office_admission.specs.Admission.{admission}
 use Rattle.office_admission.specs.Deliveries.{with_delivery, deliveries_of}
 use Rattle.office_admission.proofs.Adding.{deliveries_on, account_adds, migration_adds, first_admitted}
 use Rattle.office_journal.specs.Kept.{kept, kept_after, IsFirst}
-use Rattle.office_journal.specs.Journal.{text_of, kept_texts, delivered_all, IsEntry, KeptTextsAreEntries, JournalGrows, WasJournal, FrontsWereJournals}
-use Rattle.office_journal.proofs.Alike.{kept-append, kept_adds, kept_one, firsts_are_kept}
+use Rattle.office_journal.specs.Journal.{text_of, kept_texts, delivered_all, accounts_in, IsEntry, KeptTextsAreEntries, JournalGrows, WasJournal, FrontsWereJournals}
+use Rattle.office_journal.proofs.Alike.{kept-append, kept_adds, kept_one, kept_twice, firsts_are_kept}
 
 at_end_none : (b : ℕ) (bytes : List ℕ) → list_all is_break (b ∷ bytes) ≡ true → without_breaks_at_end (b ∷ bytes) ≡ []
 at_end_none b bytes e = cond-true (list_all is_break (b ∷ bytes)) [] (b ∷ without_breaks_at_end bytes) e
@@ -151,7 +151,7 @@ journal_grows = record {
 
 module _ (content : SetupContent) where
   -- what later events add
-  added_by : List Event → List Event → List (List ℕ)
+  abbrev pub added_by : List Event → List Event → List (List ℕ)
   added_by earlier later = map text_of (kept_after (deliveries_of content earlier) (deliveries_of (content_after content earlier) later))
 
   pub texts_on : (earlier later : List Event) → kept_texts content (earlier ++ later) ≡ kept_texts content earlier ++ added_by earlier later
@@ -207,3 +207,51 @@ module _ (content : SetupContent) where
 pub fronts_were_journals : FrontsWereJournals
 unfolding kept
 fronts_were_journals content es count high = front_at content count [] es (omega arith) high
+
+-- ---- delivered again
+
+pub right_entries : (content : SetupContent) (es : List Event) (left right : List Delivery) → AllByRecursion (IsEntry content es) (left ++ right) → AllByRecursion (IsEntry content es) right
+right_entries content es [] right all = all
+right_entries content es (d ∷ left) right all = right_entries content es left right all.1
+
+pub left_entries : (content : SetupContent) (es : List Event) (left right : List Delivery) → AllByRecursion (IsEntry content es) (left ++ right) → AllByRecursion (IsEntry content es) left
+left_entries content es [] right all = tt
+left_entries content es (d ∷ left) right all = (all.0, left_entries content es left right all.1)
+
+module _ (content : SetupContent) (es : List Event) where
+  abbrev pub now : SetupContent
+  now = content_after content es
+
+  pub again_from : (others : List Delivery) → AllByRecursion (IsEntry content es) others → deliveries_of now (delivered_all (map text_of others)) ≡ others
+  again_from [] entries = refl
+  again_from (d ∷ others) entries =
+      let later = deliveries_of now (delivered_all (map text_of others)) in
+      ap (λ s. with_delivery s (admission (parties_in now) s) later) entries.0.stripped
+      ∙ ap (λ f. with_delivery d.text f later) entries.0.admitted
+      ∙ ap (λ r. d ∷ r) (again_from others entries.1)
+
+  pub again : deliveries_of now (delivered_all (kept_texts content es)) ≡ kept (deliveries_of content es)
+  again = again_from (kept (deliveries_of content es)) (all_entries content es)
+
+pub delivered_content : (texts : List (List ℕ)) (content : SetupContent) → content_after content (delivered_all texts) ≡ content
+delivered_content [] content = refl
+delivered_content (text ∷ texts) content = delivered_content texts content
+
+-- a new office has the journal that was delivered to it
+pub texts_again : (content : SetupContent) (es : List Event) → kept_texts (content_after content es) (delivered_all (kept_texts content es)) ≡ kept_texts content es
+texts_again content es =
+    ap (λ ds. map text_of (kept ds)) (again content es) ∙ ap (map text_of) (kept_twice (deliveries_of content es))
+
+-- ---- accounts
+
+pub accounts_content : (es : List Event) (content : SetupContent) → content_after content (accounts_in es) ≡ content_after content es
+accounts_content [] content = refl
+accounts_content (delivered text ∷ es) content = accounts_content es content
+accounts_content (migrated version ∷ es) content = accounts_content es content
+accounts_content (added code kind ∷ es) content = accounts_content es (content_with content (added code kind))
+
+pub accounts_deliver : (es : List Event) (content : SetupContent) → deliveries_of content (accounts_in es) ≡ []
+accounts_deliver [] content = refl
+accounts_deliver (delivered text ∷ es) content = accounts_deliver es content
+accounts_deliver (migrated version ∷ es) content = accounts_deliver es content
+accounts_deliver (added code kind ∷ es) content = accounts_deliver es (content_with content (added code kind))

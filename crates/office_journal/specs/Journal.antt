@@ -1,5 +1,5 @@
 -- The journal: the texts that an office keeps, in the order of arrival.
-use Rattle.std.specs.Prelude.{◌≡◌, ℕ, List, [], ◌∷◌, ◌++◌, All, map, length, take, ◌≤◌, Ok, Err, if◌then◌else◌}
+use Rattle.std.specs.Prelude.{◌≡◌, ℕ, List, [], ◌∷◌, ◌++◌, All, map, length, take, drop, ◌≤◌, Ok, Err, if◌then◌else◌}
 use Rattle.edi_segments.specs.Interchange.{interchange_of}
 use Rattle.partner_core.specs.Deliveries.{Delivery, is_used}
 use Rattle.terminal_core.specs.declared.change.Version.{Version}
@@ -18,9 +18,21 @@ text_of d = d.text
 abbrev pub kept_texts : SetupContent → List Event → List (List ℕ)
 kept_texts content es = map text_of (kept (deliveries_of content es))
 
+-- what the journal got by later events
+abbrev pub texts_since : SetupContent → List Event → List Event → List (List ℕ)
+texts_since content earlier since =
+    drop (length (kept_texts content earlier)) (kept_texts content (earlier ++ since))
+
 -- the deliveries of these texts, in this order
 abbrev pub delivered_all : List (List ℕ) → List Event
 delivered_all texts = map delivered texts
+
+-- the accounts that events add, without anything that was delivered
+abbrev pub accounts_in : List Event → List Event
+accounts_in [] = []
+accounts_in (delivered text ∷ es) = accounts_in es
+accounts_in (migrated version ∷ es) = accounts_in es
+accounts_in (added code kind ∷ es) = added code kind ∷ accounts_in es
 
 -- ---- the laws
 

@@ -1,12 +1,16 @@
 -- An office that is made again, or followed, by its journal.
-use Rattle.std.specs.Prelude.{◌≡◌, ℕ, ◌≤◌, List, [], ◌∷◌, ◌++◌, length, take, drop}
-use Rattle.office_replies.specs.Events.{Event, delivered, migrated, added}
+use Rattle.std.specs.Prelude.{◌≡◌, ◌⊎◌, ℕ, ◌+◌, ◌≤◌, Option, map, List, [], ◌∷◌, ◌++◌, length, take}
+use Rattle.partner_core.specs.Answers.{Told, Taken, Waiting}
+use Rattle.partner_core.specs.Deliveries.{Delivery, run}
+use Rattle.office_replies.specs.Events.{Event}
 use Rattle.office_setup.specs.Setups.{SetupContent}
 use Rattle.office_admission.specs.Accounts.{content_after}
+use Rattle.office_admission.specs.Deliveries.{deliveries_of}
 use Rattle.office_rows.specs.Rows.{Rows}
 use Rattle.office_history.specs.After.{machine_after, AreAfter}
 use Rattle.office_history.specs.Laws.{HasNoMigration, told_of}
-use Rattle.office_journal.specs.Journal.{kept_texts, delivered_all}
+use Rattle.office_journal.specs.Kept.{kept}
+use Rattle.office_journal.specs.Journal.{text_of, kept_texts, texts_since, delivered_all, accounts_in}
 
 -- Two offices, each of a set-up and events: the same rows, machine and answers.
 pub record IsSameOffice (one : SetupContent) (es : List Event) (other : SetupContent) (fs : List Event) : Type 0 where
@@ -35,12 +39,19 @@ Rebuilding =
     (content : SetupContent) (es later : List Event) → HasNoMigration (es ++ later)
     → IsSameOffice content (es ++ later) (content_after content es) (delivered_all (kept_texts content es) ++ later)
 
--- the accounts that events add, without anything that was delivered
-abbrev pub accounts_in : List Event → List Event
-accounts_in [] = []
-accounts_in (delivered text ∷ es) = accounts_in es
-accounts_in (migrated version ∷ es) = accounts_in es
-accounts_in (added code kind ∷ es) = added code kind ∷ accounts_in es
+-- how the text of a delivery is answered by an office with the accounts so far, to which the texts of those before it
+-- were delivered
+abbrev pub told_after : SetupContent → List Event → List Delivery → Delivery → Told
+told_after content es before d =
+    told_of (content_after content es) (delivered_all (map text_of before)) d.partner d.number d.text
+
+-- each text of the journal is taken or waits: none is a repeat or a clash
+abbrev pub EachIsNew : Type 0
+EachIsNew =
+    (content : SetupContent) (es : List Event) (before later : List Delivery) (d : Delivery) →
+    kept (deliveries_of content es) ≡ before ++ d ∷ later
+    → ((reply : Option (List ℕ)) × (told_after content es before d ≡ Taken reply))
+    ⊎ (told_after content es before d ≡ Waiting (run before d.partner + 1))
 
 -- An office that has the accounts so far, and to which only these first texts of the journal were delivered, is the
 -- first one as it was after some of its events, with the accounts so far. So it goes on as that one would.
@@ -56,11 +67,6 @@ abbrev pub Following : Type 0
 Following =
     (content : SetupContent) (es : List Event) (count : ℕ) → HasNoMigration es → count ≤ length (kept_texts content es)
     → Follows content es (take count (kept_texts content es))
-
--- what the journal got by later events
-abbrev pub texts_since : SetupContent → List Event → List Event → List (List ℕ)
-texts_since content earlier since =
-    drop (length (kept_texts content earlier)) (kept_texts content (earlier ++ since))
 
 -- A copy of an office, made after some of its events, gets the accounts and the texts that came since: then it is the
 -- same office as the first. The events before the copy may have a migration.

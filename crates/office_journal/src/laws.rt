@@ -4,7 +4,7 @@
 ghost use Rattle.partner_core.specs.Machine.{Taking};
 ghost use Rattle.office_journal.specs.Kept.{KeptAdds, KeptAreFirst, KeptDecides};
 ghost use Rattle.office_journal.specs.Journal.{KeptTextsAreEntries, JournalGrows, FrontsWereJournals};
-ghost use Rattle.office_journal.specs.Rebuilding.{JournalDecides, Rebuilding, Following, CopiesCatchUp};
+ghost use Rattle.office_journal.specs.Rebuilding.{JournalDecides, Rebuilding, EachIsNew, Following, CopiesCatchUp};
 ghost use Rattle.office_journal.specs.InOrder.{BodiesAreJournal, StoredIsJournal, OpeningIsInOrder, RefusedStaysInOrder, UsedStaysInOrder};
 ghost use Rattle.office_journal.specs.InOrder.{EarlyAddsInOrder, NextAddsInOrder, AccountStaysInOrder, MigrationStaysInOrder};
 ghost use Rattle.office_journal.specs.TextPages.{TextsHaveOnePage};
@@ -54,6 +54,11 @@ pub fn journal_decides()
 /// office, now and after whatever comes later.
 pub fn rebuilding()
     ensures { Rebuilding }
+{}
+
+/// To an office with the accounts so far each text of the journal is new, in this order: it is taken or waits.
+pub fn each_is_new()
+    ensures { EachIsNew }
 {}
 
 /// An office that has the accounts so far and the first texts of the journal is the first office as it was at some
