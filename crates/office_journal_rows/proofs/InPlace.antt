@@ -1,5 +1,5 @@
 -- What each statement that writes interchanges makes of their order.
-use Rattle.std.proofs.Common.{◌≡◌, ◌≢◌, inl, inr, ℕ, suc, ◌+◌, ◌<◌, pos, List, [], ◌∷◌, ◌++◌, length, map, filter, drop, Bool, true, false, ◌&&◌, cond, Ok, refl, sym, ap, ap₂, subst, ◌∙◌, arith, Less, IsPermutation, IsTrue}
+use Rattle.std.proofs.Common.{◌≡◌, inl, inr, ℕ, ◌+◌, ◌<◌, pos, List, [], ◌∷◌, ◌++◌, length, map, filter, drop, Bool, true, false, ◌&&◌, cond, Ok, refl, sym, ap, ap₂, subst, ◌∙◌, arith, Less, IsPermutation, IsTrue}
 use Rattle.std.specs.List.{AllByRecursion}
 use Rattle.std.proofs.lemmas.Bool.{cases_Bool}
 use Rattle.std.proofs.lemmas.List.{map-append}
@@ -23,7 +23,7 @@ use Rattle.sqlite_trees.proofs.ListLemmas.{map-map}
 use Rattle.sqlite_rules.specs.Cast.{cast, cast_row}
 use Rattle.sqlite_rules.specs.Calls.{ids_of}
 use Rattle.sqlite_rules.specs.declared.error.Rowids.TheVariants.{Chosen, Given}
-use Rattle.sqlite_rules.specs.Edit.{Edit, edit_of, Applies, numbered, with_rowid, without_all, put_all, id_in}
+use Rattle.sqlite_rules.specs.Edit.{edit_of, Applies, numbered, without_all, put_all, id_in}
 use Rattle.office_rows.specs.Tables.{interchange, office_schema}
 use Rattle.office_rows.specs.Rows.{Interchange, Rows}
 use Rattle.office_rows.specs.Values.{number, interchange_values}
@@ -112,8 +112,7 @@ module _ {A : Type 0} (table : Table) (values : A → Row) (records : List A) (o
       let same_news : IsPermutation (map up (filter p before)) news = subst (λ l. IsPermutation l news) (map-map _ _ (filter p before)) (IsPermutation-map (λ s. cast_row table (drop 1 s)) _ _ finds) in
       let numbers = given_numbered (without_all before gone) news in
       let rows : new table.tree ≡ put_all (without_all before gone) news = rw numbers at it.rows in
-      let rises = put_all_shaped news (without_all before gone) (rw numbers at it.keyed) (without_all_shaped gone before shaped) in
-      (
+      let rises = put_all_shaped news (without_all before gone) (rw numbers at it.keyed) (without_all_shaped gone before shaped) in (
         subst (IsPermutation (map replaced before)) (sym rows) (updated p before shaped up gone news same_ids same_news (rw numbers at it.fresh)),
         subst IsTable (sym rows) rises.0,
       )

@@ -1,5 +1,5 @@
 -- How a table has its records in the order in which they were inserted.
-use Rattle.std.specs.Prelude.{◌≡◌, ◌≢◌, ℕ, Bool, ◌&&◌, List, [], ◌∷◌, ◌++◌, map, filter, if◌then◌else◌}
+use Rattle.std.specs.Prelude.{◌≡◌, ◌≢◌, ℕ, Bool, ◌&&◌, List, [], ◌∷◌, ◌++◌, map, filter}
 use Rattle.std.specs.List.Sorted.{IsPermutation}
 use Rattle.sqlite.specs.Collation.TheVariants.{Binary}
 use Rattle.sqlite.specs.declared.types.Value.TheVariants.{Null, Text}
@@ -16,7 +16,7 @@ use Rattle.sqlite_rules.specs.Edit.{Edit, edit_of, Applies}
 use Rattle.office_rows.specs.Tables.{interchange, office_schema}
 use Rattle.office_rows.specs.Rows.{Interchange, Rows}
 use Rattle.office_rows.specs.Values.{number, interchange_values}
-use Rattle.office_rows.specs.Effects.{is_pair, with_reply}
+use Rattle.office_rows.specs.Effects.{with_reply}
 use Rattle.office_rows.specs.Stored.{columns_of}
 use Rattle.office_journal_rows.specs.Places.{ArePlaced}
 
