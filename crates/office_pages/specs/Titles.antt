@@ -1,9 +1,8 @@
 -- What pages are called.
-use Rattle.std.specs.Prelude.{ℕ, List, [], ◌∷◌, codes, decimal, string_bytes}
+use Rattle.std.specs.Prelude.{ℕ, List, ◌++◌, codes, decimal, string_bytes}
 use Rattle.edi_messages.specs.declared.call.Call.{Call}
 use Rattle.terminal_core.specs.declared.lines.Side.{Side}
 use Rattle.terminal_core.specs.declared.lines.Side.TheVariants.{Load, Discharge}
-use Rattle.office_picture.specs.Fields.{joined}
 use Rattle.office_queries.specs.declared.query.Query.{Query}
 use Rattle.office_queries.specs.declared.query.Query.TheVariants as query
 use Rattle.office_pages.specs.declared.notices.Notice.{Notice}
@@ -19,15 +18,15 @@ work_title Discharge = codes "Discharge work of "
 
 -- WHAT VESSEL VOYAGE
 abbrev pub call_title : List ℕ → Call → List ℕ
-call_title what call = joined (what ∷ string_bytes call.vessel ∷ codes " " ∷ string_bytes call.voyage ∷ [])
+call_title what call = what ++ string_bytes call.vessel ++ codes " " ++ string_bytes call.voyage
 
 -- WHAT PARTNER NUMBER
 abbrev pub interchange_title : List ℕ → List ℕ → ℕ → List ℕ
-interchange_title what partner number = joined (what ∷ partner ∷ codes " " ∷ decimal number ∷ [])
+interchange_title what partner number = what ++ partner ++ codes " " ++ decimal number
 
 -- WHAT NAME
 abbrev pub name_title : List ℕ → List ℕ → List ℕ
-name_title what name = joined (what ∷ name ∷ [])
+name_title what name = what ++ name
 
 abbrev pub title : Query → List ℕ
 title query.Yard = codes "Yard"

@@ -5,6 +5,7 @@ mod addresses;
 mod beside;
 mod body;
 mod fixed;
+pub mod laws;
 mod links;
 mod notices;
 mod pages;

@@ -1,6 +1,5 @@
 //! What pages are called.
-ghost use Rattle.std.specs.Prelude.{◌≡◌, map, IfOk};
-ghost use Rattle.office_picture.specs.Fields.{joined};
+ghost use Rattle.std.specs.Prelude.{◌≡◌, IfOk};
 ghost use Rattle.office_pages.specs.Titles.{call_title, interchange_title, list_title, name_title, notice_title, title, work_title};
 
 use crate::notices::Notice;
@@ -72,10 +71,10 @@ fn work_title(side: Side) -> &'static str
 fn call_title(alloc: Global, what: &str, call: &Call) -> Result<Vec<u8>, AllocError>
     ensures { IfOk result (λ bytes. bytes.items ≡ call_title what.now call.now) }
 {
-    joined(
-        alloc,
-        &[what.as_bytes(), call.vessel.as_bytes(), b" ".as_slice(), call.voyage.as_bytes()],
-    )
+    let mut bytes = name_title(alloc, what, call.vessel.as_bytes())?;
+    bytes.push(b' ')?;
+    bytes.extend_from_slice(call.voyage.as_bytes())?;
+    Ok(bytes)
 }
 
 fn interchange_title(
@@ -87,25 +86,16 @@ fn interchange_title(
     ensures { IfOk result (λ bytes. bytes.items ≡ interchange_title what.now partner.now number) }
 {
     let number = number.to_string(alloc)?;
-    joined(
-        alloc,
-        &[what.as_bytes(), partner.as_bytes(), b" ".as_slice(), number.as_bytes()],
-    )
+    let mut bytes = name_title(alloc, what, partner.as_bytes())?;
+    bytes.push(b' ')?;
+    bytes.extend_from_slice(number.as_bytes())?;
+    Ok(bytes)
 }
 
 fn name_title(alloc: Global, what: &str, name: &[u8]) -> Result<Vec<u8>, AllocError>
     ensures { IfOk result (λ bytes. bytes.items ≡ name_title what.now name.now) }
 {
-    joined(alloc, &[what.as_bytes(), name])
-}
-
-/// These pieces, one after the other.
-fn joined(alloc: Global, pieces: &[&[u8]]) -> Result<Vec<u8>, AllocError>
-    ensures { IfOk result (λ bytes. bytes.items ≡ joined (map (λ piece. piece.now) pieces.now)) }
-{
-    let mut bytes = Vec::new(alloc);
-    for piece in pieces {
-        bytes.extend_from_slice(piece)?;
-    }
+    let mut bytes = Vec::from_slice(alloc, what.as_bytes())?;
+    bytes.extend_from_slice(name)?;
     Ok(bytes)
 }
