@@ -65,8 +65,9 @@ fn corrected(text: &[u8]) -> Result<BoxNumber, Notice>
     let Some(digit) = check_digit(front) else {
         return Err(Notice::Form);
     };
-    let mut number = [b'0' + digit; 11];
-    number[..10].copy_from_slice(front);
+    let mut number = [0; 11];
+    number.copy_from_slice(text);
+    number[10] = b'0' + digit;
     match BoxNumber::parse(&number) {
         Ok(number) => Err(Notice::CheckDigit(number)),
         Err(_) => Err(Notice::Form),
