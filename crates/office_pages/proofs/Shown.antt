@@ -1,6 +1,6 @@
 -- What a browser makes of the parts of a report.
-use Rattle.std.proofs.Common.{◌≡◌, ℕ, zero, suc, ◌+◌, ◌==◌, Bool, true, false, ◌&&◌, List, [], ◌∷◌, ◌++◌, codes, length, get_or, refl, sym, ap, subst, ◌∙◌, inl, inr, flat_map, append_assoc, Option, None, Some, arith}
-use Rattle.std.specs.List.{list_all, range_with_len, join_by, join_with_byte, slice_split}
+use Rattle.std.proofs.Common.{◌≡◌, ℕ, zero, suc, ◌+◌, ◌==◌, true, false, ◌&&◌, List, [], ◌∷◌, ◌++◌, codes, length, get_or, refl, sym, ap, subst, ◌∙◌, inl, inr, flat_map, append_assoc, Option, None, Some, arith}
+use Rattle.std.specs.List.{list_all, range_with_len, join_by, join_with_byte}
 use Rattle.std.specs.Prelude.{if◌then◌else◌}
 use Rattle.std.proofs.lemmas.Bool.{cases_Bool, and_parts, false≢true, ne_eqb}
 use Rattle.std.proofs.lemmas.List.{append-nil}
@@ -11,7 +11,7 @@ use Rattle.office_picture.proofs.Markup.{is_quiet, quiet_stays, quiet_has_none, 
 use Rattle.office_queries.specs.declared.query.Query.{Query}
 use Rattle.office_pages.specs.Laws.{between_tags, line_tags, link_tags}
 use Rattle.office_pages.specs.Links.{link_at}
-use Rattle.office_pages.specs.Pages.{body_bytes, gap, line_view, link, linked, word_view, words_view}
+use Rattle.office_pages.specs.Pages.{body_bytes, gap, line_view, link, linked, word_view}
 use Rattle.office_pages.specs.Words.{lines, word_at, words}
 
 -- ---- parts one after the other
@@ -190,7 +190,7 @@ rest_shown ws (w ∷ rest) k same =
     let gapped : gap (suc k) ≡ codes " " = ap (λ b. if b then [] else codes " ") (ne_eqb (suc k) 0 (λ (e : suc k ≡ 0). omega (arith, e))) in
     let next : suc k + 1 ≡ suc (suc k) = omega arith in
     let others : (i : ℕ) → get_or ws (suc (suc k) + i) [] ≡ get_or rest i [] =
-        λ i. (let moved : suc (suc k) + i ≡ suc k + suc i = omega arith in ap (λ n. get_or ws n []) moved ∙ same (suc i)) in
+    λ i. (let moved : suc (suc k) + i ≡ suc k + suc i = omega arith in ap (λ n. get_or ws n []) moved ∙ same (suc i)) in
     (λ j. (gapped j ++ here j) ++ flat_map (λ place. gap place ++ word_at ws place) (range_with_len (next j) (length rest)))
     ∙ ap (λ t. (32 ∷ w) ++ t) (rest_shown ws rest (suc k) others)
 
@@ -198,7 +198,7 @@ words_shown : (ws : List (List ℕ)) → flat_map (λ place. gap place ++ word_a
 words_shown [] = refl
 words_shown (w ∷ rest) =
     let same : (i : ℕ) → get_or (w ∷ rest) (suc 0 + i) [] ≡ get_or rest i [] =
-        λ i. (let moved : suc 0 + i ≡ suc i = omega arith in ap (λ n. get_or (w ∷ rest) n []) moved) in
+    λ i. (let moved : suc 0 + i ≡ suc i = omega arith in ap (λ n. get_or (w ∷ rest) n []) moved) in
     ap (λ t. w ++ t) (rest_shown (w ∷ rest) rest 0 same) ∙ rest_joined 32 w rest
 
 line_part : (asked : Query) (line : List ℕ) → Part (line_view asked line) line (line_tags asked line)

@@ -1,5 +1,5 @@
 -- The lines of a text.
-use Rattle.std.proofs.Common.{◌≡◌, ◌≢◌, ℕ, ◌<◌, ◌==◌, false, List, [], ◌∷◌, ◌++◌, length, get_or, inl, inr, refl, sym, ap, ◌∙◌, append_assoc, codes, Option, None, Some}
+use Rattle.std.proofs.Common.{◌≡◌, ◌≢◌, ℕ, ◌<◌, ◌==◌, false, List, [], ◌∷◌, ◌++◌, length, get_or, inl, inr, refl, sym, ap, ◌∙◌, append_assoc, codes}
 use Rattle.std.specs.List.{join_by, onto_first, flat_map}
 use Rattle.std.proofs.lemmas.Bool.{ne_eqb, cases_Bool}
 use Rattle.std.proofs.lemmas.List.{append-nil}
@@ -19,11 +19,6 @@ one_line_of text none = slice_split_none (λ b. b == 10) text (All-from_get_or (
 pub lines_of : (text first others : List ℕ) → text ≡ first ++ 10 ∷ others → HasNoBreak first → lines text ≡ first ∷ lines others
 lines_of text first others is none =
     ap lines is ∙ slice_split_at (λ b. b == 10) first 10 others (All-from_get_or (λ b. (b == 10) ≡ false) first 0 (λ i within. ne_eqb (get_or first i 0) 10 (none i within))) refl
-
--- what is not some thing is none
-pub none_of : {X : Type 0} (r : Option X) → ((x : X) → r ≡ Some x → ⊥) → r ≡ None
-none_of None none = refl
-none_of (Some x) none = absurd (none x refl)
 
 -- a text has a line
 onto_some : (x : ℕ) (ps : List (List ℕ)) → onto_first x ps ≡ [] → ⊥

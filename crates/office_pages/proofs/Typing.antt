@@ -1,9 +1,9 @@
 -- Numbers with another check digit.
-use Rattle.std.proofs.Common.{◌≡◌, ℕ, ◌+◌, ◌==◌, Bool, true, false, ◌&&◌, List, length, take, get_or, refl, sym, ap, ◌∙◌, inl, inr, Option, Some, None, Ok, Err, if◌then◌else◌}
+use Rattle.std.proofs.Common.{◌≡◌, ℕ, ◌==◌, true, ◌&&◌, List, length, take, get_or, ap, ◌∙◌, inl, inr, Option, Some, None, Err, if◌then◌else◌}
 use Rattle.std.specs.Char.{is_ascii_digit}
 use Rattle.std.proofs.lemmas.Bool.{and_parts, cases_Bool}
 use Rattle.box6346.specs.ContainerNumber.{number_of}
-use Rattle.box6346.specs.NumberText.{check_digit_of, has_form, is_checked, names_container}
+use Rattle.box6346.specs.NumberText.{check_digit_of, has_form, names_container}
 use Rattle.box6346.specs.declared.box_number.NumberFault.TheVariants as fault
 
 -- a text with another check digit has the form of a number
