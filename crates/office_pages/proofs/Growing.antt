@@ -1,5 +1,6 @@
 -- Texts that grow by parts.
 use Rattle.std.proofs.Common.{◌≡◌, ℕ, zero, suc, ◌+◌, List, ◌++◌, flat_map, sym, ap, ◌∙◌, append_assoc, arith}
+use Rattle.std.specs.Prelude.{Result, Ok, Err, OnOk, is_ok, if◌then◌else◌}
 use Rattle.std.specs.List.{range_with_len}
 use Rattle.std.proofs.lemmas.List.{append-nil}
 
@@ -14,6 +15,11 @@ three front a b d one two now e f g = onto front (a ++ b) d two now (onto front 
 -- one part more, of a text from its first byte
 pub behind : (before part text now : List ℕ) → text ≡ before → now ≡ text ++ part → now ≡ before ++ part
 behind before part text now e is = is ∙ ap (λ t. t ++ part) e
+
+-- one part more, if there was memory
+pub if_pushed : {A E : Type 0} (r : Result A E) (text pushed before : List ℕ) → text ≡ (if is_ok r then pushed else before) → OnOk r (text ≡ pushed)
+if_pushed (Ok v) text pushed before e = e
+if_pushed (Err f) text pushed before e = tt
 
 -- counted parts
 module _ (f : ℕ → List ℕ) where

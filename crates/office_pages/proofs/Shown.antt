@@ -1,7 +1,8 @@
 -- What a browser makes of the parts of a report.
-use Rattle.std.proofs.Common.{◌≡◌, ℕ, zero, suc, ◌+◌, ◌==◌, Bool, true, false, ◌&&◌, List, [], ◌∷◌, ◌++◌, codes, length, get_or, refl, sym, ap, subst, ◌∙◌, inl, inr, flat_map, append_assoc, Option, None, Some, arith}
-use Rattle.std.specs.List.{list_all, range_with_len, join_by, join_with_byte, slice_split}
-use Rattle.std.proofs.lemmas.Bool.{cases_Bool, and_parts, false≢true}
+use Rattle.std.proofs.Common.{◌≡◌, ℕ, zero, suc, ◌+◌, ◌==◌, true, false, ◌&&◌, List, [], ◌∷◌, ◌++◌, codes, length, get_or, refl, sym, ap, subst, ◌∙◌, inl, inr, flat_map, append_assoc, Option, None, Some, arith}
+use Rattle.std.specs.List.{list_all, range_with_len, join_by, join_with_byte}
+use Rattle.std.specs.Prelude.{if◌then◌else◌}
+use Rattle.std.proofs.lemmas.Bool.{cases_Bool, and_parts, false≢true, ne_eqb}
 use Rattle.std.proofs.lemmas.List.{append-nil}
 use Rattle.std.proofs.lemmas.List.Splits.{join_with_byte-slice_split}
 use Rattle.office_picture.specs.Fields.{field_text}
@@ -10,7 +11,7 @@ use Rattle.office_picture.proofs.Markup.{is_quiet, quiet_stays, quiet_has_none, 
 use Rattle.office_queries.specs.declared.query.Query.{Query}
 use Rattle.office_pages.specs.Laws.{between_tags, line_tags, link_tags}
 use Rattle.office_pages.specs.Links.{link_at}
-use Rattle.office_pages.specs.Pages.{body_bytes, gap, line_view, link, linked, word_view, words_view}
+use Rattle.office_pages.specs.Pages.{body_bytes, gap, line_view, link, linked, word_view}
 use Rattle.office_pages.specs.Words.{lines, word_at, words}
 
 -- ---- parts one after the other
@@ -39,11 +40,11 @@ between_append Tag (c ∷ a) b = between_append (behind Tag c) a b
 between_append SingleQuoted (c ∷ a) b = between_append (behind SingleQuoted c) a b
 between_append DoubleQuoted (c ∷ a) b = between_append (behind DoubleQuoted c) a b
 
-shows_append : (a b s t : List ℕ) → Shows a s → Shows b t → Shows (a ++ b) (s ++ t)
-shows_append a b s t nothing y = y
-shows_append a b s t (plain c text shown is x) y = plain c (text ++ b) (shown ++ t) is (shows_append text b shown t x y)
-shows_append a b s t (reference name c text shown is x) y =
-    subst (λ (u : List ℕ). Shows u (c ∷ (shown ++ t))) (sym (append_assoc name text b)) (reference name c (text ++ b) (shown ++ t) is (shows_append text b shown t x y))
+shows_append : {a s : List ℕ} (b t : List ℕ) → Shows a s → Shows b t → Shows (a ++ b) (s ++ t)
+shows_append b t nothing y = y
+shows_append b t (plain c text shown is x) y = plain c (text ++ b) (shown ++ t) is (shows_append b t x y)
+shows_append b t (reference name c text shown is x) y =
+    subst (λ (u : List ℕ). Shows u (c ∷ (shown ++ t))) (sym (append_assoc name text b)) (reference name c (text ++ b) (shown ++ t) is (shows_append b t x y))
 
 -- a part of a page that stands between tags, what it shows, and its tags
 pub record Part (text shown marks : List ℕ) : Type 0 where
@@ -56,7 +57,7 @@ followed a b s t m n x y = record {
   stays = behind_append Between a b ∙ ap (λ place. behind_all place b) x.stays ∙ y.stays;
   shows = subst (λ (u : List ℕ). Shows u (s ++ t))
       (sym (between_append Between a b ∙ ap (λ place. between_tags Between a ++ between_tags place b) x.stays))
-      (shows_append (between_tags Between a) (between_tags Between b) s t x.shows y.shows);
+      (shows_append (between_tags Between b) t x.shows y.shows);
   is = tags_append Between a b ∙ ap (λ place. tags Between a ++ tags place b) x.stays ∙ (λ i. x.is i ++ y.is i);
 }
 
@@ -186,17 +187,18 @@ rest_shown ws [] k same = refl
 rest_shown ws (w ∷ rest) k same =
     let none : suc k + 0 ≡ suc k = omega arith in
     let here : get_or ws (suc k) [] ≡ w = sym (ap (λ n. get_or ws n []) none) ∙ same 0 in
+    let gapped : gap (suc k) ≡ codes " " = ap (λ b. if b then [] else codes " ") (ne_eqb (suc k) 0 (λ (e : suc k ≡ 0). omega (arith, e))) in
     let next : suc k + 1 ≡ suc (suc k) = omega arith in
     let others : (i : ℕ) → get_or ws (suc (suc k) + i) [] ≡ get_or rest i [] =
-        λ i. (let moved : suc (suc k) + i ≡ suc k + suc i = omega arith in ap (λ n. get_or ws n []) moved ∙ same (suc i)) in
-    (λ j. (32 ∷ here j) ++ flat_map (λ place. gap place ++ word_at ws place) (range_with_len (next j) (length rest)))
+    λ i. (let moved : suc (suc k) + i ≡ suc k + suc i = omega arith in ap (λ n. get_or ws n []) moved ∙ same (suc i)) in
+    (λ j. (gapped j ++ here j) ++ flat_map (λ place. gap place ++ word_at ws place) (range_with_len (next j) (length rest)))
     ∙ ap (λ t. (32 ∷ w) ++ t) (rest_shown ws rest (suc k) others)
 
 words_shown : (ws : List (List ℕ)) → flat_map (λ place. gap place ++ word_at ws place) (range_with_len 0 (length ws)) ≡ join_with_byte 32 ws
 words_shown [] = refl
 words_shown (w ∷ rest) =
     let same : (i : ℕ) → get_or (w ∷ rest) (suc 0 + i) [] ≡ get_or rest i [] =
-        λ i. (let moved : suc 0 + i ≡ suc i = omega arith in ap (λ n. get_or (w ∷ rest) n []) moved) in
+    λ i. (let moved : suc 0 + i ≡ suc i = omega arith in ap (λ n. get_or (w ∷ rest) n []) moved) in
     ap (λ t. w ++ t) (rest_shown (w ∷ rest) rest 0 same) ∙ rest_joined 32 w rest
 
 line_part : (asked : Query) (line : List ℕ) → Part (line_view asked line) line (line_tags asked line)

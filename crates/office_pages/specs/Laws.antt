@@ -35,7 +35,8 @@ link_tags (Some address) = codes "<a href='" ++ field_text address ++ codes "'>"
 
 -- those of the words of a line
 abbrev pub line_tags : Query → List ℕ → List ℕ
-line_tags asked line = flat_map (λ place. link_tags (link_at asked (words line) place)) (range_with_len 0 (length (words line)))
+line_tags asked line =
+    flat_map (λ place. link_tags (link_at asked (words line) place)) (range_with_len 0 (length (words line)))
 
 -- whatever the report says, a page has of it the tags of its links, line by line, and no others
 abbrev pub ReportsBringNoMarkup : Type 0

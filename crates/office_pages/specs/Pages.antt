@@ -67,8 +67,8 @@ again asks = if asks then codes "<meta http-equiv='refresh' content='60'>\n" els
 -- its title, and links to the reports without a key
 unfoldable pub page_head : Bool → List ℕ → List ℕ
 page_head asks title =
-    head ++ again asks ++ codes "<title>" ++ field_text title ++ codes "</title>\n" ++ top ++ codes "<h1>" ++ field_text title
-    ++ codes "</h1>\n"
+    head ++ again asks ++ codes "<title>" ++ field_text title ++ codes "</title>\n" ++ top
+    ++ codes "<h1>" ++ field_text title ++ codes "</h1>\n"
 
 -- ---- links to other pages on the same thing
 

@@ -14,11 +14,7 @@ fn push_part(text: &mut String, bytes: &[u8]) -> Result<(), AllocError>
 }
 
 /// A page with a key of one part.
-pub(crate) fn address_of_one(
-    alloc: Global,
-    route: &str,
-    name: &[u8],
-) -> Result<String, AllocError>
+pub(crate) fn address_of_one(alloc: Global, route: &str, name: &[u8]) -> Result<String, AllocError>
     ensures { IfOk result (λ address. string_bytes address ≡ address_of_one route.now name.now) }
 {
     let mut address = String::new(alloc);

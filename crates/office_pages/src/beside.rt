@@ -23,9 +23,21 @@ fn push_links(alloc: Global, page: &mut String, query: &Query) -> Result<(), All
     ensures { OnOk result (string_bytes page.new ≡ string_bytes page.old ++ links_beside query.now) }
 {
     match query {
-        Query::Container(number) => push_one(alloc, page, "/pages/visits/", "Visits", &number.text()),
+        Query::Container(number) => push_one(
+            alloc,
+            page,
+            "/pages/visits/",
+            "Visits",
+            &number.text(),
+        ),
         Query::Visits(number) => {
-            push_one(alloc, page, "/pages/containers/", "Where it is", &number.text())
+            push_one(
+                alloc,
+                page,
+                "/pages/containers/",
+                "Where it is",
+                &number.text(),
+            )
         }
         Query::List { call, side } => push_work(alloc, page, call, *side),
         Query::Work { call, side } => push_list(alloc, page, call, *side),

@@ -29,12 +29,7 @@ pub(crate) fn push_body(
 }
 
 /// Appends a line.
-fn push_line(
-    alloc: Global,
-    page: &mut String,
-    query: &Query,
-    line: &str,
-) -> Result<(), AllocError>
+fn push_line(alloc: Global, page: &mut String, query: &Query, line: &str) -> Result<(), AllocError>
     ensures { OnOk result (string_bytes page.new ≡ string_bytes page.old ++ line_view query.now line.now) }
 {
     let words = words_of(alloc, line)?;
@@ -57,7 +52,12 @@ fn push_word(
 {
     page.push_str(gap(place))?;
     match link_at(alloc, query, words, place)? {
-        Some(address) => push_link(alloc, page, address.as_bytes(), word_at(words, place).as_bytes()),
+        Some(address) => push_link(
+            alloc,
+            page,
+            address.as_bytes(),
+            word_at(words, place).as_bytes(),
+        ),
         None => push_field(alloc, page, word_at(words, place).as_bytes()),
     }
 }
@@ -87,11 +87,7 @@ pub(crate) fn push_link(
 }
 
 /// Appends bytes, written so that no markup comes of them.
-pub(crate) fn push_field(
-    alloc: Global,
-    page: &mut String,
-    bytes: &[u8],
-) -> Result<(), AllocError>
+pub(crate) fn push_field(alloc: Global, page: &mut String, bytes: &[u8]) -> Result<(), AllocError>
     ensures { OnOk result (string_bytes page.new ≡ string_bytes page.old ++ field_text bytes.now) }
 {
     let field = field_text(alloc, bytes)?;

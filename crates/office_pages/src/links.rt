@@ -63,11 +63,7 @@ fn container_link(alloc: Global, word: &str) -> Result<Option<String>, AllocErro
 }
 
 /// The number in `PARTNER NUMBER`.
-fn number_link(
-    alloc: Global,
-    words: &[&str],
-    place: usize,
-) -> Result<Option<String>, AllocError>
+fn number_link(alloc: Global, words: &[&str], place: usize) -> Result<Option<String>, AllocError>
     requires { 1 ≤ place }
     ensures { IfOk result (λ found. option_map string_bytes found ≡ number_link (texts_of words.now) place) }
 {
@@ -76,7 +72,12 @@ fn number_link(
         return Ok(None);
     }
     let partner = word_at(words, place - 1);
-    let address = address_of_two(alloc, "/pages/replies/", partner.as_bytes(), number.as_bytes())?;
+    let address = address_of_two(
+        alloc,
+        "/pages/replies/",
+        partner.as_bytes(),
+        number.as_bytes(),
+    )?;
     Ok(Some(address))
 }
 
@@ -88,11 +89,7 @@ fn is_number(word: &str) -> bool
 }
 
 /// The number in `GATE PARTNER NUMBER`, or `SHIP PARTNER NUMBER`.
-fn passage_link(
-    alloc: Global,
-    words: &[&str],
-    place: usize,
-) -> Result<Option<String>, AllocError>
+fn passage_link(alloc: Global, words: &[&str], place: usize) -> Result<Option<String>, AllocError>
     ensures { IfOk result (λ found. option_map string_bytes found ≡ passage_link (texts_of words.now) place) }
 {
     if 2 <= place && is_way_at(words, place - 2) {
@@ -110,11 +107,7 @@ fn is_way_at(words: &[&str], place: usize) -> bool
 }
 
 /// The number in `TICKET PARTNER NUMBER`.
-fn ticket_link(
-    alloc: Global,
-    words: &[&str],
-    place: usize,
-) -> Result<Option<String>, AllocError>
+fn ticket_link(alloc: Global, words: &[&str], place: usize) -> Result<Option<String>, AllocError>
     ensures { IfOk result (λ found. option_map string_bytes found ≡ ticket_link (texts_of words.now) place) }
 {
     if place == 2 && is_at(words, 0, "TICKET") {
@@ -125,11 +118,7 @@ fn ticket_link(
 }
 
 /// The side in `VESSEL VOYAGE SIDE a OPEN b DONE`, where vessel and voyage are a word each.
-fn call_link(
-    alloc: Global,
-    words: &[&str],
-    place: usize,
-) -> Result<Option<String>, AllocError>
+fn call_link(alloc: Global, words: &[&str], place: usize) -> Result<Option<String>, AllocError>
     ensures { IfOk result (λ found. option_map string_bytes found ≡ call_link (texts_of words.now) place) }
 {
     if place == 2 && words.len() == 7 {
@@ -141,11 +130,7 @@ fn call_link(
 }
 
 /// The voyage in `SIDE VESSEL VOYAGE[ PORT]`.
-fn open_line_link(
-    alloc: Global,
-    words: &[&str],
-    place: usize,
-) -> Result<Option<String>, AllocError>
+fn open_line_link(alloc: Global, words: &[&str], place: usize) -> Result<Option<String>, AllocError>
     ensures { IfOk result (λ found. option_map string_bytes found ≡ open_line_link (texts_of words.now) place) }
 {
     if place == 2 && words.len() < 5 {
@@ -184,11 +169,7 @@ fn work_link(
 }
 
 /// The code in `CODE KIND NEXT n`.
-fn partner_link(
-    alloc: Global,
-    words: &[&str],
-    place: usize,
-) -> Result<Option<String>, AllocError>
+fn partner_link(alloc: Global, words: &[&str], place: usize) -> Result<Option<String>, AllocError>
     ensures { IfOk result (λ found. option_map string_bytes found ≡ partner_link (texts_of words.now) place) }
 {
     if place == 0 && is_at(words, 2, "NEXT") {
@@ -200,11 +181,7 @@ fn partner_link(
 }
 
 /// The letter in `BLOCK BAYS b`.
-fn block_link(
-    alloc: Global,
-    words: &[&str],
-    place: usize,
-) -> Result<Option<String>, AllocError>
+fn block_link(alloc: Global, words: &[&str], place: usize) -> Result<Option<String>, AllocError>
     ensures { IfOk result (λ found. option_map string_bytes found ≡ block_link (texts_of words.now) place) }
 {
     if place == 0 && is_at(words, 1, "BAYS") {

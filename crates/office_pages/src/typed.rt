@@ -13,10 +13,7 @@ use std::alloc::{AllocError, Global};
 /// two hexadecimal digits stand for a byte, and another `%` for itself. Small letters stand for capitals; spaces, also
 /// as `+`, and hyphens are left out. Else the notice that tells what is wrong: another form, or another check digit,
 /// and then the number with the right one.
-pub fn typed_number(
-    alloc: Global,
-    value: &[u8],
-) -> Result<Result<BoxNumber, Notice>, AllocError>
+pub fn typed_number(alloc: Global, value: &[u8]) -> Result<Result<BoxNumber, Notice>, AllocError>
     ensures { IfOk result (λ found. found ≡ typed value.now) }
 {
     let text = typed_text(alloc, value)?;
@@ -65,8 +62,9 @@ fn corrected(text: &[u8]) -> Result<BoxNumber, Notice>
     let Some(digit) = check_digit(front) else {
         return Err(Notice::Form);
     };
-    let mut number = [b'0' + digit; 11];
-    number[..10].copy_from_slice(front);
+    let mut number = [0; 11];
+    number.copy_from_slice(text);
+    number[10] = b'0' + digit;
     match BoxNumber::parse(&number) {
         Ok(number) => Err(Notice::CheckDigit(number)),
         Err(_) => Err(Notice::Form),

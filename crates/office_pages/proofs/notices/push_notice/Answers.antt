@@ -2,7 +2,7 @@ use Rattle.std.proofs.Common.{◌++◌, sym, ap, ◌∙◌, codes, string_bytes}
 use Rattle.std.proofs.lemmas.Result.{on_ok_weaker}
 use Rattle.office_pages.specs.Addresses.{address_of_one, container_address}
 use Rattle.office_pages.specs.Pages.{link, notice_view}
-use Rattle.office_pages.proofs.Growing.{three}
+use Rattle.office_pages.proofs.Growing.{if_pushed, three}
 use Rattle.office_pages.proofs.notices.push_notice.Goals as goal
 
 pub returns-in_ok-push_link-in-CheckDigit : goal.returns-in_ok-push_link-in-CheckDigit
@@ -17,4 +17,4 @@ returns-in_ok-push_link-in-CheckDigit c =
     said (string_bytes c.push_link.new.page) (string_bytes c.push_str-in-CheckDigit-2.new.self)
     c.in_ok-push_str-in-CheckDigit.ensures.bytes linked e
     ∙ ap (λ n. page ++ notice_view n) (sym c.in-CheckDigit.is))
-    c.push_str-in-CheckDigit-2.ensures.bytes
+    (if_pushed c.push_str-in-CheckDigit-2.result (string_bytes c.push_str-in-CheckDigit-2.new.self) (string_bytes c.push_link.new.page ++ codes ".") (string_bytes c.push_link.new.page) c.push_str-in-CheckDigit-2.ensures.bytes)

@@ -3,7 +3,7 @@ use Rattle.std.proofs.lemmas.Result.{on_ok_weaker}
 use Rattle.office_picture.specs.Fields.{field_text}
 use Rattle.office_pages.specs.Fixed.{head, top}
 use Rattle.office_pages.specs.Pages.{again, page_head}
-use Rattle.office_pages.proofs.Growing.{onto}
+use Rattle.office_pages.proofs.Growing.{if_pushed, onto}
 use Rattle.office_pages.proofs.pages.push_head.Goals as goal
 
 pub returns : goal.returns
@@ -30,4 +30,4 @@ returns c =
     let k = onto front (head ++ asks ++ codes "<title>" ++ title ++ codes "</title>\n" ++ top ++ codes "<h1>") title seven eight h c.in_ok-push_field-2.ensures in
     on_ok_weaker c.push_str-7.result
     (λ last. onto front (head ++ asks ++ codes "<title>" ++ title ++ codes "</title>\n" ++ top ++ codes "<h1>" ++ title) (codes "</h1>\n") eight (string_bytes c.push_str-7.new.self) k last)
-    c.push_str-7.ensures.bytes
+    (if_pushed c.push_str-7.result (string_bytes c.push_str-7.new.self) (eight ++ codes "</h1>\n") (eight) c.push_str-7.ensures.bytes)
