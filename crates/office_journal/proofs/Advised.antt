@@ -1,13 +1,12 @@
 -- A front of a text is read as the text is, or ends within its advice.
-use Rattle.std.proofs.Common.{◌≡◌, ◌⊎◌, ℕ, ◌+◌, ◌<◌, ◌≤◌, Bool, true, false, cond, not, ◌&&◌, nat_le, List, [], ◌∷◌, ◌++◌, length, take, drop, codes, None, refl, sym, ap, subst, ◌∙◌, inl, inr, arith}
-use Rattle.std.proofs.lemmas.Bool.{and_parts, and_from, cases_Bool, cases_order, le-leb, leb-true, true≢false}
+use Rattle.std.proofs.Common.{◌≡◌, ◌⊎◌, ℕ, ◌<◌, ◌≤◌, Bool, true, false, cond, not, ◌&&◌, nat_le, List, [], ◌∷◌, ◌++◌, length, take, codes, refl, sym, ap, subst, ◌∙◌, inl, inr, arith}
+use Rattle.std.proofs.lemmas.Bool.{and_from, cases_Bool, cases_order, le-leb}
 use Rattle.std.proofs.lemmas.List.{length-append, length-take}
 use Rattle.std.proofs.lemmas.Slice.Eq.{bytes_eq-Decides}
 use Rattle.edi_segments.specs.Characters.{begins_with_advice}
 use Rattle.edi_segments.specs.Advice.{advised_characters, may_be_used, default_service, service_with, has_advice, service_at, has_bad_advice}
-use Rattle.edi_segments.specs.declared.characters.Service.{Service}
 use Rattle.edi_cutter.specs.Positions.{position_after}
-use Rattle.edi_cutter.specs.Cuts.{is_in_advice, breaks_advice, past_advice, is_closed, is_whole, position_of, fault_of, IsOpen}
+use Rattle.edi_cutter.specs.Cuts.{is_in_advice, breaks_advice, past_advice, is_closed, IsOpen}
 use Rattle.edi_cutter.proofs.CutLemmas.{in_advice}
 
 -- the front has the text's service characters, and what stands behind its advice is a front of what does in the text

@@ -1,34 +1,31 @@
 -- The journal, delivered again.
-use Rattle.std.proofs.Common.{◌≡◌, ◌⊎◌, inl, inr, ℕ, suc, ◌+◌, ◌≤◌, Bool, true, false, cond, arith, List, [], ◌∷◌, ◌++◌, length, map, Option, None, Some, refl, sym, ap, subst, ◌∙◌, append_assoc}
-use Rattle.std.specs.Prelude.{take, drop, nat_le}
+use Rattle.std.proofs.Common.{◌≡◌, inl, inr, ℕ, ◌+◌, List, [], ◌∷◌, ◌++◌, length, map, Option, None, Some, refl, sym, ap, subst, ◌∙◌, append_assoc}
+use Rattle.std.specs.Prelude.{take, drop}
 use Rattle.std.specs.List.{AllByRecursion}
-use Rattle.std.proofs.lemmas.Bool.{cases_Bool, cond-true, cond-false, lt-leb, false_from_ne_true}
-use Rattle.std.proofs.lemmas.List.{append-nil, length-append, drop_at}
+use Rattle.std.proofs.lemmas.List.{append-nil, drop_at}
 use Rattle.edi_segments.specs.Interchange.{interchange_of}
 use Rattle.partner_core.specs.Machine.{Taking}
-use Rattle.partner_core.specs.Deliveries.{Delivery, delivery, first_text, is_used, run}
-use Rattle.partner_core.specs.Order.{state, reply_of}
-use Rattle.partner_core.specs.Answers.{answer_of, is_other, Taken, Repeat, Waiting, Clash}
+use Rattle.partner_core.specs.Deliveries.{Delivery, delivery, first_text}
+use Rattle.partner_core.specs.Order.{state}
+use Rattle.partner_core.specs.Answers.{answer_of}
 use Rattle.partner_core.proofs.Firsts.{none_of}
-use Rattle.partner_core.proofs.Unbroken.{beyond_run}
 use Rattle.terminal_core.specs.Changes.{rows_of}
 use Rattle.terminal_core.specs.Versions.{newest}
 use Rattle.terminal_core.specs.declared.change.Version.{Version}
 use Rattle.office_replies.specs.Events.{Event, delivered, migrated, added}
-use Rattle.office_setup.specs.Setups.{SetupContent, parties_in}
-use Rattle.office_admission.specs.Accounts.{content_with, content_after}
-use Rattle.office_admission.specs.Admission.{admission}
-use Rattle.office_admission.specs.Deliveries.{with_delivery, deliveries_of}
+use Rattle.office_setup.specs.Setups.{SetupContent}
+use Rattle.office_admission.specs.Accounts.{content_after}
+use Rattle.office_admission.specs.Deliveries.{deliveries_of}
 use Rattle.office_admission.proofs.Adding.{content_on, deliveries_on}
 use Rattle.office_taking.specs.Taking.{MachineState, interchange_taken_by}
 use Rattle.office_rows.specs.Rows.{Rows}
-use Rattle.office_history.specs.After.{opening_of, behind, migration_in, taking_by, taking_in, machine_after, accounts_from, AreRowsOf, AreAfter}
-use Rattle.office_history.specs.Laws.{HasNoMigration, told_of}
+use Rattle.office_history.specs.After.{opening_of, behind, migration_in, taking_by, taking_in, accounts_from, AreRowsOf, AreAfter}
+use Rattle.office_history.specs.Laws.{told_of}
 use Rattle.office_history.proofs.Places.{taking_unmigrated}
 use Rattle.office_history.proofs.Telling.{delivered_within}
 use Rattle.office_journal.specs.Kept.{kept_after, kept}
 use Rattle.office_journal.specs.Journal.{text_of, kept_texts, texts_since, delivered_all, accounts_in, IsEntry}
-use Rattle.office_journal.specs.Rebuilding.{IsSameOffice, HasSameJournal, JournalDecides, Rebuilding, EachIsNew, Follows, Following, CopiesCatchUp}
+use Rattle.office_journal.specs.Rebuilding.{IsSameOffice, HasSameJournal, JournalDecides, Rebuilding, EachIsNew, Following, CopiesCatchUp}
 use Rattle.office_journal.proofs.Alike.{Alike, run-alike, alike-all, alike-self, alike-back, alike-trans, alike-kept, kept_alike, kept-append, kept_twice, new_among, answered, decides_alike}
 use Rattle.office_journal.proofs.Entries.{all_entries, left_entries, right_entries, texts_on, fronts_were_journals, again_from, again, delivered_content, texts_again, accounts_content, accounts_deliver}
 

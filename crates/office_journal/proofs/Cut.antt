@@ -1,26 +1,26 @@
 -- A text without fault is one interchange of a stream, and the lines of such texts are cut into these texts.
-use Rattle.std.proofs.Common.{◌≡◌, ◌⊎◌, ℕ, zero, suc, ◌+◌, ◌-◌, ◌<◌, ◌≤◌, Bool, true, false, cond, not, nat_le, ◌&&◌, nat_eq, List, [], ◌∷◌, ◌++◌, length, take, drop, codes, None, refl, sym, ap, subst, ◌∙◌, inl, inr, arith, append_assoc, map, Option, Some, Result, Ok, Err}
+use Rattle.std.proofs.Common.{◌≡◌, ℕ, zero, suc, ◌≤◌, Bool, true, false, cond, not, nat_le, ◌&&◌, nat_eq, List, [], ◌∷◌, ◌++◌, length, take, drop, codes, None, refl, sym, ap, subst, ◌∙◌, inl, inr, arith, append_assoc, Option, Some, Ok}
 use Rattle.std.specs.List.{list_all, AllByRecursion}
-use Rattle.std.proofs.lemmas.Bool.{and_parts, cases_Bool, true≢false, eqb-true}
+use Rattle.std.proofs.lemmas.Bool.{and_parts, eqb-true}
 use Rattle.std.proofs.lemmas.List.{append-nil, length-append, length-drop, take-append-drop}
 use Rattle.std.proofs.lemmas.Slice.Eq.{bytes_eq-Decides}
 use Rattle.edi_segments.specs.Characters.{is_break, begins_with_advice}
 use Rattle.edi_segments.specs.Advice.{advised_characters, may_be_used, service_at, has_bad_advice, behind_advice, without_breaks}
-use Rattle.edi_segments.specs.Interchange.{segments_in, is_segment_text, interchange_of}
+use Rattle.edi_segments.specs.Interchange.{segments_in, interchange_of}
 use Rattle.edi_segments.specs.Text.{Content, has_tag, SegmentText, SegmentsText}
 use Rattle.edi_segments.specs.Reading.{breaks_len, segments_of, are_segments}
 use Rattle.edi_segments.specs.declared.characters.Service.{Service}
 use Rattle.edi_segments.proofs.SegmentsLemmas.{segments_sound, breaks_at, no_break_before, at_end_is}
-use Rattle.edi_syntax.specs.Envelope.{header_of, last_of, trailer_of, has_envelope}
+use Rattle.edi_syntax.specs.Envelope.{header_of, trailer_of}
 use Rattle.edi_syntax.specs.Faults.{fault_of}
-use Rattle.edi_cutter.specs.Positions.{position_after, is_refused, GoesOn, Closes, SegmentsBehindBreaks}
+use Rattle.edi_cutter.specs.Positions.{is_refused, GoesOn, Closes, SegmentsBehindBreaks}
 use Rattle.edi_cutter.specs.Cuts.{past_advice, position_of, is_whole, breaks_advice, IsOpen, IsOpenBefore, IsInterchange}
 use Rattle.edi_cutter.specs.declared.position.Position.{Position}
 use Rattle.edi_cutter.specs.declared.position.Position.TheVariants.{Between, First, Second, Tagged, Inside, Refused}
 use Rattle.edi_cutter.proofs.CutLemmas.{no_fault}
 use Rattle.edi_cutter.proofs.PositionLemmas.{refused_where_nothing_goes_on, closed_where_a_trailer_ends}
-use Rattle.office_journal.proofs.Advised.{IsRead, read_front}
-use Rattle.office_journal.proofs.Ends.{HasNoFault, faultless, begins_unbroken, none_at_end, all_breaks, Goes, one_goes, segment_unbroken, without_all, unbroken_more, all_go, trailer_last, EndsBy, ends_of}
+use Rattle.office_journal.proofs.Advised.{read_front}
+use Rattle.office_journal.proofs.Ends.{HasNoFault, faultless, begins_unbroken, none_at_end, all_breaks, one_goes, segment_unbroken, without_all, unbroken_more, all_go, trailer_last, ends_of}
 use Rattle.office_journal.specs.Cutting.{FaultlessIsInterchange, IsFaultless, LinesAreCut, JournalIsCut}
 use Rattle.std.specs.Prelude.{All}
 use Rattle.std.proofs.lemmas.List.Elements.{recursion_from_All, All-map, All-take, All-drop, All-weaker}

@@ -1,5 +1,5 @@
 -- What a text without fault has, and where it ends.
-use Rattle.std.proofs.Common.{◌≡◌, ℕ, zero, suc, ◌+◌, ◌-◌, ◌<◌, ◌≤◌, Bool, true, false, cond, not, ◌&&◌, nat_eq, List, [], ◌∷◌, ◌++◌, length, take, drop, codes, Option, None, Some, refl, sym, ap, subst, ◌∙◌, inl, inr, IsTrue, arith, append_assoc}
+use Rattle.std.proofs.Common.{◌≡◌, ℕ, suc, ◌+◌, ◌-◌, ◌≤◌, Bool, true, false, cond, not, ◌&&◌, nat_eq, List, [], ◌∷◌, ◌++◌, length, take, drop, codes, Option, None, Some, refl, sym, ap, subst, ◌∙◌, inl, inr, arith, append_assoc}
 use Rattle.std.specs.Option.{option_map, option_map_or}
 use Rattle.std.specs.List.{list_all}
 use Rattle.std.specs.Str.{bytes_eq}
@@ -11,14 +11,13 @@ use Rattle.edi_segments.specs.Interchange.{segments_in, is_segment_text, without
 use Rattle.edi_segments.specs.Text.{Content, no_segment, has_tag, SegmentText, SegmentsText}
 use Rattle.edi_segments.specs.Reading.{body_len, content_of, breaks_len, next_at, segments_of, are_segments}
 use Rattle.edi_segments.specs.declared.characters.Service.{Service}
-use Rattle.edi_segments.specs.declared.interchange.SyntaxFault.{SyntaxFault}
-use Rattle.edi_segments.specs.declared.interchange.SyntaxFault.TheVariants.{TooLong, Service as ServiceFault, Segment, NoEnvelope, Group, Version, Number, Moment, Test, MessageFrame, SegmentCount, MessageReference, Empty, ControlCount, ControlReference}
+use Rattle.edi_segments.specs.declared.interchange.SyntaxFault.TheVariants.{TooLong, Service as ServiceFault, Segment, NoEnvelope, Group, Version, Number, Moment, Test, MessageFrame}
 use Rattle.edi_segments.proofs.BreakLemmas.{break_at_end}
 use Rattle.edi_segments.proofs.SegmentLemmas.{segment_at, segment_complete}
-use Rattle.edi_segments.proofs.SegmentsLemmas.{breaks_only, tag_is_no_break, no_break_before, next_of_segments, next_of_are_segments, at_end_is}
+use Rattle.edi_segments.proofs.SegmentsLemmas.{breaks_only, tag_is_no_break, no_break_before, next_of_segments, next_of_are_segments}
 use Rattle.edi_syntax.specs.Messages.{begins_message, ends_message, is_inner, are_messages}
 use Rattle.edi_syntax.specs.Envelope.{header_of, behind_header, last_of, trailer_of, has_envelope}
-use Rattle.edi_syntax.specs.Faults.{applies, applies_to, fault_of}
+use Rattle.edi_syntax.specs.Faults.{applies, fault_of}
 
 -- ---- no fault
 

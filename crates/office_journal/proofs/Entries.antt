@@ -1,6 +1,6 @@
 -- What the journal has, and what an event adds to it.
-use Rattle.std.proofs.Common.{◌≡◌, ℕ, zero, suc, Bool, true, false, inl, inr, cond, ◌&&◌, List, [], ◌∷◌, refl, sym, ap, ◌∙◌, ◌+◌, ◌≤◌, ◌⊎◌, ◌++◌, length, map, Result, Ok, Err, None, Some, subst, arith, append_assoc}
-use Rattle.std.specs.Prelude.{drop, take, Option}
+use Rattle.std.proofs.Common.{◌≡◌, ℕ, suc, Bool, true, false, inl, inr, cond, ◌&&◌, List, [], ◌∷◌, refl, sym, ap, ◌∙◌, ◌+◌, ◌≤◌, ◌++◌, length, map, Result, Ok, Err, Some, subst, arith, append_assoc}
+use Rattle.std.specs.Prelude.{drop, take}
 use Rattle.std.specs.List.{list_all, AllByRecursion}
 use Rattle.std.proofs.lemmas.Bool.{cases_Bool, cond-true, cond-false, cases_order}
 use Rattle.edi_segments.specs.Characters.{is_break}
@@ -10,7 +10,6 @@ use Rattle.edi_segments.specs.Interchange.{without_breaks_at_end, interchange_of
 use Rattle.std.proofs.lemmas.List.{append-nil, map-append, length-append, length-map, take_at, take_all}
 use Rattle.std.proofs.lemmas.List.Elements.{All-from_recursion}
 use Rattle.partner_core.specs.Deliveries.{Delivery, delivery, first_text, is_under, is_used}
-use Rattle.terminal_core.specs.declared.change.Version.{Version}
 use Rattle.office_replies.specs.Events.{Event, delivered, migrated, added}
 use Rattle.office_replies.specs.declared.deliver.Fault.{Fault}
 use Rattle.office_setup.specs.Setups.{SetupContent, parties_in}

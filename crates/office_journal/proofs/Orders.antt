@@ -1,38 +1,29 @@
 -- Rows whose interchanges stand in the order of arrival, after one event more.
-use Rattle.std.proofs.Common.{◌≡◌, ℕ, ◌+◌, ◌<◌, Bool, true, false, cond, List, [], ◌∷◌, ◌++◌, map, None, Some, Err, refl, sym, ap, ◌∙◌}
+use Rattle.std.proofs.Common.{◌≡◌, ℕ, Bool, true, false, cond, List, [], ◌∷◌, ◌++◌, map, None, refl, sym, ap, ◌∙◌}
 use Rattle.std.specs.Prelude.{is_some}
 use Rattle.std.proofs.lemmas.List.{append-nil, map-append}
-use Rattle.edi_messages.specs.declared.codes.PartnerKind.{PartnerKind}
 use Rattle.edi_segments.specs.Interchange.{interchange_of}
-use Rattle.partner_core.specs.Deliveries.{Delivery, delivery, is_used, run}
+use Rattle.partner_core.specs.Deliveries.{Delivery, delivery, is_used}
 use Rattle.terminal_core.specs.Rows.{ChangeContent, visit_opened, visit_closed, placed_at, moved_to, removed_from, listed_on, line_done, unlisted}
-use Rattle.terminal_core.specs.declared.change.Version.{Version}
-use Rattle.office_replies.specs.Events.{Event, delivered, migrated, added}
-use Rattle.office_replies.specs.declared.deliver.Fault.{Fault}
-use Rattle.office_setup.specs.Given.{IsGiven}
-use Rattle.office_setup.specs.Kinds.{kind_named}
-use Rattle.office_setup.specs.Setups.{SetupContent, parties_in}
-use Rattle.office_admission.specs.Accounts.{content_after, account_answer, added_as}
-use Rattle.office_admission.specs.Admission.{admission}
+use Rattle.office_replies.specs.Events.{Event, delivered}
+use Rattle.office_setup.specs.Setups.{SetupContent}
 use Rattle.office_admission.specs.Deliveries.{deliveries_of}
 use Rattle.office_admission.proofs.Adding.{account_adds, migration_adds}
-use Rattle.office_taking.specs.Taking.{MachineState}
 use Rattle.sqlite.specs.declared.types.Value.TheVariants.{Blob}
 use Rattle.sqlite.specs.Order.{Row, column}
 use Rattle.office_rows.specs.Tables.{interchange}
 use Rattle.office_rows.specs.Values.{interchange_values}
 use Rattle.office_rows.specs.Stored.{columns_of}
 use Rattle.office_rows.specs.Rows.{Interchange, Rows}
-use Rattle.office_rows.specs.Effects.{is_pair, with_kept, with_reply, with_change}
-use Rattle.office_history.specs.Cascade.{text_in, TakenContent, with_changes, with_interchange, with_interchanges, texts_with, with_run, AreTakenFrom}
-use Rattle.office_history.specs.After.{machine_after, AreAfterBy, AreAfter}
-use Rattle.office_history.specs.Laws.{IsFor, HasNoMigration}
+use Rattle.office_rows.specs.Effects.{is_pair, with_kept, with_change}
+use Rattle.office_history.specs.Cascade.{text_in, TakenContent, with_changes, with_interchange, with_interchanges}
+use Rattle.office_history.specs.Laws.{IsFor}
 use Rattle.office_history.proofs.Lawful.{opening_after, refused_adds, used_adds, early_adds, next_adds}
 use Rattle.office_history.proofs.Places.{admitted_more, refused_more}
 use Rattle.office_history.proofs.Growing.{account_adds_row}
 use Rattle.office_history.proofs.Migrating.{migration_goes_on}
 use Rattle.office_journal.specs.Kept.{kept}
-use Rattle.office_journal.specs.Journal.{text_of, kept_texts}
+use Rattle.office_journal.specs.Journal.{text_of}
 use Rattle.office_journal.specs.InOrder.{as_delivery, AreInOrder, AreAfterInOrder, BodiesAreJournal, StoredIsJournal, OpeningIsInOrder, RefusedStaysInOrder, UsedStaysInOrder, EarlyAddsInOrder, NextAddsInOrder, AccountStaysInOrder, MigrationStaysInOrder}
 use Rattle.office_journal.proofs.Alike.{kept_adds}
 

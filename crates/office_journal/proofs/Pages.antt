@@ -1,5 +1,5 @@
 -- Texts have one page.
-use Rattle.std.proofs.Common.{◌≡◌, ℕ, zero, suc, ◌+◌, ◌<◌, ◌≤◌, ◌⊎◌, inl, inr, List, [], ◌∷◌, ◌++◌, length, refl, sym, ap, subst, ◌∙◌, arith, append_assoc}
+use Rattle.std.proofs.Common.{◌≡◌, ℕ, suc, ◌+◌, ◌<◌, ◌≤◌, ◌⊎◌, inl, inr, List, [], ◌∷◌, ◌++◌, length, refl, sym, ap, subst, ◌∙◌, arith, append_assoc}
 use Rattle.std.proofs.lemmas.Bool.{cases_order}
 use Rattle.std.proofs.lemmas.List.{length-append}
 use Rattle.std.proofs.lemmas.Grind.{flat_map-append}
@@ -69,12 +69,15 @@ goes_on most page (next ∷ rest) fits one =
       | inl same ↦ more (goes_on most (page ++ next ∷ []) rest (inr (omega arith)) (omega arith))
       | inr o ↦ elim o [
         | inl below ↦ more (goes_on most (page ++ next ∷ []) rest (inr (omega arith)) (omega arith))
-        | inr above ↦ (page, record {
-          rest = next ∷ rest;
-          whole = refl;
-          fits = fits;
-          full = λ other others e. (one, (let same : next ≡ other = cc in subst (λ t. most < length (lines_of (page ++ t ∷ []))) same above));
-        })
+        | inr above ↦ (
+          page,
+          record {
+            rest = next ∷ rest;
+            whole = refl;
+            fits = fits;
+            full = λ other others e. (one, (let same : next ≡ other = cc in subst (λ t. most < length (lines_of (page ++ t ∷ []))) same above));
+          },
+        )
       ]
     ]
 

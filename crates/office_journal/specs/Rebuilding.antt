@@ -1,5 +1,5 @@
 -- An office that is made again, or followed, by its journal.
-use Rattle.std.specs.Prelude.{◌≡◌, ◌⊎◌, ℕ, ◌+◌, ◌≤◌, Option, map, List, [], ◌∷◌, ◌++◌, length, take}
+use Rattle.std.specs.Prelude.{◌≡◌, ◌⊎◌, ℕ, ◌+◌, ◌≤◌, Option, map, List, ◌∷◌, ◌++◌, length, take}
 use Rattle.partner_core.specs.Answers.{Told, Taken, Waiting}
 use Rattle.partner_core.specs.Deliveries.{Delivery, run}
 use Rattle.office_replies.specs.Events.{Event}
