@@ -1,0 +1,249 @@
+ghost use Rattle.std.specs.Prelude.{◌≡◌, ◌≤◌, length, IfOk, IfErr, IfSome};
+ghost use Rattle.office_explain.specs.Named.{fault_named};
+ghost use Rattle.office_explain.specs.Told.{IsToldOf, IsFirst};
+ghost use Rattle.office_setup.specs.Parties.{parties_of};
+
+use crate::envelope_places::{cut_finding, refusal};
+use crate::expected::kind_name;
+use crate::finding::{Finding, write_subject};
+use crate::line_places::{refused_line, split_group};
+use crate::message_places::rejection;
+use crate::partners::{Opened, Partners, kind_wanted};
+use crate::segments::{PlacedSegment, behind_breaks, placed_segments, split_message};
+use crate::shown::{Shown, ShownValue};
+use crate::span::bytes_of;
+use edi_cutter::{CutFault, Cutter};
+use edi_messages::{Codes, Line, Message, MessageFault, PartnerKind, read_message};
+use edi_segments::interchange_text;
+use edi_syntax::{Envelope, Head};
+use std::alloc::{AllocError, Global};
+use std::fmt;
+
+/// What is told of an interchange.
+#[derive(Drop)]
+pub enum Told<'a> {
+    /// It can't be told apart from what follows, and nothing behind it is read.
+    Cut(Finding<'a>),
+    /// It is refused.
+    Refused(Finding<'a>),
+    /// It is read.
+    Read(Reading<'a>),
+}
+
+/// What is told of an interchange that is read.
+#[derive(Drop)]
+pub struct Reading<'a> {
+    pub head: Head<'a>,
+    /// What its sender is, or is taken for.
+    pub kind: PartnerKind,
+    /// The faults of its messages and lines, in their order.
+    pub findings: Vec<Finding<'a>>,
+}
+
+/// What is told of an interchange of a file, as `Display` writes it in whole lines.
+#[derive(Drop)]
+pub struct Block<'a> {
+    /// Its number in the file, from 1.
+    pub number: usize,
+    /// How many bytes of the file stand before it.
+    pub before: usize,
+    /// Its bytes; of one that can't be told apart all that is left of the file.
+    pub text: &'a [u8],
+    pub told: Told<'a>,
+}
+
+impl Block<'_> {
+    /// No fault was found.
+    pub fn is_faultless(&self) -> bool {
+        match &self.told {
+            Told::Read(reading) => reading.findings.as_slice().is_empty(),
+            _ => false,
+        }
+    }
+}
+
+/// Explains the first interchange of what is left of a file, and answers what is left behind it: nothing, if it can't be
+/// told apart. `None`: there is nothing left but CR and LF. An error is that memory was refused.
+pub fn explain_next<'a>(
+    alloc: Global,
+    partners: &'a Partners,
+    file: &[u8],
+    left: &'a [u8],
+    number: usize,
+) -> Result<Option<(Block<'a>, &'a [u8])>, AllocError> {
+    let begun = behind_breaks(left);
+    if begun.is_empty() {
+        return Ok(None);
+    }
+    let before = file.len().saturating_sub(begun.len());
+    let (text, behind, told) = match first_len(alloc, begun)? {
+        Ok(len) => {
+            let (text, behind) = begun.split_at(len);
+            let text = interchange_text(text);
+            (text, behind, told_of(alloc, partners, text)?)
+        }
+        Err(fault) => (begun, &begun[begun.len()..], Told::Cut(cut_finding(begun, fault))),
+    };
+    let block = Block {
+        number,
+        before,
+        text,
+        told,
+    };
+    Ok(Some((block, behind)))
+}
+
+/// How many bytes the first interchange of a text has, or why it can't be told apart. `None`: the text ends within it. An
+/// error is that memory was refused.
+fn first_len(alloc: Global, text: &[u8]) -> Result<Result<usize, Option<CutFault>>, AllocError>
+    ensures first { IfOk result (IsFirst text.now) }
+    ensures within { IfOk result (λ first. IfOk first (λ len. len ≤ length text.now)) }
+{
+    let mut cutter = Cutter::new(alloc);
+    match cutter.feed(text) {
+        Ok(Some(len)) => Ok(Ok(len)),
+        Ok(None) => Ok(Err(None)),
+        Err(CutFault::TooLong) => Ok(Err(Some(CutFault::TooLong))),
+        Err(CutFault::Service) => Ok(Err(Some(CutFault::Service))),
+        Err(CutFault::Segment) => Ok(Err(Some(CutFault::Segment))),
+        Err(CutFault::Memory) => Err(AllocError),
+    }
+}
+
+/// What is told of an interchange of that text.
+fn told_of<'a>(
+    alloc: Global,
+    partners: &'a Partners,
+    text: &'a [u8],
+) -> Result<Told<'a>, AllocError>
+    ensures { IfOk result
+        (IsToldOf (fault_named partners.now.are_known (parties_of partners.now.setup) text.now) text.now) }
+{
+    let placed = placed_segments(alloc, text)?;
+    match partners.open(text) {
+        Err(refused) => Ok(Told::Refused(refusal(text, &placed, partners.terminal(), refused))),
+        Ok(opened) => Ok(Told::Read(reading_of(alloc, partners, text, &opened, &placed)?)),
+    }
+}
+
+/// What is told of an interchange that is read.
+fn reading_of<'a>(
+    alloc: Global,
+    partners: &Partners,
+    text: &[u8],
+    opened: &Opened<'a>,
+    placed: &[PlacedSegment<'a>],
+) -> Result<Reading<'a>, AllocError> {
+    let kind = match opened.kind {
+        Some(kind) => kind,
+        None => kind_wanted(alloc, partners.table(), &opened.envelope),
+    };
+    let codes = Codes::for_kind(partners.table(), kind);
+    let findings = message_findings(alloc, text, &codes, &opened.envelope, placed)?;
+    Ok(Reading {
+        head: opened.envelope.head(),
+        kind,
+        findings,
+    })
+}
+
+/// The faults of an interchange's messages and of their lines.
+fn message_findings<'a>(
+    alloc: Global,
+    text: &[u8],
+    codes: &Codes,
+    envelope: &Envelope<'a>,
+    placed: &[PlacedSegment<'a>],
+) -> Result<Vec<Finding<'a>>, AllocError> {
+    let mut findings = Vec::new(alloc);
+    let opened = envelope.head().moment();
+    let mut number = 0usize;
+    let mut rest = placed;
+    for frame in envelope.frames() {
+        let (message, behind) = split_message(rest);
+        number = number.saturating_add(1);
+        match read_message(alloc, &frame, opened, codes) {
+            Ok(read) => push_lines(text, number, message, &read, &mut findings)?,
+            Err(MessageFault::Memory) => return Err(AllocError),
+            Err(fault) => findings.push(rejection(text, number, message, codes, fault))?,
+        }
+        rest = behind;
+    }
+    Ok(findings)
+}
+
+/// Adds the faults of a message's lines.
+fn push_lines<'a>(
+    text: &[u8],
+    number: usize,
+    message: &[PlacedSegment<'a>],
+    read: &Message,
+    findings: &mut Vec<Finding<'a>>,
+) -> Result<(), AllocError> {
+    let mut line_number = 0usize;
+    let mut rest = message;
+    for line in &read.lines {
+        let (group, behind) = split_group(rest);
+        line_number = line_number.saturating_add(1);
+        if let Line::Refusal(refusal) = line {
+            findings.push(refused_line(text, number, line_number, group, refusal.fault))?;
+        }
+        rest = behind;
+    }
+    Ok(())
+}
+
+impl fmt::Display for Block<'_> {
+    fn fmt<W: fmt::Write>(&self, f: &mut fmt::Formatter<W>) -> fmt::Result {
+        let number = self.number;
+        let first = self.before.saturating_add(1);
+        write!(f, "interchange {number}, from byte {first}: ")?;
+        match &self.told {
+            Told::Cut(finding) => {
+                f.write_str("cut, and nothing behind is read\n")?;
+                write_finding(finding, self.text, self.before, f)
+            }
+            Told::Refused(finding) => {
+                f.write_str("refused, and nothing of it is kept\n")?;
+                write_finding(finding, self.text, self.before, f)
+            }
+            Told::Read(reading) => write_reading(reading, self.text, self.before, f),
+        }
+    }
+}
+
+/// Writes what is told of an interchange that is read.
+fn write_reading<W: fmt::Write>(
+    reading: &Reading<'_>,
+    text: &[u8],
+    before: usize,
+    f: &mut fmt::Formatter<W>,
+) -> fmt::Result {
+    let sender = ShownValue(reading.head.sender(1));
+    let recipient = ShownValue(reading.head.recipient(1));
+    let number = reading.head.number();
+    let kind = kind_name(reading.kind);
+    write!(f, "number {number} of {sender}, of the kind {kind}, to {recipient}\n")?;
+    if reading.findings.as_slice().is_empty() {
+        return f.write_str("  no fault\n");
+    }
+    for finding in &reading.findings {
+        write_finding(finding, text, before, f)?;
+    }
+    Ok(())
+}
+
+/// Writes a finding of a text that stands behind so many bytes of its file.
+fn write_finding<W: fmt::Write>(
+    finding: &Finding<'_>,
+    text: &[u8],
+    before: usize,
+    f: &mut fmt::Formatter<W>,
+) -> fmt::Result {
+    write_subject(finding.subject, finding.contrl, f)?;
+    let segment = finding.segment;
+    let byte = before.saturating_add(finding.span.begin).saturating_add(1);
+    let found = Shown(bytes_of(text, finding.span));
+    let expected = finding.expected;
+    write!(f, " at segment {segment}, byte {byte}\n    found     {found}\n    expected  {expected}\n")
+}

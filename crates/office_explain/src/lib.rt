@@ -1,0 +1,22 @@
+//! What is wrong with the interchanges of a file, and where: the fault that the office names first of each, the segment and
+//! the byte where it stands, what was found there and what is expected. Nothing is delivered, and no store is opened.
+#![tactic(auto)]
+
+mod envelope_places;
+mod expected;
+mod explaining;
+mod finding;
+mod front;
+mod line_places;
+mod message_places;
+mod names;
+mod partners;
+mod segments;
+mod shown;
+mod span;
+
+pub use expected::Expected;
+pub use explaining::{Block, explain_next};
+pub use finding::{Finding, Subject};
+pub use partners::{Opened, Partners, Refused};
+pub use span::Span;

@@ -1,0 +1,43 @@
+use edi_segments::Component;
+use edi_segments::characters::is_printable;
+use std::fmt;
+
+/// How many bytes are shown of what was found.
+const MOST_SHOWN: usize = 60;
+
+/// Bytes as they are shown: what can't be printed as `\x` and two hexadecimal digits, and of many the first.
+#[derive(Clone, Copy)]
+pub(crate) struct Shown<'a>(pub(crate) &'a [u8]);
+
+impl fmt::Display for Shown<'_> {
+    fn fmt<W: fmt::Write>(&self, f: &mut fmt::Formatter<W>) -> fmt::Result {
+        let bytes = self.0;
+        let len = if bytes.len() < MOST_SHOWN { bytes.len() } else { MOST_SHOWN };
+        for byte in &bytes[..len] {
+            write_byte(*byte, f)?;
+        }
+        if len < bytes.len() { f.write_str("..") } else { Ok(()) }
+    }
+}
+
+/// The value of a component, shown so.
+#[derive(Clone, Copy)]
+pub(crate) struct ShownValue<'a>(pub(crate) Component<'a>);
+
+impl fmt::Display for ShownValue<'_> {
+    fn fmt<W: fmt::Write>(&self, f: &mut fmt::Formatter<W>) -> fmt::Result {
+        for byte in self.0.bytes() {
+            write_byte(byte, f)?;
+        }
+        Ok(())
+    }
+}
+
+/// Writes a byte.
+fn write_byte<W: fmt::Write>(byte: u8, f: &mut fmt::Formatter<W>) -> fmt::Result {
+    if is_printable(byte) {
+        f.write_char(char::from(byte))
+    } else {
+        write!(f, "\\x{byte:02x}")
+    }
+}
