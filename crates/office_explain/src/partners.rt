@@ -96,7 +96,7 @@ impl Partners {
         if self.are_known {
             admitted(&self.setup, text)
         } else {
-            opened(text)
+            opened_alone(text)
         }
     }
 }
@@ -125,7 +125,7 @@ fn admitted<'a>(setup: &Setup, text: &'a [u8]) -> Result<Opened<'a>, Refused>
 }
 
 /// The interchange that a text is, whoever sends it.
-fn opened(text: &[u8]) -> Result<Opened<'_>, Refused>
+fn opened_alone(text: &[u8]) -> Result<Opened<'_>, Refused>
     ensures ok { IfOk result (λ opened. fault_of text.now ≡ None) }
     ensures err { IfErr result (λ refused. option_map (λ (fault : SyntaxFault). Fault.Syntax fault) (fault_of text.now)
         ≡ Some refused.fault) }
