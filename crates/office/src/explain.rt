@@ -17,20 +17,29 @@ pub(crate) fn explain<R: Read, W: Write, E: Write>(
     writer: &mut Port<W>,
     errors: &mut Port<E>,
 ) -> u8 {
-    let known = match partners {
-        None => Partners::unknown(rt.alloc()),
-        Some(path) => match fs::read(rt, path) {
-            Ok(bytes) => Partners::read(rt.alloc(), &bytes),
-            Err(_) => return tell_unread(rt, errors, path),
-        },
+    let Some(bytes) = bytes_in(rt, file, reader) else {
+        return tell_unread(rt, errors, file);
     };
-    let known = match known {
-        Ok(known) => known,
-        Err(fault) => return refuse_partners(rt, fault, errors),
+    let Some(path) = partners else {
+        return explain_by(rt, Partners::unknown(rt.alloc()), &bytes, writer, errors);
     };
-    match bytes_in(rt, file, reader) {
-        Some(bytes) => explain_all(rt.alloc(), &known, &bytes, writer, errors),
-        None => tell_unread(rt, errors, file),
+    match fs::read(rt, path) {
+        Ok(given) => explain_by(rt, Partners::read(rt.alloc(), &given), &bytes, writer, errors),
+        Err(_) => tell_unread(rt, errors, path),
+    }
+}
+
+/// Prints what is wrong with the interchanges of a file, by what is known of partners.
+fn explain_by<W: Write, E: Write>(
+    rt: &HostRuntime,
+    partners: Result<Partners, SetupFault>,
+    file: &[u8],
+    writer: &mut Port<W>,
+    errors: &mut Port<E>,
+) -> u8 {
+    match partners {
+        Ok(partners) => explain_all(rt.alloc(), &partners, file, writer, errors),
+        Err(fault) => refuse_partners(rt, fault, errors),
     }
 }
 

@@ -2,11 +2,10 @@ ghost use Rattle.std.specs.Prelude.{◌≡◌};
 ghost use Rattle.office_explain.specs.Places.{IsWithin};
 
 use crate::expected::Expected;
-use crate::finding::{Finding, Place, Subject, finding_at, place_of};
+use crate::finding::{Finding, Place, Refused, Subject, finding_at, place_of};
 use crate::front::{Front, Wanted, front_of};
-use crate::partners::Refused;
 use crate::segments::{PlacedSegment, first_with_tag, inner, split_message};
-use crate::span::Span;
+use crate::span::{Span, bytes_of};
 use edi_cutter::CutFault;
 use edi_segments::{MOST_BYTES, SyntaxFault};
 use edi_syntax::head::is_count;
@@ -81,7 +80,11 @@ fn wrong_syntax<'a>(
 
 /// The first byte too many.
 fn too_long<'a>(text: &[u8]) -> Wrong<'a> {
-    let front = front_of(text);
+    let whole = Span {
+        begin: 0,
+        end: MOST_BYTES,
+    };
+    let front = front_of(bytes_of(text, whole));
     let span = Span {
         begin: MOST_BYTES,
         end: text.len(),

@@ -40,6 +40,14 @@ impl Subject {
     }
 }
 
+/// An interchange that is refused.
+#[derive(Clone, Copy)]
+pub struct Refused {
+    pub fault: Fault,
+    /// The error code (0085) of the CONTRL that tells it, if one does.
+    pub contrl: Option<u8>,
+}
+
 /// A fault, with its place.
 #[derive(Clone, Copy)]
 pub struct Finding<'a> {

@@ -17,6 +17,6 @@ mod span;
 
 pub use expected::Expected;
 pub use explaining::{Block, explain_next};
-pub use finding::{Finding, Subject};
-pub use partners::{Opened, Partners, Refused};
+pub use finding::{Finding, Refused, Subject};
+pub use partners::{Opened, Partners};
 pub use span::Span;

@@ -9,6 +9,7 @@ ghost use Rattle.office_replies.specs.declared.deliver.Fault.{Fault};
 ghost use Rattle.office_setup.specs.Limits.{most_partners};
 ghost use Rattle.office_setup.specs.Parties.{parties_of};
 
+use crate::finding::Refused;
 use edi_messages::{CodeTable, Codes, MessageFault, PartnerKind, interchange_error, read_message};
 use edi_moments::Moment;
 use edi_syntax::{Envelope, Frame, open_envelope};
@@ -38,14 +39,6 @@ pub struct Opened<'a> {
     /// What its sender is, if that is known.
     pub kind: Option<PartnerKind>,
     pub envelope: Envelope<'a>,
-}
-
-/// An interchange that is refused.
-#[derive(Clone, Copy)]
-pub struct Refused {
-    pub fault: Fault,
-    /// The error code (0085) of the CONTRL that tells it, if one does.
-    pub contrl: Option<u8>,
 }
 
 impl Partners {
