@@ -1,6 +1,6 @@
 use crate::causes::{tell_unread, tell_with};
 use office_commands::{DONE, FAILED, REFUSED, print};
-use office_explain::{Partners, explain_next};
+use office_explain::{Partners, explain_from};
 use office_setup_files::SetupFault;
 use office_stream::Port;
 use std::alloc::{AllocError, Global};
@@ -85,9 +85,9 @@ fn print_blocks<W: Write>(
     writer: &mut Port<W>,
 ) -> Result<u8, AllocError> {
     let mut worst = DONE;
-    let mut left = file;
+    let mut from = 0;
     for number in 1..usize::MAX {
-        let Some((block, behind)) = explain_next(alloc, partners, file, left, number)? else {
+        let Some(block) = explain_from(alloc, partners, file, from, number)? else {
             break;
         };
         if !block.is_faultless() {
@@ -97,7 +97,7 @@ fn print_blocks<W: Write>(
         if print(writer, text.as_str(), DONE) != DONE {
             return Ok(FAILED);
         }
-        left = behind;
+        from = block.end;
     }
     Ok(worst)
 }

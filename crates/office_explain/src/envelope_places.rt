@@ -4,7 +4,8 @@ ghost use Rattle.office_explain.specs.Places.{IsWithin};
 use crate::expected::Expected;
 use crate::finding::{Finding, Place, Refused, Subject, finding_at, place_of};
 use crate::front::{Front, Wanted, front_of};
-use crate::segments::{PlacedSegment, first_with_tag, inner, split_message};
+use crate::segments::{PlacedSegment, first_with_tag, inner};
+use crate::shown::ShortText;
 use crate::span::{Span, bytes_of};
 use edi_cutter::CutFault;
 use edi_segments::{MOST_BYTES, SyntaxFault};
@@ -12,15 +13,15 @@ use edi_syntax::head::is_count;
 use office_replies::Fault;
 
 /// What is wrong where, as a place and what is expected there.
-type Wrong<'a> = (Place, Expected<'a>);
+type Wrong = (Place, Expected);
 
 /// The finding of an interchange that is refused. `placed` are the segments of its text.
-pub(crate) fn refusal<'a>(
+pub(crate) fn refusal(
     text: &[u8],
-    placed: &[PlacedSegment<'a>],
-    terminal: &'a str,
+    placed: &[PlacedSegment<'_>],
+    terminal: &str,
     refused: Refused,
-) -> Finding<'a>
+) -> Finding
     ensures subject { result.subject ≡ Subject.Interchange refused.fault }
     ensures contrl { result.contrl ≡ refused.contrl }
     ensures within { IsWithin text.now result.span }
@@ -28,14 +29,17 @@ pub(crate) fn refusal<'a>(
     let (place, expected) = match refused.fault {
         Fault::Syntax(fault) => wrong_syntax(text, placed, fault),
         Fault::UnknownSender => at_header(placed, "a sender (0004) that has an account"),
-        Fault::WrongRecipient => (place_of(placed.first().copied()), Expected::Terminal(terminal)),
+        Fault::WrongRecipient => (
+            place_of(placed.first().copied()),
+            Expected::Terminal(ShortText::of_text(terminal)),
+        ),
     };
     let subject = Subject::Interchange(refused.fault);
     finding_at(text, subject, refused.contrl, place, expected)
 }
 
 /// The finding of what can't be told apart as an interchange, from the byte on where that would begin.
-pub(crate) fn cut_finding<'a>(text: &[u8], fault: Option<CutFault>) -> Finding<'a>
+pub(crate) fn cut_finding(text: &[u8], fault: Option<CutFault>) -> Finding
     ensures subject { result.subject ≡ Subject.Cut fault }
     ensures within { IsWithin text.now result.span }
 {
@@ -48,11 +52,7 @@ pub(crate) fn cut_finding<'a>(text: &[u8], fault: Option<CutFault>) -> Finding<'
     finding_at(text, Subject::Cut(fault), None, place, expected)
 }
 
-fn wrong_syntax<'a>(
-    text: &[u8],
-    placed: &[PlacedSegment<'a>],
-    fault: SyntaxFault,
-) -> Wrong<'a> {
+fn wrong_syntax(text: &[u8], placed: &[PlacedSegment<'_>], fault: SyntaxFault) -> Wrong {
     match fault {
         SyntaxFault::TooLong => too_long(text),
         SyntaxFault::Service => bad_service(),
@@ -69,7 +69,10 @@ fn wrong_syntax<'a>(
         SyntaxFault::MessageFrame => misframed(placed),
         SyntaxFault::SegmentCount => miscounted(placed),
         SyntaxFault::MessageReference => misreferenced(placed),
-        SyntaxFault::Empty => at_trailer(placed, Expected::Words("a message before it, from UNH to UNT")),
+        SyntaxFault::Empty => at_trailer(
+            placed,
+            Expected::Words("a message before it, from UNH to UNT"),
+        ),
         SyntaxFault::ControlCount => at_trailer(
             placed,
             Expected::Number(message_count(placed), "(0036), the number of messages"),
@@ -79,7 +82,7 @@ fn wrong_syntax<'a>(
 }
 
 /// The first byte too many.
-fn too_long<'a>(text: &[u8]) -> Wrong<'a> {
+fn too_long(text: &[u8]) -> Wrong {
     let whole = Span {
         begin: 0,
         end: MOST_BYTES,
@@ -90,19 +93,23 @@ fn too_long<'a>(text: &[u8]) -> Wrong<'a> {
         end: text.len(),
     };
     let segment = front.whole.saturating_add(1);
-    ((segment, span), Expected::Words("at most 1048576 bytes up to the end of UNZ"))
+    (
+        (segment, span),
+        Expected::Words("at most 1048576 bytes up to the end of UNZ"),
+    )
 }
 
 /// The service string advice.
-fn bad_service<'a>() -> Wrong<'a> {
+fn bad_service() -> Wrong {
     let span = Span { begin: 0, end: 9 };
-    let words = "UNA and six bytes, of which the separators, the release character (or a space for none) and the \
+    let words =
+        "UNA and six bytes, of which the separators, the release character (or a space for none) and the \
         terminator differ, and none is a letter, a digit, CR, LF or from 0x80";
     ((1, span), Expected::Words(words))
 }
 
 /// The byte that fits no segment.
-fn no_segment<'a>(text: &[u8]) -> Wrong<'a> {
+fn no_segment(text: &[u8]) -> Wrong {
     let front = front_of(text);
     if front.whole == 0 && text.is_empty() {
         return ((1, Span { begin: 0, end: 0 }), Expected::Words("UNB"));
@@ -112,7 +119,10 @@ fn no_segment<'a>(text: &[u8]) -> Wrong<'a> {
     }
     let span = Span::between(text, front.misfit, &[]);
     let words = words_for(front);
-    ((front.whole.saturating_add(1), span), Expected::Words(words))
+    (
+        (front.whole.saturating_add(1), span),
+        Expected::Words(words),
+    )
 }
 
 /// What is wanted in the place of the byte that breaks a text off.
@@ -120,7 +130,8 @@ fn words_for(front: Front<'_>) -> &'static str {
     match (front.wanted, front.misfit.first()) {
         (Wanted::Data, Some(b'\r' | b'\n')) =>
             "the rest of the segment: CR and LF may stand only after a terminator",
-        (Wanted::Separator, _) => "an element separator or the terminator, after a tag of three characters",
+        (Wanted::Separator, _) =>
+            "an element separator or the terminator, after a tag of three characters",
         (Wanted::Tag, Some(b' ')) => "a tag: no space may stand between segments",
         (Wanted::Tag, _) => "a tag of three capitals or digits",
         _ => "data, a separator or the terminator",
@@ -128,12 +139,12 @@ fn words_for(front: Front<'_>) -> &'static str {
 }
 
 /// Where a text ends too soon.
-fn unended<'a>(text: &[u8]) -> Wrong<'a> {
+fn unended(text: &[u8]) -> Wrong {
     unended_after(text, front_of(text))
 }
 
 /// Where a text ends too soon, of which that is the front.
-fn unended_after<'a>(text: &[u8], front: Front<'_>) -> Wrong<'a> {
+fn unended_after(text: &[u8], front: Front<'_>) -> Wrong {
     if front.rest.is_empty() {
         let span = Span::between(text, front.last, &[]);
         let words = "UNZ, and all that stands before it: the text ends here";
@@ -141,18 +152,21 @@ fn unended_after<'a>(text: &[u8], front: Front<'_>) -> Wrong<'a> {
     }
     let span = Span::between(text, front.rest, &[]);
     let words = "the rest of the segment, up to its terminator: the text ends here";
-    ((front.whole.saturating_add(1), span), Expected::Words(words))
+    (
+        (front.whole.saturating_add(1), span),
+        Expected::Words(words),
+    )
 }
 
-fn at_header<'a>(placed: &[PlacedSegment<'a>], words: &'static str) -> Wrong<'a> {
+fn at_header(placed: &[PlacedSegment<'_>], words: &'static str) -> Wrong {
     (place_of(placed.first().copied()), Expected::Words(words))
 }
 
-fn at_trailer<'a>(placed: &[PlacedSegment<'a>], expected: Expected<'a>) -> Wrong<'a> {
+fn at_trailer(placed: &[PlacedSegment<'_>], expected: Expected) -> Wrong {
     (place_of(placed.last().copied()), expected)
 }
 
-fn no_envelope<'a>(placed: &[PlacedSegment<'a>]) -> Wrong<'a> {
+fn no_envelope(placed: &[PlacedSegment<'_>]) -> Wrong {
     match placed.first() {
         Some(first) if first.has_tag(b"UNB") => {}
         _ => return at_header(placed, "UNB"),
@@ -161,10 +175,13 @@ fn no_envelope<'a>(placed: &[PlacedSegment<'a>]) -> Wrong<'a> {
         Some(last) if last.has_tag(b"UNZ") => {}
         _ => return at_trailer(placed, Expected::Words("UNZ")),
     }
-    at_header(placed, "a sender (0004) and a recipient (0010), each byte from space to tilde")
+    at_header(
+        placed,
+        "a sender (0004) and a recipient (0010), each byte from space to tilde",
+    )
 }
 
-fn group<'a>(placed: &[PlacedSegment<'a>]) -> Wrong<'a> {
+fn group(placed: &[PlacedSegment<'_>]) -> Wrong {
     let first = match first_with_tag(placed, b"UNG") {
         Some(group) => Some(group),
         None => first_with_tag(placed, b"UNE"),
@@ -173,12 +190,15 @@ fn group<'a>(placed: &[PlacedSegment<'a>]) -> Wrong<'a> {
 }
 
 /// The first segment that stands where the frame of messages doesn't allow it.
-fn misframed<'a>(placed: &[PlacedSegment<'a>]) -> Wrong<'a> {
+fn misframed(placed: &[PlacedSegment<'_>]) -> Wrong {
     let mut is_inside = false;
     for segment in inner(placed) {
         let is_outer = segment.has_tag(b"UNB") || segment.has_tag(b"UNZ");
         if is_outer || segment.has_tag(b"UNH") == is_inside {
-            return (place_of(Some(*segment)), Expected::Words(words_of_frame(is_inside)));
+            return (
+                place_of(Some(*segment)),
+                Expected::Words(words_of_frame(is_inside)),
+            );
         }
         is_inside = !segment.has_tag(b"UNT");
     }
@@ -194,48 +214,61 @@ fn words_of_frame(is_inside: bool) -> &'static str {
 }
 
 /// The first trailer that doesn't give the number of its message's segments.
-fn miscounted<'a>(placed: &[PlacedSegment<'a>]) -> Wrong<'a> {
-    let mut rest = placed;
-    for _ in placed {
-        let (message, behind) = split_message(rest);
-        if let Some(trailer) = message.last() {
-            if !is_count(trailer.segment.component(1, 1), message.len() as u64) {
-                let expected = Expected::Number(message.len(), "(0074), the number of segments from UNH to UNT");
-                return (place_of(Some(*trailer)), expected);
-            }
+fn miscounted(placed: &[PlacedSegment<'_>]) -> Wrong {
+    let mut count = 0usize;
+    for segment in placed {
+        count = if segment.has_tag(b"UNH") {
+            1
+        } else {
+            count.saturating_add(1)
+        };
+        if segment.has_tag(b"UNT") && !is_count(segment.segment.component(1, 1), count as u64) {
+            let expected = Expected::Number(
+                count,
+                "(0074), the number of segments from UNH to UNT",
+            );
+            return (place_of(Some(*segment)), expected);
         }
-        rest = behind;
     }
-    at_trailer(placed, Expected::Words("the numbers of segments in all UNT"))
+    at_trailer(
+        placed,
+        Expected::Words("the numbers of segments in all UNT"),
+    )
 }
 
-/// The first message whose reference or identity is wrong.
-fn misreferenced<'a>(placed: &[PlacedSegment<'a>]) -> Wrong<'a> {
-    let mut rest = placed;
-    for _ in placed {
-        let (message, behind) = split_message(rest);
-        if let Some(wrong) = wrong_reference(message) {
+/// The first header whose reference or identity is wrong, or trailer that gives another reference.
+fn misreferenced(placed: &[PlacedSegment<'_>]) -> Wrong {
+    let mut header = None;
+    for segment in placed {
+        if segment.has_tag(b"UNH") {
+            header = Some(*segment);
+        }
+        if let Some(wrong) = wrong_reference(*segment, header) {
             return wrong;
         }
-        rest = behind;
     }
     at_trailer(placed, Expected::Words("the references of messages"))
 }
 
-/// What is wrong with the reference or the identity of a message.
-fn wrong_reference<'a>(message: &[PlacedSegment<'a>]) -> Option<Wrong<'a>> {
-    let header = message.first()?;
-    let trailer = message.last()?;
-    let reference = header.segment.component(1, 1);
-    if !is_good_header(header) {
-        let words = "a reference (0062) of 1 to 14 bytes and an identity (S009), each byte from space to tilde";
-        return Some((place_of(Some(*header)), Expected::Words(words)));
+/// What is wrong with the reference or the identity in a segment of a message with that header.
+fn wrong_reference(segment: PlacedSegment<'_>, header: Option<PlacedSegment<'_>>) -> Option<Wrong> {
+    if segment.has_tag(b"UNH") {
+        if is_good_header(&segment) {
+            return None;
+        }
+        let words =
+            "a reference (0062) of 1 to 14 bytes and an identity (S009), each byte from space to tilde";
+        return Some((place_of(Some(segment)), Expected::Words(words)));
     }
-    if trailer.segment.component(2, 1).has_same_value(&reference) {
+    let reference = header?.segment.component(1, 1);
+    if !segment.has_tag(b"UNT") || segment.segment.component(2, 1).has_same_value(&reference) {
         return None;
     }
-    let expected = Expected::Value(reference, "(0062), the reference that UNH gives");
-    Some((place_of(Some(*trailer)), expected))
+    let expected = Expected::Value(
+        ShortText::of_value(reference),
+        "(0062), the reference that UNH gives",
+    );
+    Some((place_of(Some(segment)), expected))
 }
 
 /// The reference is 1 to 14 bytes, and it and the identity can be printed.
@@ -253,13 +286,22 @@ fn is_good_header(header: &PlacedSegment<'_>) -> bool {
     true
 }
 
-fn other_reference<'a>(placed: &[PlacedSegment<'a>]) -> Wrong<'a> {
+fn other_reference(placed: &[PlacedSegment<'_>]) -> Wrong {
     match placed.first() {
         Some(header) => {
             let reference = header.segment.component(5, 1);
-            at_trailer(placed, Expected::Value(reference, "(0020), the control reference of UNB"))
+            at_trailer(
+                placed,
+                Expected::Value(
+                    ShortText::of_value(reference),
+                    "(0020), the control reference of UNB",
+                ),
+            )
         }
-        None => at_trailer(placed, Expected::Words("the control reference (0020) of UNB")),
+        None => at_trailer(
+            placed,
+            Expected::Words("the control reference (0020) of UNB"),
+        ),
     }
 }
 

@@ -1,34 +1,30 @@
-use crate::shown::{Shown, ShownValue};
+use crate::shown::{ShortText, Shown};
 use edi_messages::{Codes, PartnerKind};
-use edi_segments::Component;
 use std::fmt;
 
 /// What is expected in the place of what was found.
 #[derive(Clone, Copy)]
-pub enum Expected<'a> {
+pub enum Expected {
     /// What these words say.
     Words(&'static str),
     /// A number, with what it is.
     Number(usize, &'static str),
     /// A value that stands elsewhere too, and where.
-    Value(Component<'a>, &'static str),
+    Value(ShortText, &'static str),
     /// The code of the terminal.
-    Terminal(&'a str),
+    Terminal(ShortText),
     /// A container number, if its first ten characters are right.
     Container([u8; 11]),
     /// A code that an account of the kind may send.
     Code(Codes),
 }
 
-impl fmt::Display for Expected<'_> {
+impl fmt::Display for Expected {
     fn fmt<W: fmt::Write>(&self, f: &mut fmt::Formatter<W>) -> fmt::Result {
         match self {
             Expected::Words(words) => f.write_str(words),
             Expected::Number(number, words) => write!(f, "{number} {words}"),
-            Expected::Value(component, words) => {
-                let value = ShownValue(*component);
-                write!(f, "{value} {words}")
-            }
+            Expected::Value(value, words) => write!(f, "{value} {words}"),
             Expected::Terminal(code) => write!(f, "{code} (0010), the terminal"),
             Expected::Container(text) => {
                 let number = Shown(text);

@@ -6,10 +6,10 @@ ghost use Rattle.office_setup.specs.Parties.{parties_of};
 use crate::envelope_places::{cut_finding, refusal};
 use crate::expected::kind_name;
 use crate::finding::{Finding, write_subject};
-use crate::line_places::{refused_line, split_group};
+use crate::line_places::{group_from, refused_line};
 use crate::message_places::rejection;
 use crate::partners::{Opened, Partners, kind_wanted};
-use crate::segments::{PlacedSegment, behind_breaks, placed_segments, split_message};
+use crate::segments::{PlacedSegment, behind_breaks, index_behind, message_from, placed_segments};
 use crate::shown::{Shown, ShownValue};
 use crate::span::bytes_of;
 use edi_cutter::{CutFault, Cutter};
@@ -23,9 +23,9 @@ use std::fmt;
 #[derive(Drop)]
 pub enum Told<'a> {
     /// It can't be told apart from what follows, and nothing behind it is read.
-    Cut(Finding<'a>),
+    Cut(Finding),
     /// It is refused.
-    Refused(Finding<'a>),
+    Refused(Finding),
     /// It is read.
     Read(Reading<'a>),
 }
@@ -37,7 +37,7 @@ pub struct Reading<'a> {
     /// What its sender is, or is taken for.
     pub kind: PartnerKind,
     /// The faults of its messages and lines, in their order.
-    pub findings: Vec<Finding<'a>>,
+    pub findings: Vec<Finding>,
 }
 
 /// What is told of an interchange of a file, as `Display` writes it in whole lines.
@@ -47,6 +47,8 @@ pub struct Block<'a> {
     pub number: usize,
     /// How many bytes of the file stand before it.
     pub before: usize,
+    /// Up to which byte of the file it goes.
+    pub end: usize,
     /// Its bytes; of one that can't be told apart all that is left of the file.
     pub text: &'a [u8],
     pub told: Told<'a>,
@@ -62,35 +64,39 @@ impl Block<'_> {
     }
 }
 
-/// Explains the first interchange of what is left of a file, and answers what is left behind it: nothing, if it can't be
-/// told apart. `None`: there is nothing left but CR and LF. An error is that memory was refused.
-pub fn explain_next<'a>(
+/// Explains the first interchange of a file that begins at a byte, from 0, or behind it. `None`: nothing stands there but CR
+/// and LF. An error is that memory was refused.
+pub fn explain_from<'a>(
     alloc: Global,
-    partners: &'a Partners,
-    file: &[u8],
-    left: &'a [u8],
+    partners: &Partners,
+    file: &'a [u8],
+    from: usize,
     number: usize,
-) -> Result<Option<(Block<'a>, &'a [u8])>, AllocError> {
-    let begun = behind_breaks(left);
-    if begun.is_empty() {
+) -> Result<Option<Block<'a>>, AllocError> {
+    let left = behind_breaks(&file[from.min(file.len())..]);
+    if left.is_empty() {
         return Ok(None);
     }
-    let before = file.len().saturating_sub(begun.len());
-    let (text, behind, told) = match first_len(alloc, begun)? {
+    let before = file.len().saturating_sub(left.len());
+    match first_len(alloc, left)? {
         Ok(len) => {
-            let (text, behind) = begun.split_at(len);
-            let text = interchange_text(text);
-            (text, behind, told_of(alloc, partners, text)?)
+            let text = interchange_text(&left[..len]);
+            Ok(Some(Block {
+                number,
+                before,
+                end: before.saturating_add(len),
+                text,
+                told: told_of(alloc, partners, text)?,
+            }))
         }
-        Err(fault) => (begun, &begun[begun.len()..], Told::Cut(cut_finding(begun, fault))),
-    };
-    let block = Block {
-        number,
-        before,
-        text,
-        told,
-    };
-    Ok(Some((block, behind)))
+        Err(fault) => Ok(Some(Block {
+            number,
+            before,
+            end: file.len(),
+            text: left,
+            told: Told::Cut(cut_finding(left, fault)),
+        })),
+    }
 }
 
 /// How many bytes the first interchange of a text has, or why it can't be told apart. `None`: the text ends within it. An
@@ -113,7 +119,7 @@ fn first_len(alloc: Global, text: &[u8]) -> Result<Result<usize, Option<CutFault
 /// What is told of an interchange of that text.
 fn told_of<'a>(
     alloc: Global,
-    partners: &'a Partners,
+    partners: &Partners,
     text: &'a [u8],
 ) -> Result<Told<'a>, AllocError>
     ensures { IfOk result
@@ -132,7 +138,7 @@ fn reading_of<'a>(
     partners: &Partners,
     text: &[u8],
     opened: &Opened<'a>,
-    placed: &[PlacedSegment<'a>],
+    placed: &[PlacedSegment<'_>],
 ) -> Result<Reading<'a>, AllocError> {
     let kind = match opened.kind {
         Some(kind) => kind,
@@ -148,47 +154,48 @@ fn reading_of<'a>(
 }
 
 /// The faults of an interchange's messages and of their lines.
-fn message_findings<'a>(
+fn message_findings(
     alloc: Global,
     text: &[u8],
     codes: &Codes,
-    envelope: &Envelope<'a>,
-    placed: &[PlacedSegment<'a>],
-) -> Result<Vec<Finding<'a>>, AllocError> {
+    envelope: &Envelope<'_>,
+    placed: &[PlacedSegment<'_>],
+) -> Result<Vec<Finding>, AllocError> {
     let mut findings = Vec::new(alloc);
     let opened = envelope.head().moment();
     let mut number = 0usize;
-    let mut rest = placed;
+    let mut index = 0usize;
     for frame in envelope.frames() {
-        let (message, behind) = split_message(rest);
+        let message = message_from(placed, index);
         number = number.saturating_add(1);
+        index = index_behind(message, index);
         match read_message(alloc, &frame, opened, codes) {
             Ok(read) => push_lines(text, number, message, &read, &mut findings)?,
             Err(MessageFault::Memory) => return Err(AllocError),
             Err(fault) => findings.push(rejection(text, number, message, codes, fault))?,
         }
-        rest = behind;
     }
     Ok(findings)
 }
 
 /// Adds the faults of a message's lines.
-fn push_lines<'a>(
+fn push_lines(
     text: &[u8],
     number: usize,
-    message: &[PlacedSegment<'a>],
+    message: &[PlacedSegment<'_>],
     read: &Message,
-    findings: &mut Vec<Finding<'a>>,
+    findings: &mut Vec<Finding>,
 ) -> Result<(), AllocError> {
     let mut line_number = 0usize;
-    let mut rest = message;
+    let mut index = 0usize;
     for line in &read.lines {
-        let (group, behind) = split_group(rest);
+        let (begin, end) = group_from(message, index);
         line_number = line_number.saturating_add(1);
+        index = end;
         if let Line::Refusal(refusal) = line {
+            let group = &message[begin..end];
             findings.push(refused_line(text, number, line_number, group, refusal.fault))?;
         }
-        rest = behind;
     }
     Ok(())
 }
@@ -223,7 +230,10 @@ fn write_reading<W: fmt::Write>(
     let recipient = ShownValue(reading.head.recipient(1));
     let number = reading.head.number();
     let kind = kind_name(reading.kind);
-    write!(f, "number {number} of {sender}, of the kind {kind}, to {recipient}\n")?;
+    write!(
+        f,
+        "number {number} of {sender}, of the kind {kind}, to {recipient}\n"
+    )?;
     if reading.findings.as_slice().is_empty() {
         return f.write_str("  no fault\n");
     }
@@ -235,7 +245,7 @@ fn write_reading<W: fmt::Write>(
 
 /// Writes a finding of a text that stands behind so many bytes of its file.
 fn write_finding<W: fmt::Write>(
-    finding: &Finding<'_>,
+    finding: &Finding,
     text: &[u8],
     before: usize,
     f: &mut fmt::Formatter<W>,
@@ -245,5 +255,8 @@ fn write_finding<W: fmt::Write>(
     let byte = before.saturating_add(finding.span.begin).saturating_add(1);
     let found = Shown(bytes_of(text, finding.span));
     let expected = finding.expected;
-    write!(f, " at segment {segment}, byte {byte}\n    found     {found}\n    expected  {expected}\n")
+    write!(
+        f,
+        " at segment {segment}, byte {byte}\n    found     {found}\n    expected  {expected}\n"
+    )
 }

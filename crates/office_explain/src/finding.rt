@@ -50,7 +50,7 @@ pub struct Refused {
 
 /// A fault, with its place.
 #[derive(Clone, Copy)]
-pub struct Finding<'a> {
+pub struct Finding {
     /// What has which fault.
     pub subject: Subject,
     /// The error code (0085) that a CONTRL tells for it, if one does.
@@ -60,20 +60,20 @@ pub struct Finding<'a> {
     /// The bytes of the text that were found.
     pub span: Span,
     /// What is expected in their place.
-    pub expected: Expected<'a>,
+    pub expected: Expected,
 }
 
 /// A number of a segment, and a stretch of its text.
 pub(crate) type Place = (usize, Span);
 
 /// The finding of a fault at a place of a text.
-pub(crate) fn finding_at<'a>(
+pub(crate) fn finding_at(
     text: &[u8],
     subject: Subject,
     contrl: Option<u8>,
     place: Place,
-    expected: Expected<'a>,
-) -> Finding<'a>
+    expected: Expected,
+) -> Finding
     ensures subject { result.subject ≡ subject }
     ensures contrl { result.contrl ≡ contrl }
     ensures within { IsWithin text.now result.span }

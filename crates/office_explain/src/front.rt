@@ -90,7 +90,11 @@ fn fit_of(service: Service, text: &[u8]) -> Fit<'_> {
 /// What is wanted in the place of a byte that doesn't fit at an index of a segment. `None` if it fits.
 fn wanted_for(service: Service, index: usize, released: bool, byte: u8) -> Option<Wanted> {
     if index < 3 {
-        return if is_tag_byte(byte) { None } else { Some(Wanted::Tag) };
+        return if is_tag_byte(byte) {
+            None
+        } else {
+            Some(Wanted::Tag)
+        };
     }
     match service.token(released, byte) {
         Token::Element | Token::Terminator => None,

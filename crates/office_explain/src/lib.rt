@@ -16,7 +16,8 @@ mod shown;
 mod span;
 
 pub use expected::Expected;
-pub use explaining::{Block, explain_next};
+pub use explaining::{Block, Reading, Told, explain_from};
 pub use finding::{Finding, Refused, Subject};
 pub use partners::{Opened, Partners};
+pub use shown::ShortText;
 pub use span::Span;

@@ -9,19 +9,25 @@ use edi_messages::LineFault;
 
 /// The finding of a line that is refused, by the numbers of the message and the line, and the segments that speak of its
 /// container, the equipment first.
-pub(crate) fn refused_line<'a>(
+pub(crate) fn refused_line(
     text: &[u8],
     message: usize,
     line: usize,
-    group: &[PlacedSegment<'a>],
+    group: &[PlacedSegment<'_>],
     fault: LineFault,
-) -> Finding<'a>
+) -> Finding
     ensures subject { result.subject ≡ Subject.Line message line fault }
     ensures within { IsWithin text.now result.span }
 {
     let place = place_of(segment_with(group, fault));
     let expected = expected_for(group, fault);
-    finding_at(text, Subject::Line(message, line, fault), None, place, expected)
+    finding_at(
+        text,
+        Subject::Line(message, line, fault),
+        None,
+        place,
+        expected,
+    )
 }
 
 /// The segment that shows a fault of a line.
@@ -49,14 +55,18 @@ fn first_moment<'a>(group: &[PlacedSegment<'a>]) -> Option<PlacedSegment<'a>> {
 }
 
 /// What is expected for a fault of a line.
-fn expected_for<'a>(group: &[PlacedSegment<'a>], fault: LineFault) -> Expected<'a> {
+fn expected_for(group: &[PlacedSegment<'_>], fault: LineFault) -> Expected {
     match fault {
-        LineFault::Form => Expected::Words("three capitals, one of U, J and Z, and seven digits (8260)"),
+        LineFault::Form => Expected::Words(
+            "three capitals, one of U, J and Z, and seven digits (8260)",
+        ),
         LineFault::CheckDigit => expected_number(group),
         LineFault::Size => Expected::Words(
             "a size-type (8155) of four capitals or digits that begins with 2, 4 or L",
         ),
-        LineFault::Moment => Expected::Words("CCYYMMDDHHMM (203) or CCYYMMDD (102) of a day that there is"),
+        LineFault::Moment => Expected::Words(
+            "CCYYMMDDHHMM (203) or CCYYMMDD (102) of a day that there is",
+        ),
         LineFault::SlotText => Expected::Words(
             "a slot such as A001011: a block's letter, and three digits of the bay, two of the row and one of the tier",
         ),
@@ -64,7 +74,7 @@ fn expected_for<'a>(group: &[PlacedSegment<'a>], fault: LineFault) -> Expected<'
 }
 
 /// The container number with the right check digit.
-fn expected_number<'a>(group: &[PlacedSegment<'a>]) -> Expected<'a> {
+fn expected_number(group: &[PlacedSegment<'_>]) -> Expected {
     match corrected(group) {
         Some(number) => Expected::Container(number),
         None => Expected::Words("the check digit of the ten characters before it (8260)"),
@@ -80,30 +90,36 @@ fn corrected(group: &[PlacedSegment<'_>]) -> Option<[u8; 11]> {
     Some([c0, c1, c2, c3, c4, c5, c6, c7, c8, c9, b'0' + digit])
 }
 
-/// The segments that speak of the first container, from its equipment on, and what stands behind them.
-pub(crate) fn split_group<'p, 'a>(
-    segments: &'p [PlacedSegment<'a>],
-) -> (&'p [PlacedSegment<'a>], &'p [PlacedSegment<'a>]) {
-    let from = from_container(segments);
-    from.split_at(len_of_group(from))
+/// From which index up to which the segments stand that speak of the first container at an index or behind it: its
+/// equipment, and what follows up to the next equipment or control total.
+pub(crate) fn group_from(segments: &[PlacedSegment<'_>], index: usize) -> (usize, usize)
+    ensures order { result.0 ≤ result.1 }
+    ensures within { result.1 ≤ length segments.now }
+{
+    let begin = container_from(segments, index);
+    (begin, group_end(segments, begin))
 }
 
-/// What begins with the first container.
-fn from_container<'p, 'a>(segments: &'p [PlacedSegment<'a>]) -> &'p [PlacedSegment<'a>] {
-    for (index, segment) in segments.iter().enumerate() {
-        if segment.is_qualified(b"EQD", b"CN") {
-            return &segments[index..];
-        }
-    }
-    &segments[segments.len()..]
-}
-
-/// How many segments stand before the next equipment or control total, the first counted in any case.
-fn len_of_group(segments: &[PlacedSegment<'_>]) -> usize
+/// The index of the first container at an index or behind it; how many segments there are, if there is none.
+fn container_from(segments: &[PlacedSegment<'_>], from: usize) -> usize
     ensures { result ≤ length segments.now }
 {
-    for (index, segment) in segments.iter().enumerate() {
-        if index > 0 && (segment.has_tag(b"EQD") || segment.has_tag(b"CNT")) {
+    for index in from..segments.len() {
+        if segments[index].is_qualified(b"EQD", b"CN") {
+            return index;
+        }
+    }
+    segments.len()
+}
+
+/// Up to which index the segments stand that speak of the equipment at an index.
+fn group_end(segments: &[PlacedSegment<'_>], begin: usize) -> usize
+    requires { begin ≤ length segments.now }
+    ensures order { begin ≤ result }
+    ensures within { result ≤ length segments.now }
+{
+    for index in begin..segments.len() {
+        if index > begin && (segments[index].has_tag(b"EQD") || segments[index].has_tag(b"CNT")) {
             return index;
         }
     }

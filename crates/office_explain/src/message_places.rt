@@ -11,20 +11,26 @@ use edi_messages::{Codes, MessageFault, PartnerKind, message_error};
 const MOST_CONTAINERS: usize = 999;
 
 /// The finding of a message that is rejected, by its number and its segments.
-pub(crate) fn rejection<'a>(
+pub(crate) fn rejection(
     text: &[u8],
     number: usize,
-    message: &[PlacedSegment<'a>],
+    message: &[PlacedSegment<'_>],
     codes: &Codes,
     fault: MessageFault,
-) -> Finding<'a>
+) -> Finding
     ensures subject { result.subject ≡ Subject.Message number fault }
     ensures contrl { result.contrl ≡ message_error fault }
     ensures within { IsWithin text.now result.span }
 {
     let place = place_of(segment_with(message, fault));
     let expected = expected_for(message, codes, fault);
-    finding_at(text, Subject::Message(number, fault), message_error(fault), place, expected)
+    finding_at(
+        text,
+        Subject::Message(number, fault),
+        message_error(fault),
+        place,
+        expected,
+    )
 }
 
 /// The segment that shows a fault of a message.
@@ -46,13 +52,11 @@ fn segment_with<'a>(
 }
 
 /// What is expected for a fault of a message.
-fn expected_for<'a>(
-    message: &[PlacedSegment<'a>],
-    codes: &Codes,
-    fault: MessageFault,
-) -> Expected<'a> {
+fn expected_for(message: &[PlacedSegment<'_>], codes: &Codes, fault: MessageFault) -> Expected {
     match fault {
-        MessageFault::OtherType => Expected::Words("CODECO, COPRAR or COARRI, and D, 95B and UN (S009)"),
+        MessageFault::OtherType => Expected::Words(
+            "CODECO, COPRAR or COARRI, and D, 95B and UN (S009)",
+        ),
         MessageFault::NoBgm => Expected::Words("a BGM before the first EQD"),
         MessageFault::Code => Expected::Code(*codes),
         MessageFault::Function => Expected::Words(function_words(codes.kind)),
@@ -88,10 +92,7 @@ fn count_with_tag(segments: &[PlacedSegment<'_>], tag: &[u8]) -> usize {
 }
 
 /// The container after so many.
-fn container_after<'a>(
-    segments: &[PlacedSegment<'a>],
-    passed: usize,
-) -> Option<PlacedSegment<'a>> {
+fn container_after<'a>(segments: &[PlacedSegment<'a>], passed: usize) -> Option<PlacedSegment<'a>> {
     let mut left = passed;
     for segment in segments {
         if segment.is_qualified(b"EQD", b"CN") {

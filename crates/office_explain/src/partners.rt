@@ -146,7 +146,11 @@ const KINDS: [PartnerKind; 4] = [
 
 /// The kind of account that the messages of an interchange want: the first that may send the first message which any may
 /// send, or else that of the gate.
-pub(crate) fn kind_wanted(alloc: Global, table: &CodeTable, envelope: &Envelope<'_>) -> PartnerKind {
+pub(crate) fn kind_wanted(
+    alloc: Global,
+    table: &CodeTable,
+    envelope: &Envelope<'_>,
+) -> PartnerKind {
     let moment = envelope.head().moment();
     for frame in envelope.frames() {
         if let Some(kind) = kind_for(alloc, table, &frame, moment) {

@@ -124,16 +124,41 @@ pub(crate) fn first_qualified<'a>(
     None
 }
 
-/// The first message, from its UNH up to its UNT, and what stands behind it.
-pub(crate) fn split_message<'p, 'a>(
+/// The first message that begins at an index or behind it, from its UNH up to its UNT.
+pub(crate) fn message_from<'p, 'a>(
     segments: &'p [PlacedSegment<'a>],
-) -> (&'p [PlacedSegment<'a>], &'p [PlacedSegment<'a>]) {
-    let begin = index_of(segments, b"UNH").unwrap_or(0);
-    let (_, from) = segments.split_at(begin);
-    match index_of(from, b"UNT") {
-        Some(last) => from.split_at(last + 1),
-        None => from.split_at(from.len()),
+    index: usize,
+) -> &'p [PlacedSegment<'a>] {
+    let begin = index_from(segments, index, b"UNH");
+    let end = index_from(segments, begin, b"UNT");
+    let (_, behind) = segments.split_at(begin);
+    behind
+        .split_at(
+            end.saturating_sub(begin)
+                .saturating_add(1)
+                .min(behind.len()),
+        )
+        .0
+}
+
+/// The index behind a message, whose segments are numbered from 1 in their text.
+pub(crate) fn index_behind(message: &[PlacedSegment<'_>], before: usize) -> usize {
+    match message.last() {
+        Some(last) => last.number,
+        None => before,
     }
+}
+
+/// The index of the first segment with a tag, at an index or behind it; how many segments there are, if none has it.
+fn index_from(segments: &[PlacedSegment<'_>], from: usize, tag: &[u8]) -> usize
+    ensures { result ≤ length segments.now }
+{
+    for index in from..segments.len() {
+        if segments[index].has_tag(tag) {
+            return index;
+        }
+    }
+    segments.len()
 }
 
 /// The segments between the first and the last.

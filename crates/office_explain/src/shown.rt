@@ -1,3 +1,5 @@
+ghost use Rattle.std.specs.Prelude.{◌≤◌};
+
 use edi_segments::Component;
 use edi_segments::characters::is_printable;
 use std::fmt;
@@ -12,11 +14,19 @@ pub(crate) struct Shown<'a>(pub(crate) &'a [u8]);
 impl fmt::Display for Shown<'_> {
     fn fmt<W: fmt::Write>(&self, f: &mut fmt::Formatter<W>) -> fmt::Result {
         let bytes = self.0;
-        let len = if bytes.len() < MOST_SHOWN { bytes.len() } else { MOST_SHOWN };
+        let len = if bytes.len() < MOST_SHOWN {
+            bytes.len()
+        } else {
+            MOST_SHOWN
+        };
         for byte in &bytes[..len] {
             write_byte(*byte, f)?;
         }
-        if len < bytes.len() { f.write_str("..") } else { Ok(()) }
+        if len < bytes.len() {
+            f.write_str("..")
+        } else {
+            Ok(())
+        }
     }
 }
 
@@ -39,5 +49,55 @@ fn write_byte<W: fmt::Write>(byte: u8, f: &mut fmt::Formatter<W>) -> fmt::Result
         f.write_char(char::from(byte))
     } else {
         write!(f, "\\x{byte:02x}")
+    }
+}
+
+/// How many bytes a short text may have.
+const MOST_SHORT: usize = 35;
+
+/// The first 35 bytes of a value.
+#[derive(Clone, Copy)]
+pub struct ShortText {
+    bytes: [u8; 35],
+    len: usize,
+    ghost fits: { len ≤ 35 },
+}
+
+impl ShortText {
+    /// Of a component's value.
+    pub(crate) fn of_value(component: Component<'_>) -> ShortText {
+        let mut bytes = [0; 35];
+        let mut len = 0;
+        for byte in component.bytes() {
+            if len == MOST_SHORT {
+                break;
+            }
+            bytes[len] = byte;
+            len += 1;
+        }
+        ShortText { bytes, len }
+    }
+
+    /// Of a text.
+    pub(crate) fn of_text(text: &str) -> ShortText {
+        let mut bytes = [0; 35];
+        let mut len = 0;
+        for byte in text.as_bytes() {
+            if len == MOST_SHORT {
+                break;
+            }
+            bytes[len] = *byte;
+            len += 1;
+        }
+        ShortText { bytes, len }
+    }
+}
+
+impl fmt::Display for ShortText {
+    fn fmt<W: fmt::Write>(&self, f: &mut fmt::Formatter<W>) -> fmt::Result {
+        for byte in &self.bytes[..self.len] {
+            write_byte(*byte, f)?;
+        }
+        Ok(())
     }
 }

@@ -24,7 +24,11 @@ impl Span {
     pub(crate) fn within(self, text: &[u8]) -> Span
         ensures { IsWithin text.now result }
     {
-        let end = if self.end < text.len() { self.end } else { text.len() };
+        let end = if self.end < text.len() {
+            self.end
+        } else {
+            text.len()
+        };
         let begin = if self.begin < end { self.begin } else { end };
         Span { begin, end }
     }
