@@ -1,4 +1,2 @@
 pub mod Places
-pub mod Named
 pub mod Names
-pub mod Told
