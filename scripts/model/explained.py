@@ -315,7 +315,7 @@ def explained(setup, file):
             told.append(Explained(begin, text, 'refused, and nothing of it is kept', [refused_as(setup, text, refusal)]))
         else:
             said = 'number %d of %s, of the kind %s, to %s' % (
-                number_of(text), shown_whole(sender_of(text)), kind_of(setup, text), shown_whole(recipient_of(text)))
+                number_of(text), shown_whole(sender_of(text)[:35]), kind_of(setup, text), shown_whole(recipient_of(text)[:35]))
             told.append(Explained(begin, text, said, faults_of(setup, text)))
         begin = past_breaks(file, begin + len(text))
     if fault:

@@ -63,36 +63,42 @@ pub struct Finding {
     pub expected: Expected,
 }
 
-/// A number of a segment, and a stretch of its text.
-pub(crate) type Place = (usize, Span);
+/// What is wrong where, whatever the fault is called.
+#[derive(Clone, Copy)]
+pub(crate) struct Wrong {
+    pub(crate) segment: usize,
+    pub(crate) span: Span,
+    pub(crate) expected: Expected,
+}
 
-/// The finding of a fault at a place of a text.
-pub(crate) fn finding_at(
-    text: &[u8],
-    subject: Subject,
-    contrl: Option<u8>,
-    place: Place,
-    expected: Expected,
-) -> Finding
+/// A segment is wrong; the front of the text, if there is none.
+pub(crate) fn wrong_at(segment: Option<PlacedSegment<'_>>, expected: Expected) -> Wrong {
+    match segment {
+        Some(segment) => Wrong {
+            segment: segment.number,
+            span: segment.span,
+            expected,
+        },
+        None => Wrong {
+            segment: 1,
+            span: Span { begin: 0, end: 0 },
+            expected,
+        },
+    }
+}
+
+/// The finding of a fault that shows so in a text.
+pub(crate) fn finding_of(text: &[u8], subject: Subject, contrl: Option<u8>, wrong: Wrong) -> Finding
     ensures subject { result.subject ≡ subject }
     ensures contrl { result.contrl ≡ contrl }
     ensures within { IsWithin text.now result.span }
 {
-    let (segment, span) = place;
     Finding {
         subject,
         contrl,
-        segment,
-        span: span.within(text),
-        expected,
-    }
-}
-
-/// Where a segment stands; the front of the text, if there is none.
-pub(crate) fn place_of(segment: Option<PlacedSegment<'_>>) -> Place {
-    match segment {
-        Some(segment) => (segment.number, segment.span),
-        None => (1, Span { begin: 0, end: 0 }),
+        segment: wrong.segment,
+        span: wrong.span.within(text),
+        expected: wrong.expected,
     }
 }
 

@@ -4,16 +4,21 @@
 
 mod envelope_places;
 mod expected;
+mod explaining;
 mod finding;
 mod front;
 mod line_places;
 mod message_places;
 mod names;
+mod partners;
 mod segments;
 mod shown;
 mod span;
+mod text_places;
 
-pub use expected::Expected;
+pub use expected::{CodesOfKind, Expected};
+pub use explaining::{Block, Reading, Told, explain_from};
 pub use finding::{Finding, Refused, Subject};
+pub use partners::{Opened, Partners};
 pub use shown::ShortText;
 pub use span::Span;

@@ -2,7 +2,7 @@ ghost use Rattle.std.specs.Prelude.{◌≡◌, ◌≤◌, length};
 ghost use Rattle.office_explain.specs.Places.{IsWithin};
 
 use crate::expected::Expected;
-use crate::finding::{Finding, Subject, finding_at, place_of};
+use crate::finding::{Finding, Subject, finding_of, wrong_at};
 use crate::segments::{PlacedSegment, first_qualified};
 use box6346::check_digit;
 use edi_messages::LineFault;
@@ -19,15 +19,8 @@ pub(crate) fn refused_line(
     ensures subject { result.subject ≡ Subject.Line message line fault }
     ensures within { IsWithin text.now result.span }
 {
-    let place = place_of(segment_with(group, fault));
-    let expected = expected_for(group, fault);
-    finding_at(
-        text,
-        Subject::Line(message, line, fault),
-        None,
-        place,
-        expected,
-    )
+    let wrong = wrong_at(segment_with(group, fault), expected_for(group, fault));
+    finding_of(text, Subject::Line(message, line, fault), None, wrong)
 }
 
 /// The segment that shows a fault of a line.

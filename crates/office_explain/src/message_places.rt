@@ -2,8 +2,8 @@ ghost use Rattle.std.specs.Prelude.{◌≡◌};
 ghost use Rattle.edi_messages.specs.ErrorCodes.{message_error};
 ghost use Rattle.office_explain.specs.Places.{IsWithin};
 
-use crate::expected::Expected;
-use crate::finding::{Finding, Subject, finding_at, place_of};
+use crate::expected::{CodesOfKind, Expected};
+use crate::finding::{Finding, Subject, finding_of, wrong_at};
 use crate::segments::{PlacedSegment, first_qualified, first_with_tag, heading};
 use edi_messages::{Codes, MessageFault, PartnerKind, message_error};
 
@@ -22,14 +22,13 @@ pub(crate) fn rejection(
     ensures contrl { result.contrl ≡ message_error fault }
     ensures within { IsWithin text.now result.span }
 {
-    let place = place_of(segment_with(message, fault));
     let expected = expected_for(message, codes, fault);
-    finding_at(
+    let wrong = wrong_at(segment_with(message, fault), expected);
+    finding_of(
         text,
         Subject::Message(number, fault),
         message_error(fault),
-        place,
-        expected,
+        wrong,
     )
 }
 
@@ -58,7 +57,7 @@ fn expected_for(message: &[PlacedSegment<'_>], codes: &Codes, fault: MessageFaul
             "CODECO, COPRAR or COARRI, and D, 95B and UN (S009)",
         ),
         MessageFault::NoBgm => Expected::Words("a BGM before the first EQD"),
-        MessageFault::Code => Expected::Code(*codes),
+        MessageFault::Code => Expected::Code(CodesOfKind::of(codes)),
         MessageFault::Function => Expected::Words(function_words(codes.kind)),
         MessageFault::NoTransport => Expected::Words(
             "TDT+20 before the first EQD, with a voyage (8028) and a vessel (8213) of 1 to 35 bytes from space to tilde",

@@ -1,5 +1,3 @@
-ghost use Rattle.std.specs.Prelude.{◌≤◌};
-
 use edi_segments::Component;
 use edi_segments::characters::is_printable;
 use std::fmt;
@@ -30,19 +28,6 @@ impl fmt::Display for Shown<'_> {
     }
 }
 
-/// The value of a component, shown so.
-#[derive(Clone, Copy)]
-pub(crate) struct ShownValue<'a>(pub(crate) Component<'a>);
-
-impl fmt::Display for ShownValue<'_> {
-    fn fmt<W: fmt::Write>(&self, f: &mut fmt::Formatter<W>) -> fmt::Result {
-        for byte in self.0.bytes() {
-            write_byte(byte, f)?;
-        }
-        Ok(())
-    }
-}
-
 /// Writes a byte.
 fn write_byte<W: fmt::Write>(byte: u8, f: &mut fmt::Formatter<W>) -> fmt::Result {
     if is_printable(byte) {
@@ -60,7 +45,6 @@ const MOST_SHORT: usize = 35;
 pub struct ShortText {
     bytes: [u8; 35],
     len: usize,
-    ghost fits: { len ≤ 35 },
 }
 
 impl ShortText {
@@ -78,11 +62,11 @@ impl ShortText {
         ShortText { bytes, len }
     }
 
-    /// Of a text.
-    pub(crate) fn of_text(text: &str) -> ShortText {
+    /// Of bytes.
+    pub(crate) fn of_bytes(text: &[u8]) -> ShortText {
         let mut bytes = [0; 35];
         let mut len = 0;
-        for byte in text.as_bytes() {
+        for byte in text {
             if len == MOST_SHORT {
                 break;
             }
@@ -95,7 +79,8 @@ impl ShortText {
 
 impl fmt::Display for ShortText {
     fn fmt<W: fmt::Write>(&self, f: &mut fmt::Formatter<W>) -> fmt::Result {
-        for byte in &self.bytes[..self.len] {
+        let len = self.len.min(MOST_SHORT);
+        for byte in &self.bytes[..len] {
             write_byte(*byte, f)?;
         }
         Ok(())
