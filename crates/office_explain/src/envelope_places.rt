@@ -3,7 +3,7 @@ ghost use Rattle.office_explain.specs.Places.{IsWithin};
 
 use crate::expected::Expected;
 use crate::finding::{Finding, Refused, Subject, Wrong, finding_of, wrong_at};
-use crate::segments::{PlacedSegment, first_with_tag, inner};
+use crate::segments::{PlacedSegment, first_with_tag};
 use crate::shown::ShortText;
 use crate::text_places::{bad_service, no_segment, too_long};
 use edi_segments::SyntaxFault;
@@ -116,10 +116,11 @@ fn group(placed: &[PlacedSegment<'_>]) -> Wrong {
 /// The first segment that stands where the frame of messages doesn't allow it.
 fn misframed(placed: &[PlacedSegment<'_>]) -> Wrong {
     let mut is_inside = false;
-    for segment in inner(placed) {
+    for index in 1..placed.len().saturating_sub(1) {
+        let segment = placed[index];
         let is_outer = segment.has_tag(b"UNB") || segment.has_tag(b"UNZ");
         if is_outer || segment.has_tag(b"UNH") == is_inside {
-            return wrong_at(Some(*segment), Expected::Words(frame_words(is_inside)));
+            return wrong_at(Some(segment), Expected::Words(frame_words(is_inside)));
         }
         is_inside = !segment.has_tag(b"UNT");
     }

@@ -1,6 +1,5 @@
-ghost use Rattle.std.specs.Prelude.{◌≡◌, ◌≤◌, length, IfOk, IfErr, IfSome};
-ghost use Rattle.office_explain.specs.Named.{fault_named};
-ghost use Rattle.office_explain.specs.Told.{IsToldOf, IsFirst};
+ghost use Rattle.std.specs.Prelude.{◌≡◌, ◌<◌, ◌≤◌, length, Err, IfOk, IfErr, IfSome};
+ghost use Rattle.office_explain.specs.Told.{Explains, IsFirst};
 ghost use Rattle.office_setup.specs.Parties.{parties_of};
 
 use crate::envelope_places::refusal;
@@ -61,8 +60,13 @@ pub struct Block<'a> {
 }
 
 impl Block<'_> {
+    ghost use Rattle.std.specs.Prelude.{◌≡◌};
+    ghost use Rattle.office_explain.specs.Told.{is_faultless};
+
     /// No fault was found.
-    pub fn is_faultless(&self) -> bool {
+    pub fn is_faultless(&self) -> bool
+        ensures { result ≡ is_faultless self.now.told }
+    {
         match &self.told {
             Told::Read(reading) => reading.findings.as_slice().is_empty(),
             _ => false,
@@ -78,31 +82,42 @@ pub fn explain_from<'a>(
     file: &'a [u8],
     from: usize,
     number: usize,
-) -> Result<Option<Block<'a>>, AllocError> {
+) -> Result<Option<Block<'a>>, AllocError>
+    ensures told { IfOk result (λ found. IfSome found (λ block.
+        Explains partners.now.are_known (parties_of partners.now.setup) block.text.now block.told)) }
+    ensures number { IfOk result (λ found. IfSome found (λ block. block.number ≡ number)) }
+    ensures ends { IfOk result (λ found. IfSome found (λ block. block.end ≤ length file.now)) }
+{
     let left = behind_breaks(&file[from.min(file.len())..]);
     if left.is_empty() {
         return Ok(None);
     }
-    let before = file.len().saturating_sub(left.len());
     match first_len(alloc, left)? {
         Ok(len) => {
             let text = interchange_text(&left[..len]);
             Ok(Some(Block {
                 number,
-                before,
-                end: before.saturating_add(len),
+                before: place_in(file, left),
+                end: place_in(file, &left[len..]),
                 text,
                 told: told_of(alloc, partners, text)?,
             }))
         }
         Err(fault) => Ok(Some(Block {
             number,
-            before,
+            before: place_in(file, left),
             end: file.len(),
             text: left,
             told: Told::Cut(cut_finding(left, fault)),
         })),
     }
+}
+
+/// Where a back of a file begins.
+fn place_in(file: &[u8], back: &[u8]) -> usize
+    ensures { result ≤ length file.now }
+{
+    file.len().saturating_sub(back.len())
 }
 
 /// How many bytes the first interchange of a text has, or why it can't be told apart. `None`: the text ends within it. An
@@ -124,8 +139,7 @@ fn first_len(alloc: Global, text: &[u8]) -> Result<Result<usize, Option<CutFault
 
 /// What is told of an interchange of that text.
 fn told_of(alloc: Global, partners: &Partners, text: &[u8]) -> Result<Told, AllocError>
-    ensures { IfOk result
-        (IsToldOf (fault_named partners.now.are_known (parties_of partners.now.setup) text.now) text.now) }
+    ensures { IfOk result (Explains partners.now.are_known (parties_of partners.now.setup) text.now) }
 {
     let placed = placed_segments(alloc, text)?;
     match partners.open(text) {

@@ -42,13 +42,15 @@ pub struct Opened<'a> {
 }
 
 impl Partners {
-    ghost use Rattle.office_explain.specs.Named.{fault_named};
+    ghost use Rattle.office_explain.specs.Named.{fault_named, no_partners, one_block};
     ghost use Rattle.office_setup.specs.Setups.{setup_content};
     ghost use Rattle.office_setup_files.specs.Said.{SayFiles, RefuseFiles};
 
     /// The terminal, its partners and its codes, as a set-up file says.
     pub fn read(alloc: Global, file: &[u8]) -> Result<Partners, SetupFault>
         ensures known { IfOk result (λ partners. partners.are_known ≡ true) }
+        ensures said { IfOk result (λ partners. SayFiles file.now one_block (setup_content partners.setup)) }
+        ensures err { IfErr result (RefuseFiles file.now one_block) }
     {
         let setup = read_setup(alloc, file, ONE_BLOCK.as_bytes())?;
         Ok(Partners {
@@ -59,7 +61,8 @@ impl Partners {
 
     /// The default codes, and no partners: each sender has an account, and each recipient is the terminal.
     pub fn unknown(alloc: Global) -> Result<Partners, SetupFault>
-        ensures known { IfOk result (λ partners. partners.are_known ≡ false) }
+        ensures unknown { IfOk result (λ partners. partners.are_known ≡ false) }
+        ensures said { IfOk result (λ partners. SayFiles no_partners one_block (setup_content partners.setup)) }
     {
         let setup = read_setup(alloc, NO_PARTNERS.as_bytes(), ONE_BLOCK.as_bytes())?;
         Ok(Partners {

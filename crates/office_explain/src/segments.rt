@@ -161,18 +161,6 @@ fn index_from(segments: &[PlacedSegment<'_>], from: usize, tag: &[u8]) -> usize
     segments.len()
 }
 
-/// The segments between the first and the last.
-pub(crate) fn inner<'p, 'a>(segments: &'p [PlacedSegment<'a>]) -> &'p [PlacedSegment<'a>] {
-    let behind = match segments.split_first() {
-        Some((_, behind)) => behind,
-        None => segments,
-    };
-    match behind.split_last() {
-        Some((_, inner)) => inner,
-        None => behind,
-    }
-}
-
 /// What stands before the first equipment.
 pub(crate) fn heading<'p, 'a>(segments: &'p [PlacedSegment<'a>]) -> &'p [PlacedSegment<'a>] {
     match index_of(segments, b"EQD") {

@@ -53,11 +53,10 @@ impl ShortText {
         let mut bytes = [0; 35];
         let mut len = 0;
         for byte in component.bytes() {
-            if len == MOST_SHORT {
-                break;
+            if len < MOST_SHORT {
+                bytes[len] = byte;
+                len += 1;
             }
-            bytes[len] = byte;
-            len += 1;
         }
         ShortText { bytes, len }
     }
@@ -67,11 +66,10 @@ impl ShortText {
         let mut bytes = [0; 35];
         let mut len = 0;
         for byte in text {
-            if len == MOST_SHORT {
-                break;
+            if len < MOST_SHORT {
+                bytes[len] = *byte;
+                len += 1;
             }
-            bytes[len] = *byte;
-            len += 1;
         }
         ShortText { bytes, len }
     }
