@@ -2,6 +2,7 @@ use crate::causes::{
     is_looked_at, tell_not_now, tell_store, tell_store_cause, tell_unread, tell_unread_cause,
     tell_with,
 };
+use crate::explain::explain;
 use crate::init::init;
 use crate::request_log::RequestLog;
 use crate::watch::DeliveryWatch;
@@ -50,6 +51,9 @@ pub(crate) fn run<R: Read, W: Write, E: Write>(
         Request::Report { store, kind, key } => report(rt, store, kind, key, writer, errors),
         Request::Account { store, code, kind } => account(rt, store, code, kind, writer, errors),
         Request::Migrate { old, new } => migrate(rt, old, new, writer, errors),
+        Request::Explain { file, partners } => {
+            explain(rt, file, partners, reader, writer, errors)
+        }
         Request::Demo => demonstrate(rt.alloc(), reader, writer, errors),
     }
 }

@@ -1,11 +1,12 @@
 //! The office of a container terminal: `office init` makes a store, `office deliver` and `office serve` take
 //! interchanges, `office account` adds an account, `office report` looks things up, `office migrate` brings an older
-//! store to this version, and `office demo` takes interchanges from standard input to tables in memory. Its texts and
-//! exit statuses are tested; what its commands are made of is proved.
+//! store to this version, `office explain` tells what is wrong with a file, and `office demo` takes interchanges from
+//! standard input to tables in memory. Its texts and exit statuses are tested; what its commands are made of is proved.
 #![tactic(auto)]
 
 mod causes;
 mod command;
+mod explain;
 mod init;
 mod request_log;
 mod watch;

@@ -49,6 +49,10 @@ account_app = with_rule (with_rule (with_rule (new_app (codes "account")) (word 
 unfoldable pub migrate_app : App
 migrate_app = with_rule (with_rule (new_app (codes "migrate")) (word (codes "OLD"))) (word (codes "NEW"))
 
+-- explain FILE [--partners PARTNERS]
+unfoldable pub explain_app : App
+explain_app = with_rule (with_rule (new_app (codes "explain")) (word (codes "FILE"))) (valued (codes "partners"))
+
 -- demo
 unfoldable pub demo_app : App
 demo_app = new_app (codes "demo")
@@ -63,9 +67,11 @@ office_app =
     (with_subcommand
     (with_subcommand
     (with_subcommand
+    (with_subcommand
     (with_subcommand (with_subcommand
     (with_subcommand (needs_subcommand (new_app (codes "office"))) init_app.top) deliver_app.top) serve_app.top)
     report_app.top)
     account_app.top)
     migrate_app.top)
+    explain_app.top)
     demo_app.top

@@ -22,6 +22,7 @@ pub data Asked : Type 0 where
   report : Text → ReportKind → Option Text → Asked
   account : Text → Text → Text → Asked
   migrate : Text → Text → Asked
+  explain : Text → (partners : Option Text) → Asked
   demo : Asked
 
 abbrev pub request_asked : Request → Asked
@@ -31,6 +32,7 @@ request_asked (request.Serve store port count log ahead) = serve store.now port 
 request_asked (request.Report store kind key) = report store.now kind (option_map (λ text. text.now) key)
 request_asked (request.Account store code kind) = account store.now code.now kind.now
 request_asked (request.Migrate old new) = migrate old.now new.now
+request_asked (request.Explain file partners) = explain file.now (option_map (λ text. text.now) partners)
 request_asked request.Demo = demo
 
 -- ---- numbers
@@ -145,6 +147,11 @@ migrate_asked rows = option_and_then
     (λ (old : Text). option_map (λ (new : Text). migrate old new) (first_of (codes "NEW") rows))
     (first_of (codes "OLD") rows)
 
+-- the partners' file may be left out
+abbrev pub explain_asked : List Row → Option Asked
+explain_asked rows =
+    option_map (λ (file : Text). explain file (first_of (codes "partners") rows)) (first_of (codes "FILE") rows)
+
 -- what a subcommand and its words ask for
 abbrev pub asked_by : Text → List Row → Option Asked
 asked_by name rows =
@@ -154,6 +161,7 @@ asked_by name rows =
     else if bytes_eq name (codes "report") then report_asked rows
     else if bytes_eq name (codes "account") then account_asked rows
     else if bytes_eq name (codes "migrate") then migrate_asked rows
+    else if bytes_eq name (codes "explain") then explain_asked rows
     else if bytes_eq name (codes "demo") then Some demo
     else None
 

@@ -1,7 +1,7 @@
 ghost use Rattle.std.specs.Prelude.{◌≡◌, IfOk, true, false};
 ghost use Rattle.clap.specs.Words.{app_of, rule_of};
 ghost use Rattle.clap.specs.declared.builder.command.Command.TheViews.{out-Command};
-ghost use Rattle.office_command_line.specs.Commands.{word, word_if_any, flag, valued, init_app, deliver_app, serve_app, report_app, account_app, migrate_app, demo_app, office_app};
+ghost use Rattle.office_command_line.specs.Commands.{word, word_if_any, flag, valued, init_app, deliver_app, serve_app, report_app, account_app, migrate_app, explain_app, demo_app, office_app};
 
 use clap::{Arg, ArgAction, Command};
 use office_queries::program_version;
@@ -146,6 +146,30 @@ pub(crate) fn migrate_command<'a>(alloc: Global) -> Result<Command<'a>, AllocErr
     Ok(migrate)
 }
 
+/// `explain FILE [--partners PARTNERS]`
+pub(crate) fn explain_command<'a>(alloc: Global) -> Result<Command<'a>, AllocError>
+    ensures app { IfOk result (λ command. app_of command ≡ explain_app) }
+    ensures local { IfOk result (λ command. (out-Command command).has_globals ≡ false) }
+{
+    let file = word(
+        alloc,
+        "FILE",
+        "The file of interchanges, - for standard input",
+    );
+    let partners = valued(
+        alloc,
+        "partners",
+        "PARTNERS",
+        "The file of the terminal and its partners; without it each sender has an account",
+    );
+    let explain = Command::new(alloc, "explain")
+        .about("Tell what is wrong with the interchanges of a file, and where, and deliver nothing")
+        .after_help("Example: office explain gate-in.edi --partners partners.csv")
+        .arg(file)?
+        .arg(partners)?;
+    Ok(explain)
+}
+
 /// `demo`
 pub(crate) fn demo_command<'a>(alloc: Global) -> Command<'a>
     ensures app { app_of result ≡ demo_app }
@@ -208,6 +232,7 @@ pub(crate) fn office_command<'a>(alloc: Global) -> Result<Command<'a>, AllocErro
     let report = report_command(alloc)?;
     let account = account_command(alloc)?;
     let migrate = migrate_command(alloc)?;
+    let explain = explain_command(alloc)?;
     let demo = demo_command(alloc);
     let office = Command::new(alloc, "office")
         .about("The office system of a container terminal")
@@ -219,6 +244,7 @@ pub(crate) fn office_command<'a>(alloc: Global) -> Result<Command<'a>, AllocErro
         .subcommand(report)?
         .subcommand(account)?
         .subcommand(migrate)?
+        .subcommand(explain)?
         .subcommand(demo)?;
     Ok(office)
 }

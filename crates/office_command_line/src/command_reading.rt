@@ -1,7 +1,7 @@
 ghost use Rattle.std.specs.Option.{option_map};
 ghost use Rattle.std.specs.Prelude.{◌≡◌, IfOk, IfErr, map};
 ghost use Rattle.clap.specs.Words.{found_of, rows_of, subcommand_rows_of, first_of};
-ghost use Rattle.office_command_line.specs.Requests.{request_asked, init_asked, account_asked, migrate_asked, deliver_asked, serve_asked, report_asked, report_with, asked_by, met_asks, is_set, kind_said, usage_line, wants_key, RefusesWords, RefusesMet, WordsAsk, number_if_any, number_upto};
+ghost use Rattle.office_command_line.specs.Requests.{request_asked, init_asked, account_asked, migrate_asked, explain_asked, deliver_asked, serve_asked, report_asked, report_with, asked_by, met_asks, is_set, kind_said, usage_line, wants_key, RefusesWords, RefusesMet, WordsAsk, number_if_any, number_upto};
 
 use crate::builders::office_command;
 use clap::error::ErrorKind;
@@ -114,6 +114,13 @@ pub enum Request<'a> {
         /// The path of the store to make.
         new: &'a str,
     },
+    /// To tell what is wrong with the interchanges of a file.
+    Explain {
+        /// The path of the file.
+        file: &'a str,
+        /// The path of the file of partners, if it is given.
+        partners: Option<&'a str>,
+    },
     /// To deliver the interchanges of the standard input over tables in memory.
     Demo,
 }
@@ -170,6 +177,7 @@ fn request_by<'a>(name: &str, inner: &ArgMatches<'a>) -> Option<Request<'a>>
         "report" => report_in(inner),
         "account" => account_in(inner),
         "migrate" => migrate_in(inner),
+        "explain" => explain_in(inner),
         "demo" => Some(Request::Demo),
         _ => None,
     }
@@ -235,6 +243,14 @@ fn migrate_in<'a>(matches: &ArgMatches<'a>) -> Option<Request<'a>>
     let old = text_of(matches, "OLD")?;
     let new = text_of(matches, "NEW")?;
     Some(Request::Migrate { old, new })
+}
+
+fn explain_in<'a>(matches: &ArgMatches<'a>) -> Option<Request<'a>>
+    ensures { option_map request_asked result ≡ explain_asked (rows_of (found_of matches.now)) }
+{
+    let file = text_of(matches, "FILE")?;
+    let partners = text_of(matches, "partners");
+    Some(Request::Explain { file, partners })
 }
 
 /// The report, if a key is given where one is wanted and nowhere else.
