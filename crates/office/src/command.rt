@@ -10,7 +10,7 @@ use crate::watch::DeliveryWatch;
 use office_command_line::{CommandFault, REPORT_KINDS, Request, read_command};
 use office_commands::{
     COMMAND_LINE, DONE, FAILED, Service, account_over, deliver_over, demonstrate, open_found,
-    open_there, print, report_over, serve_over, tell,
+    open_there, print, report_over, serve_over, tell, texts_over,
 };
 use office_loading::load_old;
 use office_migration::migrate as migrate_tables;
@@ -54,6 +54,7 @@ pub(crate) fn run<R: Read, W: Write, E: Write>(
             serve(rt, store, service, log, writer, errors)
         }
         Request::Report { store, kind, key } => report(rt, store, kind, key, writer, errors),
+        Request::Texts { store, from } => texts(rt, store, from, writer, errors),
         Request::Account { store, code, kind } => account(rt, store, code, kind, writer, errors),
         Request::Migrate { old, new } => migrate(rt, old, new, writer, errors),
         Request::Demo => demonstrate(rt.alloc(), reader, writer, errors),
@@ -171,6 +172,21 @@ pub(crate) fn report<W: Write, E: Write>(
             Ok(status) => status,
             Err(fault) => tell_store(rt, errors, store, &fault),
         },
+        Err(fault) => tell_store(rt, errors, store, &fault),
+    }
+}
+
+/// `texts DB [FROM]`: prints the texts that are kept after the first FROM, in the order in which they came, or `none` if
+/// there are fewer.
+pub(crate) fn texts<W: Write, E: Write>(
+    rt: &HostRuntime,
+    store: &str,
+    from: u32,
+    writer: &mut Port<W>,
+    errors: &mut Port<E>,
+) -> u8 {
+    match texts_over(rt, store, Unknown, from, writer) {
+        Ok(status) => status,
         Err(fault) => tell_store(rt, errors, store, &fault),
     }
 }

@@ -9,3 +9,4 @@ pub mod Reporting
 pub mod Looking
 pub mod Serving
 pub mod Senders
+pub mod Printing

@@ -1,6 +1,6 @@
 -- What writing texts leaves of them.
 use Rattle.std.specs.Prelude.{◌≡◌, ◌++◌, ℕ, Bool, true, false, List, [], ◌∷◌, Option}
-use Rattle.std.specs.Io.KnownBytes.{Appends}
+use Rattle.std.specs.Io.KnownBytes.{Appends, Keeps}
 use Rattle.edi_segments.specs.Bytes.{line_feed}
 use Rattle.sqlite.specs.declared.types.Value.TheVariants.{Blob}
 use Rattle.sqlite.specs.Order.{Row, column}
@@ -27,6 +27,12 @@ abbrev pub LeavesPort : Bool → Bool → Written → Type 0
 LeavesPort failed failed' Fewer = failed' ≡ failed
 LeavesPort failed failed' All = failed' ≡ failed
 LeavesPort failed failed' Failed = failed' ≡ true
+
+-- what was written stays, and is flushed, or the writer failed
+abbrev pub Flushes : Option (List ℕ) → Option (List ℕ) → (failed failed' flushed' : Bool) → Written → Type 0
+Flushes old new failed failed' flushed' All = Keeps old new × (failed' ≡ failed) × (flushed' ≡ true)
+Flushes old new failed failed' flushed' Failed = failed' ≡ true
+Flushes old new failed failed' flushed' Fewer = ⊥
 
 -- ---- the rows of one query
 

@@ -3,10 +3,11 @@ ghost use Rattle.office_rows.specs.Stored.{HasRows};
 ghost use Rattle.office_tables.specs.Faults.{IsOfStore, IsOfStoreOr};
 ghost use Rattle.office_tables.specs.Reading.{Reads};
 ghost use Rattle.office_texts.specs.Texts.{IsText};
-ghost use Rattle.office_texts.specs.Writing.{LeavesPort, WritesAll, WritesRow, WritesTexts, written_if};
+ghost use Rattle.office_texts.specs.Writing.{Flushes, LeavesPort, WritesAll, WritesRow, WritesTexts, written_if};
+ghost use Rattle.office_texts.specs.declared.writing.Written.TheVariants.{All};
 ghost use Rattle.sqlite.specs.Held.{state};
 ghost use Rattle.sqlite.specs.State.{HasCleanDisk};
-ghost use Rattle.std.specs.Prelude.{◌≡◌, ⊤, IfOk, IfErr, OnErr};
+ghost use Rattle.std.specs.Prelude.{◌≡◌, ⊤, true, IfOk, IfErr, OnErr};
 
 use crate::page::text_of;
 use crate::reading::is_reached;
@@ -45,19 +46,49 @@ pub fn write_texts<S: Alter, W: Write>(
         WritesTexts from ((state S.Store conn.old).now.trees 2)
         (W.contents writer.old.inner) (W.contents writer.new.inner) written) }
     ensures port { IfOk result (LeavesPort writer.old.failed writer.new.failed) }
+    ensures flushed { IfOk result (λ written. written ≡ All → writer.new.flushed ≡ true) }
+    ensures fault { HasCleanDisk (state S.Store conn.new) →
+        IfErr result (λ fault. (rows : _) → HasRows rows (state S.Store conn.old).now → IsOfStore fault) }
+    ensures version { IfErr result (IsOfStoreOr ⊤) }
+    ensures reads { Reads (state S.Store conn.old) (state S.Store conn.new) result }
+{
+    match write_reached(alloc, conn, from, writer)? {
+        Written::All => Ok(flush(writer)),
+        Written::Fewer => Ok(Written::Fewer),
+        Written::Failed => Ok(Written::Failed),
+    }
+}
+
+/// Flushes what was written: All, or Failed.
+fn flush<W: Write>(writer: &mut Port<W>) -> Written
+    ensures { Flushes (W.contents writer.old.inner) (W.contents writer.new.inner)
+        writer.old.failed writer.new.failed writer.new.flushed result }
+{
+    match writer.flush() {
+        Ok(()) => Written::All,
+        Err(_) => Written::Failed,
+    }
+}
+
+/// Writes the texts after the `from`-th, if there are so many.
+fn write_reached<S: Alter, W: Write>(
+    alloc: Global,
+    conn: &mut Connection<S>,
+    from: u32,
+    writer: &mut Port<W>,
+) -> Result<Written, TableFault>
+    ensures writes { HasCleanDisk (state S.Store conn.new) →
+        IfOk result (λ written. (rows : _) → HasRows rows (state S.Store conn.old).now →
+        WritesTexts from ((state S.Store conn.old).now.trees 2)
+        (W.contents writer.old.inner) (W.contents writer.new.inner) written) }
+    ensures port { IfOk result (LeavesPort writer.old.failed writer.new.failed) }
     ensures fault { HasCleanDisk (state S.Store conn.new) →
         IfErr result (λ fault. (rows : _) → HasRows rows (state S.Store conn.old).now → IsOfStore fault) }
     ensures version { IfErr result (IsOfStoreOr ⊤) }
     ensures reads { Reads (state S.Store conn.old) (state S.Store conn.new) result }
 {
     match write_rows(alloc, conn, from, writer)? {
-        Written::Fewer => {
-            if is_reached(conn, from)? {
-                Ok(Written::All)
-            } else {
-                Ok(Written::Fewer)
-            }
-        }
+        Written::Fewer => Ok(written_if(is_reached(conn, from)?)),
         written => Ok(written),
     }
 }
@@ -98,11 +129,11 @@ fn write_rows<S: Alter, W: Write>(
     Err(TableFault::Memory)
 }
 
-/// All, if some text was written; else Fewer.
-fn written_if(has_some: bool) -> Written
-    ensures { result ≡ written_if has_some }
+/// All, if there is something to write or there are so many texts; else Fewer.
+fn written_if(is_so: bool) -> Written
+    ensures { result ≡ written_if is_so }
 {
-    if has_some {
+    if is_so {
         Written::All
     } else {
         Written::Fewer
