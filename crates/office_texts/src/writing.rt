@@ -7,14 +7,14 @@ ghost use Rattle.office_texts.specs.Writing.{Flushes, LeavesPort, WritesAll, Wri
 ghost use Rattle.office_texts.specs.declared.writing.Written.TheVariants.{All};
 ghost use Rattle.sqlite.specs.Held.{state};
 ghost use Rattle.sqlite.specs.State.{HasCleanDisk};
-ghost use Rattle.std.specs.Prelude.{◌≡◌, ⊤, true, IfOk, IfErr, OnErr};
+ghost use Rattle.std.specs.Prelude.{◌≡◌, ◌++◌, ◌∷◌, [], ⊤, true, IfOk, IfErr, OnErr};
 
 use crate::page::text_of;
 use crate::reading::is_reached;
 use office_stream::Port;
 use office_tables::{TableFault, integer};
 use sqlite::{Alter, Connection, Row};
-use std::alloc::Global;
+use std::alloc::{AllocError, Global};
 use std::io::Write;
 
 /// What became of texts that were to be written.
@@ -153,11 +153,19 @@ fn write_row<W: Write>(
     ensures unwritten { OnErr result (writer.new ≡ writer.old) }
 {
     let text = text_of(row)?;
-    let mut line = Vec::with_capacity(alloc, text.len())?;
-    line.extend_from_slice(text)?;
-    line.push(b'\n')?;
+    let line = line_of(alloc, text)?;
     match writer.write_all(&line) {
         Ok(()) => Ok(true),
         Err(_) => Ok(false),
     }
+}
+
+/// A text and an LF.
+fn line_of(alloc: Global, text: &[u8]) -> Result<Vec<u8>, AllocError>
+    ensures { IfOk result (λ line. line.items ≡ text.now ++ line_feed ∷ []) }
+{
+    let mut line = Vec::with_capacity(alloc, text.len())?;
+    line.extend_from_slice(text)?;
+    line.push(b'\n')?;
+    Ok(line)
 }
