@@ -18,7 +18,9 @@ import time
 from collections import namedtuple
 from functools import partial
 
+from .commands import texts
 from .cuts import cut
+from .deliveries import kept_texts
 from .events import Added, Delivered
 from .http import response
 from .office import Office, json_text
@@ -156,6 +158,16 @@ class Cases:
                 program = Program(self.path, folder)
                 program.init(*files_of(case.setup))
                 self.expect(case.name, 'deliver', wanted, program.deliver(text))
+                self.kept(case, text, program)
+
+    def kept(self, case, text, program):
+        """The texts that are kept of a stream, from the first on, after it, after the last, and beyond it."""
+        office = Office(case.setup)
+        answers(office, text)
+        count = len(kept_texts(office.deliveries))
+        for passed in sorted({0, 1, count, count + 1}):
+            printed, ended = texts({'store': office}, 'store', str(passed))
+            self.expect(case.name, 'texts after %d' % passed, (printed, '', ended), program.texts(passed))
 
     def pieces(self, case, text, wanted):
         """A stream in two pieces, cut at each place, and byte by byte."""

@@ -5,6 +5,7 @@ the words, input files as the words name them, the set-up, the store; of a migra
 """
 import copy
 
+from .deliveries import kept_texts
 from .moments import are_digits
 from .office import Office, json_text
 from .reports import REPORTS, has_key, printed
@@ -16,7 +17,7 @@ from .words import text_of
 # how many words stand behind each command: at least, at most
 WORDS = {
     'init': (3, 3), 'deliver': (2, 2), 'serve': (3, 3), 'report': (2, 3), 'demo': (0, 0), 'account': (3, 3),
-    'migrate': (2, 2)}
+    'migrate': (2, 2), 'texts': (1, 2)}
 CLAP = 'a text of clap'     # which the model doesn't know
 MOST_CONNECTIONS = 1000000
 
@@ -85,6 +86,16 @@ def report(files, store, kind, key=None):
     return printed(office_in(files, store), kind, key or '')
 
 
+def texts(files, store, passed='0'):
+    """The texts that are kept, after so many of them."""
+    if not are_digits(passed, 1, 9) or (passed[0] == '0' and passed != '0'):
+        raise Fault('usage: office texts DB [FROM]', 2)
+    kept = kept_texts(office_in(files, store).deliveries)
+    if int(passed) > len(kept):
+        return 'none\n', 1
+    return text_of(kept[int(passed):]), 0
+
+
 def account(files, store, code, kind):
     """The words are no keys: nothing in them is decoded."""
     answer = office_in(files, store).add_account(code, kind)
@@ -112,7 +123,8 @@ def outcome(files, words):
         return '', CLAP, 2
     try:
         does = {
-            'init': init, 'deliver': deliver, 'serve': serve, 'report': report, 'account': account, 'migrate': migrate}
+            'init': init, 'deliver': deliver, 'serve': serve, 'report': report, 'account': account, 'migrate': migrate,
+            'texts': texts}
         text, ended = does[command](files, *others)
         return text, '', ended
     except Fault as fault:

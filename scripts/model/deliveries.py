@@ -16,6 +16,15 @@ def first_text(deliveries, partner, number):
     return None
 
 
+def kept_texts(deliveries):
+    """The text under each number, in the order in which they came: of each delivery whose number was free by then. Those
+    that wait are among them; a repeat or a clash adds none.
+    """
+    return [
+        delivery.text for place, delivery in enumerate(deliveries)
+        if first_text(deliveries[:place], delivery.partner, delivery.number) is None]
+
+
 def run(deliveries, partner):
     """The greatest number such that each number from 1 to it is used."""
     used = {delivery.number for delivery in deliveries if delivery.partner == partner}

@@ -1,4 +1,5 @@
 """The program over stores in files, beside the model: set-ups, deliveries, reports, rows, HTTP."""
+import json
 import os
 import random
 import socket
@@ -7,7 +8,9 @@ import tempfile
 from collections import Counter
 from functools import partial
 
+from .commands import texts
 from .days import NEWCOMERS, Day, streamed
+from .deliveries import kept_texts
 from .http import response
 from .office import Office, json_text
 from .reports import WHOLE, has_key, printed, text_of
@@ -56,6 +59,11 @@ class Program:
     def deliver(self, text):
         """The answers to a stream."""
         return self.run('deliver', self.store, self.file('stream.edi', text))
+
+    def texts(self, passed):
+        """The texts that are kept, after so many of them, byte for byte."""
+        done = subprocess.run([self.path, 'texts', self.store, str(passed)], capture_output=True, check=False)
+        return done.stdout.decode('latin-1'), done.stderr.decode('utf-8'), done.returncode
 
     def account(self, code, kind):
         """The answer to the addition of an account."""
@@ -167,6 +175,25 @@ class Beside:
             model, stored = Counter(wanted.get(table, [])), Counter(got.get(table, []))
             self.expect('table ' + table, name, sorted(model - stored), sorted(stored - model))
 
+    def texts(self, name, program, office, chance):
+        """The texts that are kept, from the first and from another one on, after the last, and beyond it."""
+        count = len(kept_texts(office.deliveries))
+        for passed in sorted({0, chance.randint(0, count), count, count + 1}):
+            wanted = texts({'store': office}, 'store', str(passed))
+            self.expect('texts', '%s, after %d' % (name, passed), (wanted[0], '', wanted[1]), program.texts(passed))
+
+    def rebuilt(self, name, program, office):
+        """An office of the same set-up and accounts, to which the texts are delivered that this one keeps: it has the same
+        rows, and the same texts in the same order."""
+        kept = program.texts(0)
+        with tempfile.TemporaryDirectory(prefix='beside-') as folder:
+            other = Program(self.path, folder)
+            other.init(*files_of(office.setup))
+            answers_of = Counter(json.loads(line)['answer'] for line in other.deliver(kept[0])[0].splitlines())
+            self.expect('rebuilt', name + ', answers', set(), set(answers_of) - {'taken', 'waiting'})
+            self.expect('rebuilt', name + ', rows', rows_in(program.store), rows_in(other.store))
+            self.expect('rebuilt', name + ', texts', kept, other.texts(0))
+
     def serve(self, name, program, office, requests, ahead=None):
         """Requests by HTTP, each with the response that it should have."""
         responses = [(request, response(office, request, ahead)) for request in requests]
@@ -227,6 +254,8 @@ def try_list(beside, seed, requests):
         for kind, key in WHOLE + asked:
             beside.report(name, program, office, kind, key)
         beside.rows(name, program, office)
+        beside.texts(name, program, office, chance)
+        beside.rebuilt(name, program, office)
         if requests:
             beside.serve(name, program, office, random_requests(chance, day, office, requests), chance.choice(BOUNDS))
             beside.rows(name, program, office)

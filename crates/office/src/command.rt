@@ -10,6 +10,7 @@ use office_command_line::{CommandFault, REPORT_KINDS, Request, read_command};
 use office_commands::{
     COMMAND_LINE, DONE, FAILED, MigrationFault, Service, account_over, deliver_over, demonstrate,
     migrate_over, print, report_over, serve_over, tell,
+    texts_over,
 };
 use office_queries::ReportKind;
 use office_stream::Port;
@@ -49,6 +50,7 @@ pub(crate) fn run<R: Read, W: Write, E: Write>(
             serve(rt, store, service, log, writer, errors)
         }
         Request::Report { store, kind, key } => report(rt, store, kind, key, writer, errors),
+        Request::Texts { store, from } => texts(rt, store, from, writer, errors),
         Request::Account { store, code, kind } => account(rt, store, code, kind, writer, errors),
         Request::Migrate { old, new } => migrate(rt, old, new, writer, errors),
         Request::Explain { file, partners } => {
@@ -169,6 +171,21 @@ pub(crate) fn report<W: Write, E: Write>(
             Ok(status) => status,
             Err(fault) => tell_store(rt, errors, store, &fault),
         },
+        Err(fault) => tell_store(rt, errors, store, &fault),
+    }
+}
+
+/// `texts DB [FROM]`: prints the texts that are kept after the first FROM, in the order in which they came, or `none` if
+/// there are fewer.
+pub(crate) fn texts<W: Write, E: Write>(
+    rt: &HostRuntime,
+    store: &str,
+    from: u32,
+    writer: &mut Port<W>,
+    errors: &mut Port<E>,
+) -> u8 {
+    match texts_over(rt, store, Unknown, from, writer) {
+        Ok(status) => status,
         Err(fault) => tell_store(rt, errors, store, &fault),
     }
 }

@@ -40,6 +40,10 @@ unfoldable pub report_app : App
 report_app = with_rule (with_rule (with_rule (new_app (codes "report")) (word (codes "DB"))) (word (codes "KIND")))
     (word_if_any (codes "KEY"))
 
+-- texts DB [FROM]
+unfoldable pub texts_app : App
+texts_app = with_rule (with_rule (new_app (codes "texts")) (word (codes "DB"))) (word_if_any (codes "FROM"))
+
 -- account DB CODE KIND
 unfoldable pub account_app : App
 account_app = with_rule (with_rule (with_rule (new_app (codes "account")) (word (codes "DB"))) (word (codes "CODE")))
@@ -68,9 +72,11 @@ office_app =
     (with_subcommand
     (with_subcommand
     (with_subcommand
+    (with_subcommand
     (with_subcommand (with_subcommand
     (with_subcommand (needs_subcommand (new_app (codes "office"))) init_app.top) deliver_app.top) serve_app.top)
     report_app.top)
+    texts_app.top)
     account_app.top)
     migrate_app.top)
     explain_app.top)

@@ -1,10 +1,11 @@
 -- What the words of a command line ask for.
-use Rattle.std.specs.Prelude.{◌≡◌, ℕ, Bool, true, false, ◌&&◌, nat_le, List, [], Option, None, Some, codes, if◌then◌else◌}
+use Rattle.std.specs.Prelude.{◌≡◌, ℕ, Bool, true, false, ◌&&◌, nat_le, ◌==◌, slice_index, List, [], Option, None, Some, codes, if◌then◌else◌}
 use Rattle.std.specs.Option.{option_map, option_map_or, option_and_then}
 use Rattle.std.specs.Str.{bytes_eq}
 use Rattle.clap.specs.Words.{Row, Text, first_of, subcommand_of, kind_of, fault_of, IsAmong}
 use Rattle.clap.specs.declared.error.kind.ErrorKind.{ErrorKind}
 use Rattle.clap.specs.declared.error.kind.ErrorKind.TheVariants.{DisplayHelp, DisplayVersion}
+use Rattle.edi_segments.specs.Bytes.{digit_zero}
 use Rattle.edi_syntax.specs.Numbers.{number_of}
 use Rattle.office_command_line.specs.Commands.{office_app}
 use Rattle.office_command_line.specs.declared.command_reading.CommandFault.{CommandFault}
@@ -20,6 +21,7 @@ pub data Asked : Type 0 where
   deliver : Text → Text → Asked
   serve : Text → ℕ → ℕ → Bool → (ahead : Option ℕ) → Asked
   report : Text → ReportKind → Option Text → Asked
+  texts : Text → (from : ℕ) → Asked
   account : Text → Text → Text → Asked
   migrate : Text → Text → Asked
   explain : Text → (partners : Option Text) → Asked
@@ -30,6 +32,7 @@ request_asked (request.Init store partners blocks) = init store.now partners.now
 request_asked (request.Deliver store file) = deliver store.now file.now
 request_asked (request.Serve store port count log ahead) = serve store.now port count log ahead
 request_asked (request.Report store kind key) = report store.now kind (option_map (λ text. text.now) key)
+request_asked (request.Texts store from) = texts store.now from
 request_asked (request.Account store code kind) = account store.now code.now kind.now
 request_asked (request.Migrate old new) = migrate old.now new.now
 request_asked (request.Explain file partners) = explain file.now (option_map (λ text. text.now) partners)
@@ -133,6 +136,19 @@ report_asked rows =
     (option_and_then kind_said (first_of (codes "KIND") rows)))
     (first_of (codes "DB") rows)
 
+-- how many texts to pass over: 0, or a number that does not begin with 0; 0 if nothing is said
+abbrev pub from_said : Option Text → Option ℕ
+from_said None = Some 0
+from_said (Some text) =
+    if bytes_eq text (codes "0") then Some 0
+    else if slice_index text 0 == digit_zero then None
+    else number_upto 999999999 text
+
+abbrev pub texts_asked : List Row → Option Asked
+texts_asked rows = option_and_then
+    (λ (store : Text). option_map (λ (from : ℕ). texts store from) (from_said (first_of (codes "FROM") rows)))
+    (first_of (codes "DB") rows)
+
 -- the code and the kind as they stand: whether they are any is not asked here
 abbrev pub account_asked : List Row → Option Asked
 account_asked rows =
@@ -159,6 +175,7 @@ asked_by name rows =
     else if bytes_eq name (codes "deliver") then deliver_asked rows
     else if bytes_eq name (codes "serve") then serve_asked rows
     else if bytes_eq name (codes "report") then report_asked rows
+    else if bytes_eq name (codes "texts") then texts_asked rows
     else if bytes_eq name (codes "account") then account_asked rows
     else if bytes_eq name (codes "migrate") then migrate_asked rows
     else if bytes_eq name (codes "explain") then explain_asked rows
@@ -174,6 +191,7 @@ abbrev pub usage_line : Text → Text
 usage_line name =
     if bytes_eq name (codes "serve") then codes "usage: office serve DB PORT COUNT\n"
     else if bytes_eq name (codes "report") then codes "usage: office report DB KIND [KEY]\n"
+    else if bytes_eq name (codes "texts") then codes "usage: office texts DB [FROM]\n"
     else codes "usage: office COMMAND\n"
 
 -- how the subcommand is called that was met

@@ -1,7 +1,7 @@
 ghost use Rattle.std.specs.Prelude.{◌≡◌, IfOk, true, false};
 ghost use Rattle.clap.specs.Words.{app_of, rule_of};
 ghost use Rattle.clap.specs.declared.builder.command.Command.TheViews.{out-Command};
-ghost use Rattle.office_command_line.specs.Commands.{word, word_if_any, flag, valued, init_app, deliver_app, serve_app, report_app, account_app, migrate_app, explain_app, demo_app, office_app};
+ghost use Rattle.office_command_line.specs.Commands.{word, word_if_any, flag, valued, init_app, deliver_app, serve_app, report_app, texts_app, account_app, migrate_app, explain_app, demo_app, office_app};
 
 use clap::{Arg, ArgAction, Command};
 use office_queries::program_version;
@@ -104,6 +104,25 @@ pub(crate) fn report_command<'a>(alloc: Global) -> Result<Command<'a>, AllocErro
         .arg(kind)?
         .arg(key)?;
     Ok(report)
+}
+
+/// `texts DB [FROM]`
+pub(crate) fn texts_command<'a>(alloc: Global) -> Result<Command<'a>, AllocError>
+    ensures app { IfOk result (λ command. app_of command ≡ texts_app) }
+    ensures local { IfOk result (λ command. (out-Command command).has_globals ≡ false) }
+{
+    let store = word(alloc, "DB", "The store");
+    let from = word_if_any(
+        alloc,
+        "FROM",
+        "How many texts to pass over, from 0 to 999999999; 0 if it is left out",
+    );
+    let texts = Command::new(alloc, "texts")
+        .about("Print the texts that are kept, in the order in which they came")
+        .after_help("Example: office texts office.db 8000")
+        .arg(store)?
+        .arg(from)?;
+    Ok(texts)
 }
 
 /// `account DB CODE KIND`
@@ -230,6 +249,7 @@ pub(crate) fn office_command<'a>(alloc: Global) -> Result<Command<'a>, AllocErro
     let deliver = deliver_command(alloc)?;
     let serve = serve_command(alloc)?;
     let report = report_command(alloc)?;
+    let texts = texts_command(alloc)?;
     let account = account_command(alloc)?;
     let migrate = migrate_command(alloc)?;
     let explain = explain_command(alloc)?;
@@ -242,6 +262,7 @@ pub(crate) fn office_command<'a>(alloc: Global) -> Result<Command<'a>, AllocErro
         .subcommand(deliver)?
         .subcommand(serve)?
         .subcommand(report)?
+        .subcommand(texts)?
         .subcommand(account)?
         .subcommand(migrate)?
         .subcommand(explain)?

@@ -1,7 +1,8 @@
 ghost use Rattle.std.specs.Option.{option_map};
-ghost use Rattle.std.specs.Prelude.{◌≡◌, IfOk, IfErr, map};
+ghost use Rattle.edi_segments.specs.Bytes.{digit_zero};
+ghost use Rattle.std.specs.Prelude.{◌≡◌, ◌==◌, slice_index, IfOk, IfErr, map};
 ghost use Rattle.clap.specs.Words.{found_of, rows_of, subcommand_rows_of, first_of};
-ghost use Rattle.office_command_line.specs.Requests.{request_asked, init_asked, account_asked, migrate_asked, explain_asked, deliver_asked, serve_asked, report_asked, report_with, asked_by, met_asks, is_set, kind_said, usage_line, wants_key, RefusesWords, RefusesMet, WordsAsk, number_if_any, number_upto};
+ghost use Rattle.office_command_line.specs.Requests.{request_asked, init_asked, account_asked, migrate_asked, explain_asked, deliver_asked, serve_asked, report_asked, report_with, texts_asked, from_said, asked_by, met_asks, is_set, kind_said, usage_line, wants_key, RefusesWords, RefusesMet, WordsAsk, number_if_any, number_upto};
 
 use crate::builders::office_command;
 use clap::error::ErrorKind;
@@ -98,6 +99,13 @@ pub enum Request<'a> {
         /// or on the office.
         key: Option<&'a str>,
     },
+    /// To print the texts that are kept, in the order in which they came.
+    Texts {
+        /// The store's path.
+        store: &'a str,
+        /// How many texts to pass over, up to 999,999,999.
+        from: u32,
+    },
     /// To add an account to a store.
     Account {
         /// The store's path.
@@ -163,6 +171,7 @@ fn usage_of(name: &str) -> &'static str
     match name {
         "serve" => "usage: office serve DB PORT COUNT\n",
         "report" => "usage: office report DB KIND [KEY]\n",
+        "texts" => "usage: office texts DB [FROM]\n",
         _ => "usage: office COMMAND\n",
     }
 }
@@ -175,6 +184,7 @@ fn request_by<'a>(name: &str, inner: &ArgMatches<'a>) -> Option<Request<'a>>
         "deliver" => deliver_in(inner),
         "serve" => serve_in(inner),
         "report" => report_in(inner),
+        "texts" => texts_in(inner),
         "account" => account_in(inner),
         "migrate" => migrate_in(inner),
         "explain" => explain_in(inner),
@@ -226,6 +236,14 @@ fn report_in<'a>(matches: &ArgMatches<'a>) -> Option<Request<'a>>
     let store = text_of(matches, "DB")?;
     let kind = kind_of(text_of(matches, "KIND")?)?;
     report_with(store, kind, text_of(matches, "KEY"))
+}
+
+fn texts_in<'a>(matches: &ArgMatches<'a>) -> Option<Request<'a>>
+    ensures { option_map request_asked result ≡ texts_asked (rows_of (found_of matches.now)) }
+{
+    let store = text_of(matches, "DB")?;
+    let from = from_said(text_of(matches, "FROM"))?;
+    Some(Request::Texts { store, from })
 }
 
 fn account_in<'a>(matches: &ArgMatches<'a>) -> Option<Request<'a>>
@@ -327,6 +345,30 @@ fn text_of<'a>(matches: &ArgMatches<'a>, id: &str) -> Option<&'a str>
     ensures { option_map (λ text. text.now) result ≡ first_of id.now (rows_of (found_of matches.now)) }
 {
     matches.get_str(id)
+}
+
+/// How many texts to pass over: 1 to 9 digits without a leading zero; 0 if nothing is said.
+fn from_said(text: Option<&str>) -> Option<u32>
+    ensures { result ≡ from_said (option_map (λ text. text.now) text.entry) }
+{
+    match text {
+        None => Some(0),
+        Some("0") => Some(0),
+        Some(text) => {
+            if begins_with_zero(text.as_bytes()) {
+                None
+            } else {
+                number_upto(999_999_999, text)
+            }
+        }
+    }
+}
+
+/// Whether the first character is a zero.
+fn begins_with_zero(text: &[u8]) -> bool
+    ensures { result ≡ (slice_index text.now 0 == digit_zero) }
+{
+    !text.is_empty() && text[0] == b'0'
 }
 
 /// The number that 1 to 9 digits write, if it is from 1 to the greatest.

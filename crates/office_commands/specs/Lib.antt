@@ -10,3 +10,4 @@ pub mod Looking
 pub mod Serving
 pub mod Senders
 pub mod Migrating
+pub mod Printing

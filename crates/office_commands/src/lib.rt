@@ -11,6 +11,7 @@ mod notes;
 pub mod opening;
 mod serving;
 mod telling;
+mod texts;
 
 pub use deliver::{TURNS, account_over, deliver_over, deliver_to, report_on, report_over};
 pub use demo::{DemoFault, run_demo};
@@ -24,3 +25,4 @@ pub use telling::{
     COMMAND_LINE, DONE, FAILED, Faults, REFUSED, Tallied, demonstrate, print, tell, tell_fault,
     tell_outcome,
 };
+pub use texts::{print_texts, texts_over};

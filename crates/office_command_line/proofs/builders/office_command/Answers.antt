@@ -15,7 +15,8 @@ returns c =
     let delivers : app_of c.in_ok-subcommand-2.field-0 ≡ _ = c.in_ok-subcommand-2.ensures.shape c.in_ok-deliver.ensures.local ∙ ap₂ with_subcommand inits (ap (λ (a : App). a.top) c.in_ok-deliver.ensures.app) in
     let serves : app_of c.in_ok-subcommand-3.field-0 ≡ _ = c.in_ok-subcommand-3.ensures.shape c.in_ok-serve.ensures.local ∙ ap₂ with_subcommand delivers (ap (λ (a : App). a.top) c.in_ok-serve.ensures.app) in
     let reports : app_of c.in_ok-subcommand-4.field-0 ≡ _ = c.in_ok-subcommand-4.ensures.shape c.in_ok-report.ensures.local ∙ ap₂ with_subcommand serves (ap (λ (a : App). a.top) c.in_ok-report.ensures.app) in
-    let accounts : app_of c.in_ok-subcommand-5.field-0 ≡ _ = c.in_ok-subcommand-5.ensures.shape c.in_ok-account.ensures.local ∙ ap₂ with_subcommand reports (ap (λ (a : App). a.top) c.in_ok-account.ensures.app) in
-    let migrates : app_of c.in_ok-subcommand-6.field-0 ≡ _ = c.in_ok-subcommand-6.ensures.shape c.in_ok-migrate.ensures.local ∙ ap₂ with_subcommand accounts (ap (λ (a : App). a.top) c.in_ok-migrate.ensures.app) in
-    let explains : app_of c.in_ok-subcommand-7.field-0 ≡ _ = c.in_ok-subcommand-7.ensures.shape c.in_ok-explain.ensures.local ∙ ap₂ with_subcommand migrates (ap (λ (a : App). a.top) c.in_ok-explain.ensures.app) in
+    let texts : app_of c.in_ok-subcommand-5.field-0 ≡ _ = c.in_ok-subcommand-5.ensures.shape c.in_ok-texts.ensures.local ∙ ap₂ with_subcommand reports (ap (λ (a : App). a.top) c.in_ok-texts.ensures.app) in
+    let accounts : app_of c.in_ok-subcommand-6.field-0 ≡ _ = c.in_ok-subcommand-6.ensures.shape c.in_ok-account.ensures.local ∙ ap₂ with_subcommand texts (ap (λ (a : App). a.top) c.in_ok-account.ensures.app) in
+    let migrates : app_of c.in_ok-subcommand-7.field-0 ≡ _ = c.in_ok-subcommand-7.ensures.shape c.in_ok-migrate.ensures.local ∙ ap₂ with_subcommand accounts (ap (λ (a : App). a.top) c.in_ok-migrate.ensures.app) in
+    let explains : app_of c.in_ok-subcommand-8.field-0 ≡ _ = c.in_ok-subcommand-8.ensures.shape c.in_ok-explain.ensures.local ∙ ap₂ with_subcommand migrates (ap (λ (a : App). a.top) c.in_ok-explain.ensures.app) in
     c.in_ok-office.ensures.shape c.demo_command-demo.ensures.local ∙ ap₂ with_subcommand explains (ap (λ (a : App). a.top) c.demo_command-demo.ensures.app)

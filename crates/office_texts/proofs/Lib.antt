@@ -1,0 +1,7 @@
+pub mod RowidLemmas
+pub mod TextQuery
+pub mod PageLemmas
+pub mod BodyLemmas
+pub mod StandLemmas
+pub mod TakenLemmas
+pub mod WriteLemmas

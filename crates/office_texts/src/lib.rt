@@ -1,0 +1,10 @@
+//! The kept texts of an office, in the order in which they came.
+#![tactic(auto)]
+
+mod page;
+mod reading;
+mod writing;
+
+pub use page::TextsPage;
+pub use reading::texts_from;
+pub use writing::{Written, write_texts};
