@@ -55,6 +55,14 @@ pub record MigratesBetween {S T : Type 0} (g : Ghosts S) (h : Ghosts T) (old : H
       OnErr outcome ((state h newer).committed ≡ (state h new).committed)
   pub reads : Reads (state g old) (state g older) outcome
 
+-- the same of a new store in files, as the files that were opened held it
+pub record FillsNew {S D : Type 0} (g : Ghosts S) {h : DiskGhosts D} (new_image : Image) (old : Held S)
+    (outcome : Result ℕ TableFault) (older : Held S) (newer : Held (FileStore D h)) : Type 0 where
+  pub found : Held (FileStore D h)
+  pub shows : HasCleanDisk (file_state found) → ShowsHeld new_image found
+  pub no_tables : HasCleanDisk (file_state found) → HoldsNoTables new_image → (file_state found).committed.schema ≡ no_schema
+  pub migrates : MigratesBetween g over_files old found outcome older newer
+
 -- ---- what the files of the old store hold
 
 -- a database with these rows, in the tables of version 1 and 2

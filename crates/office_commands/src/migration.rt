@@ -12,7 +12,7 @@ ghost use Rattle.office_tables.specs.Reading.{Reads};
 ghost use Rattle.office_migration.specs.History.{HoldsAfter, IsOlderAfter, StoresAfter};
 ghost use Rattle.office_migration.specs.Migration.{IsMigration, Migrates};
 ghost use Rattle.office_commands.specs.Ending.{Prints};
-ghost use Rattle.office_commands.specs.Migrating.{IsJudged, IsLookedAt, IsMigratedOver, MigratesBetween, TellsReady};
+ghost use Rattle.office_commands.specs.Migrating.{FillsNew, IsJudged, IsLookedAt, IsMigratedOver, MigratesBetween, TellsReady};
 
 use crate::opening::{open_new, open_there};
 use crate::telling::{DONE, print};
@@ -71,10 +71,27 @@ pub fn migrate_over<S: Start, T: Start, W: Write>(
         Ok(conn) => conn,
         Err(fault) => return Err(MigrationFault::Old(fault)),
     };
-    let newer = match open_new(rt, new.0, new.1) {
-        Ok(conn) => conn,
-        Err(fault) => return Err(MigrationFault::New(fault)),
-    };
+    match migrate_into(rt, older, new, writer) {
+        Ok(ended) => Ok(ended),
+        Err(fault) => Err(MigrationFault::New(fault)),
+    }
+}
+
+/// Makes the store in the file at a path with what an older one of any kind keeps, and prints that it is ready.
+fn migrate_into<S: Alter + Drop, T: Start, W: Write>(
+    rt: &HostRuntime,
+    older: Connection<S>,
+    new: (&str, T),
+    writer: &mut Port<W>,
+) -> Result<Migrated<S, FileStore<FileFrom<T>>>, TableFault>
+    ensures filled { IfOk result (λ ended.
+        FillsNew S.Store (image_at T.Start) older ended.outcome ended.old ended.new) }
+    ensures printed { IfOk result (λ ended. TellsReady (writer.new ≡ writer.old)
+        (Prints writer.old.failed writer.new.failed writer.new.flushed
+        (W.contents writer.old.inner) (W.contents writer.new.inner)) ended.outcome) }
+    ensures err { OnErr result (writer.new ≡ writer.old) }
+{
+    let newer = open_new(rt, new.0, new.1)?;
     Ok(migrate_between(rt.alloc(), older, newer, writer))
 }
 
@@ -91,10 +108,7 @@ fn open_older<S: Start>(
 }
 
 /// A connection to a store of any kind, if it holds an office of version 1 or 2.
-fn look_at<S: Alter + Drop>(
-    alloc: Global,
-    conn: Connection<S>,
-) -> Result<Connection<S>, TableFault>
+fn look_at<S: Alter + Drop>(alloc: Global, conn: Connection<S>) -> Result<Connection<S>, TableFault>
     requires idle { conn.in_transaction ≡ false }
     ensures looked { IfOk result (IsLookedAt S.Store conn) }
 {
