@@ -21,7 +21,8 @@ use Rattle.office_rows.specs.Stored.{columns_of}
 use Rattle.office_journal_rows.specs.Places.{ArePlaced}
 
 -- the tree has these records, in this order, under the rowids 1, 2, 3 and so on
-pub record AreInPlace {A : Type 0} (table : Table) (values : A → Row) (records : List A) (stored : List Row) : Type 0 where
+pub record AreInPlace {A : Type 0} (table : Table) (values : A → Row) (records : List A) (stored : List Row)
+    : Type 0 where
   pub placed : ArePlaced 1 stored
   pub same : map values records ≡ map (columns_of table) stored
 
