@@ -1,6 +1,6 @@
 use Rattle.std.proofs.Common.{◌≡◌, ◌≤◌, length, List, [], ◌∷◌, true, false, Ok, IfErr, refl, sym, subst, ◌∙◌, rules, arith}
 use Rattle.std.proofs.lemmas.Result.{err_from_is_err_and}
-use Rattle.sqlite_value.specs.Value.{owned}
+use Rattle.sqlite.specs.Values.{bound}
 use Rattle.sqlite.specs.Order.{Row}
 use Rattle.sqlite.specs.Held.{state}
 use Rattle.sqlite.specs.Given.{HasGiven}
@@ -26,7 +26,7 @@ returns-in_err-rows-clause-reads g c =
     let old = state g.S.Store c.args.conn.now in
     let new = state g.S.Store c.query.follows.lender-at-none in
     let held = c.query.follows.holds-at-none in
-    let params : Row = owned c.integer.result ∷ [] in
+    let params : Row = bound (c.integer.result ∷ []) in
     let mode : c.args.conn.now.in_transaction ≡ false → c.query.follows.lender-at-none.in_transaction ≡ false = search rules in
     let kept : Survives old new (CommitsShowing select_texts params old) = search rules in
     let fails : HasCleanDisk new → IfErr c.query.result (FailsToQuery select_texts params old new) = search rules in
@@ -40,7 +40,7 @@ each-init g c =
     let begun : HasCleanDisk new → HasGiven g.S.Store select_texts (number c.args.from ∷ []) c.in_ok-rows.rows.conn.now [] × IsUnchanged old new =
     λ clean. begun_shows g.S.Store select_texts (number c.args.from ∷ []) c.args.conn.now c.in_ok-rows.rows.conn.now texts_shows (rw c.integer.ensures at (made.begun clean)) in (
       refl,
-      reads_same old new tt (λ clean. (begun clean).1) made.mode (query_survives select_texts (owned c.integer.result ∷ []) old new texts_shows made.survives),
+      reads_same old new tt (λ clean. (begun clean).1) made.mode (query_survives select_texts (bound (c.integer.result ∷ [])) old new texts_shows made.survives),
       refl,
       λ clean. stands_first g.S.Store c.args.from c.args.conn.now (AreSoFar (g.W.Write.contents c.args.writer.now.inner) (g.W.Write.contents c.args.writer.now.inner) false) c.in_ok-rows.rows.conn.now (none_so_far (g.W.Write.contents c.args.writer.now.inner)) (begun clean),
     )
