@@ -14,7 +14,7 @@ use Rattle.office_http.specs.Senders.{named_by, sender_by, sender_at}
 use Rattle.office_http.specs.declared.response.Refusal.{Refusal}
 use Rattle.office_http.specs.declared.response.Refusal.TheVariants.{NotNow}
 use Rattle.office_http.specs.declared.requests.Request.{Request}
-use Rattle.office_http.specs.declared.requests.Request.TheVariants.{Delivery, OwnDelivery, Account, Report, Refused}
+use Rattle.office_http.specs.declared.requests.Request.TheVariants.{Delivery, OwnDelivery, Account, Report, Noticed, Refused}
 use Rattle.office_http.specs.declared.routes.Sender.{Sender}
 use Rattle.office_http.specs.declared.routes.Sender.TheVariants.{Nobody, Own, Another}
 
@@ -45,7 +45,8 @@ delivered_text : (text text' : List ℕ) (request : Request) → IsDelivery text
 delivered_text text text' (Delivery body) is is' = sym is ∙ is'
 delivered_text text text' (OwnDelivery own) is is' = absurd is
 delivered_text text text' (Account key) is is' = absurd is
-delivered_text text text' (Report kind query) is is' = absurd is
+delivered_text text text' (Report view kind query) is is' = absurd is
+delivered_text text text' (Noticed notice) is is' = absurd is
 delivered_text text text' (Refused refusal) is is' = absurd is
 
 not_refused : (text : List ℕ) (request : Request) (refusal : Refusal) → IsDelivery text request → request ≡ Refused refusal → ⊥
