@@ -1,0 +1,37 @@
+-- What a person types for a container's number.
+use Rattle.std.specs.Prelude.{ℕ, ◌+◌, ◌==◌, ◌||◌, List, [], ◌∷◌, ◌++◌, map, filter, take, not, Bool, Result, Ok, Err}
+use Rattle.std.specs.Char.{to_ascii_uppercase}
+use Rattle.percent_encoding.specs.Percent.{percent_decode}
+use Rattle.box6346.specs.ContainerNumber.{number_of}
+use Rattle.box6346.specs.NumberText.{check_digit_of}
+use Rattle.box6346.specs.declared.box_number.BoxNumber.{BoxNumber}
+use Rattle.box6346.specs.declared.box_number.NumberFault.{NumberFault}
+use Rattle.box6346.specs.declared.box_number.NumberFault.TheVariants as fault
+use Rattle.office_pages.specs.declared.notices.Notice.{Notice}
+use Rattle.office_pages.specs.declared.notices.Notice.TheVariants.{Form, CheckDigit}
+
+-- a space, also as a form writes it (+), and a hyphen
+abbrev pub is_left_out : ℕ → Bool
+is_left_out c = c == 32 || c == 43 || c == 45
+
+-- the characters that count, as capitals
+abbrev pub typed_text : List ℕ → List ℕ
+typed_text value = map to_ascii_uppercase (filter (λ c. not (is_left_out c)) (percent_decode value))
+
+-- the first ten characters, and their check digit
+abbrev pub with_check_digit : List ℕ → List ℕ
+with_check_digit text = take 10 text ++ (48 + check_digit_of (take 10 text)) ∷ []
+
+-- the number with the right check digit, of a text that has the form of one
+abbrev pub corrected : Result BoxNumber NumberFault → Result BoxNumber Notice
+corrected (Ok number) = Err (CheckDigit number)
+corrected (Err fault) = Err Form
+
+abbrev pub number_in : List ℕ → Result BoxNumber NumberFault → Result BoxNumber Notice
+number_in text (Ok number) = Ok number
+number_in text (Err fault.Form) = Err Form
+number_in text (Err fault.CheckDigit) = corrected (number_of (with_check_digit text))
+
+-- the number that is meant by a value of the form's field, or what to tell
+abbrev pub typed : List ℕ → Result BoxNumber Notice
+typed value = number_in (typed_text value) (number_of (typed_text value))

@@ -1,0 +1,19 @@
+-- The lines and words of a report.
+use Rattle.std.specs.Prelude.{ℕ, ◌==◌, Bool, List, [], slice_index_or}
+use Rattle.std.specs.List.{slice_split}
+use Rattle.std.specs.Str.{bytes_eq}
+
+-- they stand between LFs
+abbrev pub lines : List ℕ → List (List ℕ)
+lines text = slice_split (λ b. b == 10) text
+
+-- they stand between spaces
+abbrev pub words : List ℕ → List (List ℕ)
+words line = slice_split (λ b. b == 32) line
+
+-- the word at a place, counted from 0; nothing behind the last
+abbrev pub word_at : List (List ℕ) → ℕ → List ℕ
+word_at words place = slice_index_or words place []
+
+abbrev pub is_at : List (List ℕ) → ℕ → List ℕ → Bool
+is_at words place word = bytes_eq (word_at words place) word
