@@ -6,13 +6,15 @@ use Rattle.httparse.specs.Grammar.{RequestHead}
 use Rattle.httparse.specs.Spans.{name_and_value}
 use Rattle.edi_segments.specs.Interchange.{interchange_of}
 use Rattle.office_queries.specs.AccountKeys.{account_in, account_named, sender_in}
+use Rattle.office_pages.specs.Pages.{has_page}
 use Rattle.office_pages.specs.Typed.{typed}
 use Rattle.office_pages.specs.declared.notices.Notice.{Notice}
 use Rattle.office_pages.specs.declared.notices.Notice.TheVariants.{NotHere}
 use Rattle.office_queries.specs.Keys.{Asked, container, next_number, query_asked, query_of}
 use Rattle.office_queries.specs.declared.query.ReportKind.{ReportKind}
 use Rattle.office_http.specs.Heads.{IsHead, HasNoHead}
-use Rattle.office_http.specs.Targets.{path_of, typed_in, view_of}
+use Rattle.office_queries.specs.declared.query.Query.{Query}
+use Rattle.office_http.specs.Targets.{is_paged, path_of, typed_in, view_of}
 use Rattle.office_http.specs.Routes.{endpoint_of, key_in, partner_key_in}
 use Rattle.office_http.specs.Senders.{sender_at}
 use Rattle.office_http.specs.Fields.{body_length}
@@ -163,3 +165,11 @@ abbrev pub RequestsAreOne : Type 0
 RequestsAreOne =
     (stream : List ℕ) (request request' : Request) → request ≢ Refused NotNow → request' ≢ Refused NotNow
     → Asks stream request → Asks stream request' → IsSameRequest request request'
+
+-- ---- what has a page
+
+-- Whether a report has a page is the same by its kind, before its key is read, and by the query that its key asks for.
+abbrev pub PagesAreOne : Type 0
+PagesAreOne =
+    (kind : ReportKind) (key : List ℕ) (query : Query) → query_of kind key ≡ Some (query_asked query)
+    → has_page query ≡ is_paged kind
