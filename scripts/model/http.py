@@ -7,10 +7,10 @@ import re
 from collections import namedtuple
 
 from .deliveries import run
-from .keys import decoded
+from .keys import decoded, read_key
 from .moments import are_digits
 from .office import json_text
-from .pages import NOT_HERE, notice_page, page, start_page, typed_number
+from .pages import KINDS as PAGED, page, start, told, typed
 from .reports import report
 from .setup import is_utf8
 from .syntax import BREAKS, FAULTS, LONGEST_TEXT, is_printable, number_of, sender_of
@@ -57,9 +57,8 @@ HTML = 'text/html; charset=utf-8'
 CONTENT_TYPES = {'reply': 'application/json', 'yardcsv': 'text/csv', 'contrl': 'application/EDIFACT', 'picture': HTML,
     'health': 'application/json', 'metrics': 'text/plain; version=0.0.4'}
 
-# before the path of a report whose page is asked for, and the kinds that have none
+# what stands before the path of a report whose page is asked for
 PAGES = '/pages'
-UNPAGED = ('yardcsv', 'picture', 'health', 'metrics')
 
 PHRASES = {
     200: 'OK', 202: 'Accepted', 400: 'Bad Request', 403: 'Forbidden', 404: 'Not Found', 405: 'Method Not Allowed',
@@ -142,22 +141,25 @@ def paged(office, head):
     address = address_of(head)
     if address == '/':
         check_method(head, 'GET')
-        return 200, start_page(report(office, 'metrics', ''))
+        return 200, start(report(office, 'metrics', ''))
     if address == PAGES + '/find':
         check_method(head, 'GET')
-        number, notice = typed_number(typed_in(head))
-        return (404, notice_page(notice)) if number is None else page_of(office, 'container', number)
+        what, number = typed(typed_in(head))
+        return page_of(office, 'container', number) if what == 'number' else (404, told(what, number))
     method, kind, key = route_at(address[len(PAGES):]) or (None, None, None)
-    if method != 'GET' or kind in UNPAGED:
-        return 404, notice_page(NOT_HERE)
-    check_method(head, 'GET')
+    if kind not in PAGED:
+        return 404, told('not here')
+    check_method(head, method)
     return page_of(office, kind, key)
 
 
 def page_of(office, kind, key):
     """Status and page of a report: its text, shown, or that there is nothing."""
     text = report(office, kind, key)
-    return (404, notice_page(NOT_HERE)) if text is None else (200, page(kind, key, text))
+    if text is None:
+        return 404, told('not here')
+    values = read_key(kind, key)
+    return 200, page(kind, values[0] if len(values) == 1 else values, text)
 
 
 # ---- the body
