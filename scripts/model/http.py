@@ -7,7 +7,7 @@ import re
 from collections import namedtuple
 
 from .deliveries import run
-from .keys import decoded, read_key
+from .keys import PARTS, decoded, read_key
 from .moments import are_digits
 from .office import json_text
 from .pages import KINDS as PAGED, page, start, told, typed
@@ -158,7 +158,7 @@ def page_of(office, kind, key):
     text = report(office, kind, key)
     if text is None:
         return 404, told('not here')
-    values = read_key(kind, key)
+    values = read_key(kind, key) if PARTS[kind] else [None]
     return 200, page(kind, values[0] if len(values) == 1 else values, text)
 
 
