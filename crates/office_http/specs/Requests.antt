@@ -173,3 +173,18 @@ abbrev pub PagesAreOne : Type 0
 PagesAreOne =
     (kind : ReportKind) (key : List ℕ) (query : Query) → query_of kind key ≡ Some (query_asked query)
     → has_page query ≡ is_paged kind
+
+-- ---- pages only look
+
+-- nothing is delivered, and no account is added
+abbrev pub OnlyLooks : Request → Type 0
+OnlyLooks (Delivery body) = ⊥
+OnlyLooks (OwnDelivery own) = ⊥
+OnlyLooks (Account key) = ⊥
+OnlyLooks other = Unit {0}
+
+-- So it is with whatever is asked for as a page, by whatever method.
+abbrev pub PagesOnlyLook : Type 0
+PagesOnlyLook =
+    (stream : List ℕ) (head : RequestHead) (rest : List ℕ) (request : Request)
+    → IsHead stream head rest → view_of head.target ≢ view.Text → Asks stream request → OnlyLooks request

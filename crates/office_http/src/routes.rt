@@ -118,14 +118,16 @@ fn endpoint_at(router: &Router<Endpoint>, path: &str) -> Option<Endpoint>
     }
 }
 
-/// What of that is to be seen in a view: what a number that was typed finds is always the report of a container.
+/// What of that is to be seen in a view: a number that was typed finds the report of a container, and the start page
+/// shows the metrics.
 fn seen_at(view: View, at: Option<Endpoint>) -> Option<Endpoint>
     ensures { result ≡ seen_at view at }
 {
     match view {
-        View::Text | View::Start => at,
+        View::Text => at,
         View::Page => page_at(at),
         View::Find => Some(Endpoint::Report(ReportKind::Container)),
+        View::Start => Some(Endpoint::Report(ReportKind::Metrics)),
     }
 }
 
