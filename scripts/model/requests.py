@@ -34,7 +34,7 @@ PAGES = [
     '/page/yard', '/pages/work/9123456/V12', '/pages/contrls/HAULA', '/pages/calls/', '//']
 # what stands in an address behind `/pages/find`, with a number that was typed
 FORMS = [
-    (12, '?container=%s'), (1, '?container=%s&x=1'), (1, '?container=%s&container=ABCU0000022'), (1, '?container=%s?'),
+    (24, '?container=%s'), (1, '?container=%s&x=1'), (1, '?container=%s&container=ABCU0000022'), (1, '?container=%s?'),
     (1, '?Container=%s'), (1, '?x=1&container=%s'), (1, '?container%s'), (1, '??container=%s'), (1, '?containers=%s'),
     (1, '?container==%s'), (1, '?'), (1, '')]
 ODD_NUMBERS = [
