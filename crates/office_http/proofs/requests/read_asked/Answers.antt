@@ -1,4 +1,6 @@
 use Rattle.std.proofs.Common.{◌≡◌, ℕ, List, map, Result, Ok, inl, inr, sym, ap, ◌∙◌, arith}
+use Rattle.std.proofs.lemmas.Option.{IfSome_then}
+use Rattle.std.proofs.lemmas.Result.{IfOk-weaker}
 use Rattle.httparse.specs.Grammar.{RequestHead}
 use Rattle.httparse.specs.Spans.{name_and_value}
 use Rattle.office_http.specs.Deciding.{body_size, wanted_at, wanted_behind}
@@ -7,7 +9,7 @@ use Rattle.office_http.specs.Routes.{endpoint_of}
 use Rattle.office_http.specs.declared.routes.Endpoint.{Endpoint}
 use Rattle.office_http.specs.declared.routes.Endpoint.TheVariants.{Interchanges, PartnerInterchanges, Accounts}
 use Rattle.office_http.specs.declared.response.Refusal.{Refusal}
-use Rattle.office_http.proofs.Asking.{ok_not_err, all_of_some, refusal_asked, report_asked}
+use Rattle.office_http.proofs.Asking.{account_asked, all_of_some, ok_not_err, own_asked, post_asked, refusal_asked, report_asked}
 use Rattle.office_http.proofs.requests.read_asked.Goals as goal
 
 -- behind the head of an account its body is wanted
@@ -76,6 +78,30 @@ returns-in-Ok-Accounts-clause-decided g c = λ head at.
           omega (arith, wanted, c.read_account.ensures.decided)
     ]
 
+pub returns-in-Ok-Interchanges-clause-asks : goal.returns-in-Ok-Interchanges-clause-asks
+returns-in-Ok-Interchanges-clause-asks g c =
+    IfOk-weaker c.read_post.result _ _ (λ request posted. IfSome_then (g.R.Read.remaining c.args.reader.now.inner) posted (λ left posts head at.
+    let method = c.of-2.ensures ∙ at.method in
+    let target = c.in-Ok.ensures.cases.0 ∙ c.of.ensures ∙ at.path in
+    post_asked head _ _ _ _ c.direct.result request (c.in-Ok-Interchanges.is ∙ ap Ok c.in-Ok-Interchanges.field-0-is) c.direct.ensures method target at.fields posts))
+    c.read_post.ensures.posts
+
+pub returns-in-Ok-PartnerInterchanges-clause-asks : goal.returns-in-Ok-PartnerInterchanges-clause-asks
+returns-in-Ok-PartnerInterchanges-clause-asks g c =
+    IfOk-weaker c.read_own_post.result _ _ (λ request posted. IfSome_then (g.R.Read.remaining c.args.reader.now.inner) posted (λ left posts head at.
+    let method = c.of-2.ensures ∙ at.method in
+    let target = c.in-Ok.ensures.cases.0 ∙ c.of.ensures ∙ at.path in
+    own_asked head _ _ _ _ _ c.direct.result request (c.in-Ok-PartnerInterchanges.is ∙ ap Ok c.in-Ok-PartnerInterchanges.field-0-is) c.direct.ensures method target c.path_of-path.ensures at.fields posts))
+    c.read_own_post.ensures.posts
+
+pub returns-in-Ok-Accounts-clause-asks : goal.returns-in-Ok-Accounts-clause-asks
+returns-in-Ok-Accounts-clause-asks g c =
+    IfOk-weaker c.read_account.result _ _ (λ request posted. IfSome_then (g.R.Read.remaining c.args.reader.now.inner) posted (λ left posts head at.
+    let method = c.of-2.ensures ∙ at.method in
+    let target = c.in-Ok.ensures.cases.0 ∙ c.of.ensures ∙ at.path in
+    account_asked head _ _ _ _ _ c.direct.result request (c.in-Ok-Accounts.is ∙ ap Ok c.in-Ok-Accounts.field-0-is) c.direct.ensures method target c.path_of-path.ensures at.fields posts))
+    c.read_account.ensures.posts
+
 pub returns-in-Ok-Report-clause-asks : goal.returns-in-Ok-Report-clause-asks
 returns-in-Ok-Report-clause-asks g c =
     all_of_some (g.R.Read.remaining c.args.reader.now.inner) _ (λ left head at.
@@ -88,4 +114,4 @@ returns-in-Err-clause-asks g c =
     all_of_some (g.R.Read.remaining c.args.reader.now.inner) _ (λ left head at.
     let method = c.of-2.ensures ∙ at.method in
     let target = c.in-Ok.ensures.cases.0 ∙ c.of.ensures ∙ at.path in
-    refusal_asked head _ _ _ _ c.direct.result c.in-Err.refusal _ c.in-Err.is c.direct.ensures method target c.view_of.ensures c.refused_in.ensures)
+    refusal_asked head _ _ _ _ c.direct.result c.in-Err.refusal _ c.in-Err.is c.direct.ensures method target c.view_of-in-Err.ensures c.refused_in.ensures)
