@@ -1,5 +1,5 @@
 -- A delivery by the path of a partner, and the sender that its text names.
-use Rattle.std.proofs.Common.{◌≡◌, ◌⊎◌, ℕ, List, Bool, true, false, cond, ◌++◌, take, Option, None, Some, Result, Ok, Err, IfSome, inl, inr, refl, sym, subst, ap, ◌∙◌}
+use Rattle.std.proofs.Common.{◌≡◌, ◌⊎◌, ℕ, List, Bool, true, false, cond, ◌++◌, take, Option, None, Some, Result, Ok, Err, IfSome, inl, inr, sym, subst, ap, ◌∙◌}
 use Rattle.std.specs.Option.{unwrap_or}
 use Rattle.std.specs.Str.{bytes_eq}
 use Rattle.edi_segments.specs.Interchange.{interchange_of, segments_in}
@@ -15,7 +15,6 @@ use Rattle.office_http.specs.declared.response.Refusal.{Refusal}
 use Rattle.office_http.specs.declared.response.Refusal.TheVariants.{NotNow}
 use Rattle.office_http.specs.declared.requests.Request.{Request}
 use Rattle.office_http.specs.declared.requests.Request.TheVariants.{Delivery, OwnDelivery, Account, Report, Noticed, Refused}
-use Rattle.office_http.specs.declared.routes.Sender.{Sender}
 use Rattle.office_http.specs.declared.routes.Sender.TheVariants.{Nobody, Own, Another}
 
 -- ---- whom a text names

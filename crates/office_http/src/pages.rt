@@ -77,9 +77,9 @@ fn write_page<W: Write>(
 ) -> io::Result<()>
     ensures { MatchResult page
         (λ text. Puts (response_bytes status Page None (string_bytes text))
-            (W.contents port.old.inner) (W.contents port.new.inner) port.old port.new result)
+        (W.contents port.old.inner) (W.contents port.new.inner) port.old port.new result)
         (λ wanting. Puts (refusal_bytes NotNow)
-            (W.contents port.old.inner) (W.contents port.new.inner) port.old port.new result) }
+        (W.contents port.old.inner) (W.contents port.new.inner) port.old port.new result) }
 {
     match page {
         Ok(text) => write_text(port, status, ContentType::Page, text.as_str()),

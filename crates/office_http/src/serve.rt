@@ -7,7 +7,7 @@ ghost use Rattle.office_http.specs.Served.{Answers, AtMost, calls_of, Does, Does
 ghost use Rattle.office_queries.specs.declared.query.NotNow.{NotNow};
 
 use crate::head::OwnText;
-use crate::pages::{write_notice, write_nothing, write_report};
+use crate::pages::{write_nothing, write_notice, write_report};
 use crate::requests::{Request, read_request};
 use crate::response::{Refusal, write_account_answer, write_answer, write_early, write_refusal};
 use crate::targets::View;
@@ -272,7 +272,7 @@ fn answer_report<W: Write, D: Report>(
     ensures does { (found : Result (Option (List ℕ)) NotNow)
         × D.looks desk.old query.now found desk.new
         × Answers view (found_bytes view kind query.now found)
-            (λ bytes. OnOk result (Appends (W.contents writer.old.inner) (W.contents writer.new.inner) bytes)) }
+        (λ bytes. OnOk result (Appends (W.contents writer.old.inner) (W.contents writer.new.inner) bytes)) }
     ensures kept { OnOk result (writer.new.failed ≡ writer.old.failed) }
     ensures fails { OnErr result (writer.new.failed ≡ true) }
 {

@@ -100,10 +100,8 @@ pub(crate) fn is_paged(kind: ReportKind) -> bool
     ensures { result ≡ is_paged kind }
 {
     match kind {
-        ReportKind::YardTable
-        | ReportKind::Picture
-        | ReportKind::Health
-        | ReportKind::Metrics => false,
+        ReportKind::YardTable | ReportKind::Picture | ReportKind::Health | ReportKind::Metrics =>
+            false,
         _ => true,
     }
 }
