@@ -29,7 +29,8 @@ is_number word = is_some (number_of 14 word)
 -- the number in PARTNER NUMBER
 abbrev pub number_link : List (List ℕ) → ℕ → Option (List ℕ)
 number_link words place =
-    if is_number (word_at words place) then Some (reply_address (word_at words (place - 1)) (word_at words place)) else None
+    if is_number (word_at words place)
+    then Some (reply_address (word_at words (place - 1)) (word_at words place)) else None
 
 -- the number in GATE PARTNER NUMBER, or SHIP PARTNER NUMBER
 abbrev pub passage_link : List (List ℕ) → ℕ → Option (List ℕ)

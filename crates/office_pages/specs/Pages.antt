@@ -2,11 +2,12 @@
 use Rattle.std.specs.Prelude.{ℕ, ◌==◌, Bool, true, false, List, [], ◌∷◌, ◌++◌, length, codes, decimal, string_bytes, Option, None, Some, if◌then◌else◌}
 use Rattle.std.specs.List.{flat_map, join_by, range_with_len}
 use Rattle.std.specs.Str.{bytes_eq}
-use Rattle.box6346.specs.declared.box_number.BoxNumber.{BoxNumber}
-use Rattle.office_picture.specs.Fields.{field_text, joined}
+use Rattle.edi_messages.specs.declared.call.Call.{Call}
+use Rattle.terminal_core.specs.declared.lines.Side.{Side}
+use Rattle.office_picture.specs.Fields.{field_text}
 use Rattle.office_queries.specs.declared.query.Query.{Query}
 use Rattle.office_queries.specs.declared.query.Query.TheVariants as query
-use Rattle.office_pages.specs.Addresses.{container_address, contrl_address, list_address, partner_address, reply_address, ticket_address, visits_address, work_address}
+use Rattle.office_pages.specs.Addresses.{address_of_two, container_address, list_address, partner_address, visits_address, work_address}
 use Rattle.office_pages.specs.Fixed.{foot, head, top}
 use Rattle.office_pages.specs.Links.{link_at}
 use Rattle.office_pages.specs.Titles.{notice_title, title}
@@ -34,7 +35,7 @@ asks_again other = false
 -- ---- the words and lines of a report
 
 unfoldable pub link : List ℕ → List ℕ → List ℕ
-link address shown = joined (codes "<a href='" ∷ field_text address ∷ codes "'>" ∷ field_text shown ∷ codes "</a>" ∷ [])
+link address shown = codes "<a href='" ++ field_text address ++ codes "'>" ++ field_text shown ++ codes "</a>"
 
 -- a word, with a link around it if it leads anywhere
 abbrev pub linked : Option (List ℕ) → List ℕ → List ℕ
@@ -65,43 +66,57 @@ again asks = if asks then codes "<meta http-equiv='refresh' content='60'>\n" els
 
 -- its title, and links to the reports without a key
 unfoldable pub page_head : Bool → List ℕ → List ℕ
-page_head asks title = joined
-    (head ∷ again asks ∷ codes "<title>" ∷ field_text title ∷ codes "</title>\n" ∷ top ∷ codes "<h1>" ∷ field_text title
-    ∷ codes "</h1>\n" ∷ [])
+page_head asks title =
+    head ++ again asks ++ codes "<title>" ++ field_text title ++ codes "</title>\n" ++ top
+    ++ codes "<h1>" ++ field_text title ++ codes "</h1>\n"
 
--- links to other pages on the same thing
-abbrev pub beside_links : List (List ℕ × List ℕ) → List ℕ
-beside_links links = codes "<p class='beside'>\n" ++ flat_map (λ p. link p.0 p.1 ++ codes "\n") links ++ codes "</p>\n"
+-- ---- links to other pages on the same thing
 
-abbrev pub ticket_beside : List ℕ → ℕ → List ℕ × List ℕ
-ticket_beside partner number = (ticket_address partner (decimal number), codes "Ticket")
+abbrev pub link_beside : List ℕ → List ℕ → List ℕ
+link_beside address label = link address label ++ codes "\n"
 
-abbrev pub reply_beside : List ℕ → ℕ → List ℕ × List ℕ
-reply_beside partner number = (reply_address partner (decimal number), codes "Reply")
+-- the page of an interchange under that route
+abbrev pub interchange_beside : List ℕ → List ℕ → List ℕ → ℕ → List ℕ
+interchange_beside route label partner number = link_beside (address_of_two route partner (decimal number)) label
 
-abbrev pub contrl_beside : List ℕ → ℕ → List ℕ × List ℕ
-contrl_beside partner number = (contrl_address partner (decimal number), codes "CONTRL")
+abbrev pub ticket_beside : List ℕ → ℕ → List ℕ
+ticket_beside partner number = interchange_beside (codes "/pages/tickets/") (codes "Ticket") partner number
 
-abbrev pub partner_beside : List ℕ → List ℕ × List ℕ
-partner_beside partner = (partner_address partner, codes "Partner")
+abbrev pub reply_beside : List ℕ → ℕ → List ℕ
+reply_beside partner number = interchange_beside (codes "/pages/replies/") (codes "Reply") partner number
+
+abbrev pub contrl_beside : List ℕ → ℕ → List ℕ
+contrl_beside partner number = interchange_beside (codes "/pages/contrls/") (codes "CONTRL") partner number
+
+abbrev pub partner_beside : List ℕ → List ℕ
+partner_beside partner = link_beside (partner_address partner) (codes "Partner")
+
+abbrev pub list_beside : Call → Side → List ℕ
+list_beside call side =
+    link_beside (list_address (string_bytes call.vessel) (string_bytes call.voyage) side) (codes "The whole list")
+
+abbrev pub work_beside : Call → Side → List ℕ
+work_beside call side =
+    link_beside (work_address (string_bytes call.vessel) (string_bytes call.voyage) side) (codes "What is left to do")
+
+abbrev pub links_beside : Query → List ℕ
+links_beside (query.Container number) = link_beside (visits_address number) (codes "Visits")
+links_beside (query.Visits number) = link_beside (container_address number) (codes "Where it is")
+links_beside (query.List call side) = work_beside call side
+links_beside (query.Work call side) = list_beside call side
+links_beside (query.Ticket partner number) =
+    reply_beside (string_bytes partner) number ++ contrl_beside (string_bytes partner) number
+    ++ partner_beside (string_bytes partner)
+links_beside (query.Reply partner number) =
+    ticket_beside (string_bytes partner) number ++ contrl_beside (string_bytes partner) number
+    ++ partner_beside (string_bytes partner)
+links_beside (query.Contrl partner number) =
+    ticket_beside (string_bytes partner) number ++ reply_beside (string_bytes partner) number
+    ++ partner_beside (string_bytes partner)
+links_beside other = []
 
 abbrev pub beside : Query → List ℕ
-beside (query.Container number) = beside_links ((visits_address number, codes "Visits") ∷ [])
-beside (query.Visits number) = beside_links ((container_address number, codes "Where it is") ∷ [])
-beside (query.List call side) = beside_links
-    ((work_address (string_bytes call.vessel) (string_bytes call.voyage) side, codes "What is left to do") ∷ [])
-beside (query.Work call side) = beside_links
-    ((list_address (string_bytes call.vessel) (string_bytes call.voyage) side, codes "The whole list") ∷ [])
-beside (query.Ticket partner number) = beside_links
-    (reply_beside (string_bytes partner) number ∷ contrl_beside (string_bytes partner) number
-    ∷ partner_beside (string_bytes partner) ∷ [])
-beside (query.Reply partner number) = beside_links
-    (ticket_beside (string_bytes partner) number ∷ contrl_beside (string_bytes partner) number
-    ∷ partner_beside (string_bytes partner) ∷ [])
-beside (query.Contrl partner number) = beside_links
-    (ticket_beside (string_bytes partner) number ∷ reply_beside (string_bytes partner) number
-    ∷ partner_beside (string_bytes partner) ∷ [])
-beside other = []
+beside asked = codes "<p class='beside'>\n" ++ links_beside asked ++ codes "</p>\n"
 
 -- ---- pages
 
@@ -124,7 +139,7 @@ label_of name =
 
 unfoldable pub counted : List ℕ → List ℕ → List ℕ
 counted [] value = []
-counted (c ∷ label) value = joined (codes "<li><b>" ∷ field_text value ∷ codes "</b> " ∷ (c ∷ label) ∷ codes "</li>\n" ∷ [])
+counted (c ∷ label) value = codes "<li><b>" ++ field_text value ++ codes "</b> " ++ (c ∷ label) ++ codes "</li>\n"
 
 -- of a line NAME VALUE; nothing of other lines
 abbrev pub count_view : List ℕ → List ℕ

@@ -8,35 +8,42 @@ use Rattle.office_queries.specs.declared.query.Query.TheVariants as query
 use Rattle.office_pages.specs.declared.notices.Notice.{Notice}
 use Rattle.office_pages.specs.declared.notices.Notice.TheVariants as notice
 
-abbrev pub side_title : Side → List ℕ
-side_title Load = codes "Load"
-side_title Discharge = codes "Discharge"
+abbrev pub list_title : Side → List ℕ
+list_title Load = codes "Load list of "
+list_title Discharge = codes "Discharge list of "
 
--- Load WHAT of VESSEL VOYAGE
-abbrev pub call_title : Side → List ℕ → Call → List ℕ
-call_title side what call =
-    side_title side ++ what ++ string_bytes call.vessel ++ codes " " ++ string_bytes call.voyage
+abbrev pub work_title : Side → List ℕ
+work_title Load = codes "Load work of "
+work_title Discharge = codes "Discharge work of "
+
+-- WHAT VESSEL VOYAGE
+abbrev pub call_title : List ℕ → Call → List ℕ
+call_title what call = what ++ string_bytes call.vessel ++ codes " " ++ string_bytes call.voyage
 
 -- WHAT PARTNER NUMBER
 abbrev pub interchange_title : List ℕ → List ℕ → ℕ → List ℕ
 interchange_title what partner number = what ++ partner ++ codes " " ++ decimal number
 
+-- WHAT NAME
+abbrev pub name_title : List ℕ → List ℕ → List ℕ
+name_title what name = what ++ name
+
 abbrev pub title : Query → List ℕ
 title query.Yard = codes "Yard"
 title query.YardTable = codes "Table of the yard"
-title (query.Visits number) = codes "Visits of " ++ number
-title (query.List call side) = call_title side (codes " list of ") call
+title (query.Visits number) = name_title (codes "Visits of ") number
+title (query.List call side) = call_title (list_title side) call
 title (query.Ticket partner number) = interchange_title (codes "Ticket of ") (string_bytes partner) number
 title (query.Reply partner number) = interchange_title (codes "Reply to ") (string_bytes partner) number
-title (query.Container number) = codes "Container " ++ number
-title (query.Work call side) = call_title side (codes " work of ") call
+title (query.Container number) = name_title (codes "Container ") number
+title (query.Work call side) = call_title (work_title side) call
 title query.Partners = codes "Partners"
 title query.Blocks = codes "Blocks"
 title query.Calls = codes "Calls"
 title (query.Contrl partner number) = interchange_title (codes "CONTRL to ") (string_bytes partner) number
 title query.Picture = codes "Picture"
-title (query.Partner code) = codes "Partner " ++ string_bytes code
-title (query.Next code) = codes "Next number of " ++ string_bytes code
+title (query.Partner code) = name_title (codes "Partner ") (string_bytes code)
+title (query.Next code) = name_title (codes "Next number of ") (string_bytes code)
 title query.Health = codes "Health"
 title query.Metrics = codes "Metrics"
 

@@ -1,5 +1,5 @@
 -- What a person types for a container's number.
-use Rattle.std.specs.Prelude.{ℕ, ◌+◌, ◌==◌, ◌||◌, List, [], ◌∷◌, ◌++◌, map, filter, take, not, Bool, Result, Ok, Err}
+use Rattle.std.specs.Prelude.{ℕ, ◌+◌, ◌==◌, ◌||◌, List, map, filter, slice_set, take, not, Bool, Result, Ok, Err}
 use Rattle.std.specs.Char.{to_ascii_uppercase}
 use Rattle.percent_encoding.specs.Percent.{percent_decode}
 use Rattle.box6346.specs.ContainerNumber.{number_of}
@@ -18,9 +18,9 @@ is_left_out c = c == 32 || c == 43 || c == 45
 abbrev pub typed_text : List ℕ → List ℕ
 typed_text value = map to_ascii_uppercase (filter (λ c. not (is_left_out c)) (percent_decode value))
 
--- the first ten characters, and their check digit
+-- the check digit of the first ten characters in place of the eleventh
 abbrev pub with_check_digit : List ℕ → List ℕ
-with_check_digit text = take 10 text ++ (48 + check_digit_of (take 10 text)) ∷ []
+with_check_digit text = slice_set text 10 (48 + check_digit_of (take 10 text))
 
 -- the number with the right check digit, of a text that has the form of one
 abbrev pub corrected : Result BoxNumber NumberFault → Result BoxNumber Notice

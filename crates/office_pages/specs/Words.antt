@@ -1,5 +1,6 @@
 -- The lines and words of a report.
-use Rattle.std.specs.Prelude.{ℕ, ◌==◌, Bool, List, [], slice_index_or}
+use Rattle.std.specs.Prelude.{ℕ, ◌==◌, Bool, List, [], map, slice_index_or}
+use Rattle.std.specs.Borrow.{Bor}
 use Rattle.std.specs.List.{slice_split}
 use Rattle.std.specs.Str.{bytes_eq}
 
@@ -17,3 +18,8 @@ word_at words place = slice_index_or words place []
 
 abbrev pub is_at : List (List ℕ) → ℕ → List ℕ → Bool
 is_at words place word = bytes_eq (word_at words place) word
+
+-- ---- words as the code has them
+
+abbrev pub texts_of : List (Bor (List ℕ)) → List (List ℕ)
+texts_of words = map (λ word. word.now) words

@@ -1,10 +1,17 @@
 //! Pages of HTML that show the texts of reports.
 #![tactic(auto)]
 
+mod addresses;
+mod beside;
+mod body;
 mod fixed;
+pub mod laws;
+mod links;
 mod notices;
 mod pages;
+mod titles;
 mod typed;
+mod words;
 
 pub use notices::{Notice, notice_page};
 pub use pages::{has_page, page, start_page};

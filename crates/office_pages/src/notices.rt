@@ -1,6 +1,11 @@
-ghost use Rattle.std.specs.Prelude.{◌≡◌, IfOk, string_bytes};
-ghost use Rattle.office_pages.specs.Pages.{notice_bytes};
+ghost use Rattle.std.specs.Prelude.{◌≡◌, ◌++◌, IfOk, OnOk, string_bytes};
+ghost use Rattle.office_pages.specs.Pages.{notice_bytes, notice_view};
 
+use crate::addresses::address_of_one;
+use crate::body::push_link;
+use crate::fixed::foot;
+use crate::pages::push_head;
+use crate::titles::notice_title;
 use box6346::BoxNumber;
 use std::alloc::{AllocError, Global};
 
@@ -19,6 +24,29 @@ pub enum Notice {
 pub fn notice_page(alloc: Global, notice: &Notice) -> Result<String, AllocError>
     ensures { IfOk result (λ page. string_bytes page ≡ notice_bytes notice.now) }
 {
-    let _ = notice;
-    Ok(String::new(alloc))
+    let mut page = String::new(alloc);
+    push_head(alloc, &mut page, false, notice_title(notice).as_bytes())?;
+    page.push_str("<p>")?;
+    push_notice(alloc, &mut page, notice)?;
+    page.push_str("</p>\n")?;
+    page.push_str(foot())?;
+    Ok(page)
+}
+
+/// Appends what is told.
+fn push_notice(alloc: Global, page: &mut String, notice: &Notice) -> Result<(), AllocError>
+    ensures { OnOk result (string_bytes page.new ≡ string_bytes page.old ++ notice_view notice.now) }
+{
+    match notice {
+        Notice::NotHere => page.push_str("There is nothing under this address."),
+        Notice::Form => page.push_str(
+            "A container has a number of four letters and seven digits, as ABCU 000001 7.",
+        ),
+        Notice::CheckDigit(number) => {
+            let address = address_of_one(alloc, "/pages/containers/", &number.text())?;
+            page.push_str("The last digit is not the check digit. With the right one it is ")?;
+            push_link(alloc, page, address.as_bytes(), &number.text())?;
+            page.push_str(".")
+        }
+    }
 }

@@ -158,7 +158,7 @@ pub(crate) fn push_all(text: &mut String, pieces: &[&str]) -> Result<(), AllocEr
 }
 
 /// The bytes of a field, written so that no markup comes of them.
-pub(crate) fn field_text(alloc: Global, bytes: &[u8]) -> Result<String, AllocError>
+pub fn field_text(alloc: Global, bytes: &[u8]) -> Result<String, AllocError>
     ensures { IfOk result (λ text. string_bytes text ≡ field_text bytes.now) }
 {
     Field(bytes).to_string(alloc)

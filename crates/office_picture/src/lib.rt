@@ -8,3 +8,4 @@ mod grids;
 pub mod laws;
 
 pub use drawing::picture;
+pub use fixed::field_text;

@@ -1,0 +1,4 @@
+mod Growing
+mod Shown
+mod Splitting
+mod Typing

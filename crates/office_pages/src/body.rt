@@ -1,0 +1,95 @@
+//! A report's own text, shown.
+ghost use Rattle.std.specs.Prelude.{◌≡◌, ◌++◌, OnOk, string_bytes};
+ghost use Rattle.office_picture.specs.Fields.{field_text};
+ghost use Rattle.office_pages.specs.Pages.{body_bytes, gap, line_view, link, linked, word_view};
+ghost use Rattle.office_pages.specs.Words.{texts_of};
+
+use crate::links::link_at;
+use crate::words::{word_at, words_of};
+use office_picture::field_text;
+use office_queries::Query;
+use std::alloc::{AllocError, Global};
+
+/// Appends the lines of a report, with a link around each word that names something.
+pub(crate) fn push_body(
+    alloc: Global,
+    page: &mut String,
+    query: &Query,
+    text: &str,
+) -> Result<(), AllocError>
+    ensures { OnOk result (string_bytes page.new ≡ string_bytes page.old ++ body_bytes query.now text.now) }
+{
+    let mut rest = text;
+    'lines: while let Some((line, behind)) = rest.split_once('\n') {
+        push_line(alloc, page, query, line)?;
+        page.push_str("\n")?;
+        rest = behind;
+    }
+    push_line(alloc, page, query, rest)
+}
+
+/// Appends a line.
+fn push_line(alloc: Global, page: &mut String, query: &Query, line: &str) -> Result<(), AllocError>
+    ensures { OnOk result (string_bytes page.new ≡ string_bytes page.old ++ line_view query.now line.now) }
+{
+    let words = words_of(alloc, line)?;
+    for place in 0..words.len() {
+        push_word(alloc, page, query, words.as_slice(), place)?;
+    }
+    Ok(())
+}
+
+/// Appends the word at a place of a line, and the space before it.
+fn push_word(
+    alloc: Global,
+    page: &mut String,
+    query: &Query,
+    words: &[&str],
+    place: usize,
+) -> Result<(), AllocError>
+    ensures { OnOk result
+        (string_bytes page.new ≡ string_bytes page.old ++ word_view query.now (texts_of words.now) place) }
+{
+    page.push_str(gap(place))?;
+    match link_at(alloc, query, words, place)? {
+        Some(address) => push_link(
+            alloc,
+            page,
+            address.as_bytes(),
+            word_at(words, place).as_bytes(),
+        ),
+        None => push_field(alloc, page, word_at(words, place).as_bytes()),
+    }
+}
+
+/// A space before each word but the first.
+fn gap(place: usize) -> &'static str
+    ensures { result.now ≡ gap place }
+{
+    if place == 0 { "" } else { " " }
+}
+
+/// Appends a link.
+#[tactic(auto, unfolding(crate::specs::Pages::link))]
+pub(crate) fn push_link(
+    alloc: Global,
+    page: &mut String,
+    address: &[u8],
+    shown: &[u8],
+) -> Result<(), AllocError>
+    ensures { OnOk result (string_bytes page.new ≡ string_bytes page.old ++ link address.now shown.now) }
+{
+    page.push_str("<a href='")?;
+    push_field(alloc, page, address)?;
+    page.push_str("'>")?;
+    push_field(alloc, page, shown)?;
+    page.push_str("</a>")
+}
+
+/// Appends bytes, written so that no markup comes of them.
+pub(crate) fn push_field(alloc: Global, page: &mut String, bytes: &[u8]) -> Result<(), AllocError>
+    ensures { OnOk result (string_bytes page.new ≡ string_bytes page.old ++ field_text bytes.now) }
+{
+    let field = field_text(alloc, bytes)?;
+    page.push_str(field.as_str())
+}

@@ -1,0 +1,19 @@
+//! Laws of the definitions. Each function has an empty body, and its contract is the law: a call brings it into
+//! the caller's proof.
+
+ghost use Rattle.office_pages.specs.Laws.{ReportsAreShown, ReportsBringNoMarkup, ReportsStayInPlace};
+
+/// What a page has of a report shows the report's own text, character by character.
+pub fn reports_are_shown()
+    ensures { ReportsAreShown }
+{}
+
+/// Behind it a browser is between tags, as before it.
+pub fn reports_stay_in_place()
+    ensures { ReportsStayInPlace }
+{}
+
+/// Whatever the report says, a page has of it the tags of its links, and no others.
+pub fn reports_bring_no_markup()
+    ensures { ReportsBringNoMarkup }
+{}

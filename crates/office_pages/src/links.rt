@@ -1,0 +1,193 @@
+//! Which words of a report lead where.
+ghost use Rattle.std.specs.Option.{option_map};
+ghost use Rattle.std.specs.Prelude.{◌≡◌, ◌≤◌, IfOk, string_bytes};
+ghost use Rattle.office_pages.specs.Links.{block_link, call_link, container_link, is_number, is_way_at, link_at, number_link, open_line_link, partner_link, passage_link, place_link, side_named, ticket_link, work_link};
+ghost use Rattle.office_pages.specs.Words.{texts_of};
+
+use crate::addresses::{address_of_one, address_of_two, work_address};
+use crate::words::{is_at, word_at};
+use box6346::BoxNumber;
+use office_queries::{Query, number_of};
+use std::alloc::{AllocError, Global};
+use terminal_core::Side;
+
+/// Where the word at a place of a line leads, if it names something.
+pub(crate) fn link_at(
+    alloc: Global,
+    query: &Query,
+    words: &[&str],
+    place: usize,
+) -> Result<Option<String>, AllocError>
+    ensures { IfOk result
+        (λ found. option_map string_bytes found ≡ link_at query.now (texts_of words.now) place) }
+{
+    match place_link(alloc, query, words, place)? {
+        Some(address) => Ok(Some(address)),
+        None => container_link(alloc, word_at(words, place)),
+    }
+}
+
+/// Where it leads by its place in a line of that report.
+fn place_link(
+    alloc: Global,
+    query: &Query,
+    words: &[&str],
+    place: usize,
+) -> Result<Option<String>, AllocError>
+    ensures { IfOk result
+        (λ found. option_map string_bytes found ≡ place_link query.now (texts_of words.now) place) }
+{
+    match query {
+        Query::Visits(_) => passage_link(alloc, words, place),
+        Query::Container(_) => match passage_link(alloc, words, place)? {
+            Some(address) => Ok(Some(address)),
+            None => open_line_link(alloc, words, place),
+        },
+        Query::Ticket { .. } => ticket_link(alloc, words, place),
+        Query::Partners => partner_link(alloc, words, place),
+        Query::Blocks => block_link(alloc, words, place),
+        Query::Calls => call_link(alloc, words, place),
+        _ => Ok(None),
+    }
+}
+
+/// A container number, check digit and all.
+fn container_link(alloc: Global, word: &str) -> Result<Option<String>, AllocError>
+    ensures { IfOk result (λ found. option_map string_bytes found ≡ container_link word.now) }
+{
+    if BoxNumber::parse(word.as_bytes()).is_err() {
+        return Ok(None);
+    }
+    let address = address_of_one(alloc, "/pages/containers/", word.as_bytes())?;
+    Ok(Some(address))
+}
+
+/// The number in `PARTNER NUMBER`.
+fn number_link(alloc: Global, words: &[&str], place: usize) -> Result<Option<String>, AllocError>
+    requires { 1 ≤ place }
+    ensures { IfOk result (λ found. option_map string_bytes found ≡ number_link (texts_of words.now) place) }
+{
+    let number = word_at(words, place);
+    if !is_number(number) {
+        return Ok(None);
+    }
+    let partner = word_at(words, place - 1);
+    let address = address_of_two(
+        alloc,
+        "/pages/replies/",
+        partner.as_bytes(),
+        number.as_bytes(),
+    )?;
+    Ok(Some(address))
+}
+
+/// Whether a word is 1 to 14 digits.
+fn is_number(word: &str) -> bool
+    ensures { result ≡ is_number word.now }
+{
+    number_of(word.as_bytes(), 14).is_some()
+}
+
+/// The number in `GATE PARTNER NUMBER`, or `SHIP PARTNER NUMBER`.
+fn passage_link(alloc: Global, words: &[&str], place: usize) -> Result<Option<String>, AllocError>
+    ensures { IfOk result (λ found. option_map string_bytes found ≡ passage_link (texts_of words.now) place) }
+{
+    if 2 <= place && is_way_at(words, place - 2) {
+        number_link(alloc, words, place)
+    } else {
+        Ok(None)
+    }
+}
+
+/// Whether `GATE` or `SHIP` stands there.
+fn is_way_at(words: &[&str], place: usize) -> bool
+    ensures { result ≡ is_way_at (texts_of words.now) place }
+{
+    is_at(words, place, "GATE") || is_at(words, place, "SHIP")
+}
+
+/// The number in `TICKET PARTNER NUMBER`.
+fn ticket_link(alloc: Global, words: &[&str], place: usize) -> Result<Option<String>, AllocError>
+    ensures { IfOk result (λ found. option_map string_bytes found ≡ ticket_link (texts_of words.now) place) }
+{
+    if place == 2 && is_at(words, 0, "TICKET") {
+        number_link(alloc, words, place)
+    } else {
+        Ok(None)
+    }
+}
+
+/// The side in `VESSEL VOYAGE SIDE a OPEN b DONE`, where vessel and voyage are a word each.
+fn call_link(alloc: Global, words: &[&str], place: usize) -> Result<Option<String>, AllocError>
+    ensures { IfOk result (λ found. option_map string_bytes found ≡ call_link (texts_of words.now) place) }
+{
+    if place == 2 && words.len() == 7 {
+        let side = side_named(word_at(words, 2));
+        work_link(alloc, word_at(words, 0), word_at(words, 1), side)
+    } else {
+        Ok(None)
+    }
+}
+
+/// The voyage in `SIDE VESSEL VOYAGE[ PORT]`.
+fn open_line_link(alloc: Global, words: &[&str], place: usize) -> Result<Option<String>, AllocError>
+    ensures { IfOk result (λ found. option_map string_bytes found ≡ open_line_link (texts_of words.now) place) }
+{
+    if place == 2 && words.len() < 5 {
+        let side = side_named(word_at(words, 0));
+        work_link(alloc, word_at(words, 1), word_at(words, 2), side)
+    } else {
+        Ok(None)
+    }
+}
+
+fn side_named(word: &str) -> Option<Side>
+    ensures { result ≡ side_named word.now }
+{
+    if word == "LOAD" {
+        Some(Side::Load)
+    } else if word == "DISCHARGE" {
+        Some(Side::Discharge)
+    } else {
+        None
+    }
+}
+
+fn work_link(
+    alloc: Global,
+    vessel: &str,
+    voyage: &str,
+    side: Option<Side>,
+) -> Result<Option<String>, AllocError>
+    ensures { IfOk result (λ found. option_map string_bytes found ≡ work_link vessel.now voyage.now side) }
+{
+    let Some(side) = side else {
+        return Ok(None);
+    };
+    let address = work_address(alloc, vessel.as_bytes(), voyage.as_bytes(), side)?;
+    Ok(Some(address))
+}
+
+/// The code in `CODE KIND NEXT n`.
+fn partner_link(alloc: Global, words: &[&str], place: usize) -> Result<Option<String>, AllocError>
+    ensures { IfOk result (λ found. option_map string_bytes found ≡ partner_link (texts_of words.now) place) }
+{
+    if place == 0 && is_at(words, 2, "NEXT") {
+        let address = address_of_one(alloc, "/pages/partners/", word_at(words, 0).as_bytes())?;
+        Ok(Some(address))
+    } else {
+        Ok(None)
+    }
+}
+
+/// The letter in `BLOCK BAYS b`.
+fn block_link(alloc: Global, words: &[&str], place: usize) -> Result<Option<String>, AllocError>
+    ensures { IfOk result (λ found. option_map string_bytes found ≡ block_link (texts_of words.now) place) }
+{
+    if place == 0 && is_at(words, 1, "BAYS") {
+        let address = address_of_one(alloc, "/picture#block-", word_at(words, 0).as_bytes())?;
+        Ok(Some(address))
+    } else {
+        Ok(None)
+    }
+}
