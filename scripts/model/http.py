@@ -7,9 +7,10 @@ import re
 from collections import namedtuple
 
 from .deliveries import run
-from .keys import decoded
+from .keys import PARTS, decoded, read_key
 from .moments import are_digits
 from .office import json_text
+from .pages import KINDS as PAGED, page, start, told, typed
 from .reports import report
 from .setup import is_utf8
 from .syntax import BREAKS, FAULTS, LONGEST_TEXT, is_printable, number_of, sender_of
@@ -51,9 +52,13 @@ ROUTES = [
     (r'/replies/([^/]+/[^/]+)', 'GET', 'reply'),
     (r'/contrls/([^/]+/[^/]+)', 'GET', 'contrl'),
 ]
+HTML = 'text/html; charset=utf-8'
 # what the body of a report is, if not plain text
-CONTENT_TYPES = {'reply': 'application/json', 'yardcsv': 'text/csv', 'contrl': 'application/EDIFACT',
-    'picture': 'text/html; charset=utf-8', 'health': 'application/json', 'metrics': 'text/plain; version=0.0.4'}
+CONTENT_TYPES = {'reply': 'application/json', 'yardcsv': 'text/csv', 'contrl': 'application/EDIFACT', 'picture': HTML,
+    'health': 'application/json', 'metrics': 'text/plain; version=0.0.4'}
+
+# what stands before the path of a report whose page is asked for
+PAGES = '/pages'
 
 PHRASES = {
     200: 'OK', 202: 'Accepted', 400: 'Bad Request', 403: 'Forbidden', 404: 'Not Found', 405: 'Method Not Allowed',
@@ -88,16 +93,76 @@ def head_of(request):
     return Head(method, target, fields, len(found.group()))
 
 
+def route_at(path):
+    """What a path leads to: a method, what is asked there, and the key that stands in it. None where it leads nowhere."""
+    for pattern, method, kind in ROUTES:
+        found = re.fullmatch(pattern, path)
+        if found:
+            return method, kind, ''.join(found.groups())
+    return None
+
+
+def check_method(head, method):
+    """What is there takes one method."""
+    if head.method != method:
+        raise Refusal(405, 'method', allowed=method)
+
+
 def route_of(head):
     """What its path leads to, and the key that stands in it."""
-    for path, method, kind in ROUTES:
-        found = re.fullmatch(path, head.target.split('?')[0])
-        if found and head.method != method:
-            raise Refusal(405, 'method', allowed=method)
-        if found:
-            return kind, ''.join(found.groups())
-    raise Refusal(404, 'none')
+    found = route_at(address_of(head))
+    if found is None:
+        raise Refusal(404, 'none')
+    method, kind, key = found
+    check_method(head, method)
+    return kind, key
 
+
+# ---- pages
+
+def address_of(head):
+    """The target up to `?`."""
+    return head.target.partition('?')[0]
+
+
+def is_page(address):
+    """Whether it is answered with a page."""
+    return address == '/' or address.startswith(PAGES)
+
+
+def typed_in(head):
+    """What was typed into the field `container`, with which the form begins. Nothing, if it begins with another."""
+    field, _, rest = head.target.partition('?')[2].partition('=')
+    return rest.partition('&')[0] if field == 'container' else ''
+
+
+def paged(office, head):
+    """Status and page."""
+    address = address_of(head)
+    if address == '/':
+        check_method(head, 'GET')
+        return 200, start(report(office, 'metrics', ''))
+    if address == PAGES + '/find':
+        check_method(head, 'GET')
+        what, number = typed(typed_in(head))
+        return page_of(office, 'container', number) if what == 'number' else (404, told(what, number))
+    method, kind, key = route_at(address[len(PAGES):]) or (None, None, None)
+    if kind not in PAGED:
+        return 404, told('not here')
+    check_method(head, method)
+    return page_of(office, kind, key)
+
+
+def page_of(office, kind, key):
+    """Status and page of a report: its text, shown, or that there is nothing."""
+    text = report(office, kind, key)
+    if text is None:
+        return 404, told('not here')
+    values = read_key(kind, key) if PARTS[kind] else [None]
+    return 200, page(kind, values[0] if len(values) == 1 else values, text)
+
+
+# ---- the body
 
 def values_of(head, name):
     """The values of the fields of that name; the case of its letters doesn't matter."""
@@ -165,6 +230,9 @@ def delivered(office, text):
 def answered(office, request, ahead):
     """Status, content type and body; a text that is delivered and an account that is added count from here on."""
     head = head_of(request)
+    if is_page(address_of(head)):
+        status, text = paged(office, head)
+        return status, HTML, text
     kind, key = route_of(head)
     if kind == 'delivery':
         return delivered(office, body_of(head, request))

@@ -16,7 +16,8 @@ WHOLE = ['yard', 'yard', 'yardcsv', 'blocks', 'calls', 'calls', 'partners', 'par
 
 KINDS = [
     (12, 'delivery'), (6, 'own delivery'), (2, 'altered delivery'), (8, 'report'), (2, 'odd report'), (1, 'method'), (1, 'route'),
-    (2, 'length'), (1, 'cut'), (6, 'altered head'), (2, 'large'), (2, 'account'), (1, 'odd account')]
+    (2, 'length'), (1, 'cut'), (6, 'altered head'), (2, 'large'), (2, 'account'), (1, 'odd account'), (6, 'page'),
+    (1, 'odd page'), (2, 'find')]
 METHODS = ['GET', 'POST', 'PUT', 'HEAD', 'get', 'OPTIONS', 'DELETE', 'X', 'PATCH', 'CONNECT', "!#$%&'*+-.^_`|~"]
 PATHS = [
     '/', '*', '/x', '/yard/', '//yard', '/Yard', 'yard', 'http://127.0.0.1/yard', '/yardcsv', '/yard.CSV', '/visits',
@@ -25,6 +26,22 @@ PATHS = [
     '/visits/A/B', '/lists/9123456/V12', '/lists//V12/load', '/tickets/HAULA/', '/replies/HAULA', '/replies/HAULA/1/',
     '/interchanges/', '/interchanges/1', '/yard#1', '/%79ard', '/interchange', '/visits/%zz', '/tickets/HAULA%2F1',
     '/lists/a/b/c/d', '/yard\xe9', '/visits/\xc3\xa9', '/visits/\xff']
+PAGES = [
+    '/pages', '/pages/', '/pages/yard.csv', '/pages/picture', '/pages/health', '/pages/metrics', '/pages/interchanges',
+    '/pages/partners/HAULA/interchanges', '/pages/partners/HAULZ/gate', '/pages/find', '/pages/find/', '/pages/find/x',
+    '/pages/x', '/pagesyard', '/pages/pages/yard', '/pages//yard', '/Pages/yard', '/pages/Yard', '/%70ages/yard',
+    '/pages/f%69nd', '/pages/%79ard', '//pages/yard', '/pages/visits', '/pages/visits/', '/pages/containers/A/B',
+    '/page/yard', '/pages/work/9123456/V12', '/pages/contrls/HAULA', '/pages/calls/', '//']
+# what stands in an address behind `/pages/find`, with a number that was typed
+FORMS = [
+    (24, '?container=%s'), (1, '?container=%s&x=1'), (1, '?container=%s&container=ABCU0000022'), (1, '?container=%s?'),
+    (1, '?Container=%s'), (1, '?x=1&container=%s'), (1, '?container%s'), (1, '??container=%s'), (1, '?containers=%s'),
+    (1, '?container==%s'), (1, '?'), (1, '')]
+ODD_NUMBERS = [
+    '', '+', '%20', '-', 'ABCU000001', 'ABCU00000177', 'ABC00000017', '0000017', 'ABCU0000018', 'abcu+000001-8', 'ABCU000001A',
+    '%', '%4', '%zz', 'ABCU0000017%', '%25', '%00', '%0A', '%3Cb%3EABCU%3C/b%3E', "'><script>", '"onclick="x', '&amp;',
+    'ABCU0000017%26', 'A' * 300, '%C3%A4bcu0000017', '\xc3\xa4', '%80%FF', '%E2%82%AC', 'ABCU0000017;', 'TEXU3070079',
+    'ABCU000001%37', '%41%42%43%55%30%30%30%30%30%31%37', '+-+-', 'ABCU9999990', 'ZZZZ0000000']
 QUERIES = [(8, ''), (1, '?'), (1, '?a=b/c?d'), (1, '?%zz')]
 LENGTHS = [
     [], ['Content-Length: %d', 'Content-Length: %d'], ['Content-Length: +%d'], ['Content-Length: '],
@@ -166,6 +183,26 @@ def report_path(random, office):
     return path_of(*known(random, office))
 
 
+def typed(random, office):
+    """A container's number as a person types it, or something else."""
+    boxes = sorted({visit.number for visit in office.fold().terminal.visits})
+    if not boxes or random.random() < 0.3:
+        return random.choice(ODD_NUMBERS)
+    number = random.choice(boxes)
+    if random.random() < 0.15:
+        number = number[:-1] + random.choice('0123456789')
+    gaps = random.choice([['', '', '', '+', '%20', '-', '--'], ['']])
+    letters = random.choice([str.lower, str.upper, str.swapcase, str])
+    return ''.join(random.choice(['', '', random.choice(gaps)]) + written(random, character, 0.03) for character in letters(number))
+
+
+def find(random, office):
+    """A form that was filled in, mostly by GET."""
+    form = weighted(random, FORMS)
+    path = '/pages/find' + (form % typed(random, office) if '%s' in form else form)
+    return request(random, '%s %s HTTP/1.1' % (random.choice(['GET'] * 9 + ['POST']), path), [])
+
+
 def account(random, code, kind):
     """An addition, its body of any length and sometimes another method."""
     body = random.choice(['', '', '', 'x', "UNB+'", '\r\n'])
@@ -235,6 +272,13 @@ def random_request(random, day, office):
         return account(random, *day.addition())
     if kind == 'odd account':
         return odd_account(random)
+    if kind == 'page':
+        return get(random, random.choice(['/', *['/pages' + report_path(random, office)] * 9]))
+    if kind == 'odd page':
+        path = random.choice([random.choice(PAGES), '/pages' + path_of(*odd(random, office))])
+        return get(random, path, random.choice(['GET', 'GET', random.choice(METHODS)]))
+    if kind == 'find':
+        return find(random, office)
     if kind == 'cut':
         whole = post(random, text)
         return whole[:random.randrange(len(whole))]

@@ -10,3 +10,4 @@ pub mod SenderLemmas
 pub mod OwnPaths
 pub mod Serving
 pub mod Deciding
+pub mod Paged

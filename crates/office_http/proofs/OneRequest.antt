@@ -3,16 +3,20 @@ use Rattle.edi_segments.specs.Interchange.{interchange_of}
 use Rattle.std.proofs.Common.{◌≡◌, ◌≢◌, ℕ, List, take, Option, None, Some, Result, Ok, Err, inl, inr, refl, sym, subst, ◌∙◌, arith}
 use Rattle.httparse.specs.Grammar.{RequestHead}
 use Rattle.httparse.proofs.GrammarLemmas.{request_unique}
+use Rattle.office_pages.specs.declared.notices.Notice.{Notice}
+use Rattle.office_pages.specs.declared.notices.Notice.TheVariants.{NotHere}
 use Rattle.office_queries.specs.Keys.{Asked}
 use Rattle.office_queries.specs.declared.query.ReportKind.{ReportKind}
-use Rattle.office_http.specs.Requests.{IsDelivery, IsOwnDelivery, IsAccount, IsReport, Gets, Names, Posts, PostsFrom, PostsOwn, PostsBy, PostsAccount, AsksAt, AsksWith, IsSameRequest, HeadsAreOne, RequestsAreOne}
+use Rattle.office_http.specs.Requests.{IsDelivery, IsOwnDelivery, IsAccount, IsReport, Gets, nothing_in, refused_in, Names, Posts, PostsFrom, PostsOwn, PostsBy, PostsAccount, AsksAt, AsksWith, IsSameRequest, HeadsAreOne, RequestsAreOne}
 use Rattle.office_http.specs.Senders.{sender_at}
+use Rattle.office_http.specs.declared.targets.View.{View}
+use Rattle.office_http.specs.declared.targets.View.TheVariants as view
 use Rattle.office_http.specs.declared.routes.Endpoint.{Endpoint}
 use Rattle.office_http.specs.declared.routes.Endpoint.TheVariants as endpoint
 use Rattle.office_http.specs.declared.response.Refusal.{Refusal}
-use Rattle.office_http.specs.declared.response.Refusal.TheVariants.{NotNow}
+use Rattle.office_http.specs.declared.response.Refusal.TheVariants.{NotFound, NotNow}
 use Rattle.office_http.specs.declared.requests.Request.{Request}
-use Rattle.office_http.specs.declared.requests.Request.TheVariants.{Delivery, OwnDelivery, Account, Report, Refused}
+use Rattle.office_http.specs.declared.requests.Request.TheVariants.{Delivery, OwnDelivery, Account, Report, Noticed, Refused}
 use Rattle.office_http.specs.declared.routes.Sender.{Sender}
 use Rattle.office_http.specs.declared.routes.Sender.TheVariants.{Nobody, Own, Another}
 
@@ -23,15 +27,21 @@ same_refusal : (refusal : Refusal) (request request' : Request) → request ≡ 
 same_refusal refusal request request' is is' =
     subst (λ (r : Request). IsSameRequest r request') (sym is) (subst (λ (r : Request). IsSameRequest (Refused refusal) r) (sym is') refl)
 
+same_notice : (notice : Notice) (request request' : Request) → request ≡ Noticed notice → request' ≡ Noticed notice → IsSameRequest request request'
+same_notice notice request request' is is' =
+    subst (λ (r : Request). IsSameRequest r request') (sym is) (subst (λ (r : Request). IsSameRequest (Noticed notice) r) (sym is') refl)
+
 same_delivery : (text : List ℕ) (request request' : Request) → IsDelivery text request → IsDelivery text request' → IsSameRequest request request'
 same_delivery text (Delivery body) (Delivery other) is is' = is ∙ sym is'
 same_delivery text (Delivery body) (OwnDelivery own) is is' = absurd is'
 same_delivery text (Delivery body) (Account key) is is' = absurd is'
-same_delivery text (Delivery body) (Report kind query) is is' = absurd is'
+same_delivery text (Delivery body) (Report view kind query) is is' = absurd is'
+same_delivery text (Delivery body) (Noticed notice) is is' = absurd is'
 same_delivery text (Delivery body) (Refused refusal) is is' = absurd is'
 same_delivery text (OwnDelivery own) request' is is' = absurd is
 same_delivery text (Account key) request' is is' = absurd is
-same_delivery text (Report kind query) request' is is' = absurd is
+same_delivery text (Report view kind query) request' is is' = absurd is
+same_delivery text (Noticed notice) request' is is' = absurd is
 same_delivery text (Refused refusal) request' is is' = absurd is
 
 same_own : (code : List ℕ) (number : ℕ) (text : List ℕ) (request request' : Request) → IsOwnDelivery code number text request → IsOwnDelivery code number text request' →
@@ -39,11 +49,13 @@ same_own : (code : List ℕ) (number : ℕ) (text : List ℕ) (request request' 
 same_own code number text (OwnDelivery own) (OwnDelivery other) is is' = (is.0 ∙ sym is'.0, is.1 ∙ sym is'.1, is.2 ∙ sym is'.2)
 same_own code number text (OwnDelivery own) (Delivery body) is is' = absurd is'
 same_own code number text (OwnDelivery own) (Account key) is is' = absurd is'
-same_own code number text (OwnDelivery own) (Report kind query) is is' = absurd is'
+same_own code number text (OwnDelivery own) (Report view kind query) is is' = absurd is'
+same_own code number text (OwnDelivery own) (Noticed notice) is is' = absurd is'
 same_own code number text (OwnDelivery own) (Refused refusal) is is' = absurd is'
 same_own code number text (Delivery body) request' is is' = absurd is
 same_own code number text (Account key) request' is is' = absurd is
-same_own code number text (Report kind query) request' is is' = absurd is
+same_own code number text (Report view kind query) request' is is' = absurd is
+same_own code number text (Noticed notice) request' is is' = absurd is
 same_own code number text (Refused refusal) request' is is' = absurd is
 
 same_account : (account : List ℕ × List ℕ) (request request' : Request) → IsAccount account request → IsAccount account request' →
@@ -51,29 +63,46 @@ same_account : (account : List ℕ × List ℕ) (request request' : Request) →
 same_account account (Account key) (Account other) is is' = is ∙ sym is'
 same_account account (Account key) (Delivery body) is is' = absurd is'
 same_account account (Account key) (OwnDelivery own) is is' = absurd is'
-same_account account (Account key) (Report kind query) is is' = absurd is'
+same_account account (Account key) (Report view kind query) is is' = absurd is'
+same_account account (Account key) (Noticed notice) is is' = absurd is'
 same_account account (Account key) (Refused refusal) is is' = absurd is'
 same_account account (Delivery body) request' is is' = absurd is
 same_account account (OwnDelivery own) request' is is' = absurd is
-same_account account (Report kind query) request' is is' = absurd is
+same_account account (Report view kind query) request' is is' = absurd is
+same_account account (Noticed notice) request' is is' = absurd is
 same_account account (Refused refusal) request' is is' = absurd is
 
-same_report : (kind : ReportKind) (what : Asked) (request request' : Request) → IsReport kind what request → IsReport kind what request' →
+same_report : (view : View) (kind : ReportKind) (what : Asked) (request request' : Request) → IsReport view kind what request → IsReport view kind what request' →
     IsSameRequest request request'
-same_report kind what (Delivery body) request' is is' = absurd is
-same_report kind what (OwnDelivery own) request' is is' = absurd is
-same_report kind what (Account key) request' is is' = absurd is
-same_report kind what (Report of query) (Delivery body) is is' = absurd is'
-same_report kind what (Report of query) (OwnDelivery own) is is' = absurd is'
-same_report kind what (Report of query) (Account key) is is' = absurd is'
-same_report kind what (Report of query) (Report of' query') is is' = (is.0 ∙ sym is'.0, is.1 ∙ sym is'.1)
-same_report kind what (Report of query) (Refused refusal) is is' = absurd is'
-same_report kind what (Refused refusal) request' is is' = absurd is
+same_report view kind what (Delivery body) request' is is' = absurd is
+same_report view kind what (OwnDelivery own) request' is is' = absurd is
+same_report view kind what (Account key) request' is is' = absurd is
+same_report view kind what (Report way of query) (Delivery body) is is' = absurd is'
+same_report view kind what (Report way of query) (OwnDelivery own) is is' = absurd is'
+same_report view kind what (Report way of query) (Account key) is is' = absurd is'
+same_report view kind what (Report way of query) (Report way' of' query') is is' = (is.0 ∙ sym is'.0, is.1 ∙ sym is'.1, is.2 ∙ sym is'.2)
+same_report view kind what (Report way of query) (Noticed notice) is is' = absurd is'
+same_report view kind what (Report way of query) (Refused refusal) is is' = absurd is'
+same_report view kind what (Noticed notice) request' is is' = absurd is
+same_report view kind what (Refused refusal) request' is is' = absurd is
 
-same_get : (kind : ReportKind) (what : Option Asked) (request request' : Request) → Gets kind what request → Gets kind what request' →
+-- the same page or refusal, where there is nothing
+same_nothing : (view : View) (notice : Notice) (request request' : Request) → request ≡ nothing_in view notice → request' ≡ nothing_in view notice →
     IsSameRequest request request'
-same_get kind None request request' is is' = same_refusal _ request request' is is'
-same_get kind (Some what) request request' is is' = same_report kind what request request' is is'
+same_nothing view.Text notice request request' is is' = same_refusal NotFound request request' is is'
+same_nothing view.Page notice request request' is is' = same_notice notice request request' is is'
+same_nothing view.Find notice request request' is is' = same_notice notice request request' is is'
+same_nothing view.Start notice request request' is is' = same_notice notice request request' is is'
+
+same_refused : (view : View) (refusal : Refusal) (request request' : Request) → request ≡ refused_in view refusal → request' ≡ refused_in view refusal →
+    IsSameRequest request request'
+same_refused view NotFound request request' is is' = same_nothing view NotHere request request' is is'
+same_refused view other request request' is is' = same_refusal other request request' is is'
+
+same_get : (view : View) (kind : ReportKind) (what : Result Asked Notice) (request request' : Request) → Gets view kind what request → Gets view kind what request' →
+    IsSameRequest request request'
+same_get view kind (Ok what) request request' is is' = same_report view kind what request request' is is'
+same_get view kind (Err notice) request request' is is' = same_nothing view notice request request' is is'
 
 same_post : (said : Result ℕ Refusal) (rest : List ℕ) (request request' : Request) → Posts said rest request → Posts said rest request' →
     IsSameRequest request request'
@@ -117,11 +146,11 @@ same_account_post (Ok size) rest named request request' (inr whole) (inr whole')
 
 same_at : (to : Result Endpoint Refusal) (head : RequestHead) (rest : List ℕ) (request request' : Request) → AsksAt to head rest request →
     AsksAt to head rest request' → IsSameRequest request request'
-same_at (Err refusal) head rest request request' is is' = same_refusal refusal request request' is is'
+same_at (Err refusal) head rest request request' is is' = same_refused _ refusal request request' is is'
 same_at (Ok endpoint.Interchanges) head rest request request' is is' = same_post _ rest request request' is is'
 same_at (Ok endpoint.PartnerInterchanges) head rest request request' is is' = same_post_by _ _ rest request request' is is'
 same_at (Ok endpoint.Accounts) head rest request request' is is' = same_account_post _ rest _ request request' is is'
-same_at (Ok (endpoint.Report kind)) head rest request request' is is' = same_get kind _ request request' is is'
+same_at (Ok (endpoint.Report kind)) head rest request request' is is' = same_get _ kind _ request request' is is'
 
 same_with : (head : RequestHead) (rest : List ℕ) (request request' : Request) → request ≢ Refused NotNow → request' ≢ Refused NotNow →
     AsksWith head rest request → AsksWith head rest request' → IsSameRequest request request'

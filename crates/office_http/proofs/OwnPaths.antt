@@ -20,13 +20,14 @@ use Rattle.office_queries.specs.AccountKeys.{sender_in}
 use Rattle.office_http.specs.Fields.{body_length}
 use Rattle.office_http.specs.OwnPaths.{Brings, OwnPathsAreOwn}
 use Rattle.office_http.specs.Requests.{IsDelivery, IsOwnDelivery, PostsFrom, PostsOwn, PostsBy, AsksAt, AsksWith}
-use Rattle.office_http.specs.Routes.{endpoint_of, path_of, partner_key_in}
+use Rattle.office_http.specs.Targets.{path_of}
+use Rattle.office_http.specs.Routes.{endpoint_of, partner_key_in}
 use Rattle.office_http.specs.Senders.{named_by, sender_by, sender_at}
 use Rattle.office_http.specs.declared.routes.Endpoint.{Endpoint}
 use Rattle.office_http.specs.declared.routes.Endpoint.TheVariants.{PartnerInterchanges}
 use Rattle.office_http.specs.declared.response.Refusal.{Refusal}
 use Rattle.office_http.specs.declared.requests.Request.{Request}
-use Rattle.office_http.specs.declared.requests.Request.TheVariants.{Delivery, OwnDelivery, Account, Report, Refused}
+use Rattle.office_http.specs.declared.requests.Request.TheVariants.{Delivery, OwnDelivery, Account, Report, Noticed, Refused}
 use Rattle.office_http.specs.declared.routes.Sender.{Sender}
 use Rattle.office_http.specs.declared.routes.Sender.TheVariants.{Nobody, Own, Another}
 use Rattle.office_http.proofs.OneRequest.{heads_are_one}
@@ -64,14 +65,16 @@ brings_body : (body text : List ℕ) (request : Request) → IsDelivery body req
 brings_body body text (Delivery it) is brings = sym is ∙ brings
 brings_body body text (OwnDelivery own) is brings = absurd is
 brings_body body text (Account key) is brings = absurd is
-brings_body body text (Report kind query) is brings = absurd is
+brings_body body text (Report view kind query) is brings = absurd is
+brings_body body text (Noticed notice) is brings = absurd is
 brings_body body text (Refused refusal) is brings = absurd is
 
 brings_own : (code body text : List ℕ) (number : ℕ) (request : Request) → IsOwnDelivery code number body request → Brings text request → body ≡ text
 brings_own code body text number (Delivery it) is brings = absurd is
 brings_own code body text number (OwnDelivery own) is brings = sym is.2 ∙ brings
 brings_own code body text number (Account key) is brings = absurd is
-brings_own code body text number (Report kind query) is brings = absurd is
+brings_own code body text number (Report view kind query) is brings = absurd is
+brings_own code body text number (Noticed notice) is brings = absurd is
 brings_own code body text number (Refused refusal) is brings = absurd is
 
 brings_nothing : (text : List ℕ) (request : Request) (refusal : Refusal) → Brings text request → request ≡ Refused refusal → ⊥
@@ -107,7 +110,7 @@ module _ (code text : List ℕ) (request : Request) (brings : Brings text reques
   by_post (Ok size) rest (inl short) = absurd (brings_nothing text request _ brings short.1)
   by_post (Ok size) rest (inr whole) = by_sender (take size rest) _ _ refl refl whole.1
 
-  by_asking : (head : RequestHead) (rest : List ℕ) → endpoint_of head.method (path_of head.target) ≡ Ok PartnerInterchanges →
+  by_asking : (head : RequestHead) (rest : List ℕ) → endpoint_of head.method head.target ≡ Ok PartnerInterchanges →
       option_and_then sender_in (partner_key_in (path_of head.target)) ≡ Some code → AsksWith head rest request →
       partner_from 1 code parties.partners ≡ Some partner
   by_asking head rest leads named (inl not_now) = absurd (brings_nothing text request _ brings not_now)

@@ -1,5 +1,5 @@
 -- A delivery by the path of a partner, and the sender that its text names.
-use Rattle.std.proofs.Common.{◌≡◌, ◌⊎◌, ℕ, List, Bool, true, false, cond, ◌++◌, take, Option, None, Some, Result, Ok, Err, IfSome, inl, inr, refl, sym, subst, ap, ◌∙◌}
+use Rattle.std.proofs.Common.{◌≡◌, ◌⊎◌, ℕ, List, Bool, true, false, cond, ◌++◌, take, Option, None, Some, Result, Ok, Err, IfSome, inl, inr, sym, subst, ap, ◌∙◌}
 use Rattle.std.specs.Option.{unwrap_or}
 use Rattle.std.specs.Str.{bytes_eq}
 use Rattle.edi_segments.specs.Interchange.{interchange_of, segments_in}
@@ -14,8 +14,7 @@ use Rattle.office_http.specs.Senders.{named_by, sender_by, sender_at}
 use Rattle.office_http.specs.declared.response.Refusal.{Refusal}
 use Rattle.office_http.specs.declared.response.Refusal.TheVariants.{NotNow}
 use Rattle.office_http.specs.declared.requests.Request.{Request}
-use Rattle.office_http.specs.declared.requests.Request.TheVariants.{Delivery, OwnDelivery, Account, Report, Refused}
-use Rattle.office_http.specs.declared.routes.Sender.{Sender}
+use Rattle.office_http.specs.declared.requests.Request.TheVariants.{Delivery, OwnDelivery, Account, Report, Noticed, Refused}
 use Rattle.office_http.specs.declared.routes.Sender.TheVariants.{Nobody, Own, Another}
 
 -- ---- whom a text names
@@ -45,7 +44,8 @@ delivered_text : (text text' : List ℕ) (request : Request) → IsDelivery text
 delivered_text text text' (Delivery body) is is' = sym is ∙ is'
 delivered_text text text' (OwnDelivery own) is is' = absurd is
 delivered_text text text' (Account key) is is' = absurd is
-delivered_text text text' (Report kind query) is is' = absurd is
+delivered_text text text' (Report view kind query) is is' = absurd is
+delivered_text text text' (Noticed notice) is is' = absurd is
 delivered_text text text' (Refused refusal) is is' = absurd is
 
 not_refused : (text : List ℕ) (request : Request) (refusal : Refusal) → IsDelivery text request → request ≡ Refused refusal → ⊥

@@ -1,20 +1,46 @@
 -- One connection after the other, and what was done at a request.
-use Rattle.std.proofs.Common.{◌≡◌, Option, None, Some, ℕ, ◌+◌, ◌≤◌, List, [], ◌∷◌, ◌++◌, Result, Ok, OnOk, refl, subst, arith}
+use Rattle.std.proofs.Common.{◌≡◌, ◌⊎◌, inl, inr, Option, None, Some, ℕ, ◌+◌, ◌≤◌, List, [], ◌∷◌, ◌++◌, Result, Ok, OnOk, refl, subst, arith}
 use Rattle.std.proofs.lemmas.List.{length-append}
 use Rattle.office_replies.specs.declared.accounts.AccountAnswer.{AccountAnswer}
 use Rattle.office_replies.specs.declared.deliver.Response.{Response}
-use Rattle.office_queries.specs.declared.query.NotNow.{NotNow}
+use Rattle.office_queries.specs.declared.query.NotNow.{NotNow as Unreported}
 use Rattle.office_queries.specs.declared.query.Query.{Query}
-use Rattle.office_http.specs.Served.{AtMost, Does, DoesAt, DoesOwn, calls_of}
+use Rattle.office_http.specs.Responses.{refusal_bytes}
+use Rattle.office_http.specs.Served.{Answers, AtMost, Does, DoesAt, DoesOwn, calls_of}
 use Rattle.office_http.specs.Steps.{Step, delivery, account, report, StepLeads, StepsLead}
+use Rattle.office_http.specs.declared.targets.View.{View}
+use Rattle.office_http.specs.declared.targets.View.TheVariants as view
+use Rattle.office_http.specs.declared.response.Refusal.TheVariants.{NotNow}
 use Rattle.office_http.specs.declared.serve.Door.{Door}
 use Rattle.office_http.specs.declared.serve.Door.TheVariants as door
 use Rattle.office_http.specs.declared.head.OwnText.{OwnText}
 use Rattle.office_http.specs.declared.requests.Request.{Request}
-use Rattle.office_http.specs.declared.requests.Request.TheVariants.{Delivery, OwnDelivery, Account, Report, Refused}
+use Rattle.office_http.specs.declared.requests.Request.TheVariants.{Delivery, OwnDelivery, Account, Report, Noticed, Refused}
+
+-- ---- what is written
+
+-- whatever a view, what stands for itself
+pub answers_with : (view : View) (bytes : List ℕ) (IsWritten : List ℕ → Type 0) → IsWritten bytes → Answers view bytes IsWritten
+answers_with view.Text bytes IsWritten written = written
+answers_with view.Page bytes IsWritten written = inl written
+answers_with view.Find bytes IsWritten written = inl written
+answers_with view.Start bytes IsWritten written = inl written
+
+-- with other words
+paged_so : (bytes : List ℕ) (P Q : List ℕ → Type 0) → ((bytes : List ℕ) → P bytes → Q bytes) → P bytes ⊎ P (refusal_bytes NotNow) → Q bytes ⊎ Q (refusal_bytes NotNow)
+paged_so bytes P Q on (inl written) = inl (on _ written)
+paged_so bytes P Q on (inr written) = inr (on _ written)
+
+answers_so : (view : View) (bytes : List ℕ) (P Q : List ℕ → Type 0) → ((bytes : List ℕ) → P bytes → Q bytes) → Answers view bytes P → Answers view bytes Q
+answers_so view.Text bytes P Q on written = on _ written
+answers_so view.Page bytes P Q on written = paged_so bytes P Q on written
+answers_so view.Find bytes P Q on written = paged_so bytes P Q on written
+answers_so view.Start bytes P Q on written = paged_so bytes P Q on written
+
+-- ---- what was done
 
 module _ {D : Type 0} (leads : D → List ℕ → Response → D → Type 0) (enrols : D → List ℕ → List ℕ → AccountAnswer → D → Type 0)
-    (looks : D → Query → Result (Option (List ℕ)) NotNow → D → Type 0) where
+    (looks : D → Query → Result (Option (List ℕ)) Unreported → D → Type 0) where
   both_lead : (old mid new : D) (steps more : List Step) → StepsLead leads enrols looks old steps mid → StepsLead leads enrols looks mid more new →
       StepsLead leads enrols looks old (steps ++ more) new
   both_lead old mid new [] more same then = subst (λ d. StepsLead leads enrols looks d more new) same then
@@ -61,7 +87,8 @@ module _ {D : Type 0} (leads : D → List ℕ → Response → D → Type 0) (en
   one_at_most ahead (Delivery body) old new IsWritten (response, led, written) = done_once (calls_of 1) (delivery body.items response) old new (omega arith) led
   one_at_most ahead (OwnDelivery own) old new IsWritten does = own_at_most ahead own old new IsWritten does
   one_at_most ahead (Account key) old new IsWritten (answer, led, written) = done_once (calls_of 1) (account key.code.items key.kind.items answer) old new (omega arith) led
-  one_at_most ahead (Report kind query) old new IsWritten (found, led, written) = done_once (calls_of 1) (report query found) old new (omega arith) led
+  one_at_most ahead (Report view kind query) old new IsWritten (found, led, written) = done_once (calls_of 1) (report query found) old new (omega arith) led
+  one_at_most ahead (Noticed notice) old new IsWritten (same, written) = untouched (calls_of 1) old new same
   one_at_most ahead (Refused refusal) old new IsWritten (same, written) = untouched (calls_of 1) old new same
 
   -- with other words of what is written
@@ -80,7 +107,8 @@ module _ {D : Type 0} (leads : D → List ℕ → Response → D → Type 0) (en
   does_so ahead (Delivery body) old new P Q on (response, led, written) = (response, led, on _ written)
   does_so ahead (OwnDelivery own) old new P Q on does = own_so ahead own old new P Q on does
   does_so ahead (Account key) old new P Q on (answer, led, written) = (answer, led, on _ written)
-  does_so ahead (Report kind query) old new P Q on (found, led, written) = (found, led, on _ written)
+  does_so ahead (Report view kind query) old new P Q on (found, led, written) = (found, led, answers_so view _ P Q on written)
+  does_so ahead (Noticed notice) old new P Q on (same, written) = (same, answers_so view.Page _ P Q on written)
   does_so ahead (Refused refusal) old new P Q on (same, written) = (same, on _ written)
 
   pub does_at : {T E : Type 0} (ahead : Option ℕ) (request : Request) (old new : D) (r : Result T E) (value : T) (IsWritten : List ℕ → Type 0) →

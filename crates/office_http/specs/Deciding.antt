@@ -4,7 +4,7 @@ use Rattle.httparse.specs.Grammar.{RequestHead, HasNoRequest, MayBecomeRequest}
 use Rattle.httparse.specs.Spans.{name_and_value}
 use Rattle.office_http.specs.Heads.{IsHead, HasNoHead, most_head_bytes}
 use Rattle.office_http.specs.Fields.{body_length}
-use Rattle.office_http.specs.Routes.{endpoint_of, path_of}
+use Rattle.office_http.specs.Routes.{endpoint_of}
 use Rattle.office_http.specs.declared.routes.Endpoint.{Endpoint}
 use Rattle.office_http.specs.declared.routes.Endpoint.TheVariants as endpoint
 use Rattle.office_http.specs.declared.response.Refusal.{Refusal}
@@ -24,7 +24,7 @@ wanted_at (Ok endpoint.Accounts) head = body_size (body_length (map name_and_val
 wanted_at (Ok (endpoint.Report kind)) head = 0
 
 unfoldable pub wanted_behind : RequestHead → ℕ
-wanted_behind head = wanted_at (endpoint_of head.method (path_of head.target)) head
+wanted_behind head = wanted_at (endpoint_of head.method head.target) head
 
 -- they aren't a head yet, and may become one within the limit of bytes
 abbrev pub WantsHead : List ℕ → Type 0

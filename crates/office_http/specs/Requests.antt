@@ -1,16 +1,25 @@
 -- What a stream asks for, by the checks in their order (our own).
 use Rattle.std.specs.Prelude.{◌≡◌, ◌≢◌, ℕ, ◌<◌, ◌≤◌, ◌⊎◌, List, map, length, take, Option, None, Some, Result, Ok, Err}
-use Rattle.std.specs.Option.{option_and_then}
+use Rattle.std.specs.Option.{ok_or, option_and_then}
+use Rattle.box6346.specs.declared.box_number.BoxNumber.{BoxNumber}
 use Rattle.httparse.specs.Grammar.{RequestHead}
 use Rattle.httparse.specs.Spans.{name_and_value}
 use Rattle.edi_segments.specs.Interchange.{interchange_of}
 use Rattle.office_queries.specs.AccountKeys.{account_in, account_named, sender_in}
-use Rattle.office_queries.specs.Keys.{Asked, next_number, query_asked, query_of}
+use Rattle.office_pages.specs.Pages.{has_page}
+use Rattle.office_pages.specs.Typed.{typed}
+use Rattle.office_pages.specs.declared.notices.Notice.{Notice}
+use Rattle.office_pages.specs.declared.notices.Notice.TheVariants.{NotHere}
+use Rattle.office_queries.specs.Keys.{Asked, container, next_number, query_asked, query_of}
 use Rattle.office_queries.specs.declared.query.ReportKind.{ReportKind}
 use Rattle.office_http.specs.Heads.{IsHead, HasNoHead}
-use Rattle.office_http.specs.Routes.{endpoint_of, path_of, key_in, partner_key_in}
+use Rattle.office_queries.specs.declared.query.Query.{Query}
+use Rattle.office_http.specs.Targets.{is_paged, path_of, typed_in, view_of}
+use Rattle.office_http.specs.Routes.{endpoint_of, key_in, partner_key_in}
 use Rattle.office_http.specs.Senders.{sender_at}
 use Rattle.office_http.specs.Fields.{body_length}
+use Rattle.office_http.specs.declared.targets.View.{View}
+use Rattle.office_http.specs.declared.targets.View.TheVariants as view
 use Rattle.office_http.specs.declared.routes.Endpoint.{Endpoint}
 use Rattle.office_http.specs.declared.routes.Endpoint.TheVariants as endpoint
 use Rattle.office_http.specs.declared.response.Refusal.{Refusal}
@@ -18,7 +27,7 @@ use Rattle.office_http.specs.declared.response.Refusal.TheVariants.{BadRequest, 
 use Rattle.office_http.specs.declared.requests.Request.{Request}
 use Rattle.office_http.specs.declared.routes.Sender.{Sender}
 use Rattle.office_http.specs.declared.routes.Sender.TheVariants.{Nobody, Own, Another}
-use Rattle.office_http.specs.declared.requests.Request.TheVariants.{Delivery, OwnDelivery, Account, Report, Refused}
+use Rattle.office_http.specs.declared.requests.Request.TheVariants.{Delivery, OwnDelivery, Account, Report, Noticed, Refused}
 
 -- ---- what a request is
 
@@ -38,17 +47,37 @@ abbrev pub IsAccount : List ℕ × List ℕ → Request → Type 0
 IsAccount account (Account key) = account_named key ≡ account
 IsAccount account other = ⊥
 
--- it asks for that report
-abbrev pub IsReport : ReportKind → Asked → Request → Type 0
-IsReport kind what (Report of query) = (of ≡ kind) × (query_asked query ≡ what)
-IsReport kind what other = ⊥
+-- it asks for that report, shown so
+abbrev pub IsReport : View → ReportKind → Asked → Request → Type 0
+IsReport view kind what (Report way of query) = (way ≡ view) × (of ≡ kind) × (query_asked query ≡ what)
+IsReport view kind what other = ⊥
+
+-- where there is nothing a text is refused, and a page tells why
+abbrev pub nothing_in : View → Notice → Request
+nothing_in view.Text notice = Refused NotFound
+nothing_in other notice = Noticed notice
+
+-- a refusal in a view
+abbrev pub refused_in : View → Refusal → Request
+refused_in view NotFound = nothing_in view NotHere
+refused_in view other = Refused other
 
 -- ---- what is asked for at an endpoint
 
--- a report whose key asks for something, or nothing is found
-abbrev pub Gets : ReportKind → Option Asked → Request → Type 0
-Gets kind None request = request ≡ Refused NotFound
-Gets kind (Some what) request = IsReport kind what request
+-- the container whose number was typed
+abbrev pub sought : Result BoxNumber Notice → Result Asked Notice
+sought (Ok number) = Ok (container number)
+sought (Err notice) = Err notice
+
+-- what a target asks for of a report: the container whose number was typed, or what the key in its path says
+abbrev pub asked_in : View → ReportKind → List ℕ → Result Asked Notice
+asked_in view.Find kind target = sought (typed (typed_in target))
+asked_in other kind target = ok_or (option_and_then (query_of kind) (key_in kind (path_of target))) NotHere
+
+-- a report of what is asked for, or there is nothing
+abbrev pub Gets : View → ReportKind → Result Asked Notice → Request → Type 0
+Gets view kind (Ok what) request = IsReport view kind what request
+Gets view kind (Err notice) request = request ≡ nothing_in view notice
 
 -- a delivery of as many bytes as are said, or there are fewer
 abbrev pub Posts : Result ℕ Refusal → List ℕ → Request → Type 0
@@ -89,7 +118,7 @@ PostsAccount (Ok size) rest account request =
 
 -- by where it goes to
 abbrev pub AsksAt : Result Endpoint Refusal → RequestHead → List ℕ → Request → Type 0
-AsksAt (Err refusal) head rest request = request ≡ Refused refusal
+AsksAt (Err refusal) head rest request = request ≡ refused_in (view_of head.target) refusal
 AsksAt (Ok endpoint.Interchanges) head rest request = Posts (body_length (map name_and_value head.fields)) rest request
 AsksAt (Ok endpoint.PartnerInterchanges) head rest request =
     PostsBy (option_and_then sender_in (partner_key_in (path_of head.target)))
@@ -98,12 +127,12 @@ AsksAt (Ok endpoint.Accounts) head rest request =
     PostsAccount (body_length (map name_and_value head.fields)) rest
     (option_and_then account_in (partner_key_in (path_of head.target))) request
 AsksAt (Ok (endpoint.Report kind)) head rest request =
-    Gets kind (option_and_then (query_of kind) (key_in kind (path_of head.target))) request
+    Gets (view_of head.target) kind (asked_in (view_of head.target) kind head.target) request
 
 -- behind a head that can be read; memory may be wanting from there on
 abbrev pub AsksWith : RequestHead → List ℕ → Request → Type 0
 AsksWith head rest request =
-    (request ≡ Refused NotNow) ⊎ AsksAt (endpoint_of head.method (path_of head.target)) head rest request
+    (request ≡ Refused NotNow) ⊎ AsksAt (endpoint_of head.method head.target) head rest request
 
 -- The shortest front of the stream that is a head within the limits decides together with what stands behind it.
 abbrev pub Asks : List ℕ → Request → Type 0
@@ -119,7 +148,9 @@ IsSameRequest (Delivery body) (Delivery other) = body.items ≡ other.items
 IsSameRequest (OwnDelivery own) (OwnDelivery other) =
     (query_asked own.next ≡ query_asked other.next) × (own.number ≡ other.number) × (own.text.items ≡ other.text.items)
 IsSameRequest (Account key) (Account other) = account_named key ≡ account_named other
-IsSameRequest (Report kind query) (Report of other) = (kind ≡ of) × (query_asked query ≡ query_asked other)
+IsSameRequest (Report view kind query) (Report way of other) =
+    (view ≡ way) × (kind ≡ of) × (query_asked query ≡ query_asked other)
+IsSameRequest (Noticed notice) (Noticed other) = notice ≡ other
 IsSameRequest (Refused refusal) (Refused other) = refusal ≡ other
 IsSameRequest one other = ⊥
 
@@ -134,3 +165,26 @@ abbrev pub RequestsAreOne : Type 0
 RequestsAreOne =
     (stream : List ℕ) (request request' : Request) → request ≢ Refused NotNow → request' ≢ Refused NotNow
     → Asks stream request → Asks stream request' → IsSameRequest request request'
+
+-- ---- what has a page
+
+-- Whether a report has a page is the same by its kind, before its key is read, and by the query that its key asks for.
+abbrev pub PagesAreOne : Type 0
+PagesAreOne =
+    (kind : ReportKind) (key : List ℕ) (query : Query) → query_of kind key ≡ Some (query_asked query)
+    → has_page query ≡ is_paged kind
+
+-- ---- pages only look
+
+-- nothing is delivered, and no account is added
+abbrev pub OnlyLooks : Request → Type 0
+OnlyLooks (Delivery body) = ⊥
+OnlyLooks (OwnDelivery own) = ⊥
+OnlyLooks (Account key) = ⊥
+OnlyLooks other = Unit {0}
+
+-- So it is with whatever is asked for as a page, by whatever method.
+abbrev pub PagesOnlyLook : Type 0
+PagesOnlyLook =
+    (stream : List ℕ) (head : RequestHead) (rest : List ℕ) (request : Request)
+    → IsHead stream head rest → view_of head.target ≢ view.Text → Asks stream request → OnlyLooks request

@@ -1,8 +1,6 @@
 -- Where the paths lead (our own).
-use Rattle.std.specs.Prelude.{ℕ, ◌==◌, List, [], codes, Option, None, Some, option_map, Result, Ok, Err, nat_eq, length, drop, if◌then◌else◌}
-use Rattle.edi_segments.specs.Bytes.{question_mark}
+use Rattle.std.specs.Prelude.{ℕ, List, [], codes, Option, None, Some, option_map, Result, Ok, Err, if◌then◌else◌}
 use Rattle.std.specs.Str.{bytes_eq}
-use Rattle.std.specs.List.{before_first, starts_with}
 use Rattle.matchit.specs.Rows.{RowsOf}
 use Rattle.matchit.specs.Route.{Scan, parse_route}
 use Rattle.matchit.specs.Router.{RouteOf, route_from}
@@ -11,6 +9,9 @@ use Rattle.matchit.specs.Seek.{first}
 use Rattle.matchit.specs.declared.error.InsertError.{InsertError}
 use Rattle.office_queries.specs.declared.query.ReportKind.{ReportKind}
 use Rattle.office_queries.specs.declared.query.ReportKind.TheVariants as kind
+use Rattle.office_http.specs.Targets.{behind, is_paged, path_of, view_of}
+use Rattle.office_http.specs.declared.targets.View.{View}
+use Rattle.office_http.specs.declared.targets.View.TheVariants as view
 use Rattle.office_http.specs.declared.routes.Endpoint.{Endpoint}
 use Rattle.office_http.specs.declared.routes.Endpoint.TheVariants as endpoint
 use Rattle.office_http.specs.declared.response.Refusal.{Refusal}
@@ -48,13 +49,23 @@ endpoints =
     (with_route (codes "/replies/{partner}/{number}") (endpoint.Report kind.Reply)
     (with_route (codes "/interchanges") endpoint.Interchanges []))))))))))))))))))
 
--- the target up to `?` (63)
-abbrev pub path_of : List ℕ → List ℕ
-path_of target = before_first (λ b. b == question_mark) target
-
 -- what a path leads to
 abbrev pub endpoint_at : List ℕ → Option Endpoint
 endpoint_at path = option_map (λ r. r.value) (first endpoints path)
+
+-- what of that has a page
+abbrev pub page_at : Option Endpoint → Option Endpoint
+page_at None = None
+page_at (Some (endpoint.Report kind)) = if is_paged kind then Some (endpoint.Report kind) else None
+page_at (Some other) = None
+
+-- what is there to be seen in a view: a number that was typed finds the report of a container, and the start page shows
+-- the metrics
+abbrev pub seen_at : View → Option Endpoint → Option Endpoint
+seen_at view.Text at = at
+seen_at view.Page at = page_at at
+seen_at view.Find at = Some (endpoint.Report kind.Container)
+seen_at view.Start at = Some (endpoint.Report kind.Metrics)
 
 -- ---- methods
 
@@ -75,15 +86,11 @@ abbrev pub by_method : List ℕ → Option Endpoint → Result Endpoint Refusal
 by_method method None = Err NotFound
 by_method method (Some to) = if bytes_eq method (method_of to) then Ok to else Err (other_method to)
 
--- where a request goes to, or why it is refused
+-- where a request goes to by its method and its target, or why it is refused
 abbrev pub endpoint_of : List ℕ → List ℕ → Result Endpoint Refusal
-endpoint_of method path = by_method method (endpoint_at path)
+endpoint_of method target = by_method method (seen_at (view_of target) (endpoint_at (path_of target)))
 
 -- ---- keys
-
--- what stands behind a front, if it is there
-abbrev pub behind : List ℕ → List ℕ → Option (List ℕ)
-behind front path = if starts_with nat_eq path front then Some (drop (length front) path) else None
 
 -- what stands before a key
 abbrev pub front_of : ReportKind → List ℕ

@@ -1,5 +1,5 @@
 -- The answer to a request, and what is done with the office.
-use Rattle.std.specs.Prelude.{◌≡◌, ℕ, ◌*◌, ◌≤◌, List, length, Option, None, Some, Result, Ok, Err}
+use Rattle.std.specs.Prelude.{◌≡◌, ◌⊎◌, ℕ, ◌*◌, ◌≤◌, List, length, Option, None, Some, Result, Ok, Err}
 use Rattle.office_replies.specs.declared.accounts.AccountAnswer.{AccountAnswer}
 use Rattle.office_replies.specs.declared.deliver.Response.{Response}
 use Rattle.office_replies.specs.AccountAnswers.{account_body, account_status}
@@ -8,18 +8,23 @@ use Rattle.office_queries.specs.declared.query.NotNow.{NotNow as Unreported}
 use Rattle.office_queries.specs.declared.query.Query.{Query}
 use Rattle.office_queries.specs.declared.query.ReportKind.{ReportKind}
 use Rattle.office_queries.specs.declared.query.ReportKind.TheVariants as kind
+use Rattle.office_pages.specs.Pages.{notice_bytes, page_bytes, start_bytes}
+use Rattle.office_pages.specs.declared.notices.Notice.{Notice}
+use Rattle.office_pages.specs.declared.notices.Notice.TheVariants.{NotHere}
 use Rattle.office_http.specs.Doors.{door_of}
 use Rattle.office_http.specs.Requests.{Asks}
 use Rattle.office_http.specs.Responses.{response_bytes, refusal_bytes, early_bytes}
 use Rattle.office_http.specs.Steps.{Step, StepsLead}
 use Rattle.office_http.specs.declared.head.ContentType.{ContentType}
 use Rattle.office_http.specs.declared.head.ContentType.TheVariants.{Json, Text, Table, Page, Interchange, Metrics}
+use Rattle.office_http.specs.declared.targets.View.{View}
+use Rattle.office_http.specs.declared.targets.View.TheVariants as view
 use Rattle.office_http.specs.declared.serve.Door.{Door}
 use Rattle.office_http.specs.declared.serve.Door.TheVariants as door
 use Rattle.office_http.specs.declared.response.Refusal.TheVariants.{NotFound, NotNow}
 use Rattle.office_http.specs.declared.head.OwnText.{OwnText}
 use Rattle.office_http.specs.declared.requests.Request.{Request}
-use Rattle.office_http.specs.declared.requests.Request.TheVariants.{Delivery, OwnDelivery, Account, Report, Refused}
+use Rattle.office_http.specs.declared.requests.Request.TheVariants.{Delivery, OwnDelivery, Account, Report, Noticed, Refused}
 use Rattle.office_http.specs.declared.serve.ServeFault.{ServeFault}
 use Rattle.office_http.specs.declared.serve.ServeFault.TheVariants as fault
 
@@ -42,10 +47,31 @@ content_of kind.Partner = Text
 content_of kind.Health = Json
 content_of kind.Metrics = Metrics
 
+-- ---- a report, shown
+
+-- the response that tells why there is no report
+abbrev pub notice_response : Notice → List ℕ
+notice_response notice = response_bytes 404 Page None (notice_bytes notice)
+
+abbrev pub nothing_bytes : View → List ℕ
+nothing_bytes view.Text = refusal_bytes NotFound
+nothing_bytes other = notice_response NotHere
+
+-- the text of a report as it is shown: itself, its page, or the start page
+abbrev pub shown : View → Query → List ℕ → List ℕ
+shown view.Text query text = text
+shown view.Page query text = page_bytes query text
+shown view.Find query text = page_bytes query text
+shown view.Start query text = start_bytes text
+
+abbrev pub content_in : View → ReportKind → ContentType
+content_in view.Text kind = content_of kind
+content_in other kind = Page
+
 -- the response with a report, if there is something to tell
-abbrev pub report_bytes : ReportKind → Option (List ℕ) → List ℕ
-report_bytes kind None = refusal_bytes NotFound
-report_bytes kind (Some text) = response_bytes 200 (content_of kind) None text
+abbrev pub report_bytes : View → ReportKind → Query → Option (List ℕ) → List ℕ
+report_bytes view kind query None = nothing_bytes view
+report_bytes view kind query (Some text) = response_bytes 200 (content_in view kind) None (shown view query text)
 
 -- the response with the answer to a delivery
 abbrev pub answer_bytes : Response → List ℕ
@@ -56,9 +82,14 @@ abbrev pub account_bytes : AccountAnswer → List ℕ
 account_bytes answer = response_bytes (account_status answer) Json None (account_body answer)
 
 -- the response with what came of a query
-abbrev pub found_bytes : ReportKind → Result (Option (List ℕ)) Unreported → List ℕ
-found_bytes kind (Ok found) = report_bytes kind found
-found_bytes kind (Err refusal) = refusal_bytes NotNow
+abbrev pub found_bytes : View → ReportKind → Query → Result (Option (List ℕ)) Unreported → List ℕ
+found_bytes view kind query (Ok found) = report_bytes view kind query found
+found_bytes view kind query (Err refusal) = refusal_bytes NotNow
+
+-- they are written; or they have a page, and there was no memory for it
+abbrev pub Answers : View → List ℕ → (IsWritten : List ℕ → Type 0) → Type 0
+Answers view.Text bytes IsWritten = IsWritten bytes
+Answers other bytes IsWritten = IsWritten bytes ⊎ IsWritten (refusal_bytes NotNow)
 
 -- ---- what is done at a request
 
@@ -92,8 +123,10 @@ module _ {D : Type 0} (leads : D → List ℕ → Response → D → Type 0)
   Does ahead (OwnDelivery own) old new IsWritten = DoesOwn leads looks ahead own old new IsWritten
   Does ahead (Account key) old new IsWritten =
       (answer : AccountAnswer) × enrols old key.code.items key.kind.items answer new × IsWritten (account_bytes answer)
-  Does ahead (Report kind query) old new IsWritten =
-      (found : Result (Option (List ℕ)) Unreported) × looks old query found new × IsWritten (found_bytes kind found)
+  Does ahead (Report view kind query) old new IsWritten =
+      (found : Result (Option (List ℕ)) Unreported) × looks old query found new
+      × Answers view (found_bytes view kind query found) IsWritten
+  Does ahead (Noticed notice) old new IsWritten = (new ≡ old) × Answers view.Page (notice_response notice) IsWritten
   Does ahead (Refused refusal) old new IsWritten = (new ≡ old) × IsWritten (refusal_bytes refusal)
 
   -- what a stream asks for was done, and these bytes are its answer

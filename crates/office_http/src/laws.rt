@@ -3,7 +3,7 @@
 
 ghost use Rattle.office_http.specs.Deciding.{FullRoomDecides, HeadsDecide};
 ghost use Rattle.office_http.specs.OwnPaths.{OwnPathsAreOwn};
-ghost use Rattle.office_http.specs.Requests.{HeadsAreOne, RequestsAreOne};
+ghost use Rattle.office_http.specs.Requests.{HeadsAreOne, PagesAreOne, PagesOnlyLook, RequestsAreOne};
 
 /// A stream has one head, if any, and one rest behind it.
 pub fn heads_are_one()
@@ -29,4 +29,14 @@ pub fn heads_decide()
 /// As many bytes as a head may have decide, if none is at their front.
 pub fn full_room_decides()
     ensures { FullRoomDecides }
+{}
+
+/// A report has a page by its kind if it has one by its query.
+pub fn pages_are_one()
+    ensures { PagesAreOne }
+{}
+
+/// What is asked for as a page delivers nothing and adds no account.
+pub fn pages_only_look()
+    ensures { PagesOnlyLook }
 {}

@@ -4,11 +4,13 @@
 mod head;
 pub mod laws;
 mod overheard;
+mod pages;
 mod requests;
 mod response;
 mod routes;
 mod serve;
 mod server;
+mod targets;
 
 pub use serve::{Seen, ServeFault, Watch, serve_one};
 pub use server::serve_on;

@@ -1,4 +1,4 @@
-ghost use Rattle.std.specs.Option.{option_and_then};
+ghost use Rattle.std.specs.Option.{ok_or, option_and_then};
 ghost use Rattle.std.specs.Prelude.{◌≡◌, ◌⊎◌, ◌≤◌, ◌+◌, ◌-◌, ◌++◌, length, take, drop, map, IfOk, IfSome, IsTrue, ◌↔◌, Ok};
 ghost use Rattle.edi_segments.specs.Interchange.{most_bytes};
 ghost use Rattle.httparse.specs.Grammar.{RequestHead};
@@ -7,17 +7,22 @@ ghost use Rattle.office_http.specs.Deciding.{body_size, EndsWhenDecided, wanted_
 ghost use Rattle.office_http.specs.Fields.{body_length};
 ghost use Rattle.office_http.specs.Heads.{most_request_reads};
 ghost use Rattle.office_http.specs.Ports.{ReadsUpTo};
-ghost use Rattle.office_http.specs.Requests.{Asks, AsksWith, Gets, Names, Posts, PostsAccount, PostsBy};
+ghost use Rattle.office_http.specs.Requests.{Asks, AsksWith, asked_in, Gets, Names, nothing_in, Posts, PostsAccount, PostsBy, refused_in, sought};
 ghost use Rattle.office_http.specs.Routes.{key_in, partner_key_in};
+ghost use Rattle.office_http.specs.declared.targets.View.TheVariants.{Find};
 ghost use Rattle.office_http.specs.declared.requests.Request.TheVariants.{Refused};
 ghost use Rattle.office_http.specs.declared.response.Refusal.TheVariants.{NotNow};
+ghost use Rattle.office_pages.specs.Typed.{typed};
+ghost use Rattle.office_pages.specs.declared.notices.Notice.TheVariants.{NotHere};
 ghost use Rattle.office_queries.specs.AccountKeys.{account_in, sender_in};
 ghost use Rattle.office_queries.specs.Keys.{query_of};
 
 use crate::head::{FoundHead, MOST_FIELDS, MOST_HEAD_BYTES, OwnText, content_length, read_head};
 use crate::response::Refusal;
-use crate::routes::{Endpoint, direct, key_in, partner_key_in, path_of, posted_as};
+use crate::routes::{Endpoint, direct, key_in, partner_key_in, posted_as};
+use crate::targets::{View, path_of, typed_in, view_of};
 use httparse::spans::{EMPTY_HEADER_SPAN, HeaderSpan};
+use office_pages::{Notice, typed_number};
 use office_queries::{
     AccountKey, Query, ReportKind, read_account_key, read_query, read_sender_key,
 };
@@ -36,8 +41,10 @@ pub(crate) enum Request {
     OwnDelivery(OwnText),
     /// That this account is added.
     Account(AccountKey),
-    /// A report.
-    Report(ReportKind, Query),
+    /// A report, shown so.
+    Report(View, ReportKind, Query),
+    /// A page that tells why there is no report.
+    Noticed(Notice),
     /// Nothing that the office could do.
     Refused(Refusal),
 }
@@ -80,14 +87,34 @@ fn read_asked<R: Read>(
         return Ok(Request::Refused(Refusal::BadRequest));
     };
     let path = path_of(target);
-    match direct(alloc, found.spans.method.of(read), path) {
+    match direct(alloc, found.spans.method.of(read), target) {
         Ok(Endpoint::Interchanges) => read_post(alloc, reader, read, headers, found),
         Ok(Endpoint::PartnerInterchanges) => {
             read_own_post(alloc, reader, read, headers, found, path)
         }
         Ok(Endpoint::Accounts) => read_account(alloc, reader, read, headers, found, path),
-        Ok(Endpoint::Report(kind)) => Ok(read_report(alloc, kind, path)),
-        Err(refusal) => Ok(Request::Refused(refusal)),
+        Ok(Endpoint::Report(kind)) => Ok(read_report(alloc, view_of(target), kind, target)),
+        Err(refusal) => Ok(refused_in(view_of(target), refusal)),
+    }
+}
+
+/// A refusal in a view.
+fn refused_in(view: View, refusal: Refusal) -> Request
+    ensures { result ≡ refused_in view refusal }
+{
+    match refusal {
+        Refusal::NotFound => nothing_in(view, Notice::NotHere),
+        _ => Request::Refused(refusal),
+    }
+}
+
+/// Where there is nothing a text is refused, and a page tells why.
+fn nothing_in(view: View, notice: Notice) -> Request
+    ensures { result ≡ nothing_in view notice }
+{
+    match view {
+        View::Text => Request::Refused(Refusal::NotFound),
+        View::Page | View::Find | View::Start => Request::Noticed(notice),
     }
 }
 
@@ -189,16 +216,38 @@ fn named_account(alloc: Global, path: &str) -> Request
     }
 }
 
-/// The report that a path asks for.
-fn read_report(alloc: Global, kind: ReportKind, path: &str) -> Request
-    ensures { (result ≡ Refused NotNow) ⊎ Gets kind (option_and_then (query_of kind) (key_in kind path.now)) result }
+/// The report that a target asks for.
+fn read_report(alloc: Global, view: View, kind: ReportKind, target: &str) -> Request
+    ensures { (result ≡ Refused NotNow) ⊎ Gets view kind (asked_in view kind target.now) result }
+{
+    match view {
+        View::Find => read_typed(alloc, kind, typed_in(target)),
+        View::Text | View::Page | View::Start => read_key(alloc, view, kind, path_of(target)),
+    }
+}
+
+/// The report of the container whose number was typed.
+fn read_typed(alloc: Global, kind: ReportKind, value: &str) -> Request
+    ensures { (result ≡ Refused NotNow) ⊎ Gets Find kind (sought (typed value.now)) result }
+{
+    match typed_number(alloc, value.as_bytes()) {
+        Ok(Ok(number)) => Request::Report(View::Find, kind, Query::Container(number)),
+        Ok(Err(notice)) => Request::Noticed(notice),
+        Err(_) => Request::Refused(Refusal::NotNow),
+    }
+}
+
+/// The report whose key stands in a path.
+fn read_key(alloc: Global, view: View, kind: ReportKind, path: &str) -> Request
+    ensures { (result ≡ Refused NotNow)
+        ⊎ Gets view kind (ok_or (option_and_then (query_of kind) (key_in kind path.now)) NotHere) result }
 {
     let Some(key) = key_in(kind, path) else {
-        return Request::Refused(Refusal::NotFound);
+        return nothing_in(view, Notice::NotHere);
     };
     match read_query(alloc, kind, key) {
-        Ok(Some(query)) => Request::Report(kind, query),
-        Ok(None) => Request::Refused(Refusal::NotFound),
+        Ok(Some(query)) => Request::Report(view, kind, query),
+        Ok(None) => nothing_in(view, Notice::NotHere),
         Err(_) => Request::Refused(Refusal::NotNow),
     }
 }

@@ -1,7 +1,7 @@
 ghost use Rattle.std.specs.Prelude.{◌≡◌, ◌⊎◌, IfOk, option_map, Err, ℕ, List, Result, string_bytes};
 ghost use Rattle.edi_segments.specs.Interchange.{interchange_of};
 ghost use Rattle.office_http.specs.Requests.{Posts, PostsFrom, PostsOwn};
-ghost use Rattle.office_http.specs.Routes.{method_of, endpoint_of, endpoint_at, endpoints, front_of, key_in, other_method, partner_key_in, path_of};
+ghost use Rattle.office_http.specs.Routes.{method_of, endpoint_of, endpoint_at, endpoints, front_of, key_in, other_method, page_at, partner_key_in, seen_at};
 ghost use Rattle.office_http.specs.Senders.{sender_at};
 ghost use Rattle.office_http.specs.declared.requests.Request.TheVariants.{Refused};
 ghost use Rattle.office_http.specs.declared.response.Refusal.{Refusal};
@@ -10,6 +10,7 @@ ghost use Rattle.office_http.specs.declared.response.Refusal.TheVariants.{NotNow
 use crate::head::OwnText;
 use crate::requests::Request;
 use crate::response::Refusal;
+use crate::targets::{View, is_paged, path_of, view_of};
 use edi_segments::interchange_text;
 use edi_syntax::Head;
 use http::Method;
@@ -44,14 +45,15 @@ impl Endpoint {
     }
 }
 
-/// Where a request goes to, or why it is refused.
-pub(crate) fn direct(alloc: Global, method: &[u8], path: &str) -> Result<Endpoint, Refusal>
-    ensures { (result ≡ Err NotNow) ⊎ (result ≡ endpoint_of method.now path.now) }
+/// Where a request goes to by its method and its target, or why it is refused.
+pub(crate) fn direct(alloc: Global, method: &[u8], target: &str) -> Result<Endpoint, Refusal>
+    ensures { (result ≡ Err NotNow) ⊎ (result ≡ endpoint_of method.now target.now) }
 {
     let Ok(router) = router(alloc) else {
         return Err(Refusal::NotNow);
     };
-    let Some(endpoint) = endpoint_at(&router, path) else {
+    let at = endpoint_at(&router, path_of(target));
+    let Some(endpoint) = seen_at(view_of(target), at) else {
         return Err(Refusal::NotFound);
     };
     if method == endpoint.method().as_str().as_bytes() {
@@ -116,6 +118,36 @@ fn endpoint_at(router: &Router<Endpoint>, path: &str) -> Option<Endpoint>
     }
 }
 
+/// What of that is to be seen in a view: a number that was typed finds the report of a container, and the start page
+/// shows the metrics.
+fn seen_at(view: View, at: Option<Endpoint>) -> Option<Endpoint>
+    ensures { result ≡ seen_at view at }
+{
+    match view {
+        View::Text => at,
+        View::Page => page_at(at),
+        View::Find => Some(Endpoint::Report(ReportKind::Container)),
+        View::Start => Some(Endpoint::Report(ReportKind::Metrics)),
+    }
+}
+
+/// What of that has a page.
+fn page_at(at: Option<Endpoint>) -> Option<Endpoint>
+    ensures { result ≡ page_at at }
+{
+    match at {
+        Some(Endpoint::Report(kind)) => {
+            if is_paged(kind) {
+                Some(Endpoint::Report(kind))
+            } else {
+                None
+            }
+        }
+        Some(_) => None,
+        None => None,
+    }
+}
+
 fn other_method(endpoint: Endpoint) -> Refusal
     ensures { result ≡ other_method endpoint }
 {
@@ -124,16 +156,6 @@ fn other_method(endpoint: Endpoint) -> Refusal
             Refusal::OnlyPost
         }
         Endpoint::Report(_) => Refusal::OnlyGet,
-    }
-}
-
-/// The path of a target: what stands before `?`.
-pub(crate) fn path_of(target: &str) -> &str
-    ensures { result.now ≡ path_of target.now }
-{
-    match target.split_once('?') {
-        Some((path, _)) => path,
-        None => target,
     }
 }
 
@@ -194,7 +216,8 @@ pub(crate) fn posted_as(code: String, posted: Request) -> Request
         Request::Delivery(text) => sent_as(code, text),
         Request::OwnDelivery(own) => Request::OwnDelivery(own),
         Request::Account(key) => Request::Account(key),
-        Request::Report(kind, query) => Request::Report(kind, query),
+        Request::Report(view, kind, query) => Request::Report(view, kind, query),
+        Request::Noticed(notice) => Request::Noticed(notice),
         Request::Refused(refusal) => Request::Refused(refusal),
     }
 }

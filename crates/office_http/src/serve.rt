@@ -3,15 +3,14 @@ ghost use Rattle.std.specs.Prelude.{◌≤◌, ◌≡◌, ℕ, List, Option, Res
 ghost use Rattle.office_http.specs.Deciding.{EndsWhenDecided};
 ghost use Rattle.office_http.specs.Doors.{door_by, door_of};
 ghost use Rattle.office_http.specs.Heads.{most_request_reads};
-ghost use Rattle.office_http.specs.Served.{AtMost, calls_of, content_of, Does, DoesDelivery, DoesOwn, found_bytes, MatchFault, Serves};
+ghost use Rattle.office_http.specs.Served.{Answers, AtMost, calls_of, Does, DoesDelivery, DoesOwn, found_bytes, MatchFault, Serves};
 ghost use Rattle.office_queries.specs.declared.query.NotNow.{NotNow};
 
-use crate::head::{ContentType, OwnText};
+use crate::head::OwnText;
+use crate::pages::{write_nothing, write_notice, write_report};
 use crate::requests::{Request, read_request};
-use crate::response::{
-    Refusal, write_account_answer, write_answer, write_early, write_refusal, write_text,
-};
-use http::StatusCode;
+use crate::response::{Refusal, write_account_answer, write_answer, write_early, write_refusal};
+use crate::targets::View;
 use office_queries::{NotNow, Query, Report, ReportKind, number_of};
 use office_replies::AddAccount;
 use office_stream::Port;
@@ -214,7 +213,10 @@ fn answer<W: Write, D: Report + AddAccount>(
             let answer = desk.add_account(alloc, key.code.as_slice(), key.kind.as_slice());
             write_account_answer(writer, &answer)
         }
-        Request::Report(kind, query) => answer_report(alloc, writer, desk, kind, &query),
+        Request::Report(view, kind, query) => {
+            answer_report(alloc, writer, desk, view, kind, &query)
+        }
+        Request::Noticed(notice) => write_notice(alloc, writer, &notice),
         Request::Refused(refusal) => write_refusal(writer, refusal),
     }
 }
@@ -258,44 +260,25 @@ fn answer_own<W: Write, D: Report>(
     }
 }
 
+/// Asks for a report, and writes it as it is shown.
 fn answer_report<W: Write, D: Report>(
     alloc: Global,
     writer: &mut Port<W>,
     desk: &mut D,
+    view: View,
     kind: ReportKind,
     query: &Query,
 ) -> io::Result<()>
     ensures does { (found : Result (Option (List ℕ)) NotNow)
         × D.looks desk.old query.now found desk.new
-        × OnOk result (Appends (W.contents writer.old.inner) (W.contents writer.new.inner) (found_bytes kind found)) }
+        × Answers view (found_bytes view kind query.now found)
+        (λ bytes. OnOk result (Appends (W.contents writer.old.inner) (W.contents writer.new.inner) bytes)) }
     ensures kept { OnOk result (writer.new.failed ≡ writer.old.failed) }
     ensures fails { OnErr result (writer.new.failed ≡ true) }
 {
     match desk.report(alloc, query) {
-        Ok(Some(text)) => write_text(writer, StatusCode::OK, content_of(kind), text.as_str()),
-        Ok(None) => write_refusal(writer, Refusal::NotFound),
+        Ok(Some(text)) => write_report(alloc, writer, view, kind, query, text.as_str()),
+        Ok(None) => write_nothing(alloc, writer, view),
         Err(NotNow) => write_refusal(writer, Refusal::NotNow),
-    }
-}
-
-fn content_of(kind: ReportKind) -> ContentType
-    ensures { result ≡ content_of kind }
-{
-    match kind {
-        ReportKind::Reply | ReportKind::Health => ContentType::Json,
-        ReportKind::YardTable => ContentType::Table,
-        ReportKind::Picture => ContentType::Page,
-        ReportKind::Contrl => ContentType::Interchange,
-        ReportKind::Metrics => ContentType::Metrics,
-        ReportKind::Yard
-        | ReportKind::Visits
-        | ReportKind::List
-        | ReportKind::Ticket
-        | ReportKind::Container
-        | ReportKind::Work
-        | ReportKind::Partners
-        | ReportKind::Partner
-        | ReportKind::Blocks
-        | ReportKind::Calls => ContentType::Text,
     }
 }
