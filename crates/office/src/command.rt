@@ -9,8 +9,7 @@ use crate::watch::DeliveryWatch;
 use office_command_line::{CommandFault, REPORT_KINDS, Request, read_command};
 use office_commands::{
     COMMAND_LINE, DONE, FAILED, MigrationFault, Service, account_over, deliver_over, demonstrate,
-    migrate_over, print, report_over, serve_over, tell,
-    texts_over,
+    migrate_over, print, report_over, serve_over, tell, texts_over,
 };
 use office_queries::ReportKind;
 use office_stream::Port;
