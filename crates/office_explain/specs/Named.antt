@@ -1,5 +1,5 @@
 -- Which fault is named of a text.
-use Rattle.std.specs.Prelude.{ℕ, List, Bool, true, false, Option, codes}
+use Rattle.std.specs.Prelude.{ℕ, List, Bool, true, false, Option}
 use Rattle.std.specs.Option.{option_map}
 use Rattle.std.specs.Result.{result_err}
 use Rattle.edi_segments.specs.declared.interchange.SyntaxFault.{SyntaxFault}
@@ -14,11 +14,3 @@ use Rattle.office_setup.specs.Parties.{Parties}
 abbrev pub fault_named : Bool → Parties → List ℕ → Option Fault
 fault_named true parties text = result_err (admission parties text)
 fault_named false parties text = option_map (λ (fault : SyntaxFault). Syntax fault) (fault_of text)
-
--- a file of blocks, since a set-up has to have one: no fault of a text depends on it
-abbrev pub one_block : List ℕ
-one_block = codes "block,bays,rows,tiers\nA,1,1,1\n"
-
--- a file of partners that has no codes, so that they are the default ones
-abbrev pub no_partners : List ℕ
-no_partners = codes "what,name,value\nterminal,TERM1,\npartner,HAULA,gate\n"

@@ -1,5 +1,5 @@
-ghost use Rattle.std.specs.Prelude.{◌≡◌, ◌<◌, ◌≤◌, length, Err, IfOk, IfErr, IfSome};
-ghost use Rattle.office_explain.specs.Told.{Explains, IsFirst};
+ghost use Rattle.std.specs.Prelude.{◌≡◌, ◌≤◌, length, IfOk, IfSome};
+ghost use Rattle.office_explain.specs.Told.{Explains};
 ghost use Rattle.office_setup.specs.Parties.{parties_of};
 
 use crate::envelope_places::refusal;
@@ -123,7 +123,6 @@ fn place_in(file: &[u8], back: &[u8]) -> usize
 /// How many bytes the first interchange of a text has, or why it can't be told apart. `None`: the text ends within it. An
 /// error is that memory was refused.
 fn first_len(alloc: Global, text: &[u8]) -> Result<Result<usize, Option<CutFault>>, AllocError>
-    ensures first { IfOk result (IsFirst text.now) }
     ensures within { IfOk result (λ first. IfOk first (λ len. len ≤ length text.now)) }
 {
     let mut cutter = Cutter::new(alloc);
@@ -245,17 +244,12 @@ fn write_reading<W: fmt::Write>(
     before: usize,
     f: &mut fmt::Formatter<W>,
 ) -> fmt::Result {
-    let Reading {
-        number,
-        sender,
-        recipient,
-        ..
-    } = reading;
+    let number = reading.number;
+    let sender = reading.sender;
     let kind = kind_name(reading.kind);
-    write!(
-        f,
-        "number {number} of {sender}, of the kind {kind}, to {recipient}\n"
-    )?;
+    let recipient = reading.recipient;
+    write!(f, "number {number} of {sender}, ")?;
+    write!(f, "of the kind {kind}, to {recipient}\n")?;
     if reading.findings.as_slice().is_empty() {
         return f.write_str("  no fault\n");
     }
@@ -277,8 +271,7 @@ fn write_finding<W: fmt::Write>(
     let byte = before.saturating_add(finding.span.begin).saturating_add(1);
     let found = Shown(bytes_of(text, finding.span));
     let expected = finding.expected;
-    write!(
-        f,
-        " at segment {segment}, byte {byte}\n    found     {found}\n    expected  {expected}\n"
-    )
+    write!(f, " at segment {segment}, byte {byte}\n")?;
+    write!(f, "    found     {found}\n")?;
+    write!(f, "    expected  {expected}\n")
 }

@@ -108,14 +108,19 @@ pub(crate) fn write_subject<W: fmt::Write>(
     contrl: Option<u8>,
     f: &mut fmt::Formatter<W>,
 ) -> fmt::Result {
-    match subject {
-        Subject::Cut(_) | Subject::Interchange(_) => f.write_str("  ")?,
-        Subject::Message(message, _) => write!(f, "  message {message} rejected: ")?,
-        Subject::Line(message, line, _) => write!(f, "  message {message}, line {line} refused: ")?,
-    }
+    write_whose(subject, f)?;
     f.write_str(subject.name())?;
     match contrl {
         Some(code) => write!(f, " (CONTRL 4, {code})"),
         None => Ok(()),
+    }
+}
+
+/// Writes what has the fault, if that isn't the whole interchange.
+fn write_whose<W: fmt::Write>(subject: Subject, f: &mut fmt::Formatter<W>) -> fmt::Result {
+    match subject {
+        Subject::Cut(_) | Subject::Interchange(_) => f.write_str("  "),
+        Subject::Message(message, _) => write!(f, "  message {message} rejected: "),
+        Subject::Line(message, line, _) => write!(f, "  message {message}, line {line} refused: "),
     }
 }

@@ -15,7 +15,7 @@ use edi_moments::Moment;
 use edi_syntax::{Envelope, Frame, open_envelope};
 use office_admission::{Refusal, admit};
 use office_replies::Fault;
-use office_setup::Setup;
+use office_setup::{MOST_PARTNERS, Setup};
 use office_setup_files::{SetupFault, read_setup};
 use std::alloc::Global;
 
@@ -42,33 +42,22 @@ pub struct Opened<'a> {
 }
 
 impl Partners {
-    ghost use Rattle.office_explain.specs.Named.{fault_named, no_partners, one_block};
-    ghost use Rattle.office_setup.specs.Setups.{setup_content};
-    ghost use Rattle.office_setup_files.specs.Said.{SayFiles, RefuseFiles};
+    ghost use Rattle.office_explain.specs.Named.{fault_named};
 
     /// The terminal, its partners and its codes, as a set-up file says.
     pub fn read(alloc: Global, file: &[u8]) -> Result<Partners, SetupFault>
         ensures known { IfOk result (λ partners. partners.are_known ≡ true) }
-        ensures said { IfOk result (λ partners. SayFiles file.now one_block (setup_content partners.setup)) }
-        ensures err { IfErr result (RefuseFiles file.now one_block) }
     {
         let setup = read_setup(alloc, file, ONE_BLOCK.as_bytes())?;
-        Ok(Partners {
-            setup,
-            are_known: true,
-        })
+        partners_of(setup, true)
     }
 
     /// The default codes, and no partners: each sender has an account, and each recipient is the terminal.
     pub fn unknown(alloc: Global) -> Result<Partners, SetupFault>
         ensures unknown { IfOk result (λ partners. partners.are_known ≡ false) }
-        ensures said { IfOk result (λ partners. SayFiles no_partners one_block (setup_content partners.setup)) }
     {
         let setup = read_setup(alloc, NO_PARTNERS.as_bytes(), ONE_BLOCK.as_bytes())?;
-        Ok(Partners {
-            setup,
-            are_known: false,
-        })
+        partners_of(setup, false)
     }
 
     /// The terminal's codes.
@@ -95,6 +84,16 @@ impl Partners {
             opened_alone(text)
         }
     }
+}
+
+/// What a set-up says of partners, if they are as few as a set-up file may name.
+fn partners_of(setup: Setup, are_known: bool) -> Result<Partners, SetupFault>
+    ensures { IfOk result (λ partners. partners.are_known ≡ are_known) }
+{
+    if setup.partners.as_slice().len() > MOST_PARTNERS {
+        return Err(SetupFault::Partner);
+    }
+    Ok(Partners { setup, are_known })
 }
 
 /// The interchange that a text is, if these partners may send it.
