@@ -24,7 +24,13 @@ pub(crate) fn explain<R: Read, W: Write, E: Write>(
         return explain_by(rt, Partners::unknown(rt.alloc()), &bytes, writer, errors);
     };
     match fs::read(rt, path) {
-        Ok(given) => explain_by(rt, Partners::read(rt.alloc(), &given), &bytes, writer, errors),
+        Ok(given) => explain_by(
+            rt,
+            Partners::read(rt.alloc(), &given),
+            &bytes,
+            writer,
+            errors,
+        ),
         Err(_) => tell_unread(rt, errors, path),
     }
 }
