@@ -133,19 +133,11 @@ fn write_rows<S: Alter, W: Write>(
 fn written_if(is_so: bool) -> Written
     ensures { result ≡ written_if is_so }
 {
-    if is_so {
-        Written::All
-    } else {
-        Written::Fewer
-    }
+    if is_so { Written::All } else { Written::Fewer }
 }
 
 /// Writes the text of a row and an LF after it, and says whether the writer took them. Damaged if the row has no text.
-fn write_row<W: Write>(
-    alloc: Global,
-    row: &Row,
-    writer: &mut Port<W>,
-) -> Result<bool, TableFault>
+fn write_row<W: Write>(alloc: Global, row: &Row, writer: &mut Port<W>) -> Result<bool, TableFault>
     ensures writes { IfOk result
         (WritesRow row.now (W.contents writer.old.inner) (W.contents writer.new.inner)
         writer.old.failed writer.new.failed) }
