@@ -1,12 +1,12 @@
 -- A page that takes one text after the other.
-use Rattle.std.proofs.Common.{◌≡◌, ◌≢◌, ◌⊎◌, inl, inr, ◌==◌, ◌||◌, nat_lt, ℕ, suc, ◌+◌, ◌<◌, ◌≤◌, List, [], ◌∷◌, ◌++◌, length, map, Bool, true, false, refl, sym, ap, ap₂, ◌∙◌, append-nil, append_assoc, length-append, arith, flat_map}
+use Rattle.std.proofs.Common.{◌≡◌, ◌≢◌, ◌⊎◌, inl, inr, ◌==◌, nat_lt, ℕ, ◌+◌, ◌<◌, ◌≤◌, List, [], ◌∷◌, ◌++◌, length, map, Bool, true, false, refl, sym, ap, ap₂, ◌∙◌, append-nil, append_assoc, length-append, arith}
 use Rattle.std.proofs.lemmas.Bool.{or_parts}
 use Rattle.std.proofs.lemmas.Bool.Decides.{nat_tests}
 use Rattle.std.proofs.lemmas.List.Concat.{flat_map-append}
 use Rattle.sqlite.specs.declared.types.Value.{Value}
 use Rattle.sqlite.specs.declared.types.Value.TheVariants.{Blob}
 use Rattle.edi_segments.specs.Bytes.{line_feed}
-use Rattle.office_texts.specs.Pages.{lines_of, IsFull, IsPage, has_room}
+use Rattle.office_texts.specs.Pages.{lines_of, IsPage, has_room}
 
 -- the lines and the count of these texts, which have room
 pub record AreRead (most : ℕ) (lines : List ℕ) (count : ℕ) (texts : List (List ℕ)) : Type 0 where

@@ -1,5 +1,5 @@
 -- Rows in the order of their numbers are the rows as they stand.
-use Rattle.std.proofs.Common.{◌≡◌, ℕ, false, List, [], ◌∷◌, map, Ordering, Less, Equal, is_gt, refl, sym, ap, ◌∙◌, IsSorted}
+use Rattle.std.proofs.Common.{◌≡◌, false, List, [], ◌∷◌, map, Ordering, Less, Equal, is_gt, refl, sym, IsSorted}
 use Rattle.std.specs.Cmp.{IsTotalOrder}
 use Rattle.std.specs.Ordering.{on}
 use Rattle.std.specs.List.Sorted.{IsPermutation}
@@ -12,7 +12,6 @@ use Rattle.sqlite.specs.Query.{Output, key_cmp}
 use Rattle.sqlite_value.specs.Keys.{ascending}
 use Rattle.sqlite_value.proofs.OrderLemmas.{value_cmp_total}
 use Rattle.sqlite_trees.proofs.ListLemmas.{ascending-map, ascending_weaker}
-use Rattle.sqlite_rules.specs.Lists.{Has}
 use Rattle.sqlite_rules.proofs.ListLemmas.{contains_had, has_contained}
 use Rattle.sqlite_exec.proofs.PartitionLemmas.{ascending_from_sorted}
 use Rattle.office_loading.proofs.OrderLemmas.{one_order, rising_ties}

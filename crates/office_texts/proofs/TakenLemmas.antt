@@ -1,5 +1,5 @@
 -- A row that a page takes, or leaves.
-use Rattle.std.proofs.Common.{◌≡◌, ℕ, ◌<◌, ◌≤◌, ◌==◌, ◌||◌, List, [], ◌∷◌, ◌++◌, length, map, filter, Bool, true, false, Ordering, Less, Equal, Greater, is_gt, refl, sym, ap, subst, ◌∙◌, inl, inr, arith, length-append, eq-eqb}
+use Rattle.std.proofs.Common.{◌≡◌, ℕ, ◌<◌, ◌≤◌, ◌==◌, ◌||◌, List, [], ◌∷◌, ◌++◌, length, filter, Bool, true, false, Ordering, Less, Equal, Greater, is_gt, refl, ap, ◌∙◌, inl, arith, length-append, eq-eqb}
 use Rattle.std.specs.List.{list_any}
 use Rattle.std.specs.Ordering.{is_ge}
 use Rattle.std.proofs.lemmas.List.{length-map}
@@ -14,7 +14,7 @@ use Rattle.office_tables.specs.Faults.{IsOfStore, IsOfStoreOr}
 use Rattle.office_tables.specs.declared.table_fault.TableFault.{TableFault}
 use Rattle.office_tables.specs.declared.table_fault.TableFault.TheVariants.{Store, Damaged, Version, Memory}
 use Rattle.office_texts.specs.Texts.{is_after, is_from, has_reached, AreTextsAfter}
-use Rattle.office_texts.specs.Pages.{IsPage, TellsPage, TakesRow, Adds, has_room}
+use Rattle.office_texts.specs.Pages.{TellsPage, TakesRow, Adds, has_room}
 use Rattle.office_texts.specs.declared.page.TextsPage.{TextsPage}
 use Rattle.office_texts.proofs.PageLemmas.{AreRead, page_full, page_whole}
 

@@ -1,10 +1,9 @@
 -- What the queries of texts mean, and what they find.
-use Rattle.std.proofs.Common.{◌≡◌, ◌==◌, ℕ, pos, ◌&&◌, nat_lt, not, List, [], ◌∷◌, ◌++◌, Bool, true, false, map, filter, length, codes, refl, sym, ap, ap₂, subst, ◌∙◌, IsSorted, IsTrue, Some, inl, inr, suc, arith}
+use Rattle.std.proofs.Common.{◌≡◌, ◌==◌, ℕ, not, List, [], ◌∷◌, Bool, true, false, map, filter, length, codes, refl, sym, ap, ◌∙◌, IsTrue, Some, inl, inr, suc, arith}
 use Rattle.std.specs.List.{AllByRecursion, list_any}
 use Rattle.std.specs.Ordering.{is_gt, is_ge}
-use Rattle.std.specs.List.Sorted.{IsPermutation}
 use Rattle.sqlite.specs.declared.types.Value.{Value}
-use Rattle.sqlite.specs.declared.types.Value.TheVariants.{Null, Int, Blob}
+use Rattle.sqlite.specs.declared.types.Value.TheVariants.{Null, Int}
 use Rattle.sqlite.specs.Order.{Row, column, value_cmp}
 use Rattle.sqlite.specs.Tree.{Trees, rowid, IsTable}
 use Rattle.sqlite.specs.Collation.TheVariants.{Binary}

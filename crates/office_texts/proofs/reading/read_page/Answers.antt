@@ -1,4 +1,4 @@
-use Rattle.std.proofs.Common.{◌≡◌, ◌≤◌, length, List, [], ◌∷◌, true, false, Ok, IfErr, refl, sym, subst, ◌∙◌, rules, arith}
+use Rattle.std.proofs.Common.{◌≡◌, [], ◌∷◌, true, false, Ok, IfErr, refl, sym, subst, ◌∙◌, rules, arith}
 use Rattle.std.proofs.lemmas.Result.{err_from_is_err_and}
 use Rattle.sqlite.specs.Values.{bound}
 use Rattle.sqlite.specs.Order.{Row}
@@ -13,7 +13,7 @@ use Rattle.office_tables.specs.Reading.{Reads}
 use Rattle.office_texts.specs.Texts.{IsText}
 use Rattle.office_texts.specs.Pages.{TellsPage}
 use Rattle.office_texts.specs.declared.page.TextsPage.{TextsPage}
-use Rattle.office_tables.proofs.ReadingLemmas.{reads_same, reads_on, reads_failed, query_survives, ◌then◌}
+use Rattle.office_tables.proofs.ReadingLemmas.{reads_same, reads_failed, query_survives, ◌then◌}
 use Rattle.office_loading.proofs.StreamLemmas.{begun_shows}
 use Rattle.office_texts.proofs.TextQuery.{select_texts, texts_shows}
 use Rattle.office_texts.proofs.PageLemmas.{AreRead, none_read, more_read}

@@ -1,4 +1,4 @@
-use Rattle.std.proofs.Common.{◌≡◌, ◌≤◌, length, List, [], ◌∷◌, true, false, Ok, IfErr, refl, sym, subst, ◌∙◌, rules, arith}
+use Rattle.std.proofs.Common.{◌≡◌, [], ◌∷◌, true, false, Ok, IfErr, refl, ◌∙◌, rules, arith}
 use Rattle.std.proofs.lemmas.Result.{err_from_is_err_and}
 use Rattle.sqlite.specs.Values.{bound}
 use Rattle.sqlite.specs.Order.{Row}
@@ -11,7 +11,7 @@ use Rattle.office_rows.specs.Stored.{HasRows}
 use Rattle.office_tables.specs.Faults.{IsOfStore}
 use Rattle.office_tables.specs.Reading.{Reads}
 use Rattle.office_texts.specs.Texts.{IsText}
-use Rattle.office_tables.proofs.ReadingLemmas.{reads_same, reads_on, reads_failed, query_survives, ◌then◌}
+use Rattle.office_tables.proofs.ReadingLemmas.{reads_same, reads_failed, query_survives, ◌then◌}
 use Rattle.office_loading.proofs.StreamLemmas.{begun_shows}
 use Rattle.office_texts.proofs.TextQuery.{select_texts, texts_shows}
 use Rattle.office_texts.specs.declared.writing.Written.{Written}
