@@ -17,6 +17,7 @@ use edi_moments::Moment;
 use edi_segments::{
     CheckedSegments, Component, MOST_BYTES, Segment, SegmentCheck, Segments, SyntaxFault,
 };
+use partner_core::LAST_NUMBER;
 
 /// An interchange whose header, UNB, has been read.
 #[derive(Clone, Copy)]
@@ -152,9 +153,6 @@ impl<'a> Head<'a> {
         self.rest
     }
 }
-
-/// The last number that an interchange may have.
-pub const LAST_NUMBER: u32 = 999_999_999;
 
 /// The header names sender and recipient in bytes that can be printed.
 pub(crate) fn names_partners(header: &Segment<'_>) -> bool

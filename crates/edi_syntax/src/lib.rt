@@ -16,4 +16,4 @@ pub use edi_segments::{
 pub use envelope::{Envelope, MessageSegments};
 pub use faults::open_envelope;
 pub use frames::{Frame, Frames};
-pub use head::{Head, LAST_NUMBER};
+pub use head::Head;

@@ -12,8 +12,8 @@ ghost use Rattle.office_setup.specs.Setups.{account_contents};
 
 use crate::settings::are_same;
 use edi_messages::PartnerKind;
-use edi_syntax::LAST_NUMBER;
 use office_setup::{Account, Accounts, MOST_PARTNERS, is_party_code};
+use partner_core::LAST_NUMBER;
 use std::alloc::{AllocError, Global};
 
 /// An interchange that is kept, without its texts.
@@ -165,7 +165,7 @@ fn are_numbered(partners: &[PartnerRow]) -> bool
 fn is_account(id: usize, partner: &PartnerRow) -> bool
     ensures { IsTrue result ↔ ((partner.now.id ≡ id) × (1 ≤ partner.now.next) × (partner.now.next ≤ 1000000000)) }
 {
-    partner.id as usize == id && 1 <= partner.next && partner.next <= 1_000_000_000
+    partner.id as usize == id && 1 <= partner.next && partner.next <= LAST_NUMBER + 1
 }
 
 /// Whether each account has the code of a partner.

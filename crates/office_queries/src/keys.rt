@@ -9,7 +9,7 @@ use crate::query::{Query, ReportKind};
 use box6346::BoxNumber;
 use edi_messages::Call;
 use edi_segments::are_printable;
-use edi_syntax::LAST_NUMBER;
+use partner_core::LAST_NUMBER;
 use std::alloc::{AllocError, Global};
 use terminal_core::Side;
 
