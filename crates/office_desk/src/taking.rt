@@ -2,13 +2,13 @@ ghost use Rattle.std.specs.Prelude.{◌≡◌, None, Some, false, IfOk, IsTrue, 
 ghost use Rattle.office_admission.specs.Accounts.{AccountPair, account_answer, added_as, by_number, by_own_kind, refused_for};
 ghost use Rattle.office_delivery.specs.Writing.{EndsIdle, WritesWhole};
 ghost use Rattle.office_desk.specs.Accounts.{standing_content};
-ghost use Rattle.office_desk.specs.Answers.{told_answer};
+ghost use Rattle.office_desk.specs.Answers.{answer_by_model};
 ghost use Rattle.office_desk.specs.Finding.{IsFound, IsNotFound};
 ghost use Rattle.office_desk.specs.Noting.{IsNow};
 ghost use Rattle.office_desk.specs.Taking.{IsDelivered, IsNew, TakesDelivery, TakesRun};
 ghost use Rattle.office_desk.specs.Telling.{delivery_of};
 ghost use Rattle.office_replies.specs.Contents.{content_of};
-ghost use Rattle.office_rows.specs.Effects.{with_kept};
+ghost use Rattle.office_rows.specs.Effects.{with_waiting};
 ghost use Rattle.office_setup.specs.Given.{IsGiven};
 ghost use Rattle.office_setup.specs.Kinds.{kind_named};
 ghost use Rattle.office_setup.specs.Limits.{most_partners};
@@ -218,8 +218,8 @@ pub(crate) fn take_early<S: Alter>(
 ) -> Result<Response, TableFault>
     requires idle { (state S.Store conn.old).in_transaction ≡ false }
     ensures told { IfOk result (λ response.
-        content_of response ≡ told_answer delivery.now.code.now delivery.now.number (Waiting next)) }
-    ensures writes { WritesWhole (with_kept delivery.now.admitted.partner delivery.now.number delivery.now.text.now)
+        content_of response ≡ answer_by_model delivery.now.code.now delivery.now.number (Waiting next)) }
+    ensures writes { WritesWhole (with_waiting delivery.now.admitted.partner delivery.now.number delivery.now.text.now)
         (state S.Store conn.old) (state S.Store conn.new) result }
 {
     let partner = delivery.admitted.partner;

@@ -3,7 +3,7 @@ use Rattle.edi_segments.specs.Interchange.{interchange_of}
 use Rattle.std.proofs.Common.{◌≡◌, ◌≢◌, ℕ, List, take, Option, None, Some, Result, Ok, Err, inl, inr, refl, sym, subst, ◌∙◌, arith}
 use Rattle.httparse.specs.Grammar.{RequestHead}
 use Rattle.httparse.proofs.GrammarLemmas.{request_unique}
-use Rattle.office_queries.specs.Keys.{Asked}
+use Rattle.office_queries.specs.Keys.{QueryContent}
 use Rattle.office_queries.specs.declared.query.ReportKind.{ReportKind}
 use Rattle.office_http.specs.Requests.{IsDelivery, IsOwnDelivery, IsAccount, IsReport, Gets, Names, Posts, PostsFrom, PostsOwn, PostsBy, PostsAccount, AsksAt, AsksWith, IsSameRequest, HeadsAreOne, RequestsAreOne}
 use Rattle.office_http.specs.Senders.{sender_at}
@@ -58,7 +58,7 @@ same_account account (OwnDelivery own) request' is is' = absurd is
 same_account account (Report kind query) request' is is' = absurd is
 same_account account (Refused refusal) request' is is' = absurd is
 
-same_report : (kind : ReportKind) (what : Asked) (request request' : Request) → IsReport kind what request → IsReport kind what request' →
+same_report : (kind : ReportKind) (what : QueryContent) (request request' : Request) → IsReport kind what request → IsReport kind what request' →
     IsSameRequest request request'
 same_report kind what (Delivery body) request' is is' = absurd is
 same_report kind what (OwnDelivery own) request' is is' = absurd is
@@ -70,7 +70,7 @@ same_report kind what (Report of query) (Report of' query') is is' = (is.0 ∙ s
 same_report kind what (Report of query) (Refused refusal) is is' = absurd is'
 same_report kind what (Refused refusal) request' is is' = absurd is
 
-same_get : (kind : ReportKind) (what : Option Asked) (request request' : Request) → Gets kind what request → Gets kind what request' →
+same_get : (kind : ReportKind) (what : Option QueryContent) (request request' : Request) → Gets kind what request → Gets kind what request' →
     IsSameRequest request request'
 same_get kind None request request' is is' = same_refusal _ request request' is is'
 same_get kind (Some what) request request' is is' = same_report kind what request request' is is'

@@ -5,7 +5,7 @@ use Rattle.httparse.specs.Grammar.{RequestHead}
 use Rattle.httparse.specs.Spans.{name_and_value}
 use Rattle.edi_segments.specs.Interchange.{interchange_of}
 use Rattle.office_queries.specs.AccountKeys.{account_in, account_named, sender_in}
-use Rattle.office_queries.specs.Keys.{Asked, next_number, query_asked, query_of}
+use Rattle.office_queries.specs.Keys.{QueryContent, next_number, query_content, query_of}
 use Rattle.office_queries.specs.declared.query.ReportKind.{ReportKind}
 use Rattle.office_http.specs.Heads.{IsHead, HasNoHead}
 use Rattle.office_http.specs.Routes.{endpoint_of, path_of, key_in, partner_key_in}
@@ -30,7 +30,7 @@ IsDelivery text other = ⊥
 -- it asks that the text is delivered, by the partner of that code and under that number
 abbrev pub IsOwnDelivery : (code : List ℕ) → (number : ℕ) → (text : List ℕ) → Request → Type 0
 IsOwnDelivery code number text (OwnDelivery own) =
-    (query_asked own.next ≡ next_number code) × (own.number ≡ number) × (own.text.items ≡ text)
+    (query_content own.next ≡ next_number code) × (own.number ≡ number) × (own.text.items ≡ text)
 IsOwnDelivery code number text other = ⊥
 
 -- it asks that the account of that code and kind is added
@@ -39,14 +39,14 @@ IsAccount account (Account key) = account_named key ≡ account
 IsAccount account other = ⊥
 
 -- it asks for that report
-abbrev pub IsReport : ReportKind → Asked → Request → Type 0
-IsReport kind what (Report of query) = (of ≡ kind) × (query_asked query ≡ what)
+abbrev pub IsReport : ReportKind → QueryContent → Request → Type 0
+IsReport kind what (Report of query) = (of ≡ kind) × (query_content query ≡ what)
 IsReport kind what other = ⊥
 
 -- ---- what is asked for at an endpoint
 
 -- a report whose key asks for something, or nothing is found
-abbrev pub Gets : ReportKind → Option Asked → Request → Type 0
+abbrev pub Gets : ReportKind → Option QueryContent → Request → Type 0
 Gets kind None request = request ≡ Refused NotFound
 Gets kind (Some what) request = IsReport kind what request
 
@@ -117,9 +117,9 @@ Asks stream request =
 abbrev pub IsSameRequest : Request → Request → Type 0
 IsSameRequest (Delivery body) (Delivery other) = body.items ≡ other.items
 IsSameRequest (OwnDelivery own) (OwnDelivery other) =
-    (query_asked own.next ≡ query_asked other.next) × (own.number ≡ other.number) × (own.text.items ≡ other.text.items)
+    (query_content own.next ≡ query_content other.next) × (own.number ≡ other.number) × (own.text.items ≡ other.text.items)
 IsSameRequest (Account key) (Account other) = account_named key ≡ account_named other
-IsSameRequest (Report kind query) (Report of other) = (kind ≡ of) × (query_asked query ≡ query_asked other)
+IsSameRequest (Report kind query) (Report of other) = (kind ≡ of) × (query_content query ≡ query_content other)
 IsSameRequest (Refused refusal) (Refused other) = refusal ≡ other
 IsSameRequest one other = ⊥
 

@@ -82,8 +82,8 @@ endpoint_of method path = by_method method (endpoint_at path)
 -- ---- keys
 
 -- what stands behind a front, if it is there
-abbrev pub behind : List ℕ → List ℕ → Option (List ℕ)
-behind front path = if starts_with nat_eq path front then Some (drop (length front) path) else None
+abbrev pub rest_after : List ℕ → List ℕ → Option (List ℕ)
+rest_after front path = if starts_with nat_eq path front then Some (drop (length front) path) else None
 
 -- what stands before a key
 abbrev pub front_of : ReportKind → List ℕ
@@ -106,8 +106,8 @@ front_of kind.Metrics = codes "/metrics"
 
 -- the key of a report in its path: what stands behind that
 abbrev pub key_in : ReportKind → List ℕ → Option (List ℕ)
-key_in kind path = behind (front_of kind) path
+key_in kind path = rest_after (front_of kind) path
 
 -- the key in the path of an account, or of a partner's interchanges
 abbrev pub partner_key_in : List ℕ → Option (List ℕ)
-partner_key_in path = behind (codes "/partners/") path
+partner_key_in path = rest_after (codes "/partners/") path
