@@ -29,7 +29,7 @@ use crate::taking::Delivery;
 use office_lookups::{blocks_report, calls_report, container_report, contrl_in, work_report};
 use office_picture::picture;
 use office_queries::{NotNow, Query};
-use office_replies::{Response, answered, clash, waiting};
+use office_replies::{Response, clash_body, taken_body, waiting_body};
 use office_reports::{list_report, ticket, visit_report, yard_csv, yard_report};
 use office_setup::Setup;
 use office_tables::{Kept, TableFault, kept, next_of};
@@ -79,7 +79,7 @@ fn answer_repeat(
     ensures { IfOk result (λ response.
         content_of response ≡ answer_by_model delivery.now.code.now delivery.now.number (Repeat (Some reply.now))) }
 {
-    let body = answered(alloc, "repeat", delivery.number, delivery.code, reply)?;
+    let body = taken_body(alloc, "repeat", delivery.number, delivery.code, reply)?;
     Ok(Response::Repeat(body))
 }
 
@@ -87,7 +87,7 @@ fn answer_clash(alloc: Global, delivery: &Delivery<'_>) -> Result<Response, Allo
     ensures { IfOk result (λ response.
         content_of response ≡ answer_by_model delivery.now.code.now delivery.now.number Clash) }
 {
-    let body = clash(alloc, delivery.number, delivery.code)?;
+    let body = clash_body(alloc, delivery.number, delivery.code)?;
     Ok(Response::Clash(body))
 }
 
@@ -100,7 +100,7 @@ pub(crate) fn answer_waiting(
     ensures { IfOk result (λ response.
         content_of response ≡ answer_by_model delivery.now.code.now delivery.now.number (Waiting next)) }
 {
-    let body = waiting(alloc, next, delivery.number, delivery.code)?;
+    let body = waiting_body(alloc, next, delivery.number, delivery.code)?;
     Ok(Response::Waiting(body))
 }
 
@@ -287,7 +287,7 @@ fn tell_kept(
 {
     let Kept { text: _, reply } = kept;
     match reply {
-        Some(reply) => answered(alloc, "repeat", number, code, &reply),
-        None => waiting(alloc, next, number, code),
+        Some(reply) => taken_body(alloc, "repeat", number, code, &reply),
+        None => waiting_body(alloc, next, number, code),
     }
 }

@@ -40,15 +40,15 @@ use Rattle.terminal_core.proofs.Counted.{counted_more, some_counted, none_before
 
 module _ (plan : List Block) (all now : Box → Option Placement) (s : Placement) (kept : (q : Box) (t : Placement) → now q ≡ Some t → all q ≡ Some t)
     (lower : (q : Box) (t : Placement) → all q ≡ Some t → t.slot.tier < s.slot.tier → now q ≡ Some t) where
-  Has-lower : (long : Length) (slot : Slot) → slot.tier < s.slot.tier → HasBox all long slot → HasBox now long slot
-  Has-lower long slot low h = (h.0, lower h.0 (placement long slot) h.1 low)
+  HasBox-lower : (long : Length) (slot : Slot) → slot.tier < s.slot.tier → HasBox all long slot → HasBox now long slot
+  HasBox-lower long slot low h = (h.0, lower h.0 (placement long slot) h.1 low)
 
   IsCarried-lower : (long : Length) (slot : Slot) → slot.tier ≤ s.slot.tier → 1 ≤ slot.tier → IsCarried all long slot → IsCarried now long slot
   IsCarried-lower long slot low high (inl ground) = inl ground
-  IsCarried-lower Twenty slot low high (inr h) = inr (Has-lower Twenty (below slot) (omega arith) h)
-  IsCarried-lower Forty slot low high (inr (inl h)) = inr (inl (Has-lower Forty (below slot) (omega arith) h))
+  IsCarried-lower Twenty slot low high (inr h) = inr (HasBox-lower Twenty (below slot) (omega arith) h)
+  IsCarried-lower Forty slot low high (inr (inl h)) = inr (inl (HasBox-lower Forty (below slot) (omega arith) h))
   IsCarried-lower Forty slot low high (inr (inr h)) =
-      inr (inr (Has-lower Twenty (in_bay (slot.bay - 1) (below slot)) (omega arith) h.0, Has-lower Twenty (in_bay (slot.bay + 1) (below slot)) (omega arith) h.1))
+      inr (inr (HasBox-lower Twenty (in_bay (slot.bay - 1) (below slot)) (omega arith) h.0, HasBox-lower Twenty (in_bay (slot.bay + 1) (below slot)) (omega arith) h.1))
 
   pub still_open : (b : Box) → All IsSized plan → IsSound plan all → all b ≡ Some s → now b ≡ None → IsOpen plan now s
   still_open b sized sound there absent = record {
