@@ -9,5 +9,5 @@ pub returns-in-Inside-false-default-clause-keeps : goal.returns-in-Inside-false-
 returns-in-Inside-false-default-clause-keeps c =
     let arm = c.in-Inside-false-default in
     subst (λ (p : Position). Keeps c.args.service.now p c.args.bytes.now c.len_inside.result)
-    (sym (arm.is ∙ ap (λ released. Inside released arm.field-1) arm.field-0-test))
-    (keeps_inside c.args.service.now arm.field-1 c.args.bytes.now c.len_inside.result c.len_inside.ensures.within c.len_inside.ensures.inside)
+    (sym (arm.is ∙ ap (λ is_released. Inside is_released arm.closes) arm.is_released-test))
+    (keeps_inside c.args.service.now arm.closes c.args.bytes.now c.len_inside.result c.len_inside.ensures.within c.len_inside.ensures.inside)
