@@ -7,7 +7,7 @@ use crate::tally::Tally;
 use office_admission::admit_for;
 use office_replies::reply;
 use office_setup::Setup;
-use partner_core::Machine;
+use partner_core::{Machine, PartnerId};
 use std::alloc::{AllocError, Global};
 use std::marker::Model;
 use terminal_core::Terminal;
@@ -53,8 +53,13 @@ impl Machine for TerminalMachine {
 
     ghost taken = { interchange_taken };
 
-    fn step(&mut self, alloc: Global, partner: u16, text: &[u8]) -> Result<String, AllocError> {
-        let Some(admitted) = admit_for(&self.setup, partner, text) else {
+    fn step(
+        &mut self,
+        alloc: Global,
+        partner: PartnerId,
+        text: &[u8],
+    ) -> Result<String, AllocError> {
+        let Some(admitted) = admit_for(&self.setup, partner.get(), text) else {
             return reply(alloc, "", &[]);
         };
         let mut terminal = self.terminal.copy(alloc)?;

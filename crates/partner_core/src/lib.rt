@@ -7,6 +7,8 @@
 
 pub mod laws;
 pub mod ledger;
+pub mod numbers;
 mod runs;
 
-pub use runs::{Answer, LAST_NUMBER, MOST_PARTNERS, Machine, Runs, Standing, judge};
+pub use numbers::{InterchangeNumber, LAST_NUMBER, MOST_PARTNERS, PartnerId};
+pub use runs::{Answer, Machine, Runs, Standing, judge};

@@ -11,6 +11,7 @@ ghost use Rattle.partner_core.specs.Runs.{StandsAt, Answers, NeedsNoMemory, part
 ghost use Rattle.partner_core.specs.Standings.{standing_of};
 
 use crate::ledger::Ledger;
+use crate::numbers::{InterchangeNumber, LAST_NUMBER, MOST_PARTNERS, PartnerId};
 use std::alloc::{AllocError, Global};
 use std::collections::BTreeMap;
 
@@ -21,7 +22,7 @@ pub trait Machine: Drop {
     ghost taken: { Taking Self };
 
     /// Takes one text. A step that fails changes nothing.
-    fn step(&mut self, alloc: Global, partner: u16, text: &[u8]) -> Result<String, AllocError>
+    fn step(&mut self, alloc: Global, partner: PartnerId, text: &[u8]) -> Result<String, AllocError>
         ensures state { OnOk result (self.new ≡ (taken self.old partner text.now).0) }
         ensures reply { IfOk result (λ reply.
             string_bytes reply ≡ (taken self.old partner text.now).1) }
@@ -72,9 +73,6 @@ pub fn judge(next: u32, number: u32, kept: Option<&[u8]>, text: &[u8]) -> Standi
     }
 }
 
-/// The most partners that `Runs::add` makes.
-pub const MOST_PARTNERS: u16 = 999;
-
 /// What is kept of each partner, and a machine that takes each partner's unbroken run of texts, once
 /// each, in number order, as each becomes next.
 ///
@@ -103,7 +101,7 @@ impl<M: Machine> Runs<M> {
     /// One partner more, with the number after the others', which is the answer. The value stands at
     /// whatever list it stood at, where nothing was delivered under that number, so the partner's
     /// next number is 1. A refusal for want of memory changes nothing.
-    pub fn add(&mut self, alloc: Global) -> Result<u16, AllocError>
+    pub fn add(&mut self, alloc: Global) -> Result<PartnerId, AllocError>
         requires few { partner_count self.old < MOST_PARTNERS }
         ensures id { IfOk result (λ id. id ≡ partner_count self.old + 1) }
         ensures partners { OnOk result (partner_count self.new ≡ partner_count self.old + 1) }
@@ -113,8 +111,9 @@ impl<M: Machine> Runs<M> {
             StandsAt M.taken opening ds self.old → run ds (partner_count self.old + 1) ≡ 0) }
         ensures err { OnErr result (partner_count self.new ≡ partner_count self.old) }
     {
+        let index = self.ledgers.len();
         self.ledgers.push(Ledger::new(alloc))?;
-        Ok(self.ledgers.len() as u16)
+        Ok(PartnerId::at(index))
     }
 
     /// Answers a delivery, and takes it and each kept text that becomes next by it.
@@ -125,14 +124,11 @@ impl<M: Machine> Runs<M> {
     pub fn deliver(
         &mut self,
         alloc: Global,
-        partner: u16,
-        number: u32,
+        partner: PartnerId,
+        number: InterchangeNumber,
         text: &[u8],
     ) -> Result<Answer, AllocError>
-        requires from_one { 1 ≤ partner }
         requires known { partner ≤ partner_count self.old }
-        requires positive { 1 ≤ number }
-        requires limit { number ≤ LAST_NUMBER }
         ensures ok { IfOk result (λ answer. (opening : M) (ds : List Delivery) →
             StandsAt M.taken opening ds self.old →
             Answers M.taken opening ds (delivery partner number text.now) answer self.new) }
@@ -143,9 +139,10 @@ impl<M: Machine> Runs<M> {
             NeedsNoMemory M.taken opening ds (delivery partner number text.now) → IsOk result }
         ensures partners { partner_count self.new ≡ partner_count self.old }
     {
-        let ledger = &mut self.ledgers[partner as usize - 1];
+        let ledger = &mut self.ledgers[partner.index()];
         let next = ledger.next();
-        match judge(next, number, ledger.text(number), text) {
+        let counted = number.get();
+        match judge(next, counted, ledger.text(number), text) {
             Standing::Known => ledger.answer_known(alloc, number),
             Standing::Other => Ok(Answer::Clash),
             Standing::Early => {
@@ -160,25 +157,22 @@ impl<M: Machine> Runs<M> {
     }
 
     /// The partner's next number.
-    pub fn next_of(&self, partner: u16) -> u32
-        requires from_one { 1 ≤ partner }
+    pub fn next_of(&self, partner: PartnerId) -> u32
         requires known { partner ≤ partner_count self.now }
         ensures { (opening : M) (ds : List Delivery) →
             StandsAt M.taken opening ds self.now → result ≡ run ds partner + 1 }
     {
-        self.ledgers[partner as usize - 1].next()
+        self.ledgers[partner.index()].next()
     }
 
     /// The reply to a partner's number, if it was taken.
-    pub fn reply_of(&self, partner: u16, number: u32) -> Option<&str>
-        requires from_one { 1 ≤ partner }
+    pub fn reply_of(&self, partner: PartnerId, number: InterchangeNumber) -> Option<&str>
         requires known { partner ≤ partner_count self.now }
-        requires number { 1 ≤ number }
         ensures { (opening : M) (ds : List Delivery) →
             StandsAt M.taken opening ds self.now →
             option_copied result ≡ reply_of M.taken opening ds partner number }
     {
-        self.ledgers[partner as usize - 1].reply(number)
+        self.ledgers[partner.index()].reply(number)
     }
 
     /// The machine, in the state that what was taken left it in.
@@ -189,9 +183,6 @@ impl<M: Machine> Runs<M> {
         &self.machine
     }
 }
-
-/// The greatest number that a delivery can have.
-pub const LAST_NUMBER: u32 = 999_999_999;
 
 /// The number after those that have a reply.
 pub(crate) fn next_number(replies: &Vec<String>) -> u32
@@ -206,7 +197,7 @@ pub(crate) fn next_number(replies: &Vec<String>) -> u32
 fn take_texts<M: Machine>(
     alloc: Global,
     machine: &mut M,
-    partner: u16,
+    partner: PartnerId,
     texts: &BTreeMap<u32, Vec<u8>>,
     replies: &mut Vec<String>,
 ) -> Result<(), AllocError>
@@ -231,7 +222,7 @@ fn take_texts<M: Machine>(
 fn take_on_copy<M: Machine>(
     alloc: Global,
     machine: &M,
-    partner: u16,
+    partner: PartnerId,
     texts: &BTreeMap<u32, Vec<u8>>,
     replies: &mut Vec<String>,
 ) -> Result<(M, String), AllocError>
@@ -259,7 +250,7 @@ fn take_on_copy<M: Machine>(
 pub(crate) fn take_next<M: Machine>(
     alloc: Global,
     machine: &M,
-    partner: u16,
+    partner: PartnerId,
     texts: &BTreeMap<u32, Vec<u8>>,
     replies: &mut Vec<String>,
 ) -> Result<(M, String), AllocError>

@@ -7,7 +7,10 @@ ghost use Rattle.std.specs.Prelude.{◌≡◌, ◌≤◌};
 ghost use Rattle.partner_core.specs.Runs.{partner_count};
 
 use partner_core::ledger::Diary;
-use partner_core::{Answer, LAST_NUMBER, Machine, Runs, Standing, judge, laws};
+use partner_core::{
+    Answer, InterchangeNumber, LAST_NUMBER, MOST_PARTNERS, Machine, PartnerId, Runs, Standing,
+    judge, laws,
+};
 use std::alloc::{AllocError, Global};
 use std::process::Abort;
 use std::test::Fail;
@@ -31,20 +34,35 @@ fn is_said(answer: &Answer, want: Told) -> bool {
     }
 }
 
+/// The partner of that number.
+fn partner(number: u16) -> PartnerId
+    requires from_one { 1 ≤ number }
+    requires few { number ≤ MOST_PARTNERS }
+    ensures { result ≡ number }
+{
+    PartnerId::at(usize::from(number) - 1)
+}
+
+/// The number of an interchange.
+fn interchange(number: u32) -> InterchangeNumber
+    requires from_one { 1 ≤ number }
+    requires limit { number ≤ LAST_NUMBER }
+    ensures { result ≡ number }
+{
+    InterchangeNumber::new(u64::from(number)).unwrap()
+}
+
 /// Whether a delivery is answered so. One that is refused memory is delivered once more, so
 /// that the tests end alike whichever of its allocations `rt try --test --fail-alloc` refuses.
 fn said<M: Machine>(
     alloc: Global,
     runs: &mut Runs<M>,
-    partner: u16,
-    number: u32,
+    partner: PartnerId,
+    number: InterchangeNumber,
     text: &str,
     want: Told,
 ) -> Result<bool, AllocError>
-    requires from_one { 1 ≤ partner }
-    requires known { partner ≤ partner_count runs.old }
-    requires positive { 1 ≤ number }
-    requires limit { number ≤ LAST_NUMBER }
+    requires { partner ≤ partner_count runs.old }
     ensures { partner_count runs.new ≡ partner_count runs.old }
 {
     let answer = match runs.deliver(alloc, partner, number, text.as_bytes()) {
@@ -67,11 +85,11 @@ fn assert_said<M: Machine>(
     requires { 3 ≤ partner_count runs.old }
     ensures { partner_count runs.new ≡ partner_count runs.old }
 {
-    for (partner, number, text, want) in rows {
-        assert!(rt; 1 <= *partner && *partner <= 3);
+    for (id, number, text, want) in rows {
+        assert!(rt; 1 <= *id && *id <= 3);
         assert!(rt; 1 <= *number && *number <= LAST_NUMBER);
         assert!(rt;
-            said(alloc, runs, *partner, *number, text, *want)?,
+            said(alloc, runs, partner(*id), interchange(*number), text, *want)?,
             "{text}"
         );
     }
@@ -111,10 +129,10 @@ fn numbers_and_replies_are_told(rt: HostRuntime) -> Result<(), Fail> {
     let mut runs = Runs::new(alloc, Diary::new(alloc), 3)?;
     let rows = [(1, 2, "b", Told::Waiting(1)), (1, 1, "a", Told::Taken("1"))];
     assert_said(&rt, alloc, &mut runs, &rows)?;
-    assert_eq!(rt; runs.next_of(1), 3);
-    assert_eq!(rt; runs.next_of(2), 1);
-    assert_eq!(rt; runs.reply_of(1, 2), Some("2"));
-    assert_eq!(rt; runs.reply_of(1, 3), None);
+    assert_eq!(rt; runs.next_of(partner(1)), 3);
+    assert_eq!(rt; runs.next_of(partner(2)), 1);
+    assert_eq!(rt; runs.reply_of(partner(1), interchange(2)), Some("2"));
+    assert_eq!(rt; runs.reply_of(partner(1), interchange(3)), None);
     Ok(())
 }
 
@@ -212,9 +230,9 @@ fn a_text_is_judged_by_what_is_kept(rt: HostRuntime) {
 fn a_copied_diary_is_the_same(rt: HostRuntime) -> Result<(), Fail> {
     let alloc = rt.alloc();
     let mut diary = Diary::new(alloc);
-    assert_eq!(rt; diary.step(alloc, 1, b"a")?.as_str(), "1");
+    assert_eq!(rt; diary.step(alloc, partner(1), b"a")?.as_str(), "1");
     let mut copy = diary.copy(alloc)?;
-    assert_eq!(rt; copy.step(alloc, 2, b"b")?.as_str(), "2");
+    assert_eq!(rt; copy.step(alloc, partner(2), b"b")?.as_str(), "2");
     assert_eq!(rt; copy.text(0), Some(b"a".as_slice()));
     assert_eq!(rt; copy.text(1), Some(b"b".as_slice()));
     assert_eq!(rt; diary.text(1), None);

@@ -6,7 +6,7 @@ ghost use Rattle.partner_core.specs.Runs.{partner_count};
 
 use super::machine::machine;
 use office_taking::TerminalMachine;
-use partner_core::{Answer, LAST_NUMBER, Runs};
+use partner_core::{Answer, InterchangeNumber, LAST_NUMBER, PartnerId, Runs};
 use std::alloc::{AllocError, Global};
 use std::test::Fail;
 
@@ -38,7 +38,8 @@ fn answer(
     requires limit { number ≤ LAST_NUMBER }
     ensures { partner_count runs.new ≡ partner_count runs.old }
 {
-    runs.deliver(alloc, 1, number, text)
+    let number = InterchangeNumber::new(u64::from(number)).unwrap();
+    runs.deliver(alloc, PartnerId::at(0), number, text)
 }
 
 /// The third waits, comes again and is a repeat once the first has closed the gap.

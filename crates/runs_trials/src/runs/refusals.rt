@@ -3,9 +3,9 @@
 ghost use Rattle.std.specs.Prelude.{List, ℕ, ◌≤◌};
 ghost use Rattle.partner_core.specs.Runs.{partner_count};
 
-use super::{Told, assert_said};
+use super::{Told, assert_said, interchange, partner};
 use partner_core::ledger::Diary;
-use partner_core::{Machine, Runs};
+use partner_core::{Machine, PartnerId, Runs};
 use std::alloc::{AllocError, Global};
 use std::cell::Cell;
 use std::marker::Model;
@@ -31,7 +31,12 @@ impl<'a> Machine for Faltering<'a> {
 
     ghost taken = { λ texts partner text. (texts ++ text ∷ [], decimal (length texts + 1)) };
 
-    fn step(&mut self, alloc: Global, partner: u16, text: &[u8]) -> Result<String, AllocError> {
+    fn step(
+        &mut self,
+        alloc: Global,
+        partner: PartnerId,
+        text: &[u8],
+    ) -> Result<String, AllocError> {
         let left = self.steps.get();
         self.steps.set(left.saturating_sub(1));
         if left == 1 {
@@ -60,7 +65,7 @@ fn is_refused_at(rt: &impl Abort, alloc: Global, step: u32) -> Result<(), Fail> 
     let early = [(1, 3, "c", Told::Waiting(1)), (1, 2, "b", Told::Waiting(1))];
     assert_said(rt, alloc, &mut runs, &early)?;
     steps.set(step);
-    let refused = runs.deliver(alloc, 1, 1, b"a");
+    let refused = runs.deliver(alloc, partner(1), interchange(1), b"a");
     assert!(rt; matches!(&refused, Err(AllocError)));
     assert_unmoved(rt, &runs)?;
     let again = [
@@ -78,8 +83,8 @@ fn is_refused_at(rt: &impl Abort, alloc: Global, step: u32) -> Result<(), Fail> 
 fn assert_unmoved(rt: &impl Abort, runs: &Runs<Faltering<'_>>) -> Result<(), Fail>
     requires { 1 ≤ partner_count runs.now }
 {
-    assert_eq!(rt; runs.next_of(1), 1);
-    assert_eq!(rt; runs.reply_of(1, 1), None);
+    assert_eq!(rt; runs.next_of(partner(1)), 1);
+    assert_eq!(rt; runs.reply_of(partner(1), interchange(1)), None);
     assert_eq!(rt; runs.machine().diary.text(0), None);
     Ok(())
 }
