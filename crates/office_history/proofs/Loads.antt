@@ -209,9 +209,9 @@ accounts_same id (p ∷ partners) (a ∷ mine) (b ∷ theirs) own are =
     let kind : a.1 ≡ b.1 = sym own.2 ∙ are.2 in
     ap₂ ◌∷◌ (λ i. (code i, kind i)) (accounts_same (id + 1) partners mine theirs own.5 are.5)
 
-pub numbered_rise : (next low : ℕ) (visits : List VisitContent) → low + 1 ≡ next → AreNumbered next visits → Rises (λ (v : VisitContent). v.number) low visits
-numbered_rise next low [] e are = tt
-numbered_rise next low (v ∷ visits) e are = let own : v.number ≡ next = are.0 in (omega arith, numbered_rise (next + 1) v.number visits (ap (λ n. n + 1) own) are.1)
+pub numbered_rise : (low : ℕ) (visits : List VisitContent) → AreNumbered low visits → Rises (λ (v : VisitContent). v.number) low visits
+numbered_rise low [] are = tt
+numbered_rise low (v ∷ visits) are = (are.0, numbered_rise v.number visits are.1)
 
 abbrev pub letter_key : Block → ℕ
 letter_key b = b.letter + 1
@@ -322,8 +322,8 @@ module _ (db : Database) (one two : OpenedRows) (content other : SetupContent) (
       (λ v inside. second.formed.visits v (subst (λ l. Contains l v) other_visits_of inside))
       (λ v inside. office.formed.visits v (subst (λ l. Contains l v) visits_of (Contains-permutation in_order.0 one.visits v (IsPermutation-sym one.visits in_order.0 in_order.1) inside)))
       in_order.2 in
-      let mine : Rises (λ (v : VisitContent). v.number) 0 one.visits = subst (Rises (λ (v : VisitContent). v.number) 0) (sym visits_of) (numbered_rise 1 0 state.visits refl office.whole.numbered) in
-      let theirs : Rises (λ (v : VisitContent). v.number) 0 two.visits = subst (Rises (λ (v : VisitContent). v.number) 0) (sym other_visits_of) (numbered_rise 1 0 own.visits refl second.whole.numbered) in
+      let mine : Rises (λ (v : VisitContent). v.number) 0 one.visits = subst (Rises (λ (v : VisitContent). v.number) 0) (sym visits_of) (numbered_rise 0 state.visits office.whole.numbered) in
+      let theirs : Rises (λ (v : VisitContent). v.number) 0 two.visits = subst (Rises (λ (v : VisitContent). v.number) 0) (sym other_visits_of) (numbered_rise 0 own.visits second.whole.numbered) in
       rising_same (λ (v : VisitContent). v.number) 0 one.visits two.visits mine theirs (subst (IsPermutation one.visits) (sym same) in_order.1)
 
   both_places : standing_by one.places ≡ standing_by two.places

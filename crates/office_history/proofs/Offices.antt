@@ -166,7 +166,7 @@ module _ (version : Version) (content : SetupContent) (runs : ℕ → ℕ) (rows
   visits_in_turn : InTurn (is_before (0 ∷ []) visit_values) rows.visits
   visits_in_turn =
       rising_in_turn (λ (v : VisitContent). v.number) (is_before (0 ∷ []) visit_values) (λ x y below. not_before y.number x.number Equal below) 0 rows.visits
-      (subst (Rises (λ (v : VisitContent). v.number) 0) (sym visits_are) (numbered_rise 1 0 state.visits refl are.whole.numbered))
+      (subst (Rises (λ (v : VisitContent). v.number) 0) (sym visits_are) (numbered_rise 0 state.visits are.whole.numbered))
 
   blocks_in_turn : InTurn (is_before (0 ∷ []) block_values) rows.blocks
   blocks_in_turn =

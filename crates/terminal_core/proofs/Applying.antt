@@ -25,13 +25,14 @@ use Rattle.terminal_core.specs.declared.change.Version.{Version}
 use Rattle.terminal_core.specs.declared.visits.Way.{Way}
 use Rattle.terminal_core.specs.declared.visits.Way.TheVariants.{Gate, Ship}
 use Rattle.terminal_core.specs.Rows.{VisitContent, ChangeContent, line_done}
-use Rattle.terminal_core.specs.State.{TerminalState, LineContent, Lines, line_key, line_of, is_in, is_open_visit, open_visit, AreNumbered, IsWhole}
+use Rattle.terminal_core.specs.State.{last_from, last_number, TerminalState, LineContent, Lines, line_key, line_of, is_in, is_open_visit, open_visit, AreNumbered, IsWhole}
 use Rattle.terminal_core.specs.Versions.{spares}
 use Rattle.terminal_core.specs.Step.{Stepped, with_refusal, step_by, yard_with_entry, is_full, after_entry, entered_at, number_of_visit, after_departure, departed_at, departure_by, moved_at, listed_at, then_line_done_at, by_line, by_state}
 use Rattle.terminal_core.specs.Changes.{TerminalRows, rows_of, rows_with, all_changed, is_numbered, IsOneOpenVisit, IsApplicable, AreApplicable}
 use Rattle.terminal_core.proofs.Boxes.{there_placed}
 use Rattle.terminal_core.proofs.Counting.{find_skips, find_meets}
 use Rattle.terminal_core.proofs.Shared.{new_place, new_slot}
+use Rattle.terminal_core.proofs.Open.{last_highest}
 use Rattle.terminal_core.proofs.Changing.{Comes, comes, brought, goes, shifts, numbered_from, found, turned_entered, turned_departed, entered_keeps, departed_keeps, either, placed_by, Turns, KeepsLines}
 
 -- ---- numbers
@@ -43,31 +44,31 @@ module _ {A : Type 0} (p : A → Bool) (x : A) (xs : List A) where
   filter_keeps : p x ≡ true → filter p (x ∷ xs) ≡ x ∷ filter p xs
   filter_keeps e = ap (λ v. cond v (x ∷ filter p xs) (filter p xs)) e
 
-none_after : (number first : ℕ) (visits : List VisitContent) → AreNumbered first visits → length visits + first ≤ number → filter (is_numbered number) visits ≡ []
-none_after number first [] are high = refl
-none_after number first (v ∷ visits) are high =
-    filter_skips (is_numbered number) v visits (ne_eqb v.number number (λ e. let n : v.number ≡ first = are.0 in absurd (omega arith))) ∙ none_after number (first + 1) visits are.1 (omega arith)
+none_after : (number above : ℕ) (visits : List VisitContent) → AreNumbered above visits → last_from above visits < number → filter (is_numbered number) visits ≡ []
+none_after number above [] are high = refl
+none_after number above (v ∷ visits) are high =
+    let low = last_highest v.number visits are.1 in
+    filter_skips (is_numbered number) v visits (ne_eqb v.number number (λ e. absurd (omega (arith, e, low, high)))) ∙ none_after number v.number visits are.1 high
 
-none_from : (number first : ℕ) (visits : List VisitContent) → AreNumbered first visits → number < first → filter (is_numbered number) visits ≡ []
-none_from number first [] are low = refl
-none_from number first (v ∷ visits) are low =
-    filter_skips (is_numbered number) v visits (ne_eqb v.number number (λ e. let n : v.number ≡ first = are.0 in absurd (omega arith))) ∙ none_from number (first + 1) visits are.1 (omega arith)
+none_from : (number above : ℕ) (visits : List VisitContent) → AreNumbered above visits → number ≤ above → filter (is_numbered number) visits ≡ []
+none_from number above [] are low = refl
+none_from number above (v ∷ visits) are low =
+    filter_skips (is_numbered number) v visits (ne_eqb v.number number (λ e. absurd (omega (arith, e, are.0, low)))) ∙ none_from number v.number visits are.1 (omega (arith, are.0, low))
 
 -- what is found is what its number finds
-only_one : (p : VisitContent → Bool) (first : ℕ) (visits : List VisitContent) (w : VisitContent) → AreNumbered first visits → find p visits ≡ Some w → filter (is_numbered w.number) visits ≡ w ∷ []
-only_one p first [] w are e = cc
-only_one p first (v ∷ visits) w are e =
+only_one : (p : VisitContent → Bool) (above : ℕ) (visits : List VisitContent) (w : VisitContent) → AreNumbered above visits → find p visits ≡ Some w → filter (is_numbered w.number) visits ≡ w ∷ []
+only_one p above [] w are e = cc
+only_one p above (v ∷ visits) w are e =
     elim (p v) as (λ t. p v ≡ t → filter (is_numbered w.number) (v ∷ visits) ≡ w ∷ []) [
       | true ↦ λ is.
           let met : Some v ≡ Some w = sym (find_meets p v visits is) ∙ e in
           let it : v ≡ w = cc in
           let number : v.number ≡ w.number = ap (λ (u : VisitContent). u.number) it in
-          let at : v.number ≡ first = are.0 in
-          filter_keeps (is_numbered w.number) v visits (eq-eqb v.number w.number number) ∙ ap (λ vs. v ∷ vs) (none_from w.number (first + 1) visits are.1 (omega arith)) ∙ ap (λ (u : VisitContent). u ∷ []) it
+          filter_keeps (is_numbered w.number) v visits (eq-eqb v.number w.number number) ∙ ap (λ vs. v ∷ vs) (none_from w.number v.number visits are.1 (omega (arith, number))) ∙ ap (λ (u : VisitContent). u ∷ []) it
       | false ↦ λ isnt.
           let rest : find p visits ≡ Some w = sym (find_skips p v visits isnt) ∙ e in
-          let far : first + 1 ≤ w.number = numbered_from p (first + 1) visits w are.1 rest in
-          filter_skips (is_numbered w.number) v visits (ne_eqb v.number w.number (λ same. let n : v.number ≡ first = are.0 in absurd (omega arith))) ∙ only_one p (first + 1) visits w are.1 rest
+          let far : v.number < w.number = numbered_from p v.number visits w are.1 rest in
+          filter_skips (is_numbered w.number) v visits (ne_eqb v.number w.number (λ same. absurd (omega (arith, same, far)))) ∙ only_one p v.number visits w are.1 rest
     ] refl
 
 passes : {A : Type 0} (p : A → Bool) (xs : List A) (w : A) → find p xs ≡ Some w → p w ≡ true
@@ -87,7 +88,7 @@ one_open_visit state b whole is =
     let visit = found (open_visit state b) is in
     record {
       visit = visit.0;
-      only = ap (λ o. filter (is_numbered (number_of_visit o)) state.visits) visit.1 ∙ only_one (is_open_visit b) 1 state.visits visit.0 whole.numbered visit.1;
+      only = ap (λ o. filter (is_numbered (number_of_visit o)) state.visits) visit.1 ∙ only_one (is_open_visit b) 0 state.visits visit.0 whole.numbered visit.1;
       stays = no_departure visit.0.departure (and_parts _ _ (passes (is_open_visit b) state.visits visit.0 visit.1)).1;
     }
 
@@ -101,7 +102,7 @@ applies_entered_at : (version : Version) (state : TerminalState) (way : Way) (so
 applies_entered_at version state way source entry (Err f) whole e = tt
 applies_entered_at version state way source entry (Ok (y, slot)) whole e =
     let came : Comes state.yard y entry.number (brought entry slot) = comes version state.yard y entry entry.slot slot e in (
-      record { next = refl; absent = none_after (length state.visits + 1) 1 state.visits whole.numbered (omega arith); stays = refl },
+      record { next = refl; absent = none_after (last_number state.visits + 1) 0 state.visits whole.numbered (omega arith); stays = refl },
       (new_place came.is_wary state entry.number (placement (length_of entry.size_type) slot) whole came.absent came.fits, tt),
     )
 

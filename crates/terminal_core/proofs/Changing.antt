@@ -31,7 +31,7 @@ use Rattle.terminal_core.specs.declared.change.Version.{Version}
 use Rattle.terminal_core.specs.declared.visits.Way.{Way}
 use Rattle.terminal_core.specs.declared.visits.Way.TheVariants.{Gate, Ship}
 use Rattle.terminal_core.specs.Rows.{VisitContent, ChangeContent, line_done}
-use Rattle.terminal_core.specs.State.{TerminalState, LineContent, Lines, line_key, line_of, is_in, is_open_visit, open_visit, AreNumbered, IsWhole}
+use Rattle.terminal_core.specs.State.{last_number, TerminalState, LineContent, Lines, line_key, line_of, is_in, is_open_visit, open_visit, AreNumbered, IsWhole}
 use Rattle.terminal_core.specs.Versions.{spares}
 use Rattle.terminal_core.specs.Step.{Stepped, with_refusal, step_by, yard_with_entry, settled_in, with_slot, is_full, visit_of, after_entry, entered_at, closed_visit, close_visit, number_of_visit, after_departure, departed_at, departure_by, moved_at, listed_at, then_line_done_at, by_line, by_state}
 use Rattle.terminal_core.specs.Changes.{Standing, TerminalRows, standing_in, standing_of, rows_of, closed_as, standing_elsewhere, with_line_done, rows_with, all_changed}
@@ -142,53 +142,52 @@ came_place state y v w q false whole came still e =
 
 -- ---- visits, one closed
 
-pub numbered_from : (p : VisitContent → Bool) (first : ℕ) (visits : List VisitContent) (w : VisitContent) → AreNumbered first visits → find p visits ≡ Some w → first ≤ w.number
-numbered_from p first [] w are e = cc
-numbered_from p first (v ∷ visits) w are e =
-    elim (p v) as (λ t. p v ≡ t → first ≤ w.number) [
-      | true ↦ λ is. let met : Some v ≡ Some w = sym (find_meets p v visits is) ∙ e in let same : v ≡ w = cc in let n : w.number ≡ first = ap (λ (u : VisitContent). u.number) (sym same) ∙ are.0 in omega arith
-      | false ↦ λ isnt. let far : first + 1 ≤ w.number = numbered_from p (first + 1) visits w are.1 (sym (find_skips p v visits isnt) ∙ e) in omega arith
+pub numbered_from : (p : VisitContent → Bool) (above : ℕ) (visits : List VisitContent) (w : VisitContent) → AreNumbered above visits → find p visits ≡ Some w → above < w.number
+numbered_from p above [] w are e = cc
+numbered_from p above (v ∷ visits) w are e =
+    elim (p v) as (λ t. p v ≡ t → above < w.number) [
+      | true ↦ λ is. let met : Some v ≡ Some w = sym (find_meets p v visits is) ∙ e in let same : v ≡ w = cc in let n : w.number ≡ v.number = ap (λ (u : VisitContent). u.number) (sym same) in omega (arith, n, are.0)
+      | false ↦ λ isnt. let far : v.number < w.number = numbered_from p v.number visits w are.1 (sym (find_skips p v visits isnt) ∙ e) in omega (arith, far, are.0)
     ] refl
 
 -- none is the container's and open, and none has the number
-neither : (departure : Departure) (b : BoxNumber) (number first : ℕ) (visits : List VisitContent) → AreNumbered first visits → number < first → length (filter (is_open_visit b) visits) ≡ 0
+neither : (departure : Departure) (b : BoxNumber) (number above : ℕ) (visits : List VisitContent) → AreNumbered above visits → number ≤ above → length (filter (is_open_visit b) visits) ≡ 0
     → map (closed_as number departure) visits ≡ map (closed_visit departure b) visits
-neither departure b number first [] are low none = refl
-neither departure b number first (v ∷ visits) are low none =
+neither departure b number above [] are low none = refl
+neither departure b number above (v ∷ visits) are low none =
     elim (is_open_visit b v) as (λ t. is_open_visit b v ≡ t → map (closed_as number departure) (v ∷ visits) ≡ map (closed_visit departure b) (v ∷ visits)) [
       | true ↦ λ is. let more : length (filter (is_open_visit b) (v ∷ visits)) ≡ length (filter (is_open_visit b) visits) + 1 = count_keeps (is_open_visit b) v visits is in absurd (omega arith)
       | false ↦ λ isnt.
           let less : length (filter (is_open_visit b) (v ∷ visits)) ≡ length (filter (is_open_visit b) visits) = count_skips (is_open_visit b) v visits isnt in
-          let other : (v.number == number) ≡ false = ne_eqb v.number number (λ e. let n : v.number ≡ first = are.0 in absurd (omega arith)) in
+          let other : (v.number == number) ≡ false = ne_eqb v.number number (λ e. absurd (omega (arith, e, are.0, low))) in
           let head_ : closed_as number departure v ≡ closed_visit departure b v =
           ap (λ t. cond t (record v { departure = Some departure }) v) other ∙ sym (ap (λ t. cond t (record v { departure = Some departure }) v) isnt) in
-          λ i. head_ i ∷ neither departure b number (first + 1) visits are.1 (omega arith) (omega arith) i
+          λ i. head_ i ∷ neither departure b number v.number visits are.1 (omega (arith, are.0, low)) (omega arith) i
     ] refl
 
 -- the container's open visit is the one of its number
-closed_by_number : (departure : Departure) (b : BoxNumber) (first : ℕ) (visits : List VisitContent) (w : VisitContent) → AreNumbered first visits → length (filter (is_open_visit b) visits) ≤ 1
+closed_by_number : (departure : Departure) (b : BoxNumber) (above : ℕ) (visits : List VisitContent) (w : VisitContent) → AreNumbered above visits → length (filter (is_open_visit b) visits) ≤ 1
     → find (is_open_visit b) visits ≡ Some w → map (closed_as w.number departure) visits ≡ map (closed_visit departure b) visits
-closed_by_number departure b first [] w are one e = refl
-closed_by_number departure b first (v ∷ visits) w are one e =
+closed_by_number departure b above [] w are one e = refl
+closed_by_number departure b above (v ∷ visits) w are one e =
     elim (is_open_visit b v) as (λ t. is_open_visit b v ≡ t → map (closed_as w.number departure) (v ∷ visits) ≡ map (closed_visit departure b) (v ∷ visits)) [
       | true ↦ λ is.
           let met : Some v ≡ Some w = sym (find_meets (is_open_visit b) v visits is) ∙ e in
           let it : v ≡ w = cc in
           let number : v.number ≡ w.number = ap (λ (u : VisitContent). u.number) it in
-          let at : v.number ≡ first = are.0 in
           let more : length (filter (is_open_visit b) (v ∷ visits)) ≡ length (filter (is_open_visit b) visits) + 1 = count_keeps (is_open_visit b) v visits is in
           let head_ : closed_as w.number departure v ≡ closed_visit departure b v =
           ap (λ n. cond (v.number == n) (record v { departure = Some departure }) v) (sym number) ∙ ap (λ t. cond t (record v { departure = Some departure }) v) (eq-eqb v.number v.number refl)
           ∙ sym (ap (λ t. cond t (record v { departure = Some departure }) v) is) in
-          λ i. head_ i ∷ neither departure b w.number (first + 1) visits are.1 (omega arith) (omega arith) i
+          λ i. head_ i ∷ neither departure b w.number v.number visits are.1 (omega (arith, number)) (omega arith) i
       | false ↦ λ isnt.
           let less : length (filter (is_open_visit b) (v ∷ visits)) ≡ length (filter (is_open_visit b) visits) = count_skips (is_open_visit b) v visits isnt in
           let rest : find (is_open_visit b) visits ≡ Some w = sym (find_skips (is_open_visit b) v visits isnt) ∙ e in
-          let far : first + 1 ≤ w.number = numbered_from (is_open_visit b) (first + 1) visits w are.1 rest in
-          let other : (v.number == w.number) ≡ false = ne_eqb v.number w.number (λ same_. let n : v.number ≡ first = are.0 in absurd (omega arith)) in
+          let far : v.number < w.number = numbered_from (is_open_visit b) v.number visits w are.1 rest in
+          let other : (v.number == w.number) ≡ false = ne_eqb v.number w.number (λ same_. absurd (omega (arith, same_, far))) in
           let head_ : closed_as w.number departure v ≡ closed_visit departure b v =
           ap (λ t. cond t (record v { departure = Some departure }) v) other ∙ sym (ap (λ t. cond t (record v { departure = Some departure }) v) isnt) in
-          λ i. head_ i ∷ closed_by_number departure b (first + 1) visits w are.1 (omega arith) rest i
+          λ i. head_ i ∷ closed_by_number departure b v.number visits w are.1 (omega arith) rest i
     ] refl
 
 kept_number : (departure : Departure) (visit : VisitContent) (is : Bool) → (cond is (record visit { departure = Some departure }) visit).number ≡ visit.number
@@ -239,7 +238,7 @@ turned_entered_at version state way source entry (Ok (y, slot)) whole e =
     let v : VisitContent = visit_of state way source entry slot in
     let w : Stowed = brought entry slot in
     let came : Comes state.yard y entry.number w = comes version state.yard y entry entry.slot slot e in
-    let places : (q : BoxNumber) → update bytes_eq (standing_of state) entry.number (Some (standing_in (length state.visits + 1) slot)) q ≡ standing_of (record state { yard = y; visits = state.visits ++ v ∷ [] }) q =
+    let places : (q : BoxNumber) → update bytes_eq (standing_of state) entry.number (Some (standing_in (last_number state.visits + 1) slot)) q ≡ standing_of (record state { yard = y; visits = state.visits ++ v ∷ [] }) q =
     λ q. came_place state y v w q (bytes_eq entry.number q) whole came refl refl ∙ ap (λ o. placed_by (find (is_open_visit q) (state.visits ++ v ∷ [])) (placed o)) (sym (in_placed_map state.yard.boxes y.boxes entry.number q w came.boxes)) in
     λ i. record { visits = state.visits ++ v ∷ []; places = λ q. places q i; lines = state.lines }
 
@@ -257,7 +256,7 @@ turned_departed_at state b departure (Ok (y, s)) whole e =
     let went = goes (placement_of state.yard.boxes b) state.yard y b s e in
     let visit = found (open_visit state b) (sym (whole.here b) ∙ there_placed state.yard.boxes b s went.0) in
     let visits : map (closed_as (number_of_visit (open_visit state b)) departure) state.visits ≡ close_visit state b departure =
-    ap (λ o. map (closed_as (number_of_visit o) departure) state.visits) visit.1 ∙ closed_by_number departure b 1 state.visits visit.0 whole.numbered (whole.one_visit b) visit.1 in
+    ap (λ o. map (closed_as (number_of_visit o) departure) state.visits) visit.1 ∙ closed_by_number departure b 0 state.visits visit.0 whole.numbered (whole.one_visit b) visit.1 in
     let places : (q : BoxNumber) → update bytes_eq (standing_of state) b None q ≡ standing_of (record state { yard = y; visits = close_visit state b departure }) q =
     λ q. went_place state departure b q (bytes_eq b q) refl ∙ ap (λ o. placed_by (find (is_open_visit q) (close_visit state b departure)) (placed o)) (sym (in_removed_map state.yard.boxes y.boxes b q went.1)) in
     λ i. record { visits = visits i; places = λ q. places q i; lines = state.lines }

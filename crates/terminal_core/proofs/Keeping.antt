@@ -36,7 +36,7 @@ use Rattle.terminal_core.specs.declared.change.Source.{Source}
 use Rattle.terminal_core.specs.declared.change.Version.{Version}
 use Rattle.terminal_core.specs.declared.visits.Way.{Way}
 use Rattle.terminal_core.specs.declared.visits.Way.TheVariants.{Gate, Ship}
-use Rattle.terminal_core.specs.State.{TerminalState, LineContent, line_of, is_in, empty_state, IsWhole}
+use Rattle.terminal_core.specs.State.{last_number, TerminalState, LineContent, line_of, is_in, empty_state, IsWhole}
 use Rattle.terminal_core.specs.Versions.{spares}
 use Rattle.terminal_core.specs.Step.{Stepped, with_refusal, step_by, yard_with_entry, settled_in, with_slot, is_full, visit_of, after_entry, entered_at, after_departure, departed_at, departure_by, moved_at, listed_at, then_line_done_at, by_line, by_state}
 use Rattle.terminal_core.proofs.Boxes.{open_of}
@@ -123,7 +123,7 @@ Keeps after = IsWhole after.state
 room_left : (limit n : ℕ) → nat_le limit n ≡ false → n < limit
 room_left limit n e = grind (arith, le-leb)
 
-whole_entered_at : (version : Version) (state : TerminalState) (way : Way) (source : Source) (entry : EntryContent) (r : Result (YardMap × Slot) Refusal) → IsWhole state → length state.visits < state.limit → yard_with_entry version state.yard entry ≡ r
+whole_entered_at : (version : Version) (state : TerminalState) (way : Way) (source : Source) (entry : EntryContent) (r : Result (YardMap × Slot) Refusal) → IsWhole state → last_number state.visits < state.limit → yard_with_entry version state.yard entry ≡ r
     → Keeps (entered_at state way source entry r)
 whole_entered_at version state way source entry (Err f) whole room e = whole
 whole_entered_at version state way source entry (Ok (y, slot)) whole room e =
@@ -138,7 +138,7 @@ full_or state false other whole then = then refl
 
 whole_enters : (version : Version) (state : TerminalState) (way : Way) (source : Source) (entry : EntryContent) → IsWhole state → Keeps (after_entry version state way source entry)
 whole_enters version state way source entry whole =
-    full_or state (is_full state) (entered_at state way source entry (yard_with_entry version state.yard entry)) whole (λ room. whole_entered_at version state way source entry (yard_with_entry version state.yard entry) whole (room_left state.limit (length state.visits) room) refl)
+    full_or state (is_full state) (entered_at state way source entry (yard_with_entry version state.yard entry)) whole (λ room. whole_entered_at version state way source entry (yard_with_entry version state.yard entry) whole (room_left state.limit (last_number state.visits) room) refl)
 
 whole_departed_at : (state : TerminalState) (b : BoxNumber) (departure : Departure) (r : Result (YardMap × Placement) Refusal) → IsWhole state → yard_without state.yard b ≡ r → Keeps (departed_at state b departure r)
 whole_departed_at state b departure (Err f) whole e = whole

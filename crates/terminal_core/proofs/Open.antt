@@ -1,12 +1,12 @@
 -- Open visits among those that stand.
-use Rattle.std.proofs.Common.{◌≡◌, ℕ, ◌+◌, ◌≤◌, List, [], ◌∷◌, ◌++◌, length, map, Bool, true, false, cond, Option, None, Some, is_some, refl, sym, ap, ◌∙◌, arith, is_none}
+use Rattle.std.proofs.Common.{◌≡◌, ℕ, ◌+◌, ◌<◌, ◌≤◌, subst, List, [], ◌∷◌, ◌++◌, length, map, Bool, true, false, cond, Option, None, Some, is_some, refl, sym, ap, ◌∙◌, arith, is_none}
 use Rattle.std.specs.Prelude.{find, filter, ◌&&◌, ◌||◌, not}
 use Rattle.std.specs.Str.{bytes_eq}
 use Rattle.std.proofs.lemmas.Bool.{and_parts}
 use Rattle.box6346.specs.declared.box_number.BoxNumber.{BoxNumber}
 use Rattle.terminal_core.specs.declared.visits.Departure.{Departure}
 use Rattle.terminal_core.specs.Rows.{VisitContent}
-use Rattle.terminal_core.specs.State.{is_open_visit, AreNumbered}
+use Rattle.terminal_core.specs.State.{is_open_visit, AreNumbered, last_from}
 use Rattle.terminal_core.specs.Step.{closed_visit}
 use Rattle.terminal_core.proofs.Boxes.{same_bytes, bytes_turned}
 
@@ -142,14 +142,36 @@ closed_open departure b q visit = closed_by departure b q visit (is_open_visit b
 
 -- ---- numbers
 
-pub numbered_one_more : (first : ℕ) (visits : List VisitContent) (visit : VisitContent) → AreNumbered first visits → visit.number ≡ length visits + first → AreNumbered first (visits ++ visit ∷ [])
-numbered_one_more first [] visit are is = (is ∙ omega arith, tt)
-numbered_one_more first (v ∷ visits) visit are is = (are.0, numbered_one_more (first + 1) visits visit are.1 (is ∙ omega arith))
+pub numbered_one_more : (above : ℕ) (visits : List VisitContent) (visit : VisitContent) → AreNumbered above visits → last_from above visits < visit.number → AreNumbered above (visits ++ visit ∷ [])
+numbered_one_more above [] visit are later = (later, tt)
+numbered_one_more above (v ∷ visits) visit are later = (are.0, numbered_one_more v.number visits visit are.1 later)
+
+pub last_pushed : (above : ℕ) (visits : List VisitContent) (v : VisitContent) → last_from above (visits ++ v ∷ []) ≡ v.number
+last_pushed above [] v = refl
+last_pushed above (w ∷ visits) v = last_pushed w.number visits v
+
+-- the last is the highest
+pub last_highest : (above : ℕ) (visits : List VisitContent) → AreNumbered above visits → above ≤ last_from above visits
+last_highest above [] are = omega arith
+last_highest above (v ∷ visits) are = let rest = last_highest v.number visits are.1 in omega (arith, are.0, rest)
+
+pub no_more_than_last : (above : ℕ) (visits : List VisitContent) → AreNumbered above visits → length visits + above ≤ last_from above visits
+no_more_than_last above [] are = omega arith
+no_more_than_last above (v ∷ visits) are =
+    let rest = no_more_than_last v.number visits are.1 in
+    let more : length (v ∷ visits) ≡ length visits + 1 = omega arith in
+    omega (arith, are.0, rest, more)
 
 kept_number : (departure : Departure) (visit : VisitContent) (is : Bool) → (cond is (record visit { departure = Some departure }) visit).number ≡ visit.number
 kept_number departure visit true = refl
 kept_number departure visit false = refl
 
-pub numbered_closed : (departure : Departure) (b : BoxNumber) (first : ℕ) (visits : List VisitContent) → AreNumbered first visits → AreNumbered first (map (closed_visit departure b) visits)
-numbered_closed departure b first [] are = tt
-numbered_closed departure b first (v ∷ visits) are = (kept_number departure v (is_open_visit b v) ∙ are.0, numbered_closed departure b (first + 1) visits are.1)
+pub numbered_closed : (departure : Departure) (b : BoxNumber) (above : ℕ) (visits : List VisitContent) → AreNumbered above visits → AreNumbered above (map (closed_visit departure b) visits)
+numbered_closed departure b above [] are = tt
+numbered_closed departure b above (v ∷ visits) are =
+    let same : (closed_visit departure b v).number ≡ v.number = kept_number departure v (is_open_visit b v) in
+    (omega (arith, same, are.0), subst (λ n. AreNumbered n (map (closed_visit departure b) visits)) (sym same) (numbered_closed departure b v.number visits are.1))
+
+pub last_closed : (departure : Departure) (b : BoxNumber) (above : ℕ) (visits : List VisitContent) → last_from above (map (closed_visit departure b) visits) ≡ last_from above visits
+last_closed departure b above [] = refl
+last_closed departure b above (v ∷ visits) = ap (λ n. last_from n (map (closed_visit departure b) visits)) (kept_number departure v (is_open_visit b v)) ∙ last_closed departure b v.number visits

@@ -72,7 +72,7 @@ not_refused y b w yard.OnAir other absent open_ h = misfits_not_open y.plan (pla
 not_refused y b w yard.OnEmpty other absent open_ h = misfits_not_open y.plan (placement_of y.boxes) w.placement yard.OnEmpty h.1 open_
 not_refused y b w yard.NoRoom other absent open_ h = misfits_not_open y.plan (placement_of y.boxes) w.placement yard.NoRoom h.1 open_
 
-module _ (visits : List VisitContent) (are : AreNumbered 1 visits) (y : YardMap) (place : Place) (visit : VisitContent) (names : Names visits place visit) where
+module _ (visits : List VisitContent) (are : AreNumbered 0 visits) (y : YardMap) (place : Place) (visit : VisitContent) (names : Names visits place visit) where
   refused_for : (f : YardFault) → f ≢ yard.Memory → RefusesPutBack y place.container (stowed_by visit place.slot) f → RefusesPut visits y place Unsound
   refused_for f other h = λ also named. (
     f,
@@ -94,7 +94,7 @@ module _ (visits : List VisitContent) (are : AreNumbered 1 visits) (y : YardMap)
 
 -- ---- the places one after another
 
-module _ (visits : List VisitContent) (are : AreNumbered 1 visits) where
+module _ (visits : List VisitContent) (are : AreNumbered 0 visits) where
   pub same_stand : (one two : Boxes) (place : Place) → Stands visits one place → Stands visits two place → finite_map.get one place.container ≡ finite_map.get two place.container
   same_stand one two place is also =
       is.stands ∙ ap (λ (v : VisitContent). Some (stowed_by v place.slot)) (one_named visits are place is.visit also.visit is.names also.names) ∙ sym also.stands
@@ -187,7 +187,7 @@ places_moved visits boxes places moved perm all = record {
 
 -- ---- where a sound yard has these places, the next is never refused
 
-module _ (plan : List Block) (valid : IsPlan plan) (visits : List VisitContent) (are : AreNumbered 1 visits) (places : List Place) (rising : IsNonDecreasingBy (λ (p : Place). p.slot.tier) places)
+module _ (plan : List Block) (valid : IsPlan plan) (visits : List VisitContent) (are : AreNumbered 0 visits) (places : List Place) (rising : IsNonDecreasingBy (λ (p : Place). p.slot.tier) places)
     (boxes : Boxes) (sound : IsSound plan (placement_of boxes)) (all : ArePlacesOf visits boxes places)
     (y : YardMap) (same_plan : y.plan ≡ plan) (i : ℕ) (place : Place) (low : i < length places) (at : place ≡ get_or places i place) (so_far : ArePlacesOf visits y.boxes (take i places)) where
   inside_all : (other : Place) → Contains (take i places) other → Contains places other
@@ -250,7 +250,7 @@ module _ (plan : List Block) (valid : IsPlan plan) (visits : List VisitContent) 
       let open_ : P plan = still_open plan (placement_of boxes) (placement_of y.boxes) w.placement kept_placed lower_placed place.container valid.sized sound (ap placed stand.stands) (ap placed absent) in
       not_refused y place.container w why.0 why.1 absent (subst P (sym same_plan) open_) why.2
 
-pub refuses_places : (plan : List Block) (visits : List VisitContent) (places : List Place) (y : YardMap) (i : ℕ) (place : Place) (f : RestoreFault) → IsPlan plan → AreNumbered 1 visits → IsNonDecreasingBy (λ (p : Place). p.slot.tier) places → y.plan ≡ plan
+pub refuses_places : (plan : List Block) (visits : List VisitContent) (places : List Place) (y : YardMap) (i : ℕ) (place : Place) (f : RestoreFault) → IsPlan plan → AreNumbered 0 visits → IsNonDecreasingBy (λ (p : Place). p.slot.tier) places → y.plan ≡ plan
     → i < length places → place ≡ get_or places i place → ArePlacesOf visits y.boxes (take i places) → RefusesPut visits y place f → RefusesPlaces plan visits places f
 refuses_places plan visits places y i place Memory valid are rising same low at so_far refuses = tt
 refuses_places plan visits places y i place Unsound valid are rising same low at so_far refuses = λ boxes sound all.

@@ -21,35 +21,31 @@ use Rattle.terminal_core.specs.declared.lines.Listing.{Listing}
 use Rattle.terminal_core.specs.declared.change.Place.{Place}
 use Rattle.terminal_core.specs.declared.visits.Visit.{Visit}
 use Rattle.terminal_core.specs.Rows.{VisitContent, visit_content}
-use Rattle.terminal_core.specs.State.{TerminalState, Lines, is_open_visit, stowed_by, AreNumbered, IsWhole}
+use Rattle.terminal_core.specs.State.{TerminalState, Lines, is_open_visit, stowed_by, AreNumbered, last_number, IsWhole}
 use Rattle.terminal_core.specs.Listings.{lines_of}
 use Rattle.terminal_core.specs.Restoring.{ArePlacesOf, AreNamed, AreOnce, AreRowsOf, IsYardOf, RefusesYard, RefusesPlaces, without_lines}
 use Rattle.terminal_core.proofs.Boxes.{same_bytes, same_self}
-use Rattle.terminal_core.proofs.Numbered.{contained, found_at, number_at}
+use Rattle.terminal_core.proofs.Numbered.{contained, found_at, same_index}
 use Rattle.terminal_core.proofs.Counted.{same_tests, some_of, one_passes, at_most_one, is_found, found_is}
 use Rattle.terminal_core.proofs.Placing.{places_moved, same_stand}
 use Rattle.terminal_core.proofs.Whole.{whole_listed}
 
 -- ---- the rows are those of a whole state
 
-module _ (visits : List VisitContent) (are : AreNumbered 1 visits) (boxes : Boxes) (places : List Place) (all : ArePlacesOf visits boxes places) (named : AreNamed visits places) where
+module _ (visits : List VisitContent) (are : AreNumbered 0 visits) (boxes : Boxes) (places : List Place) (all : ArePlacesOf visits boxes places) (named : AreNamed visits places) where
   -- the place of an open visit has its container
-  place_of_open : (container : BoxNumber) (k : ℕ) (visit : VisitContent) → slice_get visits k ≡ Some visit → is_open_visit container visit ≡ true → (place : Place) × Contains places place × (place.visit ≡ k + 1) × (place.container ≡ container)
+  place_of_open : (container : BoxNumber) (k : ℕ) (visit : VisitContent) → slice_get visits k ≡ Some visit → is_open_visit container visit ≡ true → (place : Place) × Contains places place × (place.visit ≡ visit.number) × (place.container ≡ container)
   place_of_open container k visit at is =
       let parts = and_parts (bytes_eq visit.container container) (is_none visit.departure) is in
       let place = named visit (contained visits k visit at) parts.1 in
       let stand = all.each place.0 place.1 in
       let there : slice_get visits stand.names.listed.0 ≡ Some stand.visit = found_at visits stand.visit stand.names.listed in
-      let mine : visit.number ≡ k + 1 = number_at 1 visits k visit are at in
-      let its : stand.visit.number ≡ stand.names.listed.0 + 1 = number_at 1 visits stand.names.listed.0 stand.visit are there in
-      let said : stand.visit.number ≡ place.0.visit = stand.names.number in
-      let tells : place.0.visit ≡ visit.number = place.2 in
-      let same_index : stand.names.listed.0 ≡ k = omega arith in
-      let same : stand.visit ≡ visit = same_Some stand.visit visit (sym there ∙ ap (slice_get visits) same_index ∙ at) in
+      let same_place : stand.names.listed.0 ≡ k = same_index 0 visits stand.names.listed.0 k stand.visit visit are there at (stand.names.number ∙ place.2) in
+      let same : stand.visit ≡ visit = same_Some stand.visit visit (sym there ∙ ap (slice_get visits) same_place ∙ at) in
       let open_ : bytes_eq stand.visit.container place.0.container ≡ true = (and_parts (bytes_eq stand.visit.container place.0.container) (is_none stand.visit.departure) stand.names.is_open).0 in (
         place.0,
         place.1,
-        tells ∙ mine,
+        place.2,
         same_bytes stand.visit.container place.0.container open_ ∙ ap (λ (v : VisitContent). v.container) same ∙ sym (same_bytes visit.container container parts.0),
       )
 
@@ -59,10 +55,7 @@ module _ (visits : List VisitContent) (are : AreNumbered 1 visits) (boxes : Boxe
       let q = place_of_open container k w also too in
       let same : p.0 ≡ q.0 = one_passes (λ place. bytes_eq place.container container) places p.0 q.0 (all.once container) p.1 q.1
       (ap (λ b. bytes_eq b container) p.3 ∙ same_self container) (ap (λ b. bytes_eq b container) q.3 ∙ same_self container) in
-      let said : p.0.visit ≡ q.0.visit = ap (λ (s : Place). s.visit) same in
-      let first : p.0.visit ≡ j + 1 = p.2 in
-      let second : q.0.visit ≡ k + 1 = q.2 in
-      omega arith)
+      same_index 0 visits j k v w are at also (sym p.2 ∙ ap (λ (s : Place). s.visit) same ∙ q.2))
 
   here_and_open : (container : BoxNumber) → is_some (finite_map.get boxes container) ≡ is_some (find (is_open_visit container) visits)
   here_and_open container = same_tests (is_some (finite_map.get boxes container)) (is_some (find (is_open_visit container) visits))
@@ -86,7 +79,7 @@ module _ (visits : List VisitContent) (are : AreNumbered 1 visits) (boxes : Boxe
       let is : w ≡ stowed_by stand.visit place.0.slot = same_Some w _ (sym at ∙ ap (finite_map.get boxes) (sym place.2) ∙ stand.stands) in
       is ∙ ap (λ (v : VisitContent). stowed_by v place.0.slot) same ∙ ap (stowed_by visit) (sym (ap (λ (v : Stowed). v.placement.slot) is))
 
-pub whole_of : (plan : List Block) (limit : ℕ) (visits : List VisitContent) (places moved : List Place) (yard : YardMap) → IsPlan plan → yard.plan ≡ plan → IsSound yard.plan (placement_of yard.boxes) → AreNumbered 1 visits → length visits ≤ limit
+pub whole_of : (plan : List Block) (limit : ℕ) (visits : List VisitContent) (places moved : List Place) (yard : YardMap) → IsPlan plan → yard.plan ≡ plan → IsSound yard.plan (placement_of yard.boxes) → AreNumbered 0 visits → last_number visits ≤ limit
     → IsPermutation places moved → ArePlacesOf visits yard.boxes moved → AreNamed visits moved → IsYardOf plan limit visits places yard
 whole_of plan limit visits places moved yard valid same sound are few perm all named = record {
   whole = record {
@@ -132,7 +125,7 @@ not_all_named plan limit visits places moved perm unnamed = λ yard is. unnamed 
 
 -- ---- rows have one state
 
-module _ (visits : List VisitContent) (are : AreNumbered 1 visits) (places : List Place) where
+module _ (visits : List VisitContent) (are : AreNumbered 0 visits) (places : List Place) where
   stands_alike : (one two : Boxes) → ArePlacesOf visits one places → ArePlacesOf visits two places → (container : BoxNumber) (s : Stowed) → finite_map.get one container ≡ Some s → finite_map.get two container ≡ Some s
   stands_alike one two is also container s e =
       let place = is.every container s e in
@@ -151,7 +144,7 @@ pub one_state : (plan : List Block) (limit : ℕ) (visits : List Visit) (places 
 one_state plan limit visits places lines s t is also =
     let P : List VisitContent → Type 0 = λ vs. ArePlacesOf vs s.yard.boxes places in
     let Q : List VisitContent → Type 0 = λ vs. ArePlacesOf vs t.yard.boxes places in
-    let N : List VisitContent → Type 0 = AreNumbered 1 in
+    let N : List VisitContent → Type 0 = AreNumbered 0 in
     let boxes : s.yard.boxes ≡ t.yard.boxes =
     one_yard (map visit_content visits) (subst N is.visits_are is.whole.numbered) places s.yard.boxes t.yard.boxes (subst P is.visits_are is.places_are) (subst Q also.visits_are also.places_are) in
     let same_plan : s.yard.plan ≡ t.yard.plan = is.plan_is ∙ sym also.plan_is in

@@ -15,11 +15,11 @@ use Rattle.yard_core.specs.YardMap.{Boxes, placement, placement_of, placed, in_b
 use Rattle.yard_core.specs.FitsAndFree.{IsOpen}
 use Rattle.yard_core.specs.Decisions.{misfit_of}
 use Rattle.terminal_core.specs.Rows.{VisitContent}
-use Rattle.terminal_core.specs.State.{TerminalState, is_open_visit, open_visit, IsWhole}
+use Rattle.terminal_core.specs.State.{last_number, TerminalState, is_open_visit, open_visit, IsWhole}
 use Rattle.terminal_core.specs.Step.{number_of_visit}
 use Rattle.terminal_core.specs.Changes.{Standing, standing_in, standing_of, IsNewPlace, IsNewSlot}
 use Rattle.terminal_core.proofs.Boxes.{same_bytes, in_removed_map, there_placed, open_of}
-use Rattle.terminal_core.proofs.Numbered.{number_at}
+use Rattle.terminal_core.proofs.Numbered.{below_last}
 use Rattle.terminal_core.proofs.Counted.{found_is, some_of}
 use Rattle.terminal_core.proofs.Changing.{placed_by}
 use Rattle.terminal_core.proofs.Counting.{none_there}
@@ -45,23 +45,22 @@ stands_of (Some t) visit standing e =
     let same : standing_in (number_of_visit visit) t.slot ≡ standing = cc in
     (t, refl, ap (λ (s : Standing). s.slot) (sym same), ap (λ (s : Standing). s.visit) (sym same))
 
-number_below : (state : TerminalState) (other : BoxNumber) → IsWhole state → is_some (finite_map.get state.yard.boxes other) ≡ true → number_of_visit (open_visit state other) ≤ length state.visits
+number_below : (state : TerminalState) (other : BoxNumber) → IsWhole state → is_some (finite_map.get state.yard.boxes other) ≡ true → number_of_visit (open_visit state other) ≤ last_number state.visits
 number_below state other whole there =
     let visit = some_of (open_visit state other) (sym (whole.here other) ∙ there) in
     let found = found_is (is_open_visit other) state.visits visit.0 visit.1 in
-    let number : visit.0.number ≡ found.0 + 1 = number_at 1 state.visits found.0 visit.0 whole.numbered found.1 in
-    let low : found.0 < length state.visits = slice_get_within state.visits found.0 visit.0 found.1 in
+    let low : visit.0.number ≤ last_number state.visits = below_last 0 state.visits found.0 visit.0 whole.numbered found.1 in
     let its : number_of_visit (open_visit state other) ≡ visit.0.number = ap number_of_visit visit.1 in
     omega arith
 
 pub new_place : (is_wary : Bool) (state : TerminalState) (container : BoxNumber) (s : Placement) → IsWhole state → is_some (finite_map.get state.yard.boxes container) ≡ false → misfit_of is_wary state.yard.plan state.yard.boxes s ≡ None
-    → IsNewPlace container (length state.visits + 1) s.slot (standing_of state)
+    → IsNewPlace container (last_number state.visits + 1) s.slot (standing_of state)
 new_place is_wary state container s whole absent fits = record {
   absent = ap (λ o. placed_by (open_visit state container) (placed o)) (none_there (finite_map.get state.yard.boxes container) absent);
   slot_free = λ other standing e same. (let t = stands_of (placement_of state.yard.boxes other) (open_visit state other) standing e in
       not_there is_wary state.yard.plan state.yard.boxes s t.0 other whole.plan fits t.1 (whole.sound.of_kind other t.0 t.1) (sym t.2 ∙ same));
   visit_free = λ other standing e same. (let t = stands_of (placement_of state.yard.boxes other) (open_visit state other) standing e in
-      let few : number_of_visit (open_visit state other) ≤ length state.visits = number_below state other whole (there_placed state.yard.boxes other t.0 t.1) in
+      let few : number_of_visit (open_visit state other) ≤ last_number state.visits = number_below state other whole (there_placed state.yard.boxes other t.0 t.1) in
       let its : standing.visit ≡ number_of_visit (open_visit state other) = t.3 in
       absurd (omega arith));
 }

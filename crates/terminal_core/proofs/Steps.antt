@@ -28,7 +28,7 @@ use Rattle.terminal_core.specs.declared.change.Source.{Source}
 use Rattle.terminal_core.specs.declared.visits.Way.{Way}
 use Rattle.terminal_core.specs.declared.visits.Way.TheVariants.{Ship}
 use Rattle.terminal_core.specs.Rows.{VisitContent, ChangeContent, visit_opened, visit_closed, placed_at, moved_to, removed_from, line_done}
-use Rattle.terminal_core.specs.State.{TerminalState, LineContent, Lines, is_in, line_key, line_of, IsWhole, open_visit}
+use Rattle.terminal_core.specs.State.{last_number, TerminalState, LineContent, Lines, is_in, line_key, line_of, IsWhole, open_visit}
 use Rattle.terminal_core.specs.Versions.{newest}
 use Rattle.terminal_core.specs.Step.{Stepped, step_with, with_refusal, is_full, after_entry, entered_at, visit_of, yard_with_entry, after_departure, departed_at, departure_by, close_visit, number_of_visit, after_move, moved_at, with_line, step_discharge, step_load, then_line_done, then_line_done_at, by_line, by_state}
 use Rattle.terminal_core.specs.Calls.{Follows, IsReasonFor, Settles, Unsettled, is_refused}
@@ -45,32 +45,32 @@ yard_stays state y reason changes e = record { state = ap (λ (v : YardMap). rec
 
 -- ---- coming
 
-not_full : (state : TerminalState) → length state.visits < state.limit → is_full state ≡ false
-not_full state room = lt-leb state.limit (length state.visits) room
+not_full : (state : TerminalState) → last_number state.visits < state.limit → is_full state ≡ false
+not_full state room = lt-leb state.limit (last_number state.visits) room
 
-full : (state : TerminalState) → state.limit ≤ length state.visits → is_full state ≡ true
-full state none = le-leb state.limit (length state.visits) none
+full : (state : TerminalState) → state.limit ≤ last_number state.visits → is_full state ≡ true
+full state none = le-leb state.limit (last_number state.visits) none
 
-pub refused_full : (state : TerminalState) (way : Way) (source : Source) (entry : EntryContent) (changes : List ChangeContent) → state.limit ≤ length state.visits
+pub refused_full : (state : TerminalState) (way : Way) (source : Source) (entry : EntryContent) (changes : List ChangeContent) → state.limit ≤ last_number state.visits
     → Follows (after_entry newest state way source entry) state (Refused VisitLimit) changes changes
 refused_full state way source entry changes none =
     follows (after_entry newest state way source entry) (with_refusal state VisitLimit) state _ changes changes (ap (λ v. cond v (with_refusal state VisitLimit) (entered_at state way source entry (yard_with_entry newest state.yard entry))) (full state none)) (nothing_done state VisitLimit changes)
 
-entered_is : (state : TerminalState) (way : Way) (source : Source) (entry : EntryContent) (r : Result (YardMap × Slot) Refusal) → length state.visits < state.limit → yard_with_entry newest state.yard entry ≡ r
+entered_is : (state : TerminalState) (way : Way) (source : Source) (entry : EntryContent) (r : Result (YardMap × Slot) Refusal) → last_number state.visits < state.limit → yard_with_entry newest state.yard entry ≡ r
     → after_entry newest state way source entry ≡ entered_at state way source entry r
 entered_is state way source entry r room e =
     ap (λ v. cond v (with_refusal state VisitLimit) (entered_at state way source entry (yard_with_entry newest state.yard entry))) (not_full state room) ∙ ap (entered_at state way source entry) e
 
 pub has_entered : (state : TerminalState) (way : Way) (source : Source) (entry : EntryContent) (y : YardMap) (slot : Slot) (visits : List VisitContent) (old new : List ChangeContent)
-    → length state.visits < state.limit → Settles state.yard y entry slot → visits ≡ state.visits ++ visit_of state way source entry slot ∷ []
-    → new ≡ old ++ visit_opened (visit_of state way source entry slot) ∷ placed_at entry.number (length state.visits + 1) slot ∷ []
+    → last_number state.visits < state.limit → Settles state.yard y entry slot → visits ≡ state.visits ++ visit_of state way source entry slot ∷ []
+    → new ≡ old ++ visit_opened (visit_of state way source entry slot) ∷ placed_at entry.number (last_number state.visits + 1) slot ∷ []
     → Follows (after_entry newest state way source entry) (record state { yard = y; visits = visits }) (Done slot) old new
 has_entered state way source entry y slot visits old new room settles opened made =
     follows (after_entry newest state way source entry) (entered_at state way source entry (Ok (y, slot))) _ _ old new (entered_is state way source entry (Ok (y, slot)) room settles.settled)
     (record { state = ap (λ (v : List VisitContent). record state { yard = y; visits = v }) opened; outcome = refl; changes = made })
 
 pub has_not_entered : (state : TerminalState) (way : Way) (source : Source) (entry : EntryContent) (reason : Reason) (changes : List ChangeContent)
-    → length state.visits < state.limit → Unsettled state.yard entry reason → Follows (after_entry newest state way source entry) state (Refused reason) changes changes
+    → last_number state.visits < state.limit → Unsettled state.yard entry reason → Follows (after_entry newest state way source entry) state (Refused reason) changes changes
 has_not_entered state way source entry reason changes room unsettled =
     follows (after_entry newest state way source entry) (with_refusal state reason) _ _ changes changes
     (entered_is state way source entry (Err unsettled.refusal) room unsettled.settled ∙ ap (with_refusal state) (sym unsettled.reason)) (nothing_done state reason changes)

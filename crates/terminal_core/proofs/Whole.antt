@@ -15,12 +15,12 @@ use Rattle.yard_core.specs.SoundYard.{IsSound}
 use Rattle.yard_core.specs.Calls.{Adds, Places, Removes, Shifts}
 use Rattle.terminal_core.specs.declared.visits.Departure.{Departure}
 use Rattle.terminal_core.specs.Rows.{VisitContent}
-use Rattle.terminal_core.specs.State.{TerminalState, Lines, is_in, open_visit, is_open_visit, stowed_by, IsWhole}
+use Rattle.terminal_core.specs.State.{last_number, TerminalState, Lines, is_in, open_visit, is_open_visit, stowed_by, IsWhole}
 use Rattle.terminal_core.specs.Step.{closed_visit}
 use Rattle.std.proofs.lemmas.Option.{none-some}
 use Rattle.terminal_core.proofs.Told.{told_entered, told_departed, told_moved, moved_as}
 use Rattle.terminal_core.proofs.Boxes.{in_placed, in_removed, same_bytes, planned}
-use Rattle.terminal_core.proofs.Open.{find_one_more, count_one_more, none_counted, find_mapped, count_mapped, closed_open, numbered_one_more, numbered_closed, or_turned, and_true}
+use Rattle.terminal_core.proofs.Open.{find_one_more, count_one_more, none_counted, find_mapped, count_mapped, closed_open, numbered_one_more, numbered_closed, last_pushed, last_closed, or_turned, and_true}
 
 pub whole_empty : (plan : List Block) (yard : YardMap) (limit : ℕ) (visits : List VisitContent) (lines : Lines) → IsPlan plan → yard.plan ≡ plan → yard.boxes ≡ finite_map.empty
     → IsSound yard.plan (placement_of yard.boxes) → visits ≡ [] → IsWhole (record { yard = yard; limit = limit; visits = visits; lines = lines })
@@ -63,15 +63,15 @@ one_open state visit q true whole absent e =
 one_open state visit q false whole absent e = let one : length (filter (is_open_visit q) state.visits) ≤ 1 = whole.one_visit q in omega arith
 
 pub whole_entered : (state : TerminalState) (y : YardMap) (visit : VisitContent) (w : Stowed) → IsWhole state → Adds state.yard y visit.container w → IsSound y.plan (placement_of y.boxes)
-    → visit.number ≡ length state.visits + 1 → visit.departure ≡ None → w ≡ stowed_by visit w.placement.slot → length state.visits < state.limit
+    → visit.number ≡ last_number state.visits + 1 → visit.departure ≡ None → w ≡ stowed_by visit w.placement.slot → last_number state.visits < state.limit
     → IsWhole (record state { yard = y; visits = state.visits ++ visit ∷ [] })
 whole_entered state y visit w whole adds sound number still told room =
     let open_ : (q : BoxNumber) → is_open_visit q visit ≡ bytes_eq visit.container q = λ q. ap (λ d. bytes_eq visit.container q && is_none d) still ∙ and_true _ in
     record {
       plan = let P : List Block → Type 0 = IsPlan in subst P (sym adds.plan) whole.plan;
       sound = sound;
-      numbered = numbered_one_more 1 state.visits visit whole.numbered number;
-      within = simp length-append (omega arith);
+      numbered = numbered_one_more 0 state.visits visit whole.numbered (omega (arith, number));
+      within = let end : last_number (state.visits ++ visit ∷ []) ≡ visit.number = last_pushed 0 state.visits visit in omega (arith, end, number, room);
       one_visit = λ q.
           let counted : length (filter (is_open_visit q) (state.visits ++ visit ∷ [])) ≡ length (filter (is_open_visit q) state.visits) + cond (bytes_eq visit.container q) 1 0 =
           count_one_more (is_open_visit q) state.visits visit ∙ ap (λ v. length (filter (is_open_visit q) state.visits) + cond v 1 0) (open_ q) in
@@ -90,8 +90,8 @@ pub whole_departed : (state : TerminalState) (y : YardMap) (b : BoxNumber) (depa
 whole_departed state y b departure s whole removes sound = record {
   plan = let P : List Block → Type 0 = IsPlan in subst P (sym removes.plan) whole.plan;
   sound = sound;
-  numbered = numbered_closed departure b 1 state.visits whole.numbered;
-  within = let same : length (map (closed_visit departure b) state.visits) ≡ length state.visits = length-map state.visits (closed_visit departure b) in let few : length state.visits ≤ state.limit = whole.within in omega arith;
+  numbered = numbered_closed departure b 0 state.visits whole.numbered;
+  within = let same : last_number (map (closed_visit departure b) state.visits) ≡ last_number state.visits = last_closed departure b 0 state.visits in let few : last_number state.visits ≤ state.limit = whole.within in omega (arith, same, few);
   one_visit = λ q.
       let fewer : length (filter (is_open_visit q) (map (closed_visit departure b) state.visits)) ≤ length (filter (is_open_visit q) state.visits) =
       count_mapped (is_open_visit q) (is_open_visit q) (closed_visit departure b) (not (bytes_eq b q)) (closed_open departure b q) state.visits in

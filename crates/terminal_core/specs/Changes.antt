@@ -1,5 +1,5 @@
 -- The rows of a terminal's three lists, and what a change does to them.
-use Rattle.std.specs.Prelude.{◌≡◌, ◌≢◌, ℕ, ◌+◌, Bool, true, ◌==◌, List, [], ◌∷◌, ◌++◌, length, map, filter, Option, None, Some, is_some, ◌↔◌, if◌then◌else◌}
+use Rattle.std.specs.Prelude.{◌≡◌, ◌≢◌, ℕ, ◌+◌, Bool, true, ◌==◌, List, [], ◌∷◌, ◌++◌, map, filter, Option, None, Some, is_some, ◌↔◌, if◌then◌else◌}
 use Rattle.std.specs.Option.{option_map}
 use Rattle.std.specs.Str.{bytes_eq}
 use Rattle.std.specs.Map.{update}
@@ -13,7 +13,7 @@ use Rattle.terminal_core.specs.declared.lines.LineState.TheVariants.{Pending, Do
 use Rattle.terminal_core.specs.declared.change.Source.{Source}
 use Rattle.terminal_core.specs.declared.change.Version.{Version}
 use Rattle.terminal_core.specs.Rows.{VisitContent, ChangeContent, visit_opened, visit_closed, placed_at, moved_to, removed_from, listed_on, line_done, unlisted}
-use Rattle.terminal_core.specs.State.{TerminalState, LineContent, LineKey, Lines, line_key, open_visit, IsWhole}
+use Rattle.terminal_core.specs.State.{TerminalState, LineContent, LineKey, Lines, last_number, line_key, open_visit, IsWhole}
 use Rattle.terminal_core.specs.Step.{number_of_visit, step_by}
 
 -- ---- rows
@@ -90,7 +90,7 @@ is_numbered number visit = visit.number == number
 
 -- the visit is open, its number is the next, and none has it yet
 pub record IsNextVisit (visit : VisitContent) (visits : List VisitContent) : Type 0 where
-  pub next : visit.number ≡ length visits + 1
+  pub next : visit.number ≡ last_number visits + 1
   pub absent : filter (is_numbered visit.number) visits ≡ []
   pub stays : visit.departure ≡ None
 

@@ -1,5 +1,5 @@
 -- Which rows are those of a state.
-use Rattle.std.specs.Prelude.{◌≡◌, ◌≢◌, ℕ, ◌≤◌, List, true, map, Some, Contains, count_by, is_none}
+use Rattle.std.specs.Prelude.{◌≡◌, ◌≢◌, ℕ, ◌<◌, ◌≤◌, List, length, slice_index, true, map, Some, Contains, count_by, is_none}
 use Rattle.std.specs.FinMap as finite_map
 use Rattle.std.specs.Str.{bytes_eq}
 use Rattle.box6346.specs.declared.box_number.BoxNumber.{BoxNumber}
@@ -116,6 +116,14 @@ RefusesPut visits old place Unsound =
     → (fault : YardFault) × (fault ≢ yard.Memory)
     × RefusesPutBack old place.container (stowed_by visit place.slot) fault
 RefusesPut visits old place Memory = Unit {0}
+
+-- the numbers of visits, as they stand
+abbrev pub numbers_of : List Visit → List ℕ
+numbers_of visits = map (λ (visit : Visit). visit.number) visits
+
+-- each number is below those behind it
+abbrev pub AreRising : List ℕ → Type 0
+AreRising numbers = (i j : ℕ) → i < j → j < length numbers → slice_index numbers i < slice_index numbers j
 
 -- a place names each open visit
 abbrev pub AreNamed : List VisitContent → List Place → Type 0

@@ -1,5 +1,5 @@
 -- What a terminal holds: its yard, every visit, and the lines of the vessels' lists.
-use Rattle.std.specs.Prelude.{◌≡◌, ℕ, ◌+◌, ◌≤◌, Bool, List, [], ◌∷◌, length, filter, find, reverse, Option, Some, is_none, is_some, ◌&&◌}
+use Rattle.std.specs.Prelude.{◌≡◌, ℕ, ◌<◌, ◌≤◌, Bool, List, [], ◌∷◌, length, filter, find, reverse, Option, Some, is_none, is_some, ◌&&◌}
 use Rattle.std.specs.Str.{bytes_eq}
 use Rattle.std.specs.Ordering.{nat_cmp}
 use Rattle.std.specs.Cmp.Lexicographic.{slice_cmp}
@@ -74,10 +74,19 @@ last_visit state container = find (is_visit_of container) (reverse state.visits)
 
 -- ---- whole states
 
--- visits are numbered 1, 2, .. as they stand
+-- each visit has a number above those before it, and above that one
 abbrev pub AreNumbered : ℕ → List VisitContent → Type 0
-AreNumbered next [] = Unit {0}
-AreNumbered next (visit ∷ visits) = (visit.number ≡ next) × AreNumbered (next + 1) visits
+AreNumbered above [] = Unit {0}
+AreNumbered above (visit ∷ visits) = (above < visit.number) × AreNumbered visit.number visits
+
+-- the number of the last of these visits, or that one if there is none
+abbrev pub last_from : ℕ → List VisitContent → ℕ
+last_from number [] = number
+last_from number (visit ∷ visits) = last_from visit.number visits
+
+-- the number of the newest visit: as many there were
+abbrev pub last_number : List VisitContent → ℕ
+last_number visits = last_from 0 visits
 
 -- how a container stands in a slot by its visit: as long as its size-type, and full or empty
 abbrev pub stowed_by : VisitContent → Slot → Stowed
@@ -94,8 +103,8 @@ IsAsTold state container =
 pub record IsWhole (state : TerminalState) : Type 0 where
   pub plan : IsPlan state.yard.plan
   pub sound : IsSound state.yard.plan (placement_of state.yard.boxes)
-  pub numbered : AreNumbered 1 state.visits
-  pub within : length state.visits ≤ state.limit
+  pub numbered : AreNumbered 0 state.visits
+  pub within : last_number state.visits ≤ state.limit
   pub one_visit : (container : BoxNumber) → length (filter (is_open_visit container) state.visits) ≤ 1
   pub here : (container : BoxNumber) → is_in state container ≡ is_some (open_visit state container)
   pub as_told : (container : BoxNumber) → IsAsTold state container

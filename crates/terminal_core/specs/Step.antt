@@ -1,6 +1,6 @@
 -- What an order does at a terminal: the refusals in their order, and otherwise the new state, the outcome and the
 -- changes.
-use Rattle.std.specs.Prelude.{ℕ, ◌+◌, Bool, List, [], ◌∷◌, ◌++◌, length, map, nat_le, Option, None, Some, Result, Ok, Err, if◌then◌else◌}
+use Rattle.std.specs.Prelude.{ℕ, ◌+◌, Bool, List, [], ◌∷◌, ◌++◌, map, nat_le, Option, None, Some, Result, Ok, Err, if◌then◌else◌}
 use Rattle.std.specs.FinMap as finite_map
 use Rattle.box6346.specs.SizeCode.{length_of}
 use Rattle.box6346.specs.declared.box_number.BoxNumber.{BoxNumber}
@@ -26,7 +26,7 @@ use Rattle.terminal_core.specs.declared.visits.Way.{Way}
 use Rattle.terminal_core.specs.declared.visits.Way.TheVariants.{Gate, Ship}
 use Rattle.terminal_core.specs.Rows.{VisitContent, ChangeContent, visit_opened, visit_closed, placed_at, moved_to, removed_from, listed_on, line_done}
 use Rattle.terminal_core.specs.Versions.{newest, spares}
-use Rattle.terminal_core.specs.State.{TerminalState, LineContent, line_key, line_of, is_in, is_open_visit, open_visit}
+use Rattle.terminal_core.specs.State.{TerminalState, LineContent, last_number, line_key, line_of, is_in, is_open_visit, open_visit}
 
 -- what a step leaves, answers and changes
 pub record Stepped : Type 0 where
@@ -71,7 +71,7 @@ yard_with_entry version y entry = settled_in version y entry entry.slot
 
 -- as many visits stand as the set-up allows
 abbrev pub is_full : TerminalState → Bool
-is_full state = nat_le state.limit (length state.visits)
+is_full state = nat_le state.limit (last_number state.visits)
 
 -- the visit of that number, opened
 abbrev pub opened_by : ℕ → Way → Source → EntryContent → Slot → VisitContent
@@ -87,7 +87,7 @@ opened_by number way source entry slot = record {
 }
 
 abbrev pub visit_of : TerminalState → Way → Source → EntryContent → Slot → VisitContent
-visit_of state way source entry slot = opened_by (length state.visits + 1) way source entry slot
+visit_of state way source entry slot = opened_by (last_number state.visits + 1) way source entry slot
 
 -- the container stands, and its visit is opened
 abbrev pub entered_at : TerminalState → Way → Source → EntryContent → Result (YardMap × Slot) Refusal → Stepped
@@ -95,7 +95,7 @@ entered_at state way source entry (Err refusal) = with_refusal state (reason_of 
 entered_at state way source entry (Ok (y, slot)) =
     step_with (record state { yard = y; visits = state.visits ++ visit_of state way source entry slot ∷ [] })
     (Done slot)
-    (visit_opened (visit_of state way source entry slot) ∷ placed_at entry.number (length state.visits + 1) slot ∷ [])
+    (visit_opened (visit_of state way source entry slot) ∷ placed_at entry.number (last_number state.visits + 1) slot ∷ [])
 
 abbrev pub after_entry : Version → TerminalState → Way → Source → EntryContent → Stepped
 after_entry version state way source entry =

@@ -1,16 +1,16 @@
 ghost use Rattle.std.specs.List.{list_any};
 ghost use Rattle.std.specs.List.Sorted.{IsPermutation, IsNonDecreasingBy};
-ghost use Rattle.std.specs.Prelude.{◌≡◌, ◌+◌, ◌<◌, ◌≤◌, [], ◌∷◌, ◌++◌, vec_len, vec_capacity, ◌≢◌, ◌==◌, ℕ, ◌↔◌, IsTrue, IfOk, IfErr, OnOk, MatchOption, MatchResult, Contains, map, length, is_none, slice_get, slice_index_or, true, false, Some};
-ghost use Rattle.terminal_core.specs.Restoring.{cause_of, Names, AreNamed, IsPut, RefusesPut, IsYardOf, RefusesYard, RefusesPlaces, ArePlacesOf};
+ghost use Rattle.std.specs.Prelude.{◌≡◌, ◌+◌, ◌<◌, ◌≤◌, [], ◌∷◌, ◌++◌, vec_len, vec_capacity, ◌≢◌, ◌==◌, ℕ, ◌↔◌, IsTrue, IfOk, IfErr, OnOk, MatchOption, MatchResult, map, length, is_none, slice_get, slice_index, slice_index_or, true, false, Some};
+ghost use Rattle.terminal_core.specs.Restoring.{cause_of, Names, AreNamed, IsPut, RefusesPut, IsYardOf, RefusesYard, RefusesPlaces, ArePlacesOf, AreRising, numbers_of};
 ghost use Rattle.terminal_core.specs.Rows.{VisitContent, visit_content};
-ghost use Rattle.terminal_core.specs.State.{AreNumbered};
+ghost use Rattle.terminal_core.specs.State.{AreNumbered, last_number};
 ghost use Rattle.terminal_core.specs.declared.restoring.RestoreFault.TheVariants.{Memory};
 ghost use Rattle.yard_core.specs.Plan.{IsPlan};
 ghost use Rattle.yard_core.specs.SoundYard.{IsSound};
 ghost use Rattle.yard_core.specs.YardMap.{placement_of};
 
 use crate::change::Place;
-use crate::visits::{Visit, is_open};
+use crate::visits::{Visit, is_open, last_of};
 use std::alloc::{AllocError, Global};
 use thiserror::Error;
 use yard_core::{Plan, Yard, YardFault};
@@ -44,8 +44,8 @@ impl From<AllocError> for RestoreFault {
     }
 }
 
-/// The yard of a plan, visits and places: Unsound if the visits are not numbered within the limit, or the places are
-/// not those of the open visits in a sound yard.
+/// The yard of a plan, visits and places: Unsound if the numbers of the visits do not rise within the limit, or the
+/// places are not those of the open visits in a sound yard.
 pub(crate) fn restored_yard(
     alloc: Global,
     plan: Plan,
@@ -56,27 +56,50 @@ pub(crate) fn restored_yard(
     ensures ok { IfOk result (IsYardOf plan visit_limit (map visit_content visits.now) places.items) }
     ensures unsound { IfErr result (RefusesYard plan visit_limit (map visit_content visits.now) places.items) }
 {
-    if visits.len() > visit_limit as usize || !are_numbered(visits) {
+    if last_of(visits) > visit_limit || !are_numbered(visits) {
         return Err(RestoreFault::Unsound);
     }
+    let numbers = numbers_of(alloc, visits)?;
     sort_by_tier(&mut places)?;
-    let yard = settled_yard(alloc, plan, visits, &places)?;
-    if !are_all_named(alloc, visits, &places)? {
+    let yard = settled_yard(alloc, plan, visits, &numbers, &places)?;
+    if !are_all_named(alloc, visits, &numbers, &places)? {
         return Err(RestoreFault::Unsound);
     }
     Ok(yard)
 }
 
-/// Whether visits are numbered 1, 2, .. as they stand.
+/// Whether the numbers of visits rise, from 1 or more.
 fn are_numbered(visits: &[Visit]) -> bool
-    ensures { IsTrue result ↔ AreNumbered 1 (map visit_content visits.now) }
+    ensures { IsTrue result ↔ AreNumbered 0 (map visit_content visits.now) }
 {
-    for (index, visit) in visits.iter().enumerate() {
-        if visit.number as usize != index + 1 {
+    let mut last = 0;
+    for visit in visits {
+        if visit.number <= last {
             return false;
         }
+        last = visit.number;
     }
     true
+}
+
+/// The numbers of visits, as they stand.
+fn numbers_of(alloc: Global, visits: &[Visit]) -> Result<Vec<u32>, AllocError>
+    ensures { IfOk result (λ v. v.items ≡ numbers_of visits.now) }
+{
+    visits.iter().map(|visit| visit.number).collect(alloc)
+}
+
+/// Where a number stands among those that rise.
+fn index_of(numbers: &[u32], number: u32) -> Option<usize>
+    requires { AreRising numbers.now }
+    ensures { MatchOption result
+        ((k : ℕ) → k < length numbers.now → slice_index numbers.now k ≢ number)
+        (λ k. (k < length numbers.now) × (slice_index numbers.now k ≡ number)) }
+{
+    match numbers.binary_search(&number) {
+        Ok(index) => Some(index),
+        Err(_) => None,
+    }
 }
 
 /// So each container comes after those that carry it.
@@ -92,9 +115,11 @@ fn settled_yard(
     alloc: Global,
     plan: Plan,
     visits: &[Visit],
+    numbers: &[u32],
     places: &[Place],
 ) -> Result<Yard, RestoreFault>
-    requires numbered { AreNumbered 1 (map visit_content visits.now) }
+    requires numbered { AreNumbered 0 (map visit_content visits.now) }
+    requires numbers { numbers.now ≡ numbers_of visits.now }
     requires sorted { IsNonDecreasingBy (λ place. place.slot.tier) places.now }
     ensures plan { IfOk result (λ y. IsPlan plan × (y.plan ≡ plan)) }
     ensures sound { IfOk result (λ y. IsSound y.plan (placement_of y.boxes)) }
@@ -103,21 +128,27 @@ fn settled_yard(
 {
     let mut yard = Yard::new(alloc, plan)?;
     for place in places {
-        put(&mut yard, visits, place)?;
+        put(&mut yard, visits, numbers, place)?;
     }
     Ok(yard)
 }
 
 /// One container more, put back as the visit that its place names tells.
-fn put(yard: &mut Yard, visits: &[Visit], place: &Place) -> Result<(), RestoreFault>
-    requires numbered { AreNumbered 1 (map visit_content visits.now) }
+fn put(
+    yard: &mut Yard,
+    visits: &[Visit],
+    numbers: &[u32],
+    place: &Place,
+) -> Result<(), RestoreFault>
+    requires numbered { AreNumbered 0 (map visit_content visits.now) }
+    requires numbers { numbers.now ≡ numbers_of visits.now }
     requires sound { IsSound yard.old.plan (placement_of yard.old.boxes) }
     ensures answer { MatchResult result
         (λ _. IsPut (map visit_content visits.now) yard.old yard.new place.now)
         (RefusesPut (map visit_content visits.now) yard.old place.now) }
     ensures sound { IsSound yard.new.plan (placement_of yard.new.boxes) }
 {
-    let Some(visit) = named_visit(visits, place) else {
+    let Some(visit) = named_visit(visits, numbers, place) else {
         return Err(RestoreFault::Unsound);
     };
     let length = visit.size_type.length();
@@ -138,16 +169,17 @@ fn cause(fault: YardFault) -> RestoreFault
 }
 
 /// The container's open visit that its place names.
-fn named_visit<'a>(visits: &'a [Visit], place: &Place) -> Option<&'a Visit>
-    requires { AreNumbered 1 (map visit_content visits.now) }
+fn named_visit<'a>(visits: &'a [Visit], numbers: &[u32], place: &Place) -> Option<&'a Visit>
+    requires numbered { AreNumbered 0 (map visit_content visits.now) }
+    requires numbers { numbers.now ≡ numbers_of visits.now }
     ensures { MatchOption result
         ((visit : VisitContent) → ¬ Names (map visit_content visits.now) place.now visit)
         (λ visit. Names (map visit_content visits.now) place.now (visit_content visit.now)) }
 {
-    if place.visit == 0 {
+    let Some(index) = index_of(numbers, place.visit) else {
         return None;
-    }
-    let Some(visit) = visits.get(place.visit as usize - 1) else {
+    };
+    let Some(visit) = visits.get(index) else {
         return None;
     };
     if is_open(visit, place.container) {
@@ -158,27 +190,33 @@ fn named_visit<'a>(visits: &'a [Visit], place: &Place) -> Option<&'a Visit>
 }
 
 /// Whether each open visit is named by a place.
-fn are_all_named(alloc: Global, visits: &[Visit], places: &[Place]) -> Result<bool, AllocError>
-    requires numbered { AreNumbered 1 (map visit_content visits.now) }
-    requires named { (place : Place) → Contains places.now place → (1 ≤ place.visit) ×
-        (place.visit ≤ length visits.now) }
+fn are_all_named(
+    alloc: Global,
+    visits: &[Visit],
+    numbers: &[u32],
+    places: &[Place],
+) -> Result<bool, AllocError>
+    requires numbered { AreNumbered 0 (map visit_content visits.now) }
+    requires numbers { numbers.now ≡ numbers_of visits.now }
     ensures { IfOk result (λ b. IsTrue b ↔ AreNamed (map visit_content visits.now) places.now) }
 {
-    let marks = named(alloc, visits.len(), places)?;
+    let marks = named(alloc, numbers, places)?;
     Ok(are_marked(visits, &marks))
 }
 
-/// Which visits are named by a place, in their order.
-fn named(alloc: Global, count: usize, places: &[Place]) -> Result<Vec<bool>, AllocError>
-    requires { (place : Place) → Contains places.now place → (1 ≤ place.visit) × (place.visit ≤ count) }
-    ensures len { IfOk result (λ marks. length marks.items ≡ count) }
+/// Which visits of these numbers are named by a place, in their order.
+fn named(alloc: Global, numbers: &[u32], places: &[Place]) -> Result<Vec<bool>, AllocError>
+    requires { AreRising numbers.now }
+    ensures len { IfOk result (λ marks. length marks.items ≡ length numbers.now) }
     ensures marks { IfOk result
-        (λ marks. (k : ℕ) → k < count →
-        slice_index_or marks.items k false ≡ list_any (λ place. place.visit == k + 1) places.now) }
+        (λ marks. (k : ℕ) → k < length numbers.now →
+        slice_index_or marks.items k false ≡ list_any (λ place. place.visit == slice_index numbers.now k) places.now) }
 {
-    let mut marks = vec![in alloc; false; count]?;
+    let mut marks = vec![in alloc; false; numbers.len()]?;
     for place in places {
-        marks[place.visit as usize - 1] = true;
+        if let Some(index) = index_of(numbers, place.visit) {
+            marks[index] = true;
+        }
     }
     Ok(marks)
 }

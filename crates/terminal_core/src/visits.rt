@@ -5,7 +5,7 @@ ghost use Rattle.edi_messages.specs.Owned.{entry_content};
 ghost use Rattle.terminal_core.specs.Calls.{HasOneVisit};
 ghost use Rattle.terminal_core.specs.Index.{AreIndexed, AreLastIndexed, HasRoom};
 ghost use Rattle.terminal_core.specs.Rows.{visit_content, change_content, visit_closed};
-ghost use Rattle.terminal_core.specs.State.{is_open_visit, is_visit_of};
+ghost use Rattle.terminal_core.specs.State.{is_open_visit, is_visit_of, last_number};
 ghost use Rattle.terminal_core.specs.Step.{closed_visit, number_of_visit, opened_by, departure_by};
 
 use crate::change::{Change, Source};
@@ -149,11 +149,11 @@ impl Visits {
         &self.rows
     }
 
-    /// How many there were.
-    pub(crate) fn count(&self) -> usize
-        ensures { result ≡ length self.now.visits }
+    /// The number of the newest one: as many there were.
+    pub(crate) fn last_number(&self) -> u32
+        ensures { result ≡ last_number self.now.visits }
     {
-        self.rows.len()
+        last_of(&self.rows)
     }
 
     /// The container's visit that is open.
@@ -235,6 +235,16 @@ impl Visits {
             moment,
         });
         visit.number
+    }
+}
+
+/// The number of the last visit, 0 if there is none.
+pub(crate) fn last_of(rows: &[Visit]) -> u32
+    ensures { result ≡ last_number (map visit_content rows.now) }
+{
+    match rows.last() {
+        Some(visit) => visit.number,
+        None => 0,
     }
 }
 

@@ -253,13 +253,13 @@ impl Terminal {
         ensures planned { IfOk result (IsPlanned self.new.yard.plan) }
         ensures lines { self.new.lines ≡ self.old.lines }
     {
-        if self.visits.count() >= self.limit as usize {
+        if self.visits.last_number() >= self.limit {
             return Ok(Outcome::Refused(Reason::VisitLimit));
         }
         let booking = String::from_str(alloc, entry.booking.as_str())?;
         let told_booking = String::from_str(alloc, entry.booking.as_str())?;
         self.visits.reserve()?;
-        let number = self.visits.count() as u32 + 1;
+        let number = self.visits.last_number() + 1;
         match settle(&mut self.yard, entry)? {
             Ok(slot) => {
                 self.visits

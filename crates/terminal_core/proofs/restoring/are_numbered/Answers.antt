@@ -1,24 +1,33 @@
-use Rattle.std.proofs.Common.{◌≡◌, ℕ, ◌+◌, Some, refl, sym, ap, ◌∙◌, arith, length, below_more}
-use Rattle.std.specs.Prelude.{slice_get}
-use Rattle.std.proofs.lemmas.Option.{slice_get_read, slice_get_within, same_Some}
-use Rattle.terminal_core.specs.declared.visits.Visit.{Visit}
-use Rattle.terminal_core.proofs.Numbered.{numbered_rows, row_number}
+use Rattle.std.proofs.Common.{◌≡◌, ◌<◌, ℕ, Some, refl, sym, ap, subst, ◌∙◌, arith, length, take}
+use Rattle.std.specs.Prelude.{slice_get, map}
+use Rattle.std.proofs.lemmas.List.{take_all}
+use Rattle.std.proofs.lemmas.Option.{slice_get_read}
+use Rattle.terminal_core.specs.Rows.{visit_content}
+use Rattle.terminal_core.specs.State.{AreNumbered, last_from, last_number}
+use Rattle.terminal_core.proofs.Open.{numbered_one_more, last_pushed}
+use Rattle.terminal_core.proofs.Numbered.{next_above, one_row_more}
 use Rattle.terminal_core.proofs.restoring.are_numbered.Goals as goal
 
-pub returns-then-visit-index : goal.returns-then-visit-index
-returns-then-visit-index c = (
+pub returns-then-visit-last : goal.returns-then-visit-last
+returns-then-visit-last c = (
   λ f. absurd (cc),
-  λ are. (let at : slice_get c.args.visits.now c.loop-index.index ≡ Some c.index-visits-index.result = slice_get_read c.args.visits.now (length c.args.visits.now) _ c.index-visits-index.result refl (omega arith) c.index-visits-index.is in
-      let number = row_number c.args.visits.now c.loop-index.index c.index-visits-index.result are at in
-      absurd (omega (arith, number))),
+  λ are. (let at : slice_get c.args.visits.now c.loop-visit.visit-index ≡ Some c.visit-item.result = slice_get_read c.args.visits.now (length c.args.visits.now) _ c.visit-item.result refl c.loop-visit-test.true c.visit-item.is in
+      let above : last_number (map visit_content (take c.loop-visit.visit-index c.args.visits.now)) < c.visit-item.result.number = next_above 0 c.args.visits.now c.loop-visit.visit-index c.visit-item.result are at in
+      absurd (omega (arith, above, c.loop-visit.invariant.last, c.if-visit-last.true))),
 )
 
-pub loop-index-preserved : goal.loop-index-preserved
-loop-index-preserved c k visit low at =
-    let read : slice_get c.args.visits.now c.loop-index.index ≡ Some c.index-visits-index.result = slice_get_read c.args.visits.now (length c.args.visits.now) _ c.index-visits-index.result refl (omega arith) c.index-visits-index.is in
-    let P : ℕ → Type 0 = λ k. (v : Visit) → slice_get c.args.visits.now k ≡ Some v → v.number ≡ k + 1 in
-    below_more P c.loop-index.index (λ j near v there. c.loop-index.invariant j v near there)
-    (λ v there. ap (λ (w : Visit). w.number) (same_Some v c.index-visits-index.result (sym there ∙ read)) ∙ omega arith) k low visit at
+pub loop-visit-preserved : goal.loop-visit-preserved
+loop-visit-preserved c =
+    let before = map visit_content (take c.loop-visit.visit-index c.args.visits.now) in
+    let more = one_row_more c.args.visits.now c.loop-visit.visit-index c.visit-item.result c.loop-visit-test.true c.visit-item.is in
+    let beyond : last_number before < c.visit-item.result.number = omega (arith, c.loop-visit.invariant.last, c.if-visit-last.false) in
+    record {
+      so_far = subst (AreNumbered 0) (sym more) (numbered_one_more 0 before (visit_content c.visit-item.result) c.loop-visit.invariant.so_far beyond);
+      last = sym (ap last_number more ∙ last_pushed 0 before (visit_content c.visit-item.result));
+    }
 
 pub returns : goal.returns
-returns c = (λ t. numbered_rows c.args.visits.now (λ k visit at. (let low = slice_get_within c.args.visits.now k visit at in c.loop-index.invariant k visit (omega (arith, low)) at)), λ are. refl)
+returns c = (
+  λ t. subst (AreNumbered 0) (ap (map visit_content) (take_all c.loop-visit.visit-index c.args.visits.now c.loop-visit-test.false)) c.loop-visit.invariant.so_far,
+  λ are. refl,
+)

@@ -1,7 +1,11 @@
-use Rattle.std.proofs.Common.{◌≡◌, ℕ, ◌+◌, ◌<◌, Some}
-use Rattle.std.specs.Prelude.{slice_get}
-use Rattle.terminal_core.specs.declared.visits.Visit.{Visit}
+use Rattle.std.proofs.Common.{◌≡◌, take}
+use Rattle.std.specs.Prelude.{map}
+use Rattle.terminal_core.specs.Rows.{visit_content}
+use Rattle.terminal_core.specs.State.{AreNumbered, last_number}
 use Rattle.terminal_core.proofs.restoring.are_numbered.Given as goal
 
-abbrev pub invariant-loop-index : goal.invariant-loop-index
-invariant-loop-index l = (k : ℕ) (visit : Visit) → k < l.index → slice_get l.visits k ≡ Some visit → visit.number ≡ k + 1
+abbrev pub invariant-loop-visit : goal.invariant-loop-visit
+invariant-loop-visit l = record {
+  so_far : AreNumbered 0 (map visit_content (take l.visit-index l.visits));
+  last : l.last ≡ last_number (map visit_content (take l.visit-index l.visits));
+}

@@ -1,11 +1,10 @@
-use Rattle.std.proofs.Common.{◌≡◌, List, sym, arith, length, subst}
+use Rattle.std.proofs.Common.{◌≡◌, ◌≤◌, List, sym, arith, length, subst}
 use Rattle.std.specs.Prelude.{map, Contains}
-use Rattle.std.proofs.lemmas.List.{length-map}
 use Rattle.std.proofs.lemmas.Result.{err_from_is_err_and}
 use Rattle.terminal_core.specs.declared.change.Place.{Place}
 use Rattle.terminal_core.specs.Rows.{visit_content}
+use Rattle.terminal_core.specs.State.{last_number}
 use Rattle.terminal_core.specs.Restoring.{ArePlacesOf, AreNamed, RefusesPlaces}
-use Rattle.terminal_core.proofs.Numbered.{named_within}
 use Rattle.terminal_core.proofs.Restored.{whole_of, unsound_yard, not_all_named}
 use Rattle.terminal_core.proofs.restoring.restored_yard.Goals as goal
 
@@ -13,29 +12,19 @@ pub returns-in_err-yard-clause-unsound : goal.returns-in_err-yard-clause-unsound
 returns-in_err-yard-clause-unsound c =
     let p = err_from_is_err_and c.from_residual-in_err-yard.result c.from_residual-in_err-yard.ensures.1 in
     let P : List Place → Type 0 = λ places. RefusesPlaces c.args.plan (map visit_content c.args.visits.now) places c.in_err-yard.field-0.0 in
-    rw (p.1, p.2) (unsound_yard c.args.plan c.args.visit_limit (map visit_content c.args.visits.now) c.args.places.items c.sort_by_tier.new.places.items c.in_err-yard.field-0.0 c.in_ok-sort_by_tier.ensures.moved (subst P c.deref.ensures.value c.in_err-yard.ensures.unsound))
-
-pub are_all_named-requires-clause-named : goal.are_all_named-requires-clause-named
-are_all_named-requires-clause-named c place inside =
-    let P : List Place → Type 0 = λ places. Contains places place in
-    let Q : List Place → Type 0 = λ places. ArePlacesOf (map visit_content c.args.visits.now) c.in_ok-yard.yard.boxes places in
-    let all : Q c.sort_by_tier.new.places.items = subst Q c.deref.ensures.value c.in_ok-yard.ensures.placed in
-    let stand = all.each place (subst P c.deref-2.ensures.value inside) in
-    let within = named_within (map visit_content c.args.visits.now) (c.are_numbered.ensures.0 c.if-not-are_numbered.false) place stand.visit stand.names in
-    let long : length (map visit_content c.args.visits.now) ≡ length c.args.visits.now = length-map c.args.visits.now visit_content in
-    (within.0, omega (arith, within.1))
+    rw (p.1, p.2) (unsound_yard c.args.plan c.args.visit_limit (map visit_content c.args.visits.now) c.args.places.items c.sort_by_tier.new.places.items c.in_err-yard.field-0.0 c.in_ok-sort_by_tier.ensures.moved (subst P c.deref-2.ensures.value c.in_err-yard.ensures.unsound))
 
 pub returns-then-not-branch-clause-unsound : goal.returns-then-not-branch-clause-unsound
 returns-then-not-branch-clause-unsound c =
     let P : List Place → Type 0 = AreNamed (map visit_content c.args.visits.now) in
     not_all_named c.args.plan c.args.visit_limit (map visit_content c.args.visits.now) c.args.places.items c.sort_by_tier.new.places.items c.in_ok-sort_by_tier.ensures.moved
-    (λ named. let is = c.in_ok-are_all_named.ensures.1 (subst P (sym c.deref-2.ensures.value) named) in cc)
+    (λ named. let is = c.in_ok-are_all_named.ensures.1 (subst P (sym c.deref-4.ensures.value) named) in cc)
 
 pub returns-clause-ok : goal.returns-clause-ok
 returns-clause-ok c =
     let P : List Place → Type 0 = AreNamed (map visit_content c.args.visits.now) in
     let Q : List Place → Type 0 = λ places. ArePlacesOf (map visit_content c.args.visits.now) c.in_ok-yard.yard.boxes places in
-    let long : length (map visit_content c.args.visits.now) ≡ length c.args.visits.now = length-map c.args.visits.now visit_content in
+    let last : last_number (map visit_content c.args.visits.now) ≤ c.args.visit_limit = omega (arith, c.last_of.ensures, c.if-last_of-visit_limit.false) in
     whole_of c.args.plan c.args.visit_limit (map visit_content c.args.visits.now) c.args.places.items c.sort_by_tier.new.places.items c.in_ok-yard.yard c.in_ok-yard.ensures.plan.0 c.in_ok-yard.ensures.plan.1 c.in_ok-yard.ensures.sound
-    (c.are_numbered.ensures.0 c.if-not-are_numbered.false) (omega arith) c.in_ok-sort_by_tier.ensures.moved (subst Q c.deref.ensures.value c.in_ok-yard.ensures.placed)
-    (subst P c.deref-2.ensures.value (c.in_ok-are_all_named.ensures.0 c.if-not-branch.false))
+    (c.are_numbered.ensures.0 c.if-not-are_numbered.false) last c.in_ok-sort_by_tier.ensures.moved (subst Q c.deref-2.ensures.value c.in_ok-yard.ensures.placed)
+    (subst P c.deref-4.ensures.value (c.in_ok-are_all_named.ensures.0 c.if-not-branch.false))
