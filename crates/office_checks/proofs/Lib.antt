@@ -3,4 +3,5 @@ pub mod Kept
 pub mod Accounted
 pub mod Told
 pub mod Keyed
+pub mod OneByOne
 pub mod Offices

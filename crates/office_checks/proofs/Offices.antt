@@ -27,6 +27,7 @@ use Rattle.terminal_core.specs.Rows.{VisitContent, visit_content}
 use Rattle.terminal_core.specs.State.{TerminalState, LineContent, Lines, LineKey, line_key}
 use Rattle.terminal_core.specs.Forms.{IsFormedLine}
 use Rattle.terminal_core.specs.Listings.{line_content, key_of, lines_of}
+use Rattle.terminal_core.specs.OneByOne.{GoOneByOne}
 use Rattle.terminal_core.specs.Restoring.{AreRowsOf}
 use Rattle.terminal_core.proofs.Formed.{by_key_lists, lists_by_key}
 use Rattle.terminal_core.proofs.Lined.{line_first, line_none}
@@ -167,7 +168,8 @@ module _ (tables : OpenedTables) (content : SetupContent) (state : TerminalState
   pub terminal_of_office : (limit : ℕ) → content.visit_limit ≡ limit → AreTerminal (length tables.partners.items) limit tables.blocks.items tables.visits.items tables.places.items tables.lines.items state
   terminal_of_office limit same =
       let P : ℕ → Type 0 = λ n. AreRowsOf tables.blocks.items n tables.visits.items tables.places.items tables.lines.items state in
-      record { visits_sound = visits_of_office; lines_sound = lines_of_office; rows = subst P same rows_of_office }
+      let G : List VisitContent → Type 0 = GoOneByOne 1 in
+      record { visits_sound = visits_of_office; one_by_one = subst G rows_of_office.visits_are office.one_by_one; lines_sound = lines_of_office; rows = subst P same rows_of_office }
 
 -- ---- one limit
 
@@ -235,6 +237,7 @@ module _ (tables : OpenedTables) (content : SetupContent) (state : TerminalState
         plan = terminal.rows.plan_is ∙ sym blocks;
         limit = terminal.rows.limit_is;
         whole = terminal.rows.whole;
+        one_by_one = (let G : List VisitContent → Type 0 = GoOneByOne 1 in subst G (sym terminal.rows.visits_are) terminal.one_by_one);
         formed = record {
           visits = λ visit inside. (sound_visit visit inside).formed;
           lines = λ call side container line at. lines_formed tables.lines.items terminal.lines_sound call side container line (ap (λ (l : Lines). finite_map.get l (line_key call side container)) (sym terminal.rows.lines_are) ∙ at);

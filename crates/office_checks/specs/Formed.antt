@@ -1,5 +1,5 @@
 -- The forms of rows: what the code relies on, and no caller has to read.
-use Rattle.std.specs.Prelude.{ℕ, ◌≤◌, List, Option, None, Some, IsTrue, All}
+use Rattle.std.specs.Prelude.{ℕ, ◌≤◌, List, map, Option, None, Some, IsTrue, All}
 use Rattle.std.specs.List.Sorted.{IsNonDecreasingBy}
 use Rattle.box6346.specs.SlotName.{IsNamed}
 use Rattle.yard_core.specs.declared.plan.Block.{Block}
@@ -14,6 +14,7 @@ use Rattle.terminal_core.specs.declared.restoring.RestoreFault.TheVariants.{Unso
 use Rattle.terminal_core.specs.declared.visits.Visit.{Visit}
 use Rattle.terminal_core.specs.Forms.{IsSource, IsFormedVisit, IsFormedLine}
 use Rattle.terminal_core.specs.Listings.{line_content}
+use Rattle.terminal_core.specs.OneByOne.{GoOneByOne}
 use Rattle.terminal_core.specs.Restoring.{AreRowsOf}
 use Rattle.terminal_core.specs.Rows.{VisitContent, visit_content}
 use Rattle.terminal_core.specs.State.{TerminalState}
@@ -53,10 +54,12 @@ AreSoundLines lines = All IsSoundLine lines
 abbrev pub AreByLetter : List Block → Type 0
 AreByLetter blocks = IsNonDecreasingBy (λ (block : Block). block.letter) blocks
 
--- the rows of visits, places and lines are those of the state, and visits and lines have their forms
+-- the rows of visits, places and lines are those of the state, visits and lines have their forms, and the numbers of
+-- visits go on one by one from 1
 pub record AreTerminal (count limit : ℕ) (blocks : List Block) (visits : List Visit) (places : List Place)
     (lines : List Listing) (state : TerminalState) : Type 0 where
   pub visits_sound : AreSoundVisits count visits
+  pub one_by_one : GoOneByOne 1 (map visit_content visits)
   pub lines_sound : AreSoundLines lines
   pub rows : AreRowsOf blocks limit visits places lines state
 

@@ -6,7 +6,9 @@ ghost use Rattle.office_rows.specs.Office.{IsOffice};
 ghost use Rattle.office_setup.specs.Setups.{setup_content};
 
 use crate::numbers::{NumberRow, PartnerRow, accounts_of, are_accounts, are_kept};
-use crate::settings::{Setting, are_by_letter, are_sound_lines, are_sound_visits, read_settings};
+use crate::settings::{
+    Setting, are_by_letter, are_sound_lines, are_sound_visits, go_one_by_one, read_settings,
+};
 use office_setup::Setup;
 use std::alloc::Global;
 use terminal_core::{Listing, Place, RestoreFault, Terminal, Visit};
@@ -91,6 +93,9 @@ fn restore_terminal(
         (RefusesTerminal count visit_limit blocks.now visits.items places.items lines.items) }
 {
     if !are_sound_visits(count, &visits) {
+        return Err(RestoreFault::Unsound);
+    }
+    if !go_one_by_one(&visits) {
         return Err(RestoreFault::Unsound);
     }
     if !are_sound_lines(&lines) {

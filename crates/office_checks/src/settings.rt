@@ -13,6 +13,7 @@ ghost use Rattle.office_checks.specs.Formed.{IsSoundSource, IsSoundArrival, IsSo
 ghost use Rattle.office_checks.specs.Said.{setting_names, names_of, values_of, code_values, set_up_with, AreSettings, RefusesSettings};
 ghost use Rattle.office_setup.specs.Limits.{most_visits};
 ghost use Rattle.terminal_core.specs.Forms.{IsFormedPort};
+ghost use Rattle.terminal_core.specs.OneByOne.{GoOneByOne};
 ghost use Rattle.terminal_core.specs.Rows.{visit_content};
 
 use box6346::{BoxNumber, SizeType, Slot};
@@ -74,6 +75,18 @@ pub(crate) fn are_sound_visits(count: usize, visits: &[Visit]) -> bool
 {
     for visit in visits {
         if !is_sound_visit(count, visit) {
+            return false;
+        }
+    }
+    true
+}
+
+/// Whether visits are numbered 1, 2, .. as they stand.
+pub(crate) fn go_one_by_one(visits: &[Visit]) -> bool
+    ensures { IsTrue result ↔ GoOneByOne 1 (map visit_content visits.now) }
+{
+    for (index, visit) in visits.iter().enumerate() {
+        if visit.number as usize != index + 1 {
             return false;
         }
     }

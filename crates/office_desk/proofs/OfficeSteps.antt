@@ -83,6 +83,7 @@ office_of content rows terminal db has loads =
       plan = office.plan;
       limit = office.limit;
       whole = office.whole;
+      one_by_one = office.one_by_one;
       formed = office.formed;
       accounted = office.accounted;
     }
@@ -139,6 +140,7 @@ early_loads content rows p k text terminal db db' has loads has' one most high f
       plan = office.plan;
       limit = office.limit;
       whole = office.whole;
+      one_by_one = office.one_by_one;
       formed = office.formed;
       accounted = office.accounted;
     })

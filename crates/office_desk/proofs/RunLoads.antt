@@ -152,6 +152,7 @@ module _ (content : SetupContent) (rows : Rows) (terminal : TerminalState) (db :
             ground = record { plan = refl; limit = refl };
             few = subst (λ n. n ≤ 999) (sym (length-map content.partners _)) office.given.counted.1;
             whole = office.whole;
+            one_by_one = office.one_by_one;
             formed = office.formed;
             accounted = record { own = refl; visits = λ v inside. subst (λ n. HasAccounts n v) (sym (length-map content.partners _)) (office.accounted v inside) };
           })
@@ -172,6 +173,7 @@ module _ (content : SetupContent) (rows : Rows) (terminal : TerminalState) (db :
             plan = stands.ground.plan ∙ office.plan;
             limit = stands.ground.limit ∙ office.limit;
             whole = stands.whole;
+            one_by_one = stands.one_by_one;
             formed = stands.formed;
             accounted = λ v inside. subst (λ n. HasAccounts n v) (length-map content.partners _) (stands.accounted.visits v inside);
           })

@@ -9,11 +9,12 @@ use Rattle.partner_core.specs.Machine.{Taking}
 use Rattle.partner_core.specs.Order.{numbers_above, reply_among}
 use Rattle.terminal_core.specs.Versions.{newest}
 use Rattle.terminal_core.specs.Forms.{IsWellFormed}
+use Rattle.terminal_core.specs.OneByOne.{GoOneByOne}
 use Rattle.terminal_core.specs.State.{IsWhole}
 use Rattle.office_taking.specs.Taking.{MachineState, interchange_taken}
 use Rattle.office_taking.proofs.Forming.{interchange_formed}
 use Rattle.office_taking.proofs.Reaching.{terminal_alone}
-use Rattle.office_taking.proofs.Turning.{interchange_leads}
+use Rattle.office_taking.proofs.Turning.{interchange_goes_on, interchange_leads}
 use Rattle.office_history.specs.Cascade.{TakenContent, AreTakenFrom}
 use Rattle.office_history.proofs.Accounted.{IsAccounted, interchange_keeps}
 use Rattle.office_history.proofs.Ground.{OnGround, interchange_stays}
@@ -25,6 +26,7 @@ pub record StandsOn (first machine : MachineState) : Type 0 where
   pub ground : OnGround first.terminal machine.terminal
   pub few : length machine.kinds ≤ 999
   pub whole : IsWhole machine.terminal
+  pub one_by_one : GoOneByOne 1 machine.terminal.visits
   pub formed : IsWellFormed machine.terminal
   pub accounted : IsAccounted first.parties machine
 
@@ -36,6 +38,7 @@ stands_next first machine p text stands =
       ground = record { plan = stays.plan ∙ stands.ground.plan; limit = stays.limit ∙ stands.ground.limit };
       few = subst (λ n. n ≤ 999) (sym kinds) stands.few;
       whole = (interchange_leads machine p text stands.whole).whole;
+      one_by_one = interchange_goes_on newest machine p text stands.whole stands.one_by_one;
       formed = interchange_formed machine p text stands.few stands.whole stands.formed;
       accounted = interchange_keeps newest first.parties machine p text stands.accounted;
     }

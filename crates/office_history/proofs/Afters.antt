@@ -129,6 +129,7 @@ opening_sound now given =
     record {
       few = omega arith;
       whole = empty_whole (empty_yard now) now.visit_limit given.plan refl;
+      one_by_one = tt;
       formed = empty_formed (empty_yard now) now.visit_limit refl;
     }
 

@@ -16,6 +16,7 @@ use Rattle.partner_core.proofs.OnceEach.{within_replied}
 use Rattle.partner_core.proofs.Unbroken.{used_within_run, free_after_run}
 use Rattle.terminal_core.specs.Changes.{TerminalRows, rows_of}
 use Rattle.terminal_core.specs.Forms.{IsWellFormed}
+use Rattle.terminal_core.specs.OneByOne.{GoOneByOne}
 use Rattle.terminal_core.specs.Rows.{VisitContent}
 use Rattle.terminal_core.specs.State.{TerminalState, IsWhole}
 use Rattle.office_replies.specs.Events.{Event}
@@ -151,6 +152,7 @@ pub record AreOfOffice (version : Version) (content : SetupContent) (runs : ℕ 
   pub plan : state.yard.plan ≡ content.blocks
   pub limit : state.limit ≡ content.visit_limit
   pub whole : IsWhole state
+  pub one_by_one : GoOneByOne 1 state.visits
   pub formed : IsWellFormed state
   pub accounted : (visit : VisitContent) → Contains state.visits visit → HasAccounts (length content.partners) visit
 
@@ -217,6 +219,7 @@ module _ (version : Version) (content : SetupContent) (runs : ℕ → ℕ) (rows
       plan = are.plan;
       limit = are.limit;
       whole = are.whole;
+      one_by_one = are.one_by_one;
       formed = are.formed;
       accounted = are.accounted;
       placed_once = λ container. subst (λ n. n ≤ 1) (sym (sum_by-IsPermutation (λ p. cond (stands_for container p) 1 0) rows.places places.0 places.1)) (are.by_key.placed_once container);
@@ -291,6 +294,7 @@ module _ (version : Version) (content : SetupContent) (es : List Event) (rows : 
         plan = ground.plan;
         limit = ground.limit;
         whole = sound.whole;
+        one_by_one = sound.one_by_one;
         formed = sound.formed;
         accounted = state_accounted version content es now D;
       }

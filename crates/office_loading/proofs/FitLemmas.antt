@@ -16,7 +16,8 @@ use Rattle.terminal_core.specs.declared.visits.Departure.{Departure}
 use Rattle.terminal_core.specs.declared.change.Source.{Source}
 use Rattle.terminal_core.specs.Forms.{IsSource, IsFormedExit, IsFormedVisit}
 use Rattle.terminal_core.specs.Rows.{VisitContent}
-use Rattle.terminal_core.specs.State.{AreNumbered}
+use Rattle.terminal_core.specs.State.{AreNumbered, last_from}
+use Rattle.terminal_core.proofs.Open.{last_highest}
 use Rattle.yard_core.specs.declared.plan.Block.{Block}
 use Rattle.yard_core.specs.Plan.{IsSized}
 use Rattle.office_setup.specs.Given.{is_party_byte, is_party_code}
@@ -131,9 +132,10 @@ visit_fit visit small is = record {
   kilos = omega (arith, is.kilos);
 }
 
-pub visits_fit : (from : ℕ) (visits : List VisitContent) → AreNumbered from visits → from + length visits ≤ 1000000000 → AllByRecursion IsFormedVisit visits → AllByRecursion FitsVisit visits
-visits_fit from [] numbered few formed = tt
-visits_fit from (v ∷ visits) numbered few formed =
-    let is = numbered.0 in
-    let small : v.number < 2 ^ 32 = omega arith in
-    (visit_fit v small formed.0, visits_fit (from + 1) visits numbered.1 (omega arith) formed.1)
+pub visits_fit : (above : ℕ) (visits : List VisitContent) → AreNumbered above visits → last_from above visits ≤ 999999999 → AllByRecursion IsFormedVisit visits → AllByRecursion FitsVisit visits
+visits_fit above [] numbered within formed = tt
+visits_fit above (v ∷ visits) numbered within formed =
+    let last : last_from v.number visits ≤ 999999999 = within in
+    let highest = last_highest v.number visits numbered.1 in
+    let small : v.number < 2 ^ 32 = omega (arith, last, highest) in
+    (visit_fit v small formed.0, visits_fit v.number visits numbered.1 within formed.1)

@@ -8,7 +8,7 @@ use Rattle.sqlite_rules.proofs.ListLemmas.{has_contained, contains_had}
 use Rattle.terminal_core.specs.Changes.{TerminalRows, standing_of}
 use Rattle.terminal_core.specs.Forms.{IsFormedVisit}
 use Rattle.terminal_core.specs.Rows.{VisitContent}
-use Rattle.terminal_core.specs.State.{TerminalState}
+use Rattle.terminal_core.specs.State.{TerminalState, last_from}
 use Rattle.terminal_core.specs.declared.restoring.RestoreFault.{RestoreFault}
 use Rattle.terminal_core.specs.declared.restoring.RestoreFault.TheVariants as restoring
 use Rattle.office_setup.specs.Setups.{SetupContent}
@@ -62,8 +62,8 @@ module _ (rows : OpenedRows) (content : SetupContent) (state : TerminalState) (o
   state_visits =
       let limit = office.limit in
       let high = office.given.limit.1 in
-      let within = office.whole.within in
-      visits_fit 1 state.visits office.whole.numbered (omega arith) (all_from IsFormedVisit state.visits (λ v has. office.formed.visits v (contains_had state.visits v has)))
+      let within : last_from 0 state.visits ≤ state.limit = office.whole.within in
+      visits_fit 0 state.visits office.whole.numbered (omega (arith, limit, high, within)) (all_from IsFormedVisit state.visits (λ v has. office.formed.visits v (contains_had state.visits v has)))
 
   small : (visit : VisitContent) → Contains state.visits visit → visit.number < 2 ^ 32
   small visit there = (all_in FitsVisit state.visits visit state_visits (has_contained state.visits visit there)).number
@@ -99,7 +99,7 @@ module _ (rows : OpenedRows) (content : SetupContent) (state : TerminalState) (o
     one_visits : rows.visits ≡ other.visits
     one_visits =
         let same = one_showing table.visit (0 ∷ 1 ∷ 2 ∷ 3 ∷ 4 ∷ 5 ∷ 6 ∷ 7 ∷ 8 ∷ 9 ∷ 10 ∷ 11 ∷ 12 ∷ 13 ∷ 14 ∷ []) (0 ∷ []) (λ r. refl) db visit_values rows.visits other.visits shown.visits that.visits (λ x y p q tied.
-        ap visit_values (visits_differ 1 state.visits x y office.whole.numbered (subst (λ l. Has l x) visits_are p) (subst (λ l. Has l y) visits_are q) (number_tied x.number y.number Equal tied).0)) in
+        ap visit_values (visits_differ 0 state.visits x y office.whole.numbered (subst (λ l. Has l x) visits_are p) (subst (λ l. Has l y) visits_are q) (number_tied x.number y.number Equal tied).0)) in
         one_reading table.visit (0 ∷ 1 ∷ 2 ∷ 3 ∷ 4 ∷ 5 ∷ 6 ∷ 7 ∷ 8 ∷ 9 ∷ 10 ∷ 11 ∷ 12 ∷ 13 ∷ 14 ∷ []) (0 ∷ []) (λ r. refl) db visit_values FitsVisit one_visit rows.visits other.visits office_fits.visits fits.visits same
 
     one_places : rows.places ≡ other.places

@@ -183,17 +183,17 @@ ids_differ id (r ∷ partners) (a ∷ accounts) x y are (inl p) (inr q) same = a
 ids_differ id (r ∷ partners) (a ∷ accounts) x y are (inr p) (inl q) same = absurd (let e : y.id ≡ r.id = ap (λ (s : Partner). s.id) q in omega (arith, are.0, low_id (id + 1) partners accounts x are.5 p))
 ids_differ id (r ∷ partners) (a ∷ accounts) x y are (inr p) (inr q) same = ids_differ (id + 1) partners accounts x y are.5 p q same
 
-low_number : (from : ℕ) (visits : List VisitContent) (x : VisitContent) → AreNumbered from visits → Has visits x → from ≤ x.number
-low_number from [] x are has = absurd has
-low_number from (v ∷ visits) x are (inl same) = let e : x.number ≡ v.number = ap (λ (r : VisitContent). r.number) same in omega (arith, are.0)
-low_number from (v ∷ visits) x are (inr later) = omega (arith, low_number (from + 1) visits x are.1 later)
+low_number : (above : ℕ) (visits : List VisitContent) (x : VisitContent) → AreNumbered above visits → Has visits x → above < x.number
+low_number above [] x are has = absurd has
+low_number above (v ∷ visits) x are (inl same) = let e : x.number ≡ v.number = ap (λ (r : VisitContent). r.number) same in omega (arith, e, are.0)
+low_number above (v ∷ visits) x are (inr later) = let beyond = low_number v.number visits x are.1 later in omega (arith, beyond, are.0)
 
-pub visits_differ : (from : ℕ) (visits : List VisitContent) (x y : VisitContent) → AreNumbered from visits → Has visits x → Has visits y → x.number ≡ y.number → x ≡ y
-visits_differ from [] x y are p q same = absurd p
-visits_differ from (v ∷ visits) x y are (inl p) (inl q) same = p ∙ sym q
-visits_differ from (v ∷ visits) x y are (inl p) (inr q) same = absurd (let e : x.number ≡ v.number = ap (λ (r : VisitContent). r.number) p in omega (arith, are.0, low_number (from + 1) visits y are.1 q))
-visits_differ from (v ∷ visits) x y are (inr p) (inl q) same = absurd (let e : y.number ≡ v.number = ap (λ (r : VisitContent). r.number) q in omega (arith, are.0, low_number (from + 1) visits x are.1 p))
-visits_differ from (v ∷ visits) x y are (inr p) (inr q) same = visits_differ (from + 1) visits x y are.1 p q same
+pub visits_differ : (above : ℕ) (visits : List VisitContent) (x y : VisitContent) → AreNumbered above visits → Has visits x → Has visits y → x.number ≡ y.number → x ≡ y
+visits_differ above [] x y are p q same = absurd p
+visits_differ above (v ∷ visits) x y are (inl p) (inl q) same = p ∙ sym q
+visits_differ above (v ∷ visits) x y are (inl p) (inr q) same = absurd (let e : x.number ≡ v.number = ap (λ (r : VisitContent). r.number) p in omega (arith, e, same, low_number v.number visits y are.1 q))
+visits_differ above (v ∷ visits) x y are (inr p) (inl q) same = absurd (let e : y.number ≡ v.number = ap (λ (r : VisitContent). r.number) q in omega (arith, e, same, low_number v.number visits x are.1 p))
+visits_differ above (v ∷ visits) x y are (inr p) (inr q) same = visits_differ v.number visits x y are.1 p q same
 
 got : {X : Type 0} (xs : List X) (x : X) → Has xs x → (i : ℕ) × (slice_get xs i ≡ Some x)
 got [] x has = absurd has

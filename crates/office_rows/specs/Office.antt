@@ -8,6 +8,7 @@ use Rattle.terminal_core.specs.declared.visits.Departure.{Departure}
 use Rattle.terminal_core.specs.Rows.{VisitContent}
 use Rattle.terminal_core.specs.Changes.{TerminalRows, rows_of}
 use Rattle.terminal_core.specs.Forms.{IsWellFormed}
+use Rattle.terminal_core.specs.OneByOne.{GoOneByOne}
 use Rattle.terminal_core.specs.State.{TerminalState, IsWhole}
 use Rattle.office_setup.specs.Setups.{SetupContent}
 use Rattle.office_setup.specs.Given.{IsGiven}
@@ -98,6 +99,7 @@ pub record IsOffice (rows : OpenedRows) (content : SetupContent) (state : Termin
   pub plan : state.yard.plan ≡ content.blocks
   pub limit : state.limit ≡ content.visit_limit
   pub whole : IsWhole state
+  pub one_by_one : GoOneByOne 1 state.visits
   pub formed : IsWellFormed state
   pub accounted : (visit : VisitContent) → Contains state.visits visit → HasAccounts (length content.partners) visit
   pub placed_once : ArePlacedOnce rows.places

@@ -24,7 +24,7 @@ use Rattle.office_setup.specs.declared.setup.Setup.{Setup}
 use Rattle.office_admission.specs.Admission.{admission, is_for}
 use Rattle.office_taking.specs.Laws.{cascade_changes, IsSoundMachine, KeepsSound, ChangesTerminalAlone}
 use Rattle.office_taking.specs.Taking.{MachineState, machine_of, nothing_taken, taken_at_by, taken_of_by, interchange_taken_by, interchange_taken, interchange_changes}
-use Rattle.office_taking.proofs.Turning.{Leads, stays, leads_on, interchange_leads_by, interchange_leads}
+use Rattle.office_taking.proofs.Turning.{Leads, stays, leads_on, interchange_leads_by, interchange_leads, interchange_goes_on}
 use Rattle.office_taking.proofs.Forming.{interchange_formed_by}
 
 -- ---- what a machine is set up with stays
@@ -84,6 +84,7 @@ pub keeps_sound : (version : Version) → KeepsSound (interchange_taken_by versi
 keeps_sound version machine partner text is = record {
   few = (let P : List PartnerKind → Type 0 = λ kinds. length kinds ≤ 999 in subst P (sym (ap (λ (m : MachineState). m.kinds) (terminal_alone version machine partner text))) is.few);
   whole = (interchange_leads_by version machine partner text is.whole).whole;
+  one_by_one = interchange_goes_on version machine partner text is.whole is.one_by_one;
   formed = interchange_formed_by version machine partner text is.few is.whole is.formed;
 }
 
@@ -110,5 +111,6 @@ pub opening_sound : (setup : Setup) (yard : YardMap) → length setup.partners.i
 opening_sound setup yard few valid none = record {
   few = (let P : ℕ → Type 0 = λ n. n ≤ 999 in subst P (sym (length-map setup.partners.items _)) few);
   whole = empty_whole yard setup.visit_limit valid none;
+  one_by_one = tt;
   formed = empty_formed yard setup.visit_limit none;
 }

@@ -14,6 +14,7 @@ use Rattle.edi_messages.specs.declared.codes.PartnerKind.{PartnerKind}
 use Rattle.partner_core.specs.Numbered.{with_number}
 use Rattle.terminal_core.specs.declared.lines.Side.{Side}
 use Rattle.terminal_core.specs.declared.change.Source.{Source}
+use Rattle.terminal_core.specs.OneByOne.{GoOneByOne}
 use Rattle.terminal_core.specs.Rows.{ChangeContent}
 use Rattle.terminal_core.specs.State.{TerminalState, IsWhole}
 use Rattle.terminal_core.specs.Changes.{TerminalRows, rows_of, all_changed, AreApplicable}
@@ -21,6 +22,7 @@ use Rattle.terminal_core.proofs.Applying.{all_appended, applicable_joined, appli
 use Rattle.terminal_core.proofs.Changing.{turned_step}
 use Rattle.terminal_core.proofs.Dropping.{drop_turned, drop_applicable, drop_whole}
 use Rattle.terminal_core.proofs.Keeping.{whole_step}
+use Rattle.terminal_core.proofs.OneByOne.{goes_on}
 use Rattle.terminal_core.specs.Versions.{newest}
 use Rattle.office_admission.specs.Admission.{admission, is_for}
 use Rattle.terminal_core.specs.declared.change.Version.{Version}
@@ -104,6 +106,12 @@ pub interchange_leads_by : (version : Version) (machine : MachineState) (partner
 interchange_leads_by version machine partner text whole =
     leads_if machine (is_for partner (admission machine.parties text)) (changes_of_by version machine partner (segments_in text) (with_number machine.kinds partner))
     (taken_of_by version machine partner (segments_in text) (with_number machine.kinds partner)) whole (leads_of version machine partner (segments_in text) (with_number machine.kinds partner) whole)
+
+-- the numbers of visits go on one by one
+pub interchange_goes_on : (version : Version) (machine : MachineState) (partner : ℕ) (text : List ℕ) → IsWhole machine.terminal → GoOneByOne 1 machine.terminal.visits → GoOneByOne 1 (interchange_taken_by version machine partner text).0.terminal.visits
+interchange_goes_on version machine partner text whole go =
+    let leads = interchange_leads_by version machine partner text whole in
+    goes_on machine.terminal (interchange_taken_by version machine partner text).0.terminal (interchange_changes_by version machine partner text) leads.turned leads.applicable go
 
 pub interchange_leads : (machine : MachineState) (partner : ℕ) (text : List ℕ) → IsWhole machine.terminal → LeadsTo machine (interchange_changes machine partner text) (interchange_taken machine partner text)
 interchange_leads = interchange_leads_by newest

@@ -11,6 +11,7 @@ use Rattle.partner_core.specs.Order.{state_after, state}
 use Rattle.terminal_core.specs.Rows.{ChangeContent}
 use Rattle.terminal_core.specs.State.{empty_state, IsWhole}
 use Rattle.terminal_core.specs.Forms.{IsWellFormed}
+use Rattle.terminal_core.specs.OneByOne.{GoOneByOne}
 use Rattle.terminal_core.specs.Changes.{rows_of, all_changed, AreApplicable}
 use Rattle.terminal_core.specs.declared.change.Version.{Version}
 use Rattle.office_setup.specs.Limits.{most_partners}
@@ -46,10 +47,11 @@ InterchangesKeepForms =
     IsWellFormed machine.terminal
     → IsWellFormed (interchange_taken_by version machine partner text).0.terminal
 
--- there are at most 999 partners, and the terminal is whole and well formed
+-- there are at most 999 partners, and the terminal is whole and well formed, its visits numbered one by one
 pub record IsSoundMachine (machine : MachineState) : Type 0 where
   pub few : length machine.kinds ≤ most_partners
   pub whole : IsWhole machine.terminal
+  pub one_by_one : GoOneByOne 1 machine.terminal.visits
   pub formed : IsWellFormed machine.terminal
 
 -- whatever text is taken, a machine that was sound stays so

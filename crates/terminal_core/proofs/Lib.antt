@@ -28,3 +28,4 @@ pub mod Rising
 pub mod OpenRows
 pub mod Opened
 pub mod LastIndexed
+pub mod OneByOne

@@ -162,7 +162,7 @@ no_more_than_last above (v ∷ visits) are =
     let more : length (v ∷ visits) ≡ length visits + 1 = omega arith in
     omega (arith, are.0, rest, more)
 
-kept_number : (departure : Departure) (visit : VisitContent) (is : Bool) → (cond is (record visit { departure = Some departure }) visit).number ≡ visit.number
+pub kept_number : (departure : Departure) (visit : VisitContent) (is : Bool) → (cond is (record visit { departure = Some departure }) visit).number ≡ visit.number
 kept_number departure visit true = refl
 kept_number departure visit false = refl
 

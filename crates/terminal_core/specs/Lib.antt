@@ -14,3 +14,4 @@ pub mod Changes
 pub mod RowForms
 pub mod Forms
 pub mod Drop
+pub mod OneByOne

@@ -4,6 +4,7 @@ ghost use Rattle.terminal_core.specs.Counts.{EntriesLessExitsStand};
 ghost use Rattle.terminal_core.specs.Changes.{ChangesTurnRows, ChangesAreApplicable, ChangesAreAppended, AreApplicableAppended};
 ghost use Rattle.terminal_core.specs.Drop.{DropsOpenAlone, DropTurnsRows, DropIsApplicable, DropKeepsWhole, DropKeepsForms};
 ghost use Rattle.terminal_core.specs.Forms.{EmptyIsWellFormed, StepsKeepForms};
+ghost use Rattle.terminal_core.specs.OneByOne.{ChangesGoOneByOne, StepsGoOneByOne};
 ghost use Rattle.terminal_core.specs.RowForms.{ListsAreRowsByKey, RowsByKeyAreLists, RowsGiveState, ListsGiveState};
 ghost use Rattle.terminal_core.specs.Wholeness.{EmptyIsWhole, StepsKeepWhole};
 
@@ -71,6 +72,16 @@ pub fn empty_is_whole()
 /// What an order leaves of a whole terminal is whole, whatever the order says.
 pub fn steps_keep_whole()
     ensures { StepsKeepWhole }
+{}
+
+/// Changes that are applicable leave the numbers of visits one by one from 1, where they were so.
+pub fn changes_go_one_by_one()
+    ensures { ChangesGoOneByOne }
+{}
+
+/// So does an order, by the rules of any version.
+pub fn steps_go_one_by_one()
+    ensures { StepsGoOneByOne }
 {}
 
 /// A drop leaves out exactly the open lines of the list.
