@@ -7,7 +7,7 @@ ghost use Rattle.office_setup.specs.Setups.{setup_content};
 
 use crate::numbers::{NumberRow, PartnerRow, accounts_of, are_accounts, are_kept};
 use crate::settings::{
-    Setting, are_by_letter, are_sound_lines, are_sound_visits, go_one_by_one, read_settings,
+    Setting, are_by_letter, are_one_by_one, are_sound_lines, are_sound_visits, read_settings,
 };
 use office_setup::Setup;
 use std::alloc::Global;
@@ -95,7 +95,7 @@ fn restore_terminal(
     if !are_sound_visits(count, &visits) {
         return Err(RestoreFault::Unsound);
     }
-    if !go_one_by_one(&visits) {
+    if !are_one_by_one(&visits) {
         return Err(RestoreFault::Unsound);
     }
     if !are_sound_lines(&lines) {

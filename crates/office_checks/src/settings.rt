@@ -82,7 +82,7 @@ pub(crate) fn are_sound_visits(count: usize, visits: &[Visit]) -> bool
 }
 
 /// Whether visits are numbered 1, 2, .. as they stand.
-pub(crate) fn go_one_by_one(visits: &[Visit]) -> bool
+pub(crate) fn are_one_by_one(visits: &[Visit]) -> bool
     ensures { IsTrue result ↔ GoOneByOne 1 (map visit_content visits.now) }
 {
     for (index, visit) in visits.iter().enumerate() {

@@ -75,3 +75,21 @@ fn the_last_visit_need_not_be_the_open_one(rt: HostRuntime) -> Result<(), Fail> 
     assert!(&rt; last(&rt, &terminal, SECOND).is_none());
     Ok(())
 }
+
+/// A terminal whose second and third visit are put away, with room for one more.
+fn terminal_with_a_gap(rt: &impl Abort, alloc: Global) -> Result<Terminal, Fail> {
+    let visits = vec![in alloc; open(rt, alloc, 1, FIRST)?, closed(rt, alloc, 4, SECOND)?]?;
+    let places = vec![in alloc; place(rt, FIRST, 1, "A001011")]?;
+    Ok(restored(rt, alloc, 5, visits, places, Vec::new(alloc)).expect(rt, "a state"))
+}
+
+#[test]
+fn the_next_visit_is_numbered_after_the_newest(rt: HostRuntime) -> Result<(), Fail> {
+    let mut terminal = terminal_with_a_gap(&rt, rt.alloc())?;
+    let asked = [(SECOND, Ask::Comes), (THIRD, Ask::Comes)];
+    carry_out(&rt, rt.alloc(), &mut terminal, &asked)?;
+    assert!(&rt; last(&rt, &terminal, FIRST) == Some((1, true)));
+    assert!(&rt; last(&rt, &terminal, SECOND) == Some((5, true)));
+    assert!(&rt; last(&rt, &terminal, THIRD).is_none());
+    Ok(())
+}

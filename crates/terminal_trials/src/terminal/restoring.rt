@@ -241,12 +241,15 @@ fn two_visits(rt: &impl Abort, alloc: Global, second: u32) -> Result<Vec<Visit>,
 }
 
 #[test]
-fn visits_are_numbered_within_the_limit(rt: HostRuntime) -> Result<(), Fail> {
+fn the_numbers_of_visits_rise_within_the_limit(rt: HostRuntime) -> Result<(), Fail> {
     let alloc = rt.alloc();
     for (limit, second, fault) in [
         (2, 2, None),
-        (3, 3, Some(RestoreFault::Unsound)),
+        (3, 3, None),
+        (3, 1, Some(RestoreFault::Unsound)),
+        (3, 0, Some(RestoreFault::Unsound)),
         (1, 2, Some(RestoreFault::Unsound)),
+        (2, 3, Some(RestoreFault::Unsound)),
     ] {
         let visits = two_visits(&rt, alloc, second)?;
         assert_visits_fault(&rt, alloc, limit, visits, fault)?;

@@ -3,7 +3,7 @@ use Rattle.std.specs.Prelude.{slice_get}
 use Rattle.std.proofs.lemmas.Option.{slice_get_read, slice_get_within, same_Some}
 use Rattle.terminal_core.specs.declared.visits.Visit.{Visit}
 use Rattle.office_checks.proofs.OneByOne.{rows_go, row_number}
-use Rattle.office_checks.proofs.settings.go_one_by_one.Goals as goal
+use Rattle.office_checks.proofs.settings.are_one_by_one.Goals as goal
 
 pub returns-then-visit-index : goal.returns-then-visit-index
 returns-then-visit-index c = (
