@@ -83,11 +83,13 @@ fn terminal_with_a_gap(rt: &impl Abort, alloc: Global) -> Result<Terminal, Fail>
     Ok(restored(rt, alloc, 5, visits, places, Vec::new(alloc)).expect(rt, "a state"))
 }
 
+/// Two more come.
+const MORE: [(&str, Ask); 2] = [(SECOND, Ask::Comes), (THIRD, Ask::Comes)];
+
 #[test]
 fn the_next_visit_is_numbered_after_the_newest(rt: HostRuntime) -> Result<(), Fail> {
     let mut terminal = terminal_with_a_gap(&rt, rt.alloc())?;
-    let asked = [(SECOND, Ask::Comes), (THIRD, Ask::Comes)];
-    carry_out(&rt, rt.alloc(), &mut terminal, &asked)?;
+    carry_out(&rt, rt.alloc(), &mut terminal, &MORE)?;
     assert!(&rt; last(&rt, &terminal, FIRST) == Some((1, true)));
     assert!(&rt; last(&rt, &terminal, SECOND) == Some((5, true)));
     assert!(&rt; last(&rt, &terminal, THIRD).is_none());
