@@ -84,7 +84,7 @@ abbrev pub last_from : ℕ → List VisitContent → ℕ
 last_from number [] = number
 last_from number (visit ∷ visits) = last_from visit.number visits
 
--- the number of the newest visit: as many there were
+-- the number of the newest visit, 0 if there is none
 abbrev pub last_number : List VisitContent → ℕ
 last_number visits = last_from 0 visits
 
@@ -98,7 +98,7 @@ IsAsTold state container =
     (w : Stowed) (visit : VisitContent) → finite_map.get state.yard.boxes container ≡ Some w →
     open_visit state container ≡ Some visit → w ≡ stowed_by visit w.placement.slot
 
--- The yard is sound, the visits are numbered within the limit, and the containers of the yard are exactly those with an
+-- The yard is sound, the numbers of visits rise within the limit, and the containers of the yard are exactly those with an
 -- open visit, each having one and standing in its length, full or empty as it says.
 pub record IsWhole (state : TerminalState) : Type 0 where
   pub plan : IsPlan state.yard.plan

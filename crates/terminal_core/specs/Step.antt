@@ -69,7 +69,7 @@ settled_in version y entry None =
 abbrev pub yard_with_entry : Version → YardMap → EntryContent → Result (YardMap × Slot) Refusal
 yard_with_entry version y entry = settled_in version y entry entry.slot
 
--- as many visits stand as the set-up allows
+-- the newest visit has the last number that the set-up allows
 abbrev pub is_full : TerminalState → Bool
 is_full state = nat_le state.limit (last_number state.visits)
 

@@ -149,7 +149,7 @@ impl Visits {
         &self.rows
     }
 
-    /// The number of the newest one: as many there were.
+    /// The number of the newest one, 0 if there is none.
     pub(crate) fn last_number(&self) -> u32
         ensures { result ≡ last_number self.now.visits }
     {
@@ -238,7 +238,7 @@ impl Visits {
     }
 }
 
-/// The number of the last visit, 0 if there is none.
+/// The number of the last of these visits, 0 if there is none.
 pub(crate) fn last_of(rows: &[Visit]) -> u32
     ensures { result ≡ last_number (map visit_content rows.now) }
 {
