@@ -40,9 +40,9 @@ marked_more numbers marks places i j place rising long low at short is before k 
           ap (λ m. get_or (set marks j true) m false) same ∙ get_or-set_same marks j true false (omega (arith, long, short))
           ∙ sym (more ∙ ap (λ v. list_any (names_number numbers k) (take i places) || v) named ∙ or-true (list_any (names_number numbers k) (take i places))))
       | inr apart ↦ (let unnamed : names_number numbers k place ≡ false = ne_eqb place.visit (get_or numbers k 0) (λ e. elim apart [
-            | inl less ↦ (let up = rising k j less short in omega (arith, up, is, e))
-            | inr above ↦ (let up = rising j k above within in omega (arith, up, is, e))
-          ]) in
+        | inl less ↦ (let up = rising k j less short in omega (arith, up, is, e))
+        | inr above ↦ (let up = rising j k above within in omega (arith, up, is, e))
+      ]) in
           get_or-set_other marks j k true false (λ e. elim apart [ inl less ↦ omega (arith, less, e) | inr above ↦ omega (arith, above, e) ]) ∙ before k within
           ∙ sym (more ∙ ap (λ v. list_any (names_number numbers k) (take i places) || v) unnamed ∙ or_false (list_any (names_number numbers k) (take i places))))
     ]

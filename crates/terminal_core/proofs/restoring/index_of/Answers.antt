@@ -1,4 +1,4 @@
-use Rattle.std.proofs.Common.{◌≡◌, ◌⊎◌, Err, get_or, inl, inr, arith}
+use Rattle.std.proofs.Common.{Err, inl, inr, arith}
 use Rattle.std.proofs.lemmas.Bool.{cases_order}
 use Rattle.std.proofs.lemmas.List.Sorted.{searched}
 use Rattle.terminal_core.proofs.Numbered.{no_fall}
@@ -10,7 +10,7 @@ returns-in-Err c k low same =
     elim (cases_order k c.in-Err.field-0) [
       | inl at ↦ (let above = all.2 k (omega (arith, at)) low in omega (arith, above, same))
       | inr o ↦ elim o [
-          | inl less ↦ (let below = all.1 k less in omega (arith, below, same))
-          | inr more ↦ (let above = all.2 k (omega (arith, more)) low in omega (arith, above, same))
-        ]
+        | inl less ↦ (let below = all.1 k less in omega (arith, below, same))
+        | inr more ↦ (let above = all.2 k (omega (arith, more)) low in omega (arith, above, same))
+      ]
     ]
